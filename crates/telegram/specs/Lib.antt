@@ -1,0 +1,4 @@
+pub mod Stretch
+pub mod Sync
+pub mod Telegram
+pub mod Says

@@ -1,0 +1,25 @@
+-- `read_long` answers the figure exactly where every check is even.
+use borrow.Author.Needs.{needs}
+use Rattle.words.proofs.Answers.{accepted, refused}
+use Rattle.words.proofs.read_long.Statement.{statement}
+use Rattle.words.proofs.read_long.Tie as tie
+
+is-code-requires : tie.Need-is-code-requires
+is-code-requires c κs = search needs
+
+figure-requires : tie.Need-figure-requires
+figure-requires c κs = search needs
+
+cast-t7 : tie.Need-cast-t7
+cast-t7 c = search needs
+
+returns : tie.Need-returns
+returns c =
+    accepted 16 (c .before .before .before .args .word) (c .before .before .is-code .result) (c .before .before .is-code .ensures)
+    (c .figure .result) (c .figure .ensures) (c .before .if1 .taken)
+
+returns-2 : tie.Need-returns-2
+returns-2 c = refused 16 (c .before .before .args .word) (c .before .is-code .result) (c .before .is-code .ensures) (c .if1 .left)
+
+pub read-long-spec : {M : Type 1} → statement M
+read-long-spec = tie.close (tie.spec is-code-requires figure-requires cast-t7 returns returns-2)

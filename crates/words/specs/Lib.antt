@@ -1,0 +1,5 @@
+pub mod Answer
+pub mod Bits
+pub mod Plain
+pub mod Code
+pub mod Says

@@ -1,0 +1,83 @@
+// The two codes of document 01: M(8,4) for a short word, M(16,11) for a long one.
+// Promises: a word reads as its figure or is refused, nothing is mended; a figure is written as its one word or refused.
+// Specification: specs/Plain.antt (the plain code H), specs/Code.antt (the sent code M), specs/Says.antt (the answers).
+ghost use mathlib.Core.Path.{_≡_};
+ghost use Rattle.words.specs.Code.{readShort, writeShort, readLong, writeLong};
+ghost use Rattle.words.specs.Says.{saysShortRead, saysShortWritten, saysLongRead, saysLongWritten};
+
+mod reading;
+mod writing;
+
+// What reading a short word answers.
+pub enum ShortRead {
+    Figure(u8),
+    NotCode,
+}
+
+// What writing a figure as a short word answers.
+pub enum ShortWritten {
+    Word(u8),
+    TooLarge,
+}
+
+// What reading a long word answers.
+pub enum LongRead {
+    Figure(u16),
+    NotCode,
+}
+
+// What writing a figure as a long word answers.
+pub enum LongWritten {
+    Word(u16),
+    TooLarge,
+}
+
+// The figure of a received short word, or refusal 1.
+pub fn read_short(word: u8) -> ShortRead
+    ensures { λ r. ⌜ saysShortRead r ≡ readShort word ⌝ }
+{
+    let w = word as u32;
+    if reading::is_code(w, 8) {
+        let x = reading::figure(w, 8);
+        ShortRead::Figure((x % 256) as u8)
+    } else {
+        ShortRead::NotCode
+    }
+}
+
+// The short word to send for a figure, or refusal 2.
+pub fn write_short(figure: u8) -> ShortWritten
+    ensures { λ r. ⌜ saysShortWritten r ≡ writeShort figure ⌝ }
+{
+    if figure <= 15 {
+        let w = writing::sent(figure as u32, 8);
+        ShortWritten::Word((w % 256) as u8)
+    } else {
+        ShortWritten::TooLarge
+    }
+}
+
+// The figure of a received long word, or refusal 1.
+pub fn read_long(word: u16) -> LongRead
+    ensures { λ r. ⌜ saysLongRead r ≡ readLong word ⌝ }
+{
+    let w = word as u32;
+    if reading::is_code(w, 16) {
+        let x = reading::figure(w, 16);
+        LongRead::Figure((x % 65536) as u16)
+    } else {
+        LongRead::NotCode
+    }
+}
+
+// The long word to send for a figure, or refusal 2.
+pub fn write_long(figure: u16) -> LongWritten
+    ensures { λ r. ⌜ saysLongWritten r ≡ writeLong figure ⌝ }
+{
+    if figure <= 2047 {
+        let w = writing::sent(figure as u32, 16);
+        LongWritten::Word((w % 65536) as u16)
+    } else {
+        LongWritten::TooLarge
+    }
+}
