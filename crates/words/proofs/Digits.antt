@@ -5,7 +5,7 @@ use mathlib.Core.Logic.{_⊎_, inl, inr}
 use Prim.Native.Nat.{ℕ, zero, suc, _+_, _-_, _*_, _/_, _%_, _^_, _≤_, _<_}
 use native.Mathlib.Nat.{pow-suc, mod-lt, zero-lt-suc, mul-le-mul-right, le-of-suc-le-suc, lt-suc-self, lt-trans, eq-or-lt-of-le, not-suc-le-zero, mul-comm, mod-eq-of-lt, one-mul, zero-mul, add-mul-div-right, add-comm, mul-assoc, add-mul-mod-self-right, le-dest, mod-one}
 use native.Mathlib.Omega.{arith}
-use lib.Bits.{bitXor, differ, xor-shr, xor-mod, xor-block}
+use lib.Bits.{bitXor, differ, xor-shr, xor-mod, xor-lt, xor-zero-r}
 use lib.Pow.{high, pow-pos, pow-add, mod-pow-add, split}
 use Rattle.words.specs.Bits.{bit, word, onesOf}
 
@@ -26,8 +26,8 @@ bit-above a r n i h =
     let k : ℕ = d .0 in
     let power : 2 ^ n ≡ 2 ^ i * 2 * 2 ^ k = ap (λ (m : ℕ). 2 ^ m) (sym (d .1)) ∙ pow-add 2 (suc i) k ∙ ap (λ (m : ℕ). m * 2 ^ k) (pow-suc 2 i) in
     let whole : a * 2 ^ n ≡ a * 2 ^ k * 2 * 2 ^ i =
-        ap (λ (m : ℕ). a * m) (power ∙ mul-comm (2 ^ i * 2) (2 ^ k)) ∙ sym (mul-assoc a (2 ^ k) (2 ^ i * 2))
-        ∙ ap (λ (m : ℕ). a * 2 ^ k * m) (mul-comm (2 ^ i) 2) ∙ sym (mul-assoc (a * 2 ^ k) 2 (2 ^ i)) in
+    ap (λ (m : ℕ). a * m) (power ∙ mul-comm (2 ^ i * 2) (2 ^ k)) ∙ sym (mul-assoc a (2 ^ k) (2 ^ i * 2))
+    ∙ ap (λ (m : ℕ). a * 2 ^ k * m) (mul-comm (2 ^ i) 2) ∙ sym (mul-assoc (a * 2 ^ k) 2 (2 ^ i)) in
     ap (λ (m : ℕ). m / 2 ^ i % 2) (ap (λ (m : ℕ). m + r) whole ∙ add-comm (a * 2 ^ k * 2 * 2 ^ i) r)
     ∙ ap (λ (m : ℕ). m % 2) (add-mul-div-right r (a * 2 ^ k * 2) (pow-pos i)) ∙ add-mul-mod-self-right (r / 2 ^ i) (a * 2 ^ k) 2
 
@@ -39,7 +39,7 @@ module _ (f : ℕ → ℕ) (small : (i : ℕ) → f i < 2) where
   word-lt (suc n) =
       let h : word f n < 2 ^ n = word-lt n in
       let k : f n * 2 ^ n ≤ 2 ^ n =
-          subst (λ (m : ℕ). f n * 2 ^ n ≤ m) (one-mul (2 ^ n)) (mul-le-mul-right (2 ^ n) (le-of-suc-le-suc (small n))) in
+      subst (λ (m : ℕ). f n * 2 ^ n ≤ m) (one-mul (2 ^ n)) (mul-le-mul-right (2 ^ n) (le-of-suc-le-suc (small n))) in
       subst (λ (m : ℕ). f n * 2 ^ n + word f n < m) (sym (pow-suc 2 n)) (omega arith)
 
   -- Bit i of the word that f spells is `f i`.
@@ -74,14 +74,15 @@ word-bits w n h = word-mod w n ∙ mod-eq-of-lt h
 pub bits-ext : (v w n : ℕ) → v < 2 ^ n → w < 2 ^ n → ((i : ℕ) → i < n → bit v i ≡ bit w i) → v ≡ w
 bits-ext v w n hv hw same = sym (word-bits v n hv) ∙ word-ext (bit v) (bit w) n same ∙ word-bits w n hw
 
--- A bit of an exclusive or says whether the two words' bits differ.
-xor-bit : (x y : ℕ) → x < 2 → y < 2 → bitXor x y ≡ differ x y
+-- The exclusive or of two bits says whether they differ.
+pub xor-bit : (x y : ℕ) → x < 2 → y < 2 → bitXor x y ≡ differ x y
 xor-bit zero y hx hy = refl
 xor-bit (suc zero) zero hx hy = refl
 xor-bit (suc zero) (suc zero) hx hy = refl
 xor-bit (suc zero) (suc (suc y)) hx hy = absurd (not-suc-le-zero (le-of-suc-le-suc (le-of-suc-le-suc hy)))
 xor-bit (suc (suc x)) y hx hy = absurd (not-suc-le-zero (le-of-suc-le-suc (le-of-suc-le-suc hx)))
 
+-- So does each bit of an exclusive or.
 pub bit-xor : (v w i : ℕ) → bit (bitXor v w) i ≡ differ (bit v i) (bit w i)
 bit-xor v w i =
     ap (λ (k : ℕ). k % 2) (xor-shr v w i) ∙ xor-mod (v / 2 ^ i) (w / 2 ^ i) 1 ∙ xor-bit (bit v i) (bit w i) (bit-lt v i) (bit-lt w i)
@@ -95,3 +96,21 @@ differ-parity (suc zero) (suc zero) hx hy = refl
 differ-parity zero (suc (suc y)) hx hy = absurd (not-suc-le-zero (le-of-suc-le-suc (le-of-suc-le-suc hy)))
 differ-parity (suc zero) (suc (suc y)) hx hy = absurd (not-suc-le-zero (le-of-suc-le-suc (le-of-suc-le-suc hy)))
 differ-parity (suc (suc x)) y hx hy = absurd (not-suc-le-zero (le-of-suc-le-suc (le-of-suc-le-suc hx)))
+
+differ-twice : (x y : ℕ) → x < 2 → y < 2 → differ x (differ x y) ≡ y
+differ-twice zero y hx hy = refl
+differ-twice (suc zero) zero hx hy = refl
+differ-twice (suc zero) (suc zero) hx hy = refl
+differ-twice (suc zero) (suc (suc y)) hx hy = absurd (not-suc-le-zero (le-of-suc-le-suc (le-of-suc-le-suc hy)))
+differ-twice (suc (suc x)) y hx hy = absurd (not-suc-le-zero (le-of-suc-le-suc (le-of-suc-le-suc hx)))
+
+module _ (n v w : ℕ) (hv : v < 2 ^ n) (hw : w < 2 ^ n) where
+  -- Flips that are undone leave the word.
+  pub xor-twice : bitXor v (bitXor v w) ≡ w
+  xor-twice =
+      bits-ext (bitXor v (bitXor v w)) w n (xor-lt n v (bitXor v w) hv (xor-lt n v w hv hw)) hw
+      (λ i l. bit-xor v (bitXor v w) i ∙ ap (differ (bit v i)) (bit-xor v w i) ∙ differ-twice (bit v i) (bit w i) (bit-lt v i) (bit-lt w i))
+
+  -- Words between which no bit differs are equal.
+  pub xor-none : bitXor v w ≡ 0 → v ≡ w
+  xor-none e = sym (xor-zero-r v) ∙ ap (bitXor v) (sym e) ∙ xor-twice

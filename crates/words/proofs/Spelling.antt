@@ -23,7 +23,7 @@ module _ (f : ℕ → ℕ) (i h one b : ℕ) (so : Spelt f i h one) (b-is : b �
   unfolding word
   spelt-more = record {
     is = add-comm h (b * one) ∙ ap₂ _+_ (ap₂ _*_ b-is (so .worth)) (so .is) ∙ ap (word f) (sym (add-one i));
-    worth = ap (λ (k : ℕ). k * 2) (so .worth) ∙ sym (pow-suc 2 i) ∙ ap (λ (k : ℕ). 2 ^ k) (sym (add-one i))
+    worth = ap (λ (k : ℕ). k * 2) (so .worth) ∙ sym (pow-suc 2 i) ∙ ap (λ (k : ℕ). 2 ^ k) (sym (add-one i));
   }
 
   -- with every bit 0 or 1 and at most sixteen of them, all stays below 2 ^ 16

@@ -64,11 +64,12 @@ loop-again c =
     let n = s .before .args .n in
     let i = s .loop .i in
     let a = s .loop .a in
-    let so : isCheck (i - 1) ≡ false = sym (c .before .before .is-check .ensures) ∙ not-true (c .before .before .is-check .result) (c .before .if1 .taken) in
-    (omega arith,
-    subst (λ (k : ℕ). onwards (exchanged n w) (i - 1) k ≡ figure n (exchanged n w))
-    (carries w n (i - 1) (c .other .result) a (omega arith) (c .other .ensures) so)
-    (turn (exchanged n w) n i a (omega arith) (s .loop .inv .1)))
+    let so : isCheck (i - 1) ≡ false = sym (c .before .before .is-check .ensures) ∙ not-true (c .before .before .is-check .result) (c .before .if1 .taken) in (
+      omega arith,
+      subst (λ (k : ℕ). onwards (exchanged n w) (i - 1) k ≡ figure n (exchanged n w))
+          (carries w n (i - 1) (c .other .result) a (omega arith) (c .other .ensures) so)
+          (turn (exchanged n w) n i a (omega arith) (s .loop .inv .1)),
+    )
 
 mul-a : tie.Need-mul-a Inv-loop μ-loop
 mul-a c =
@@ -97,10 +98,11 @@ loop-again-2 c =
     let i = s .loop .i in
     let a = s .loop .a in
     let h = exchanged n w in
-    let so : isCheck (i - 1) ≡ true = sym (c .before .is-check .ensures) ∙ not-false (c .before .is-check .result) (c .if1 .left) in
-    (omega arith,
-    subst (λ (k : ℕ). onwards h (i - 1) k ≡ figure n h) (ap (λ (t : Bool). pick t a (a * 2 + bit h (i - 1))) so)
-    (turn h n i a (omega arith) (s .loop .inv .1)))
+    let so : isCheck (i - 1) ≡ true = sym (c .before .is-check .ensures) ∙ not-false (c .before .is-check .result) (c .if1 .left) in (
+      omega arith,
+      subst (λ (k : ℕ). onwards h (i - 1) k ≡ figure n h) (ap (λ (t : Bool). pick t a (a * 2 + bit h (i - 1))) so)
+          (turn h n i a (omega arith) (s .loop .inv .1)),
+    )
 
 returns : tie.Need-returns Inv-loop μ-loop
 unfolding onwards

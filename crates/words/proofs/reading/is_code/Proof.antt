@@ -7,6 +7,8 @@ use native.Mathlib.Nat.{one-mul, div-one, le-antisymm}
 use native.Mathlib.Omega.{arith}
 use lib.Dec.{eqb}
 use borrow.Author.Needs.{needs}
+use mir.Syntax.{w32}
+use mir.Val.{Fits}
 use Rattle.words.specs.Bits.{bit}
 use Rattle.words.specs.Plain.{covers, count, even, isCode}
 use Rattle.words.specs.Code.{other, exchanged}
@@ -42,8 +44,10 @@ more c w n i at k m h at-is m-is so =
 module _ (c : tie.After-other Inv-loop μ-loop) where
   word : ℕ
   word = c .before .before .before .args .w
+
   positions : ℕ
   positions = c .before .before .before .args .n
+
   place : ℕ
   place = c .before .before .loop .i
 
@@ -61,35 +65,39 @@ other-requires c κs = search needs
 shr-b : tie.Need-shr-b Inv-loop μ-loop
 shr-b c = omega (arith, other-lt (c .before .before .loop .i) (omega arith))
 
-small : (x y : ℕ) → x % 2 * (y % 2) < 2
-small x y = bit-mul (x % 2) (y % 2) (omega arith) (omega arith)
+-- a product of two bits fits, and so does a counter with one added
+product : {x y : ℕ} → x < 2 → y < 2 → Fits w32 (x * y)
+product {x} {y} hx hy = omega (arith, bit-mul x y hx hy)
+
+sum : {k x y : ℕ} → k ≤ 16 → x < 2 → y < 2 → Fits w32 (k + x * y)
+sum {k} {x} {y} hk hx hy = omega (arith, bit-mul x y hx hy)
 
 add-c0 : tie.Need-add-c0 Inv-loop μ-loop
 add-c0 c = omega arith
 
 mul-c1 : tie.Need-mul-c1 Inv-loop μ-loop
-mul-c1 c = omega (arith, small (c .before .before .loop .i) (c .before .before .before .args .w / 2 ^ c .other .result))
+mul-c1 c = product (omega arith) (omega arith)
 
 add-c1 : tie.Need-add-c1 Inv-loop μ-loop
-add-c1 c = omega (arith, small (c .before .before .loop .i) (c .before .before .before .args .w / 2 ^ c .other .result))
+add-c1 c = sum (omega arith) (omega arith) (omega arith)
 
 mul-c2 : tie.Need-mul-c2 Inv-loop μ-loop
-mul-c2 c = omega (arith, small (c .before .before .loop .i / 2) (c .before .before .before .args .w / 2 ^ c .other .result))
+mul-c2 c = product (omega arith) (omega arith)
 
 add-c2 : tie.Need-add-c2 Inv-loop μ-loop
-add-c2 c = omega (arith, small (c .before .before .loop .i / 2) (c .before .before .before .args .w / 2 ^ c .other .result))
+add-c2 c = sum (omega arith) (omega arith) (omega arith)
 
 mul-c4 : tie.Need-mul-c4 Inv-loop μ-loop
-mul-c4 c = omega (arith, small (c .before .before .loop .i / 4) (c .before .before .before .args .w / 2 ^ c .other .result))
+mul-c4 c = product (omega arith) (omega arith)
 
 add-c4 : tie.Need-add-c4 Inv-loop μ-loop
-add-c4 c = omega (arith, small (c .before .before .loop .i / 4) (c .before .before .before .args .w / 2 ^ c .other .result))
+add-c4 c = sum (omega arith) (omega arith) (omega arith)
 
 mul-c8 : tie.Need-mul-c8 Inv-loop μ-loop
-mul-c8 c = omega (arith, small (c .before .before .loop .i / 8) (c .before .before .before .args .w / 2 ^ c .other .result))
+mul-c8 c = product (omega arith) (omega arith)
 
 add-c8 : tie.Need-add-c8 Inv-loop μ-loop
-add-c8 c = omega (arith, small (c .before .before .loop .i / 8) (c .before .before .before .args .w / 2 ^ c .other .result))
+add-c8 c = sum (omega arith) (omega arith) (omega arith)
 
 add-i : tie.Need-add-i Inv-loop μ-loop
 add-i c = omega arith
@@ -103,13 +111,14 @@ loop-again c =
     let l = c .before .before .loop in
     let i = l .i in
     let b = c .before .before .before .args .w / 2 ^ c .other .result % 2 in
-    let whole : Counted 0 (word c) (positions c) (i + 1) (l .c0 + 1 * b) = turn c (l .c0) 0 1 refl (l .inv .1) in
-    (omega arith,
-    subst (λ (x : ℕ). Counted 0 (word c) (positions c) (i + 1) (l .c0 + x)) (one-mul b) whole,
-    turn c (l .c1) 1 (i % 2) (ap (λ (x : ℕ). x % 2) (sym (div-one i))) (l .inv .2),
-    turn c (l .c2) 2 (i / 2 % 2) refl (l .inv .3),
-    turn c (l .c4) 4 (i / 4 % 2) refl (l .inv .4),
-    turn c (l .c8) 8 (i / 8 % 2) refl (l .inv .5))
+    let whole : Counted 0 (word c) (positions c) (i + 1) (l .c0 + 1 * b) = turn c (l .c0) 0 1 refl (l .inv .1) in (
+      omega arith,
+      subst (λ (x : ℕ). Counted 0 (word c) (positions c) (i + 1) (l .c0 + x)) (one-mul b) whole,
+      turn c (l .c1) 1 (i % 2) (ap (λ (x : ℕ). x % 2) (sym (div-one i))) (l .inv .2),
+      turn c (l .c2) 2 (i / 2 % 2) refl (l .inv .3),
+      turn c (l .c4) 4 (i / 4 % 2) refl (l .inv .4),
+      turn c (l .c8) 8 (i / 8 % 2) refl (l .inv .5),
+    )
 
 joined : (a b c d e : Bool) → ((((a && b) && c) && d) && e) ≡ a && (b && (c && (d && (e && true))))
 joined false b c d e = refl

@@ -12,6 +12,7 @@ use Rattle.words.specs.Bits.{bit, word}
 use Rattle.words.specs.Plain.{isCheck, carriers, carried}
 use Rattle.words.proofs.Digits.{bit-lt, word-lt}
 use Rattle.words.proofs.Counting.{pick-lt}
+use Rattle.words.proofs.Figures.{carriers-le}
 use Rattle.words.proofs.Spelling.{Spelt, spelt-none, spelt-more, spelt-lt, worth-le}
 use Rattle.words.proofs.writing.carried.Statement.{statement}
 use Rattle.words.proofs.writing.carried.Tie as tie
@@ -32,16 +33,6 @@ plus : (t : Bool) (k : ℕ) → k + pick t 0 1 ≡ pick t k (k + 1)
 plus true k = add-zero k
 plus false k = refl
 
--- at most one for each position
-carriers-le : (i : ℕ) → carriers i ≤ i
-unfolding carriers
-carriers-le zero = omega arith
-carriers-le (suc i) = either (isCheck i) (carriers-le i)
-  where
-    either : (t : Bool) → carriers i ≤ i → pick t (carriers i) (carriers i + 1) ≤ suc i
-    either true h = omega arith
-    either false h = omega arith
-
 abbrev Inv-loop : tie.InvT-loop
 Inv-loop x n h₀ one₀ k₀ i₀ h one k i = (i ≤ n) × (k ≡ carriers i) × Spelt (from x) i h one
 
@@ -61,14 +52,19 @@ shr-b c = omega (arith, carriers-le (c .before .before .loop .i))
 module _ (c : tie.After-carrier Inv-loop μ-loop) where
   x : ℕ
   x = c .before .before .before .args .x
+
   i : ℕ
   i = c .before .before .loop .i
+
   h : ℕ
   h = c .before .before .loop .h
+
   one : ℕ
   one = c .before .before .loop .one
+
   k : ℕ
   k = c .before .before .loop .k
+
   b : ℕ
   b = c .carrier .result * (c .before .before .before .args .x / 2 ^ c .before .before .loop .k % 2)
 

@@ -29,8 +29,10 @@ shr-found c = omega arith
 module _ (c : tie.After-covers Inv-loop μ-loop) where
   looks : ℕ
   looks = c .before .before .before .args .c
+
   h : ℕ
   h = c .before .before .before .args .h
+
   i : ℕ
   i = c .before .before .loop .i
 

@@ -32,12 +32,16 @@ shr-b c = omega (arith, other-lt (c .before .before .loop .i) (omega arith))
 module _ (c : tie.After-other Inv-loop μ-loop) where
   w : ℕ
   w = c .before .before .before .args .w
+
   i : ℕ
   i = c .before .before .loop .i
+
   e : ℕ
   e = c .before .before .loop .e
+
   one : ℕ
   one = c .before .before .loop .one
+
   b : ℕ
   b = c .before .before .before .args .w / 2 ^ c .other .result % 2
 

@@ -27,9 +27,10 @@ add-result c =
 returns : tie.Need-returns
 unfolding madeEven
 returns c =
-    let k = c .before .args .c in
-    (ap₂ (λ (x y : ℕ). c .before .args .h + x % 2 * y) (c .count .ensures) (shifted k (c .before .pre .1)),
-    rw (shifted k (c .before .pre .1)) (omega (arith, added-le (c .count .result) k, worth-le k (c .before .pre .1))))
+    let k = c .before .args .c in (
+      ap₂ (λ (x y : ℕ). c .before .args .h + x % 2 * y) (c .count .ensures) (shifted k (c .before .pre .1)),
+      rw (shifted k (c .before .pre .1)) (omega (arith, added-le (c .count .result) k, worth-le k (c .before .pre .1))),
+    )
 
 pub made-even-spec : {M : Type 1} → statement M
 made-even-spec = tie.close (tie.spec count-requires shl-result mul-result add-result returns)

@@ -1,0 +1,79 @@
+-- Each contract fixes its function's whole answer: any two answers that it allows are equal.
+-- Assumes nothing.
+use mathlib.Core.Path.{_≡_, refl}
+use Prim.Native.Nat.{ℕ}
+use contract.Lifetimes.{Lfts}
+use borrow.Fn.Kinds.{Dens, endedOf}
+use denote.Triple.Clauses.{AtExit}
+use Rattle.words.specs.Answer.{Outcome, gives, refuses}
+use Rattle.words.specs.Says.{saysShortRead, saysShortWritten, saysLongRead, saysLongWritten}
+use Rattle.words.specs.declared.ShortRead.{ShortRead}
+use Rattle.words.specs.declared.ShortWritten.{ShortWritten}
+use Rattle.words.specs.declared.LongRead.{LongRead}
+use Rattle.words.specs.declared.LongWritten.{LongWritten}
+use Rattle.words.proofs.Told.{told}
+use Rattle.words.proofs.read_short.Kinds as read-short-kinds
+use Rattle.words.proofs.read_short.Reads as read-short-reads
+use Rattle.words.proofs.write_short.Kinds as write-short-kinds
+use Rattle.words.proofs.write_short.Reads as write-short-reads
+use Rattle.words.proofs.read_long.Kinds as read-long-kinds
+use Rattle.words.proofs.read_long.Reads as read-long-reads
+use Rattle.words.proofs.write_long.Kinds as write-long-kinds
+use Rattle.words.proofs.write_long.Reads as write-long-reads
+
+-- From what an answer says, the answer.
+shortRead : Outcome ℕ → ShortRead
+shortRead (gives x) = ShortRead.Figure x
+shortRead (refuses n) = ShortRead.NotCode
+
+shortRead-back : (r : ShortRead) → shortRead (saysShortRead r) ≡ r
+unfolding shortRead
+shortRead-back (ShortRead.Figure x) = refl
+shortRead-back ShortRead.NotCode = refl
+
+shortWritten : Outcome ℕ → ShortWritten
+shortWritten (gives w) = ShortWritten.Word w
+shortWritten (refuses n) = ShortWritten.TooLarge
+
+shortWritten-back : (r : ShortWritten) → shortWritten (saysShortWritten r) ≡ r
+unfolding shortWritten
+shortWritten-back (ShortWritten.Word w) = refl
+shortWritten-back ShortWritten.TooLarge = refl
+
+longRead : Outcome ℕ → LongRead
+longRead (gives x) = LongRead.Figure x
+longRead (refuses n) = LongRead.NotCode
+
+longRead-back : (r : LongRead) → longRead (saysLongRead r) ≡ r
+unfolding longRead
+longRead-back (LongRead.Figure x) = refl
+longRead-back LongRead.NotCode = refl
+
+longWritten : Outcome ℕ → LongWritten
+longWritten (gives w) = LongWritten.Word w
+longWritten (refuses n) = LongWritten.TooLarge
+
+longWritten-back : (r : LongWritten) → longWritten (saysLongWritten r) ≡ r
+unfolding longWritten
+longWritten-back (LongWritten.Word w) = refl
+longWritten-back LongWritten.TooLarge = refl
+
+pub read-short-determined : (κs : Lfts 0) (a : Dens κs read-short-kinds.ps) (r r′ : ShortRead)
+    (x x′ : AtExit (endedOf 0 read-short-kinds.ps read-short-kinds.r) κs)
+    → read-short-reads.Post κs a r x → read-short-reads.Post κs a r′ x′ → r ≡ r′
+read-short-determined κs a r r′ x x′ p q = told saysShortRead shortRead shortRead-back r r′ p q
+
+pub write-short-determined : (κs : Lfts 0) (a : Dens κs write-short-kinds.ps) (r r′ : ShortWritten)
+    (x x′ : AtExit (endedOf 0 write-short-kinds.ps write-short-kinds.r) κs)
+    → write-short-reads.Post κs a r x → write-short-reads.Post κs a r′ x′ → r ≡ r′
+write-short-determined κs a r r′ x x′ p q = told saysShortWritten shortWritten shortWritten-back r r′ p q
+
+pub read-long-determined : (κs : Lfts 0) (a : Dens κs read-long-kinds.ps) (r r′ : LongRead)
+    (x x′ : AtExit (endedOf 0 read-long-kinds.ps read-long-kinds.r) κs)
+    → read-long-reads.Post κs a r x → read-long-reads.Post κs a r′ x′ → r ≡ r′
+read-long-determined κs a r r′ x x′ p q = told saysLongRead longRead longRead-back r r′ p q
+
+pub write-long-determined : (κs : Lfts 0) (a : Dens κs write-long-kinds.ps) (r r′ : LongWritten)
+    (x x′ : AtExit (endedOf 0 write-long-kinds.ps write-long-kinds.r) κs)
+    → write-long-reads.Post κs a r x → write-long-reads.Post κs a r′ x′ → r ≡ r′
+write-long-determined κs a r r′ x x′ p q = told saysLongWritten longWritten longWritten-back r r′ p q

@@ -1,0 +1,50 @@
+-- Document 01's table M8, and the words of its table of proved cases, computed against the definitions.
+-- Assumes nothing.
+use mathlib.Core.Path.{_≡_, refl}
+use mathlib.Core.List.{List, [], _∷_, map}
+use Prim.Native.Nat.{ℕ, zero, suc}
+use Rattle.words.specs.Answer.{Outcome, gives, refuses}
+use Rattle.words.specs.Bits.{word}
+use Rattle.words.specs.Plain.{isCheck, covers, count, even, isCode, onwards, figure, carriers, carried, madeEven, plainWord}
+use Rattle.words.specs.Code.{other, exchanged, sent, readWord, writeWord, readShort, writeShort, readLong, writeLong}
+
+-- M(8,4) for 0 to 15, as document 01 prints it.
+M8 : List ℕ
+M8 =
+    0x00 ∷ 0x17 ∷ 0x2B ∷ 0x3C ∷ 0x4D ∷ 0x5A ∷ 0x66 ∷ 0x71 ∷ 0x8E ∷ 0x99 ∷ 0xA5 ∷ 0xB2 ∷ 0xC3 ∷ 0xD4 ∷ 0xE8 ∷ 0xFF ∷ []
+
+-- The numbers from k on, n of them.
+from : ℕ → ℕ → List ℕ
+from k zero = []
+from k (suc n) = k ∷ from (suc k) n
+
+-- Each figure is written as the table has it, and 16 is refused with 2.
+m8-written : map writeShort (from 0 16) ≡ map gives M8
+unfolding M8 from writeWord sent plainWord carried carriers madeEven count covers isCheck exchanged other word
+m8-written = refl
+
+sixteen : writeShort 16 ≡ refuses 2
+unfolding writeWord
+sixteen = refl
+
+-- Each word of the table reads as its figure; 18 hex is refused with 1.
+m8-read : map readShort M8 ≡ map gives (from 0 16)
+unfolding M8 from readWord isCode even count covers figure onwards isCheck exchanged other word
+m8-read = refl
+
+eighteen : readShort 0x18 ≡ refuses 1
+unfolding readWord isCode even count covers figure onwards isCheck exchanged other word
+eighteen = refl
+
+-- 1152 is 88/06, 1216 is 99/00, 1612 is D1/C6; 88/07 is refused with 1, and 2,048 with 2.
+long-written : map writeLong (1152 ∷ 1216 ∷ 1612 ∷ []) ≡ map gives (0x8806 ∷ 0x9900 ∷ 0xD1C6 ∷ [])
+unfolding writeWord sent plainWord carried carriers madeEven count covers isCheck exchanged other word
+long-written = refl
+
+long-read : map readLong (0x8806 ∷ 0x9900 ∷ 0xD1C6 ∷ 0x8807 ∷ []) ≡ gives 1152 ∷ gives 1216 ∷ gives 1612 ∷ refuses 1 ∷ []
+unfolding readWord isCode even count covers figure onwards isCheck exchanged other word
+long-read = refl
+
+too-large : writeLong 2048 ≡ refuses 2
+unfolding writeWord
+too-large = refl
