@@ -3,8 +3,9 @@
 use mathlib.Core.Path.{_≡_, refl, sym, ap, ap₂, _∙_, subst}
 use mathlib.Core.Logic.{_⊎_, inl, inr}
 use Prim.Native.Nat.{ℕ, zero, suc, _+_, _-_, _*_, _/_, _%_, _^_, _≤_, _<_}
-use native.Mathlib.Nat.{pow-suc, mod-lt, zero-lt-suc, mul-le-mul-right, le-of-suc-le-suc, lt-suc-self, lt-trans, eq-or-lt-of-le, not-suc-le-zero, mul-comm, mod-eq-of-lt, one-mul, zero-mul, add-mul-div-right, add-comm, mul-assoc, add-mul-mod-self-right, le-dest, mod-one}
+use native.Mathlib.Nat.{pow-suc, mod-lt, zero-lt-suc, mul-le-mul-right, le-of-suc-le-suc, lt-suc-self, lt-trans, eq-or-lt-of-le, not-suc-le-zero, mul-comm, mod-eq-of-lt, one-mul, add-mul-div-right, add-comm, mul-assoc, add-mul-mod-self-right, le-dest, mod-one}
 use native.Mathlib.Omega.{arith}
+use lib.Dec.{lit<}
 use lib.Bits.{bitXor, differ, xor-shr, xor-mod, xor-lt, xor-zero-r}
 use lib.Pow.{high, pow-pos, pow-add, mod-pow-add, split}
 use Rattle.words.specs.Bits.{bit, word, onesOf}
@@ -12,12 +13,6 @@ use Rattle.words.specs.Bits.{bit, word, onesOf}
 -- A bit is 0 or 1.
 pub bit-lt : (w i : ℕ) → bit w i < 2
 bit-lt w i = mod-lt (w / 2 ^ i) (zero-lt-suc 1)
-
--- A product of two bits is a bit.
-pub bit-mul : (x y : ℕ) → x < 2 → y < 2 → x * y < 2
-bit-mul zero y hx hy = subst (λ (k : ℕ). k < 2) (sym (zero-mul y)) (zero-lt-suc 1)
-bit-mul (suc zero) y hx hy = subst (λ (k : ℕ). k < 2) (sym (one-mul y)) hy
-bit-mul (suc (suc x)) y hx hy = absurd (not-suc-le-zero (le-of-suc-le-suc (le-of-suc-le-suc hx)))
 
 -- What stands from bit n on leaves the bits below as they are.
 pub bit-above : (a r n i : ℕ) → i < n → bit (a * 2 ^ n + r) i ≡ bit r i
@@ -74,35 +69,31 @@ word-bits w n h = word-mod w n ∙ mod-eq-of-lt h
 pub bits-ext : (v w n : ℕ) → v < 2 ^ n → w < 2 ^ n → ((i : ℕ) → i < n → bit v i ≡ bit w i) → v ≡ w
 bits-ext v w n hv hw same = sym (word-bits v n hv) ∙ word-ext (bit v) (bit w) n same ∙ word-bits w n hw
 
+-- What holds of the four pairs of bits holds of any two bits.
+pub two-bits : (P : ℕ → ℕ → Type 0) → P 0 0 → P 0 1 → P 1 0 → P 1 1 → (x y : ℕ) → x < 2 → y < 2 → P x y
+two-bits P p q r s zero zero hx hy = p
+two-bits P p q r s zero (suc zero) hx hy = q
+two-bits P p q r s (suc zero) zero hx hy = r
+two-bits P p q r s (suc zero) (suc zero) hx hy = s
+two-bits P p q r s zero (suc (suc y)) hx hy = absurd (not-suc-le-zero (le-of-suc-le-suc (le-of-suc-le-suc hy)))
+two-bits P p q r s (suc zero) (suc (suc y)) hx hy = absurd (not-suc-le-zero (le-of-suc-le-suc (le-of-suc-le-suc hy)))
+two-bits P p q r s (suc (suc x)) y hx hy = absurd (not-suc-le-zero (le-of-suc-le-suc (le-of-suc-le-suc hx)))
+
+-- A product of two bits is a bit.
+pub bit-mul : (x y : ℕ) → x < 2 → y < 2 → x * y < 2
+bit-mul = two-bits (λ x y. x * y < 2) (lit< tt) (lit< tt) (lit< tt) (lit< tt)
+
 -- The exclusive or of two bits says whether they differ.
 pub xor-bit : (x y : ℕ) → x < 2 → y < 2 → bitXor x y ≡ differ x y
-xor-bit zero y hx hy = refl
-xor-bit (suc zero) zero hx hy = refl
-xor-bit (suc zero) (suc zero) hx hy = refl
-xor-bit (suc zero) (suc (suc y)) hx hy = absurd (not-suc-le-zero (le-of-suc-le-suc (le-of-suc-le-suc hy)))
-xor-bit (suc (suc x)) y hx hy = absurd (not-suc-le-zero (le-of-suc-le-suc (le-of-suc-le-suc hx)))
+xor-bit = two-bits (λ x y. bitXor x y ≡ differ x y) refl refl refl refl
 
 -- So does each bit of an exclusive or.
 pub bit-xor : (v w i : ℕ) → bit (bitXor v w) i ≡ differ (bit v i) (bit w i)
 bit-xor v w i =
     ap (λ (k : ℕ). k % 2) (xor-shr v w i) ∙ xor-mod (v / 2 ^ i) (w / 2 ^ i) 1 ∙ xor-bit (bit v i) (bit w i) (bit-lt v i) (bit-lt w i)
 
--- Two bits that differ make an odd sum.
-pub differ-parity : (x y : ℕ) → x < 2 → y < 2 → differ x y ≡ (x + y) % 2
-differ-parity zero zero hx hy = refl
-differ-parity zero (suc zero) hx hy = refl
-differ-parity (suc zero) zero hx hy = refl
-differ-parity (suc zero) (suc zero) hx hy = refl
-differ-parity zero (suc (suc y)) hx hy = absurd (not-suc-le-zero (le-of-suc-le-suc (le-of-suc-le-suc hy)))
-differ-parity (suc zero) (suc (suc y)) hx hy = absurd (not-suc-le-zero (le-of-suc-le-suc (le-of-suc-le-suc hy)))
-differ-parity (suc (suc x)) y hx hy = absurd (not-suc-le-zero (le-of-suc-le-suc (le-of-suc-le-suc hx)))
-
 differ-twice : (x y : ℕ) → x < 2 → y < 2 → differ x (differ x y) ≡ y
-differ-twice zero y hx hy = refl
-differ-twice (suc zero) zero hx hy = refl
-differ-twice (suc zero) (suc zero) hx hy = refl
-differ-twice (suc zero) (suc (suc y)) hx hy = absurd (not-suc-le-zero (le-of-suc-le-suc (le-of-suc-le-suc hy)))
-differ-twice (suc (suc x)) y hx hy = absurd (not-suc-le-zero (le-of-suc-le-suc (le-of-suc-le-suc hx)))
+differ-twice = two-bits (λ x y. differ x (differ x y) ≡ y) refl refl refl refl
 
 module _ (n v w : ℕ) (hv : v < 2 ^ n) (hw : w < 2 ^ n) where
   -- Flips that are undone leave the word.

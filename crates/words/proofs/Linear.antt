@@ -4,7 +4,6 @@ use mathlib.Core.Path.{_≡_, refl, sym, ap, ap₂, _∙_, subst}
 use mathlib.Core.Bool.{Bool, true, false, _&&_}
 use mathlib.Core.List.{List, [], _∷_}
 use Prim.Native.Nat.{ℕ, zero, suc, _+_, _*_, _%_, _^_, _<_}
-use native.Mathlib.Nat.{not-suc-le-zero, le-of-suc-le-suc}
 use native.Mathlib.Omega.{arith}
 use lib.Dec.{eqb}
 use lib.Bits.{bitXor, differ, xor-block, xor-lt}
@@ -13,17 +12,11 @@ use Rattle.words.specs.Answer.{pick}
 use Rattle.words.specs.Bits.{bit, word}
 use Rattle.words.specs.Plain.{covers, count, even, checks, allEven, isCode, isCheck, onwards, figure}
 use Rattle.words.specs.Code.{other, exchanged}
-use Rattle.words.proofs.Digits.{bit-lt, xor-bit, bit-xor, word-lt, bits-ext}
+use Rattle.words.proofs.Digits.{bit-lt, two-bits, xor-bit, bit-xor, word-lt, bits-ext}
 use Rattle.words.proofs.Counting.{bit-exchanged}
 
 mixed : (p x y : ℕ) → x < 2 → y < 2 → p * differ x y % 2 ≡ (p * x + p * y) % 2
-mixed p zero zero hx hy = omega arith
-mixed p zero (suc zero) hx hy = omega arith
-mixed p (suc zero) zero hx hy = omega arith
-mixed p (suc zero) (suc zero) hx hy = omega arith
-mixed p zero (suc (suc y)) hx hy = absurd (not-suc-le-zero (le-of-suc-le-suc (le-of-suc-le-suc hy)))
-mixed p (suc zero) (suc (suc y)) hx hy = absurd (not-suc-le-zero (le-of-suc-le-suc (le-of-suc-le-suc hy)))
-mixed p (suc (suc x)) y hx hy = absurd (not-suc-le-zero (le-of-suc-le-suc (le-of-suc-le-suc hx)))
+mixed p = two-bits (λ x y. p * differ x y % 2 ≡ (p * x + p * y) % 2) (omega arith) (omega arith) (omega arith) (omega arith)
 
 -- A count of ones of an exclusive or is odd where the two counts together are.
 count-xor : (p : ℕ → ℕ) (a b n : ℕ) → count p (bitXor a b) n % 2 ≡ (count p a n + count p b n) % 2
