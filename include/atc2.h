@@ -1,0 +1,61 @@
+/*
+ * The balise bench checker's libraries for C and C++.
+ *
+ * Link with libabi.a (rt staticlib abi). Each function is total: whatever is passed, it returns one of the values listed,
+ * and a refusal, -N for document 01's number N, leaves every lent array as it was. Buffers are read only while the call runs.
+ */
+#ifndef ATC2_H
+#define ATC2_H
+
+#include <stddef.h>
+#include <stdint.h>
+
+#ifdef __cplusplus
+extern "C" {
+#endif
+
+/* The figure of a received short word, 0 to 15; -1 if it is not a code word.
+ * Nothing is mended. */
+int32_t atc2_read_short(uint8_t word);
+
+/* The short word to send for a figure 0 to 15; -2 for a larger one.
+ * Read back, it is the figure. */
+int32_t atc2_write_short(uint8_t figure);
+
+/* The figure of a received long word, 0 to 2047; -1 if it is not a code word.
+ * Y is the high byte, Z the low one. */
+int32_t atc2_read_long(uint16_t word);
+
+/* The long word to send for a figure 0 to 2047; -2 for a larger one.
+ * Read back, it is the figure. */
+int32_t atc2_write_long(uint16_t figure);
+
+/* Three received words as a telegram: X * 65536 + Y * 256 + Z as figures, or 12 * 65536 + the number if X reads 12.
+ * -1 if the first bad word is not a code word, -3 if it is a short word that reads 15. */
+int32_t atc2_read_telegram(uint8_t x, uint8_t y, uint8_t z);
+
+/* The first place in the stretch of len bits from bit start on, with the sync words s and t: 0, and out = place, telegram as above.
+ * -4: the pair does not differ in seven bits; -5: the stretch is not inside the n bytes, or too long; -6: no place. */
+int32_t atc2_find(const uint8_t *buf, size_t n, size_t start, size_t len, uint8_t s, uint8_t t, uint64_t out[2]);
+
+/* The judgement of one contact: 1, and out = telegram, first place, number of places; 2: a marker, out as it was.
+ * -4 and -5 as above; -7: its places differ; -8: neither telegram nor marker. */
+int32_t atc2_judge(const uint8_t *buf, size_t n, size_t start, size_t len, uint8_t s, uint8_t t, uint64_t out[3]);
+
+/* The beginning of a search for contacts in a stretch: 0, and search = next bit, bits left, history (65535).
+ * -5: the stretch is not inside the n bytes, or too long. */
+int32_t atc2_begin(const uint8_t *buf, size_t n, size_t start, size_t len, uint64_t search[3]);
+
+/* The next contact of a search: 1, and out = start, length, and search moves on behind its closing bit; 0: no further one opens.
+ * -5 as above; -9: a contact is cut by the end. A history above 65535 counts by its low sixteen bits. */
+int32_t atc2_next_contact(const uint8_t *buf, size_t n, uint64_t search[3], uint64_t out[2]);
+
+/* The distance in decimetres of a figure 1 to 14 in column BY 0 to 14 of table DF.
+ * -15 for any other column or figure. */
+int32_t atc2_distance(uint8_t by, uint8_t figure);
+
+#ifdef __cplusplus
+}
+#endif
+
+#endif
