@@ -1,2 +1,12 @@
 pub mod Words
 pub mod Pairs
+pub mod Taken
+pub mod Window
+pub mod Places
+pub mod Rest
+pub mod SoFar
+pub mod Handed
+pub mod Law
+pub mod Calls
+pub mod Determined
+pub mod Examples

@@ -2,25 +2,18 @@
 -- Assumes nothing.
 use mathlib.Core.Path.{_≡_, refl, sym, ap, ap₂, _∙_}
 use Prim.Native.Nat.{ℕ, zero, suc, _+_, _^_, _<_}
-use native.Mathlib.Nat.{not-suc-le-zero, le-of-suc-le-suc}
 use lib.Dec.{eqb}
 use lib.Bits.{bitXor, differ, xor-lt}
 use lib.Count.{ones}
 use Rattle.words.specs.Answer.{pick}
 use Rattle.words.specs.Bits.{bit, onesOf}
-use Rattle.words.proofs.Digits.{bit-lt, bit-xor}
+use Rattle.words.proofs.Digits.{bit-lt, two-bits, bit-xor}
 use Rattle.words.proofs.Ones.{ones-is}
 use Rattle.telegram.specs.Sync.{differing}
 
 -- two bits differ, or they do not
 differ-pick : (x y : ℕ) → x < 2 → y < 2 → differ x y ≡ pick (eqb x y) 0 1
-differ-pick zero zero hx hy = refl
-differ-pick zero (suc zero) hx hy = refl
-differ-pick (suc zero) zero hx hy = refl
-differ-pick (suc zero) (suc zero) hx hy = refl
-differ-pick zero (suc (suc y)) hx hy = absurd (not-suc-le-zero (le-of-suc-le-suc (le-of-suc-le-suc hy)))
-differ-pick (suc zero) (suc (suc y)) hx hy = absurd (not-suc-le-zero (le-of-suc-le-suc (le-of-suc-le-suc hy)))
-differ-pick (suc (suc x)) y hx hy = absurd (not-suc-le-zero (le-of-suc-le-suc (le-of-suc-le-suc hx)))
+differ-pick = two-bits (λ x y. differ x y ≡ pick (eqb x y) 0 1) refl refl refl refl
 
 ones-differing : (s t n : ℕ) → onesOf (bitXor s t) n ≡ differing s t n
 unfolding onesOf differing

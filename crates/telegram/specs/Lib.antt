@@ -1,4 +1,6 @@
 pub mod Stretch
 pub mod Sync
 pub mod Telegram
+pub mod Place
+pub mod Survey
 pub mod Says

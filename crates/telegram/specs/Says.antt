@@ -4,10 +4,14 @@ use Prim.Native.Nat.{ℕ}
 use Rattle.words.specs.Answer.{Outcome, gives, refuses}
 use Rattle.telegram.specs.Sync.{Good, good}
 use Rattle.telegram.specs.Telegram.{Message, figures, number, Letter, X, Y, Z, YZ, Reading, reads, refused}
+use Rattle.telegram.specs.Place.{Single, at}
+use Rattle.telegram.specs.Survey.{Alike, alike}
 use Rattle.telegram.specs.declared.Pair.{Pair}
 use Rattle.telegram.specs.declared.Telegram.{Telegram}
 use Rattle.telegram.specs.declared.Word.{Word}
 use Rattle.telegram.specs.declared.TelegramRead.{TelegramRead}
+use Rattle.telegram.specs.declared.Found.{Found}
+use Rattle.telegram.specs.declared.Surveyed.{Surveyed}
 
 -- A good pair; "sync pair doesn't differ in seven bits" is 4.
 abbrev pub saysPair : Pair → Outcome Good
@@ -31,3 +35,19 @@ abbrev pub saysTelegramRead : TelegramRead → Reading
 saysTelegramRead (TelegramRead.Is t) = reads (saysTelegram t)
 saysTelegramRead (TelegramRead.NotCode w) = refused 1 (saysWord w)
 saysTelegramRead (TelegramRead.Fifteen w) = refused 3 (saysWord w)
+
+-- A place with its telegram; "sync pair doesn't differ in seven bits" is 4, "stretch beyond the buffer, or above
+-- 16,777,216 bits" is 5, "no place in the stretch" is 6.
+abbrev pub saysFound : Found → Outcome Single
+saysFound (Found.At p t) = gives (at p (reads (saysTelegram t)))
+saysFound Found.NotSeven = refuses 4
+saysFound Found.Beyond = refuses 5
+saysFound Found.NoPlace = refuses 6
+
+-- Places that are alike, by their telegram, the first of them and their number; 4, 5 and 6 as above, and "places differ" is 7.
+abbrev pub saysSurveyed : Surveyed → Outcome Alike
+saysSurveyed (Surveyed.Alike t first count) = gives (alike (reads (saysTelegram t)) first count)
+saysSurveyed Surveyed.NotSeven = refuses 4
+saysSurveyed Surveyed.Beyond = refuses 5
+saysSurveyed Surveyed.NoPlace = refuses 6
+saysSurveyed Surveyed.Differ = refuses 7

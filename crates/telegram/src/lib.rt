@@ -1,14 +1,22 @@
 // Telegrams of document 01: the sync pair, the three words between two sync words, the places in a stretch of bits.
 // Promises: a telegram is read whole or refused by its first bad word; every place of a stretch is found, and no other.
-// Specification: specs/Sync.antt, specs/Telegram.antt, specs/Stretch.antt, specs/Place.antt, specs/Says.antt (the answers).
+// Specification: specs/Sync.antt, specs/Telegram.antt, specs/Stretch.antt, specs/Place.antt, specs/Survey.antt, specs/Says.antt (the answers).
 ghost use mathlib.Core.Path.{_≡_};
 ghost use Rattle.telegram.specs.Sync.{pairOf};
 ghost use Rattle.telegram.specs.Telegram.{telegram};
-ghost use Rattle.telegram.specs.Says.{saysPair, saysTelegramRead};
+ghost use Rattle.telegram.specs.Place.{found};
+ghost use Rattle.telegram.specs.Survey.{surveyed};
+ghost use Rattle.telegram.specs.Says.{saysPair, saysTelegramRead, saysFound, saysSurveyed};
 
 mod after_x;
+mod alike;
+mod bits;
+mod forty;
+mod scan;
+mod stretch;
 mod sync;
 
+pub use stretch::inside;
 use words::ShortRead;
 
 // What the judgement of a sync pair answers.
@@ -38,11 +46,36 @@ pub enum TelegramRead {
     Fifteen(Word),
 }
 
+// What the search for single telegrams answers: the first place and its telegram, or why there is none.
+pub enum Found {
+    At { place: usize, telegram: Telegram },
+    NotSeven,
+    Beyond,
+    NoPlace,
+}
+
+// What the survey of a stretch answers: places that are all alike, with the first of them and their number, or why not.
+pub enum Surveyed {
+    Alike {
+        telegram: Telegram,
+        first: usize,
+        count: usize,
+    },
+    Differ,
+    NotSeven,
+    Beyond,
+    NoPlace,
+}
+
 // Whether the sync words S and S* make a good pair, or refusal 4.
 pub fn good_pair(s: u8, t: u8) -> Pair
     ensures { λ r. ⌜ saysPair r ≡ pairOf s t ⌝ }
 {
-    if sync::is_good(s, t) { Pair::Good } else { Pair::NotSeven }
+    if sync::is_good(s, t) {
+        Pair::Good
+    } else {
+        Pair::NotSeven
+    }
 }
 
 // The telegram that three received words make, X judged before Y and Y before Z, or refusal 1 or 3.
@@ -55,5 +88,40 @@ pub fn read(x: u8, y: u8, z: u8) -> TelegramRead
     if a == 15 {
         return TelegramRead::Fifteen(Word::X);
     }
-    if a == 12 { after_x::number(y, z) } else { after_x::figures(a, y, z) }
+    if a == 12 {
+        after_x::number(y, z)
+    } else {
+        after_x::figures(a, y, z)
+    }
+}
+
+// The first place of the stretch that begins at bit `start` and has `len` bits, or refusal 4, 5 or 6.
+pub fn find(buf: &[u8], start: usize, len: usize, s: u8, t: u8) -> Found
+    ensures { λ r. ⌜ saysFound r ≡ found (now (buf .entry)) start len s t ⌝ }
+{
+    if !sync::is_good(s, t) {
+        return Found::NotSeven;
+    }
+    if !stretch::inside(buf, start, len) {
+        return Found::Beyond;
+    }
+    if len < 40 {
+        return Found::NoPlace;
+    }
+    scan::first_place(buf, start, start + (len - 39), s, t)
+}
+
+// All places of the stretch together: alike, each with the same X, Y and Z, or refusal 4, 5, 6 or 7.
+pub fn survey(buf: &[u8], start: usize, len: usize, s: u8, t: u8) -> Surveyed
+    ensures { λ r. ⌜ saysSurveyed r ≡ surveyed (now (buf .entry)) start len s t ⌝ }
+{
+    let found = find(buf, start, len, s, t);
+    match found {
+        Found::At { place, telegram } => {
+            alike::from_first(buf, place, start + (len - 39), s, t, telegram)
+        }
+        Found::NotSeven => Surveyed::NotSeven,
+        Found::Beyond => Surveyed::Beyond,
+        Found::NoPlace => Surveyed::NoPlace,
+    }
 }

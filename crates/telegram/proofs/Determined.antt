@@ -1,0 +1,120 @@
+-- Each contract fixes its function's whole answer: any two answers that it allows are equal.
+-- Assumes nothing.
+use mathlib.Core.Path.{_≡_, refl, sym, ap, ap₂, _∙_}
+use mathlib.Core.Bool.{Bool}
+use lib.Dec.{eqb}
+use contract.Lifetimes.{Lfts}
+use borrow.Fn.Kinds.{Dens, endedOf}
+use denote.Triple.Clauses.{AtExit}
+use Rattle.words.specs.Answer.{Outcome, gives, refuses, pick}
+use Rattle.telegram.specs.Sync.{Good, good}
+use Rattle.telegram.specs.Telegram.{Message, figures, number, Letter, X, Y, Z, YZ, Reading, reads, refused}
+use Rattle.telegram.specs.Place.{Single, at}
+use Rattle.telegram.specs.Survey.{Alike, alike}
+use Rattle.telegram.specs.Says.{saysPair, saysTelegram, saysWord, saysTelegramRead, saysFound, saysSurveyed}
+use Rattle.telegram.specs.declared.Pair.{Pair}
+use Rattle.telegram.specs.declared.Telegram.{Telegram}
+use Rattle.telegram.specs.declared.Word.{Word}
+use Rattle.telegram.specs.declared.TelegramRead.{TelegramRead}
+use Rattle.telegram.specs.declared.Found.{Found}
+use Rattle.telegram.specs.declared.Surveyed.{Surveyed}
+use Rattle.telegram.proofs.good_pair.Kinds as pair-kinds
+use Rattle.telegram.proofs.good_pair.Reads as pair-reads
+use Rattle.telegram.proofs.read.Kinds as read-kinds
+use Rattle.telegram.proofs.read.Reads as read-reads
+use Rattle.telegram.proofs.stretch.inside.Kinds as inside-kinds
+use Rattle.telegram.proofs.stretch.inside.Reads as inside-reads
+use Rattle.telegram.proofs.find.Kinds as find-kinds
+use Rattle.telegram.proofs.find.Reads as find-reads
+use Rattle.telegram.proofs.survey.Kinds as survey-kinds
+use Rattle.telegram.proofs.survey.Reads as survey-reads
+
+-- From what an answer says, the answer.
+abbrev pairOf : Outcome Good → Pair
+pairOf (gives g) = Pair.Good
+pairOf (refuses n) = Pair.NotSeven
+
+pair-back : (r : Pair) → pairOf (saysPair r) ≡ r
+pair-back Pair.Good = refl
+pair-back Pair.NotSeven = refl
+
+abbrev pub telegramOf : Message → Telegram
+telegramOf (figures x y z) = Telegram.Figures x y z
+telegramOf (number m) = Telegram.Number m
+
+pub telegram-back : (t : Telegram) → telegramOf (saysTelegram t) ≡ t
+telegram-back (Telegram.Figures x y z) = refl
+telegram-back (Telegram.Number m) = refl
+
+abbrev wordOf : Letter → Word
+wordOf X = Word.X
+wordOf Y = Word.Y
+wordOf Z = Word.Z
+wordOf YZ = Word.YZ
+
+word-back : (w : Word) → wordOf (saysWord w) ≡ w
+word-back Word.X = refl
+word-back Word.Y = refl
+word-back Word.Z = refl
+word-back Word.YZ = refl
+
+abbrev pub readOf : Reading → TelegramRead
+readOf (reads m) = TelegramRead.Is (telegramOf m)
+readOf (refused n letter) = pick (eqb n 1) (TelegramRead.NotCode (wordOf letter)) (TelegramRead.Fifteen (wordOf letter))
+
+pub read-back : (r : TelegramRead) → readOf (saysTelegramRead r) ≡ r
+read-back (TelegramRead.Is t) = ap TelegramRead.Is (telegram-back t)
+read-back (TelegramRead.NotCode w) = ap TelegramRead.NotCode (word-back w)
+read-back (TelegramRead.Fifteen w) = ap TelegramRead.Fifteen (word-back w)
+
+-- Of a reading that is none, any answer will do.
+abbrev pub told : {A : Type 0} → (Telegram → A) → A → Reading → A
+told some none (reads m) = some (telegramOf m)
+told some none (refused n letter) = none
+
+abbrev foundOf : Outcome Single → Found
+foundOf (gives (at p m)) = told (λ t. Found.At p t) Found.NoPlace m
+foundOf (refuses n) = pick (eqb n 4) Found.NotSeven (pick (eqb n 5) Found.Beyond Found.NoPlace)
+
+found-back : (r : Found) → foundOf (saysFound r) ≡ r
+found-back (Found.At p t) = ap (λ (u : Telegram). Found.At p u) (telegram-back t)
+found-back Found.NotSeven = refl
+found-back Found.Beyond = refl
+found-back Found.NoPlace = refl
+
+abbrev surveyedOf : Outcome Alike → Surveyed
+surveyedOf (gives (alike m first count)) = told (λ t. Surveyed.Alike t first count) Surveyed.NoPlace m
+surveyedOf (refuses n) =
+    pick (eqb n 4) Surveyed.NotSeven (pick (eqb n 5) Surveyed.Beyond (pick (eqb n 6) Surveyed.NoPlace Surveyed.Differ))
+
+surveyed-back : (r : Surveyed) → surveyedOf (saysSurveyed r) ≡ r
+surveyed-back (Surveyed.Alike t first count) = ap (λ (u : Telegram). Surveyed.Alike u first count) (telegram-back t)
+surveyed-back Surveyed.Differ = refl
+surveyed-back Surveyed.NotSeven = refl
+surveyed-back Surveyed.Beyond = refl
+surveyed-back Surveyed.NoPlace = refl
+
+pub good-pair-determined : (κs : Lfts 0) (a : Dens κs pair-kinds.ps) (r r′ : Pair)
+    (x x′ : AtExit (endedOf 0 pair-kinds.ps pair-kinds.r) κs)
+    → pair-reads.Post κs a r x → pair-reads.Post κs a r′ x′ → r ≡ r′
+good-pair-determined κs a r r′ x x′ p q = sym (pair-back r) ∙ ap pairOf (p ∙ sym q) ∙ pair-back r′
+
+pub read-determined : (κs : Lfts 0) (a : Dens κs read-kinds.ps) (r r′ : TelegramRead)
+    (x x′ : AtExit (endedOf 0 read-kinds.ps read-kinds.r) κs)
+    → read-reads.Post κs a r x → read-reads.Post κs a r′ x′ → r ≡ r′
+read-determined κs a r r′ x x′ p q = sym (read-back r) ∙ ap readOf (p ∙ sym q) ∙ read-back r′
+
+pub inside-determined : (κs : Lfts 1) (a : Dens κs inside-kinds.ps) (r r′ : Bool)
+    (x x′ : AtExit (endedOf 1 inside-kinds.ps inside-kinds.r) κs)
+    → inside-reads.Post κs a r x → inside-reads.Post κs a r′ x′ → r ≡ r′
+inside-determined κs a r r′ x x′ p q = p ∙ sym q
+
+pub find-determined : (κs : Lfts 1) (a : Dens κs find-kinds.ps) (r r′ : Found)
+    (x x′ : AtExit (endedOf 1 find-kinds.ps find-kinds.r) κs)
+    → find-reads.Post κs a r x → find-reads.Post κs a r′ x′ → r ≡ r′
+find-determined κs a r r′ x x′ p q = sym (found-back r) ∙ ap foundOf (p ∙ sym q) ∙ found-back r′
+
+pub survey-determined : (κs : Lfts 1) (a : Dens κs survey-kinds.ps) (r r′ : Surveyed)
+    (x x′ : AtExit (endedOf 1 survey-kinds.ps survey-kinds.r) κs)
+    → survey-reads.Post κs a r x → survey-reads.Post κs a r′ x′ → r ≡ r′
+survey-determined κs a r r′ x x′ p q = sym (surveyed-back r) ∙ ap surveyedOf (p ∙ sym q) ∙ surveyed-back r′

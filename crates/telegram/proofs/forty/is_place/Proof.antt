@@ -1,0 +1,36 @@
+-- Where the outer bytes are no sync pair there is no place; where they are, the three words decide.
+-- Assumes nothing.
+use mathlib.Core.Path.{_≡_, ap, ap₂, sym, _∙_}
+use mathlib.Core.Bool.{Bool, true, false, _&&_}
+use borrow.Author.Needs.{needs}
+use borrow.Author.Tests.{not-true, not-false}
+use Rattle.telegram.specs.Place.{accepted}
+use Rattle.telegram.proofs.Window.{inner}
+use Rattle.telegram.proofs.forty.is_place.Statement.{statement}
+use Rattle.telegram.proofs.forty.is_place.Tie as tie
+
+outer-are-syncs-requires : tie.Need-outer-are-syncs-requires
+outer-are-syncs-requires c κs = search needs
+
+returns : tie.Need-returns
+returns c =
+    let o = c .before .outer-are-syncs in
+    ap (λ (x : Bool). x && accepted (inner (c .before .before .args .v))) (sym (not-true (o .result) (c .if1 .taken)) ∙ o .ensures)
+
+words-of-requires : tie.Need-words-of-requires
+words-of-requires c κs = search needs
+
+is-telegram-requires : tie.Need-is-telegram-requires
+is-telegram-requires c κs = search needs
+
+returns-2 : tie.Need-returns-2
+returns-2 c =
+    let o = c .before .before .before .outer-are-syncs in
+    c .is-telegram .ensures
+    ∙ ap₂ (λ (x y : Bool). x && y) (sym (not-false (o .result) (c .before .before .if1 .left)) ∙ o .ensures)
+    (ap accepted (c .before .words-of .ensures))
+
+pub is-place-spec : {M : Type 1} → statement M
+is-place-spec =
+    tie.close
+    (tie.spec outer-are-syncs-requires returns words-of-requires is-telegram-requires returns-2)

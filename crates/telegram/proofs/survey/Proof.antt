@@ -1,0 +1,101 @@
+-- The search finds the first place, or refuses; the places after it are walked from there.
+-- Assumes nothing.
+use Prim.Native.Nat.{ℕ, _+_, _-_}
+use mathlib.Core.Path.{_≡_, sym, ap, _∙_}
+use mathlib.Core.List.{List, _∷_}
+use native.Mathlib.Omega.{arith}
+use borrow.Author.Needs.{needs}
+use Rattle.telegram.specs.Place.{places, found}
+use Rattle.telegram.specs.Survey.{together, surveyed}
+use Rattle.telegram.specs.Says.{saysFound, saysTelegram}
+use Rattle.telegram.specs.declared.Found.{Found}
+use Rattle.telegram.specs.Telegram.{reads}
+use Rattle.words.specs.Answer.{refuses}
+use Rattle.telegram.proofs.Taken.{taken}
+use Rattle.telegram.proofs.Handed.{Handed, handed, as-refused}
+use Rattle.telegram.proofs.survey.Statement.{statement}
+use Rattle.telegram.proofs.survey.Tie as tie
+
+find-requires : tie.Need-find-requires
+find-requires c κs = search needs
+
+enum-known-found : tie.Need-enum-known-found
+enum-known-found c = search needs
+
+-- the place that the search handed out
+at-first : (c : tie.After-known-told) → let a = c .before .before .before .before .before .args in
+    Handed (a .buf .now) (a .start) (a .len) (a .s) (a .t) (c .before .found .given .0 .0) (reads (saysTelegram (c .before .found .given .0 .1 .0)))
+at-first c =
+    let a = c .before .before .before .before .before .args in
+    handed (a .buf .now) (a .start) (a .len) (a .s) (a .t) (c .before .found .given .0 .0) (reads (saysTelegram (c .before .found .given .0 .1 .0)))
+    (sym (c .before .before .before .find .ensures) ∙ ap saysFound (c .before .found .given .1))
+
+-- what the search refuses
+refused : (b : List ℕ) (start len s t : ℕ) (r : Found) → saysFound r ≡ found b start len s t → (n : ℕ) → saysFound r ≡ refuses n
+    → refuses n ≡ surveyed b start len s t
+refused b start len s t r says n e = sym (as-refused b start len s t n (sym says ∙ e))
+
+sub-from-first : tie.Need-sub-from-first
+sub-from-first c = let f = at-first c .first in omega arith
+
+add-from-first : tie.Need-add-from-first
+add-from-first c =
+    let a = c .before .before .before .before .before .args in
+    let h = at-first c in
+    omega (arith, h .first, taken (a .buf .now) (a .start) (a .len) (h .taken))
+
+from-first-requires : tie.Need-from-first-requires
+from-first-requires c κs =
+    let a = c .before .before .before .before .before .args in
+    let h = at-first c in
+    let f = h .first in
+    let i = taken (a .buf .now) (a .start) (a .len) (h .taken) in
+    (omega arith, omega arith, omega arith, h .says)
+
+enum-told : tie.Need-enum-told
+enum-told c = search needs
+
+enum-told-2 : tie.Need-enum-told-2
+enum-told-2 c = search needs
+
+enum-told-3 : tie.Need-enum-told-3
+enum-told-3 c = search needs
+
+returns : tie.Need-returns
+unfolding surveyed
+returns c =
+    let a = c .before .before .before .before .before .before .args in
+    let h = at-first (c .before) in
+    let f = h .first in
+    let p = c .before .before .found .given .0 .0 in
+    let e : a .start + (a .len - 39) - (p + 1) + 39 ≡ a .start + a .len - (p + 1) = omega arith in
+    let ps : places (a .buf .now) (p + 1) (a .start + (a .len - 39) - (p + 1) + 39) (a .s) (a .t) ≡ h .rest =
+    ap (λ (l : ℕ). places (a .buf .now) (p + 1) l (a .s) (a .t)) e ∙ sym (f .others) in
+    c .from-first .ensures ∙ ap (λ (qs : List ℕ). together (a .buf .now) (p ∷ qs)) ps ∙ ap (together (a .buf .now)) (sym (h .list))
+    ∙ simp (h .good, h .taken)
+
+returns-2 : tie.Need-returns-2
+returns-2 c = refused (c .before .before .before .before .args .buf .now) _ _ _ _ (c .before .before .find .result) (c .before .before .find .ensures) _ (ap saysFound (c .enum-told .given .1))
+
+returns-3 : tie.Need-returns-3
+returns-3 c = refused (c .before .before .before .before .args .buf .now) _ _ _ _ (c .before .before .find .result) (c .before .before .find .ensures) _ (ap saysFound (c .enum-told2 .given .1))
+
+returns-4 : tie.Need-returns-4
+returns-4 c = refused (c .before .before .before .before .args .buf .now) _ _ _ _ (c .before .before .find .result) (c .before .before .find .ensures) _ (ap saysFound (c .enum-told3 .given .1))
+
+pub survey-spec : {M : Type 1} → statement M
+survey-spec =
+    tie.close
+    (tie.spec
+    find-requires
+    enum-known-found
+    sub-from-first
+    add-from-first
+    from-first-requires
+    enum-told
+    enum-told-2
+    enum-told-3
+    returns
+    returns-2
+    returns-3
+    returns-4)

@@ -1,0 +1,20 @@
+// Whether a stretch of bits lies inside a lent buffer, for any start and length.
+ghost use mathlib.Core.Path.{_≡_};
+ghost use Rattle.telegram.specs.Stretch.{inside};
+
+// Whether the stretch is taken. No sum here leaves 64 bits: the end is counted in whole bytes.
+pub fn inside(buf: &[u8], start: usize, len: usize) -> bool
+    ensures { λ r. ⌜ r ≡ inside (now (buf .entry)) start len ⌝ }
+{
+    if 16777216 < len {
+        return false;
+    }
+    if 18446744073709551615 - len < start {
+        return false;
+    }
+    let end = start + len;
+    if buf.len() < end / 8 + (end % 8 + 7) / 8 {
+        return false;
+    }
+    true
+}
