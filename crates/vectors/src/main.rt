@@ -1,0 +1,28 @@
+// Holds the two codes against table NR of source 000, and every word against itself.
+// Writes its counts, and a line for each difference. The table's file is its first argument.
+mod cells;
+mod counts;
+mod every;
+mod say;
+mod table;
+
+// Compares the table in the file that the first argument names, as far as one buffer holds it.
+fn compare_file() {
+    let mut path = io::buffer();
+    let length = os::arg(1, &mut path);
+    let fd = os::open_read(&path[..length]);
+    if fd < 0 {
+        say::text(b"table NR cannot be opened\n");
+        return;
+    }
+    let mut buf = io::large_buffer();
+    let n = io::read_full(fd, &mut buf);
+    libc::close(fd);
+    table::compare(&buf[..n]);
+}
+
+fn main() {
+    compare_file();
+    every::long_words();
+    every::short_words();
+}

@@ -1,0 +1,123 @@
+// Table NR, cell by cell: a readable one is written and read, one that the scan misreads is refused, an unreadable one
+// is counted.
+use crate::cells;
+use crate::cells::Cell;
+use crate::counts;
+use crate::counts::Counts;
+use crate::say;
+use words::LongRead;
+use words::LongWritten;
+
+// The figures whose cells the scan misreads: the words that it shows there are no code words.
+fn is_misread(figure: u16) -> bool {
+    match figure {
+        25 | 40 | 82 | 166 | 168 | 939 | 980 => true,
+        1429 | 1485 | 1590 | 1592 | 1686 | 2040 => true,
+        _ => false,
+    }
+}
+
+// Begins the line of a difference.
+fn begin(figure: u16, word: u16) {
+    say::number(b"difference: figure ", figure as u32);
+    say::long_word(b", shown ", word);
+}
+
+// Whether the figure is written as the word shown; if not, a line says so.
+fn is_written(figure: u16, word: u16) -> bool {
+    match words::write_long(figure) {
+        LongWritten::Word(w) => {
+            if w != word {
+                begin(figure, word);
+                say::long_word(b", written ", w);
+                say::text(b"\n");
+            }
+            w == word
+        }
+        LongWritten::TooLarge => {
+            begin(figure, word);
+            say::text(b", writing refused with 2\n");
+            false
+        }
+    }
+}
+
+// Whether the word shown reads as the figure; if not, a line says so.
+fn is_read(figure: u16, word: u16) -> bool {
+    match words::read_long(word) {
+        LongRead::Figure(f) => {
+            if f != figure {
+                begin(figure, word);
+                say::number(b", read ", f as u32);
+                say::text(b"\n");
+            }
+            f == figure
+        }
+        LongRead::NotCode => {
+            begin(figure, word);
+            say::text(b", reading refused with 1\n");
+            false
+        }
+    }
+}
+
+// Whether the word shown by mistake is refused; if not, a line says so.
+fn is_refused(figure: u16, word: u16) -> bool {
+    match words::read_long(word) {
+        LongRead::NotCode => true,
+        LongRead::Figure(f) => {
+            begin(figure, word);
+            say::number(b" by mistake, read ", f as u32);
+            say::text(b"\n");
+            false
+        }
+    }
+}
+
+// Whether the figure is the one that stands next; if not, a line says so.
+fn is_next(figure: u16, next: u32) -> bool {
+    let f = figure as u32;
+    if f != next {
+        say::number(b"difference: figure ", f);
+        say::number(b" stands where figure ", next);
+        say::text(b" belongs\n");
+    }
+    f == next
+}
+
+// One line of the table's file, counted.
+fn line(before: Counts, text: &[u8]) -> Counts {
+    let found = cells::read(text);
+    match found {
+        Cell::Comment => before,
+        Cell::Unknown => {
+            say::text(b"difference: no cell in the line ");
+            say::text(text);
+            say::text(b"\n");
+            counts::unknown(before)
+        }
+        Cell::Unreadable(figure) => {
+            let c = counts::cell(before, figure, is_next(figure, before.next));
+            counts::unreadable(c)
+        }
+        Cell::Word(figure, word) => {
+            let c = counts::cell(before, figure, is_next(figure, before.next));
+            if is_misread(figure) {
+                return counts::misread(c, is_refused(figure, word));
+            }
+            counts::readable(c, is_written(figure, word), is_read(figure, word))
+        }
+    }
+}
+
+// The whole of the table's file.
+pub fn compare(text: &[u8]) {
+    let mut c = counts::none();
+    let mut at = 0;
+    while at < text.len() {
+        let end = cells::next_of(text, at, b'\n');
+        c = line(c, &text[at..end]);
+        at = end + 1;
+    }
+    counts::tell(c);
+}
