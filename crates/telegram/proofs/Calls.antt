@@ -2,9 +2,9 @@
 -- allows, is the places of the stretch with their telegrams.
 -- Assumes nothing.
 use Prim.Native.Nat.{ℕ}
-use mathlib.Core.Path.{_≡_, sym, ap, _∙_}
+use mathlib.Core.Path.{_≡_, sym, _∙_}
 use mathlib.Core.Bool.{true}
-use mathlib.Core.List.{List, [], _∷_}
+use mathlib.Core.List.{List}
 use contract.Lifetimes.{Lfts}
 use borrow.Fn.Kinds.{Dens, endedOf}
 use denote.Triple.Clauses.{AtExit}

@@ -1,13 +1,13 @@
 -- Each contract fixes its function's whole answer: any two answers that it allows are equal.
 -- Assumes nothing.
-use mathlib.Core.Path.{_≡_, refl, sym, ap, ap₂, _∙_}
+use mathlib.Core.Path.{_≡_, refl, sym, ap, _∙_}
 use mathlib.Core.Bool.{Bool}
 use lib.Dec.{eqb}
 use contract.Lifetimes.{Lfts}
 use borrow.Fn.Kinds.{Dens, endedOf}
 use denote.Triple.Clauses.{AtExit}
 use Rattle.words.specs.Answer.{Outcome, gives, refuses, pick}
-use Rattle.telegram.specs.Sync.{Good, good}
+use Rattle.telegram.specs.Sync.{Good}
 use Rattle.telegram.specs.Telegram.{Message, figures, number, Letter, X, Y, Z, YZ, Reading, reads, refused}
 use Rattle.telegram.specs.Place.{Single, at}
 use Rattle.telegram.specs.Survey.{Alike, alike}

@@ -4,12 +4,12 @@ use Prim.Native.Nat.{ℕ}
 use mathlib.Core.Path.{_≡_, refl}
 use mathlib.Core.List.{List, [], _∷_}
 use Rattle.words.specs.Answer.{gives, refuses}
-use Rattle.words.specs.Bits.{word, onesOf}
+use Rattle.words.specs.Bits.{word}
 use Rattle.words.specs.Plain.{isCheck, covers, count, even, isCode, onwards, figure}
 use Rattle.words.specs.Code.{other, exchanged, readWord}
 use Rattle.telegram.specs.Stretch.{bitsAt, inside}
 use Rattle.telegram.specs.Sync.{differing, isGood, good, pairOf}
-use Rattle.telegram.specs.Telegram.{Reading, reads, refused, figures, number, X, Y, Z, YZ, shortWord, longWord, telegram}
+use Rattle.telegram.specs.Telegram.{reads, refused, figures, number, X, Y, YZ, shortWord, longWord, telegram}
 use Rattle.telegram.specs.Place.{areSyncs, wordsAt, isPlace, from, those, places, at, found}
 use Rattle.telegram.specs.Survey.{sameWords, allAs, alike, surveyed}
 

@@ -1,15 +1,15 @@
 -- What the search's answer says of a stretch: a place handed out is its first, and what it refuses, the survey refuses too.
 -- Assumes nothing.
-use mathlib.Core.Path.{_≡_, refl, sym, ap, ap₂, _∙_}
+use mathlib.Core.Path.{_≡_, refl, ap, _∙_}
 use mathlib.Core.Bool.{Bool, true, false}
 use mathlib.Core.List.{List, [], _∷_}
-use Prim.Native.Nat.{ℕ, _+_, _-_}
+use Prim.Native.Nat.{ℕ, _-_}
 use native.Mathlib.Omega.{arith}
-use Rattle.words.specs.Answer.{Outcome, gives, refuses, pick}
+use Rattle.words.specs.Answer.{gives, refuses, pick}
 use Rattle.telegram.specs.Stretch.{inside}
 use Rattle.telegram.specs.Sync.{isGood}
 use Rattle.telegram.specs.Telegram.{Reading}
-use Rattle.telegram.specs.Place.{wordsAt, places, Single, at, firstOf, found}
+use Rattle.telegram.specs.Place.{wordsAt, places, at, firstOf, found}
 use Rattle.telegram.specs.Survey.{together, surveyed}
 use Rattle.telegram.proofs.Rest.{First, first-and-rest}
 

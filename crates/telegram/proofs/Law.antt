@@ -13,7 +13,7 @@ use Rattle.telegram.specs.Sync.{isGood}
 use Rattle.telegram.specs.Telegram.{Reading}
 use Rattle.telegram.specs.Place.{wordsAt, places, Single, at, firstOf, found}
 use Rattle.telegram.proofs.Taken.{part-taken}
-use Rattle.telegram.proofs.Rest.{First, first-and-rest}
+use Rattle.telegram.proofs.Rest.{first-and-rest}
 
 -- What comes of asking on and on, where `Says start len o` is that asking with a stretch is answered by o: a place with its
 -- telegram, and then what comes from the bit after it to the same end; or nothing more, by refusal 6.

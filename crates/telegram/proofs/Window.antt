@@ -1,6 +1,6 @@
 -- The bits of a buffer as a number: how large it is, where it can be cut, and how the window of forty bits rolls on.
 -- Assumes nothing.
-use mathlib.Core.Path.{_≡_, refl, sym, ap, ap₂, _∙_, subst}
+use mathlib.Core.Path.{_≡_, sym, ap, ap₂, _∙_, subst}
 use mathlib.Core.List.{List}
 use Prim.Native.Nat.{ℕ, zero, suc, _+_, _-_, _*_, _/_, _%_, _^_, _≤_, _<_}
 use native.Mathlib.Nat.{add-zero, add-suc, pow-suc, mod-lt, zero-lt-suc, mul-assoc, add-assoc, le-trans}

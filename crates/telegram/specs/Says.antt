@@ -1,6 +1,5 @@
 -- The number and the values of document 01 for each case of this crate's answers.
 -- Assumes nothing.
-use Prim.Native.Nat.{ℕ}
 use Rattle.words.specs.Answer.{Outcome, gives, refuses}
 use Rattle.telegram.specs.Sync.{Good, good}
 use Rattle.telegram.specs.Telegram.{Message, figures, number, Letter, X, Y, Z, YZ, Reading, reads, refused}

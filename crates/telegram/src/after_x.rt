@@ -1,6 +1,6 @@
 // The words of a telegram after X.
 ghost use mathlib.Core.Path.{_≡_};
-ghost use Rattle.telegram.specs.Telegram.{X, Y, Z, YZ, then, shortWord, longWord, reads, figures, number};
+ghost use Rattle.telegram.specs.Telegram.{Y, Z, YZ, then, shortWord, longWord, reads, figures, number};
 ghost use Rattle.telegram.specs.Says.{saysTelegramRead};
 use crate::Telegram;
 use crate::TelegramRead;

@@ -1,11 +1,11 @@
 -- The settings are judged first, then the stretch; the first place of a good stretch is what the scan finds.
 -- Assumes nothing.
-use Prim.Native.Nat.{ℕ, _+_, _-_}
-use mathlib.Core.Path.{_≡_, sym, ap, _∙_}
+use Prim.Native.Nat.{_+_, _-_}
+use mathlib.Core.Path.{_≡_, sym, _∙_}
 use native.Mathlib.Omega.{arith}
 use borrow.Author.Needs.{needs}
 use borrow.Author.Tests.{not-true, not-false}
-use Rattle.telegram.specs.Place.{found, firstOf, places}
+use Rattle.telegram.specs.Place.{found}
 use Rattle.telegram.proofs.Taken.{taken}
 use Rattle.telegram.proofs.Places.{too-short}
 use Rattle.telegram.proofs.find.Statement.{statement}

@@ -1,8 +1,8 @@
 -- `good_pair` answers as `is_good` finds.
-use mathlib.Core.Path.{_≡_, ap, sym, _∙_}
+use mathlib.Core.Path.{ap, sym, _∙_}
 use mathlib.Core.Bool.{Bool}
 use borrow.Author.Needs.{needs}
-use Rattle.words.specs.Answer.{Outcome, gives, refuses, pick}
+use Rattle.words.specs.Answer.{gives, refuses, pick}
 use Rattle.telegram.specs.Sync.{good, pairOf}
 use Rattle.telegram.proofs.good_pair.Statement.{statement}
 use Rattle.telegram.proofs.good_pair.Tie as tie

@@ -4,7 +4,7 @@ use mathlib.Core.Bool.{Bool}
 use Prim.Native.Nat.{ℕ}
 use lib.Dec.{eqb}
 use borrow.Author.Tests.{eq-eqb, ne-eqb}
-use Rattle.words.specs.Answer.{Outcome, gives, pick}
+use Rattle.words.specs.Answer.{Outcome, pick}
 use Rattle.telegram.specs.Telegram.{X, Y, Z, YZ, Reading, then, shortWord, longWord, reads, figures, number, telegram}
 use Rattle.telegram.proofs.Words.{a-figure, fifteen, no-code}
 use borrow.Author.Needs.{needs}

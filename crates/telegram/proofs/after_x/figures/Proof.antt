@@ -2,7 +2,7 @@
 use mathlib.Core.Path.{_≡_, ap, sym, _∙_}
 use Prim.Native.Nat.{ℕ}
 use Rattle.words.specs.Answer.{Outcome}
-use Rattle.telegram.specs.Telegram.{Y, Z, Reading, then, shortWord, reads, figures}
+use Rattle.telegram.specs.Telegram.{Y, Z, then, shortWord, reads, figures}
 use Rattle.telegram.proofs.Words.{a-figure, fifteen, no-code}
 use borrow.Author.Needs.{needs}
 use Rattle.telegram.proofs.after_x.figures.Statement.{statement}

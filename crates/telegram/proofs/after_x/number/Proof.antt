@@ -1,5 +1,5 @@
 -- `number` answers as the long word of Y and Z reads.
-use mathlib.Core.Path.{_≡_, ap, sym, _∙_}
+use mathlib.Core.Path.{ap, sym}
 use Prim.Native.Nat.{ℕ}
 use Rattle.words.specs.Answer.{Outcome}
 use Rattle.words.specs.Says.{saysLongRead}

@@ -1,18 +1,17 @@
 -- The window rolls as in the search; the places before p are as many as counted, and each has the words of the first.
 -- Assumes nothing.
-use Prim.Native.Nat.{ℕ, _+_, _-_, _*_, _/_, _%_, _^_, _≤_, _<_}
-use mathlib.Core.Path.{_≡_, refl, sym, ap, _∙_, subst}
-use mathlib.Core.Bool.{Bool, true, false, _&&_}
-use mathlib.Core.List.{List, [], _∷_}
+use Prim.Native.Nat.{ℕ, _+_, _-_, _*_, _%_, _^_, _≤_, _<_}
+use mathlib.Core.Path.{_≡_, sym, ap, _∙_}
+use mathlib.Core.List.{_∷_}
 use mathlib.Core.Logic.{⊎-elim}
 use native.Mathlib.Omega.{arith}
 use borrow.Author.Count.{below-none, below-more}
-use Rattle.words.specs.Answer.{gives, refuses}
-use Rattle.telegram.specs.Stretch.{bitAt, bitsAt}
+use Rattle.words.specs.Answer.{gives}
+use Rattle.telegram.specs.Stretch.{bitsAt}
 use Rattle.telegram.specs.Survey.{together, alike}
 use Rattle.telegram.specs.Telegram.{Reading}
 use Rattle.telegram.proofs.Window.{bits-lt, rolls, grown}
-use Rattle.telegram.proofs.Places.{fits, ahead, none-ahead}
+use Rattle.telegram.proofs.Places.{ahead, none-ahead}
 use Rattle.telegram.proofs.SoFar.{soFar, begins, ends, wordIn, turn-alike, turn-differs, turn-not-here}
 use Rattle.telegram.proofs.alike.from_first.Statement.{statement}
 use Rattle.telegram.proofs.alike.from_first.Tie as tie

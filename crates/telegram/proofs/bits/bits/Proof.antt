@@ -1,9 +1,9 @@
 -- After k turns w holds the first k bits; each turn brings one more.
 -- Assumes nothing.
 use mathlib.Core.Path.{_≡_, ap, ap₂, _∙_, refl}
-use Prim.Native.Nat.{ℕ, _+_, _-_, _*_, _≤_, _<_, _^_}
+use Prim.Native.Nat.{ℕ, _+_, _-_, _*_, _≤_}
 use native.Mathlib.Omega.{arith}
-use Rattle.telegram.specs.Stretch.{bitAt, bitsAt}
+use Rattle.telegram.specs.Stretch.{bitsAt}
 use Rattle.telegram.proofs.Window.{bit-lt, bits-small, one-more}
 use Rattle.telegram.proofs.bits.bits.Statement.{statement}
 use Rattle.telegram.proofs.bits.bits.Tie as tie

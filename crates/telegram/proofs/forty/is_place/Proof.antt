@@ -1,7 +1,7 @@
 -- Where the outer bytes are no sync pair there is no place; where they are, the three words decide.
 -- Assumes nothing.
-use mathlib.Core.Path.{_≡_, ap, ap₂, sym, _∙_}
-use mathlib.Core.Bool.{Bool, true, false, _&&_}
+use mathlib.Core.Path.{ap, ap₂, sym, _∙_}
+use mathlib.Core.Bool.{Bool, _&&_}
 use borrow.Author.Needs.{needs}
 use borrow.Author.Tests.{not-true, not-false}
 use Rattle.telegram.specs.Place.{accepted}

@@ -1,15 +1,14 @@
 -- The window holds the 39 bits from p on, and the first place ahead of p is the first of all: no offset before p is one.
 -- Assumes nothing.
-use Prim.Native.Nat.{ℕ, _+_, _-_, _*_, _/_, _%_, _^_, _≤_, _<_}
-use mathlib.Core.Path.{_≡_, refl, sym, ap, _∙_, subst}
-use mathlib.Core.Bool.{Bool, true, false, _&&_}
-use mathlib.Core.List.{List}
+use Prim.Native.Nat.{ℕ, _+_, _-_, _*_, _%_, _^_, _≤_, _<_}
+use mathlib.Core.Path.{_≡_, refl, sym, ap, _∙_}
+use mathlib.Core.Bool.{Bool, true, false}
 use native.Mathlib.Omega.{arith}
 use Rattle.words.specs.Answer.{gives}
-use Rattle.telegram.specs.Stretch.{bitAt, bitsAt}
-use Rattle.telegram.specs.Place.{areSyncs, accepted, at, firstOf, places, wordsAt}
+use Rattle.telegram.specs.Stretch.{bitsAt}
+use Rattle.telegram.specs.Place.{at, firstOf}
 use Rattle.telegram.specs.Telegram.{Reading}
-use Rattle.telegram.proofs.Window.{bits-lt, bits-small, rolls, grown, inner, inner-is}
+use Rattle.telegram.proofs.Window.{bits-lt, rolls, grown, inner, inner-is}
 use Rattle.telegram.proofs.Places.{fits, fit-accepted, ahead, none-ahead, ahead-here, ahead-not-here}
 use Rattle.telegram.proofs.scan.first_place.Statement.{statement}
 use Rattle.telegram.proofs.scan.first_place.Tie as tie

@@ -1,12 +1,11 @@
 -- The words of a place read a telegram: the two other answers cannot come.
 -- Assumes nothing.
-use Prim.Native.Nat.{ℕ}
 use mathlib.Core.Path.{_≡_, ap, sym, _∙_}
-use mathlib.Core.Bool.{Bool, true, false}
+use mathlib.Core.Bool.{true, false}
 use borrow.Author.Needs.{needs}
-use Rattle.words.specs.Answer.{Outcome, gives, refuses}
+use Rattle.words.specs.Answer.{gives}
 use Rattle.telegram.specs.Telegram.{Reading}
-use Rattle.telegram.specs.Place.{Single, at, accepted}
+use Rattle.telegram.specs.Place.{at, accepted}
 use Rattle.telegram.specs.Says.{saysTelegramRead}
 use Rattle.telegram.proofs.Window.{inner}
 use Rattle.telegram.proofs.scan.found_at.Statement.{statement}

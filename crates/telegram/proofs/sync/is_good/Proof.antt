@@ -1,5 +1,5 @@
 -- `is_good` is right because the ones of S xor S* are the bits in which the two differ.
-use mathlib.Core.Path.{_≡_, ap}
+use mathlib.Core.Path.{ap}
 use Prim.Native.Nat.{ℕ}
 use lib.Dec.{eqb}
 use Rattle.telegram.specs.Sync.{isGood}

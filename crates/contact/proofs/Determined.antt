@@ -1,0 +1,72 @@
+-- Each contract fixes its function's whole answer: any two answers that it allows are equal.
+-- Assumes nothing.
+use mathlib.Core.Path.{_≡_, refl, sym, ap, _∙_}
+use lib.Dec.{eqb}
+use contract.Lifetimes.{Lfts}
+use borrow.Fn.Kinds.{Dens, endedOf}
+use denote.Triple.Clauses.{AtExit}
+use Rattle.words.specs.Answer.{Outcome, gives, refuses, pick}
+use Rattle.contact.specs.Contacts.{Handed, handed, noFurther}
+use Rattle.telegram.specs.declared.Telegram.{Telegram}
+use Rattle.telegram.proofs.Determined.{telegram-back, told}
+use Rattle.contact.specs.Judge.{Contact, read, marker}
+use Rattle.contact.specs.Says.{saysBegun, saysNext, saysJudged}
+use Rattle.contact.specs.declared.Search.{Search}
+use Rattle.contact.specs.declared.Begun.{Begun}
+use Rattle.contact.specs.declared.Next.{Next}
+use Rattle.contact.specs.declared.Judged.{Judged}
+use Rattle.contact.proofs.begin.Kinds as begin-kinds
+use Rattle.contact.proofs.begin.Reads as begin-reads
+use Rattle.contact.proofs.next_contact.Kinds as next-kinds
+use Rattle.contact.proofs.next_contact.Reads as next-reads
+use Rattle.contact.proofs.judge.Kinds as judge-kinds
+use Rattle.contact.proofs.judge.Reads as judge-reads
+
+-- From what an answer says, the answer.
+abbrev begunOf : Outcome Search → Begun
+begunOf (gives s) = Begun.Search s
+begunOf (refuses n) = Begun.Beyond
+
+begun-back : (r : Begun) → begunOf (saysBegun r) ≡ r
+begun-back (Begun.Search s) = refl
+begun-back Begun.Beyond = refl
+
+abbrev nextOf : Outcome Handed → Next
+nextOf (gives (handed start length then)) = Next.Contact start length then
+nextOf (gives noFurther) = Next.NoFurther
+nextOf (refuses n) = pick (eqb n 9) Next.Cut Next.Beyond
+
+next-back : (r : Next) → nextOf (saysNext r) ≡ r
+next-back (Next.Contact start length then) = refl
+next-back Next.NoFurther = refl
+next-back Next.Cut = refl
+next-back Next.Beyond = refl
+
+abbrev judgedOf : Outcome Contact → Judged
+judgedOf (gives (read m first count)) = told (λ t. Judged.Read t first count) Judged.Neither m
+judgedOf (gives marker) = Judged.Marker
+judgedOf (refuses n) =
+    pick (eqb n 4) Judged.NotSeven (pick (eqb n 5) Judged.Beyond (pick (eqb n 7) Judged.Differ Judged.Neither))
+
+judged-back : (r : Judged) → judgedOf (saysJudged r) ≡ r
+judged-back (Judged.Read t first count) = ap (λ (u : Telegram). Judged.Read u first count) (telegram-back t)
+judged-back Judged.Marker = refl
+judged-back Judged.NotSeven = refl
+judged-back Judged.Beyond = refl
+judged-back Judged.Differ = refl
+judged-back Judged.Neither = refl
+
+pub begin-determined : (κs : Lfts 1) (a : Dens κs begin-kinds.ps) (r r′ : Begun)
+    (x x′ : AtExit (endedOf 1 begin-kinds.ps begin-kinds.r) κs)
+    → begin-reads.Post κs a r x → begin-reads.Post κs a r′ x′ → r ≡ r′
+begin-determined κs a r r′ x x′ p q = sym (begun-back r) ∙ ap begunOf (p ∙ sym q) ∙ begun-back r′
+
+pub next-contact-determined : (κs : Lfts 1) (a : Dens κs next-kinds.ps) (r r′ : Next)
+    (x x′ : AtExit (endedOf 1 next-kinds.ps next-kinds.r) κs)
+    → next-reads.Post κs a r x → next-reads.Post κs a r′ x′ → r ≡ r′
+next-contact-determined κs a r r′ x x′ p q = sym (next-back r) ∙ ap nextOf (p ∙ sym q) ∙ next-back r′
+
+pub judge-determined : (κs : Lfts 1) (a : Dens κs judge-kinds.ps) (r r′ : Judged)
+    (x x′ : AtExit (endedOf 1 judge-kinds.ps judge-kinds.r) κs)
+    → judge-reads.Post κs a r x → judge-reads.Post κs a r′ x′ → r ≡ r′
+judge-determined κs a r r′ x x′ p q = sym (judged-back r) ∙ ap judgedOf (p ∙ sym q) ∙ judged-back r′

@@ -1,0 +1,54 @@
+-- Small records of document 01's edges, computed by the definitions.
+-- Assumes nothing.
+use mathlib.Core.Path.{_≡_, refl}
+use mathlib.Core.Bool.{true, false}
+use mathlib.Core.List.{[], _∷_}
+use Rattle.words.specs.Answer.{gives, refuses}
+use Rattle.telegram.specs.Stretch.{inside}
+use Rattle.contact.specs.History.{after, zeroesOf, zeroes, opens, closes}
+use Rattle.contact.specs.Contacts.{contacts, contactsFrom, contact, quiet, noFurther, nextContact, fromStart}
+
+-- 7 zeroes in sixteen open no contact, 8 do; 5 don't close one, 4 do.
+seven : opens 0xff80 ≡ false
+unfolding opens zeroes zeroesOf
+seven = refl
+
+eight : opens 0xff00 ≡ true
+unfolding opens zeroes zeroesOf
+eight = refl
+
+five : closes 0xffe0 ≡ false
+unfolding closes zeroes zeroesOf
+five = refl
+
+four : closes 0xfff0 ≡ true
+unfolding closes zeroes zeroesOf
+four = refl
+
+-- Seven zeroes on a line of ones: no further contact.
+quiet-line : nextContact (0xff ∷ 0x80 ∷ 0xff ∷ 0xff ∷ []) (fromStart 0 32) ≡ gives noFurther
+unfolding nextContact contactsFrom contacts fromStart inside after opens closes zeroes zeroesOf
+quiet-line = refl
+
+-- Eight zeroes, bits 8 to 15: bit 15 opens a contact; bit 27, which brings the zeroes to 4, closes it. It has 12 bits.
+one-contact : contactsFrom (0xff ∷ 0x00 ∷ 0xff ∷ 0xff ∷ []) (fromStart 0 32)
+    ≡ contact 15 12 (record { next = 28; left = 4; history = 0x0fff }) quiet
+unfolding contactsFrom contacts fromStart inside after opens closes zeroes zeroesOf
+one-contact = refl
+
+-- Two of them: the search goes on with the bit after the closing one.
+two-contacts : contactsFrom (0xff ∷ 0x00 ∷ 0xff ∷ 0xff ∷ 0x00 ∷ 0xff ∷ 0xff ∷ []) (fromStart 0 56)
+    ≡ contact 15 12 (record { next = 28; left = 28; history = 0x0fff })
+    (contact 39 12 (record { next = 52; left = 4; history = 0x0fff }) quiet)
+unfolding contactsFrom contacts fromStart inside after opens closes zeroes zeroesOf
+two-contacts = refl
+
+-- A record that ends before the closing bit.
+cut-line : nextContact (0xff ∷ 0x00 ∷ 0xff ∷ 0xff ∷ []) (fromStart 0 27) ≡ refuses 9
+unfolding nextContact contactsFrom contacts fromStart inside after opens closes zeroes zeroesOf
+cut-line = refl
+
+-- A stretch that ends one bit beyond the buffer.
+beyond : nextContact (0xff ∷ []) (fromStart 3 6) ≡ refuses 5
+unfolding nextContact contactsFrom contacts fromStart inside after opens closes zeroes zeroesOf
+beyond = refl

@@ -1,0 +1,13 @@
+pub mod Counts
+pub mod Steps
+pub mod Follows
+pub mod Law
+pub mod Calls
+pub mod Latest
+pub mod RunsOn
+pub mod Markers
+pub mod Judging
+pub mod MarkerRule
+pub mod Determined
+pub mod Examples
+pub mod Judgements

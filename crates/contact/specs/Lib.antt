@@ -1,0 +1,4 @@
+pub mod History
+pub mod Contacts
+pub mod Judge
+pub mod Says

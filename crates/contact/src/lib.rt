@@ -1,0 +1,109 @@
+// Contacts of document 01: the detector, which hands out those of a stretch one after the other, and the judging of one.
+// Promises: each contact comes once, in order, and nothing else moves the search; judged are all of its places at once.
+// Specification: specs/History.antt (the latest sixteen bits), specs/Contacts.antt, specs/Judge.antt, specs/Says.antt (the answers).
+ghost use mathlib.Core.Path.{_≡_};
+ghost use Rattle.contact.specs.Contacts.{begun, nextContact};
+ghost use Rattle.contact.specs.Judge.{judged};
+ghost use Rattle.contact.specs.Says.{saysBegun, saysNext, saysJudged};
+
+mod detector;
+mod marker;
+
+use telegram::Surveyed;
+use telegram::Telegram;
+
+// A search for contacts: the next bit, the bits left, and the latest sixteen bits, of which the newest is the lowest.
+pub struct Search {
+    pub next: usize,
+    pub left: usize,
+    pub history: u16,
+}
+
+// What beginning a search answers.
+pub enum Begun {
+    Search(Search),
+    Beyond,
+}
+
+// What asking for the next contact answers: a contact, with the search after its closing bit; that no further one opens;
+// a contact cut by the end of the record; or a stretch beyond the buffer.
+pub enum Next {
+    Contact {
+        start: usize,
+        length: usize,
+        then: Search,
+    },
+    NoFurther,
+    Cut,
+    Beyond,
+}
+
+// What judging a contact answers: what was read, with the first place and the number of places; a marker; or why neither.
+pub enum Judged {
+    Read {
+        telegram: Telegram,
+        first: usize,
+        count: usize,
+    },
+    Marker,
+    NotSeven,
+    Beyond,
+    Differ,
+    Neither,
+}
+
+// The search that begins a stretch, or refusal 5.
+pub fn begin(buf: &[u8], start: usize, len: usize) -> Begun
+    ensures { λ r. ⌜ saysBegun r ≡ begun (now (buf .entry)) start len ⌝ }
+{
+    if telegram::inside(buf, start, len) {
+        Begun::Search(Search {
+            next: start,
+            left: len,
+            history: 65535,
+        })
+    } else {
+        Begun::Beyond
+    }
+}
+
+// The next contact of a search, or that no further one opens, or refusal 9 or 5. Only a contact brings a new state.
+pub fn next_contact(search: Search, buf: &[u8]) -> Next
+    ensures { λ r. ⌜ saysNext r ≡ nextContact (now (buf .entry)) search ⌝ }
+{
+    let next = search.next;
+    let left = search.left;
+    let history = search.history;
+    if telegram::inside(buf, next, left) {
+        detector::outside(buf, next, next + left, history as u32)
+    } else {
+        Next::Beyond
+    }
+}
+
+// The contact of `len` bits from bit `start` on, judged: read, or a marker, or refusal 4, 5, 7 or 8.
+pub fn judge(buf: &[u8], start: usize, len: usize, s: u8, t: u8) -> Judged
+    ensures { λ r. ⌜ saysJudged r ≡ judged (now (buf .entry)) start len s t ⌝ }
+{
+    let surveyed = telegram::survey(buf, start, len, s, t);
+    match surveyed {
+        Surveyed::Alike {
+            telegram,
+            first,
+            count,
+        } => {
+            if 2 <= count {
+                return Judged::Read {
+                    telegram,
+                    first,
+                    count,
+                };
+            }
+            marker::or_neither(buf, start, len)
+        }
+        Surveyed::Differ => Judged::Differ,
+        Surveyed::NotSeven => Judged::NotSeven,
+        Surveyed::Beyond => Judged::Beyond,
+        Surveyed::NoPlace => marker::or_neither(buf, start, len),
+    }
+}
