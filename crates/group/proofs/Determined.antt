@@ -1,0 +1,97 @@
+-- Each contract fixes its function's whole answer: any two answers that it allows are equal.
+-- Assumes nothing.
+use Prim.Native.Nat.{ℕ}
+use mathlib.Core.Path.{_≡_, refl}
+use lib.Dec.{eqb}
+use contract.Lifetimes.{Lfts}
+use borrow.Fn.Kinds.{Dens, endedOf}
+use denote.Triple.Clauses.{AtExit}
+use Rattle.words.specs.Answer.{Outcome, gives, refuses, pick}
+use Rattle.words.proofs.Told.{told}
+use Rattle.group.specs.declared.Measured.{Measured}
+use Rattle.group.specs.declared.Told.{Told as Speed}
+use Rattle.group.specs.declared.Content.{Content as More}
+use Rattle.group.specs.declared.Message.{Message as Said}
+use Rattle.group.specs.declared.Judged.{Judged}
+use Rattle.group.specs.Speed.{Told, kmh, noInformation}
+use Rattle.group.specs.Message.{Content, ofSignal, ofWarning, ofRoute, nothing, Message}
+use Rattle.group.specs.Says.{saysMeasured, saysTold, saysContent, saysMessage, saysJudged}
+use Rattle.group.proofs.distance.Kinds as distance-kinds
+use Rattle.group.proofs.distance.Reads as distance-reads
+use Rattle.group.proofs.speed.Kinds as speed-kinds
+use Rattle.group.proofs.speed.Reads as speed-reads
+use Rattle.group.proofs.judge.Kinds as judge-kinds
+use Rattle.group.proofs.judge.Reads as judge-reads
+
+-- From what an answer says, the answer.
+measured : Outcome ℕ → Measured
+measured (gives d) = Measured.Dm d
+measured (refuses n) = Measured.NotAllowed
+
+measured-back : (r : Measured) → measured (saysMeasured r) ≡ r
+unfolding measured
+measured-back (Measured.Dm d) = refl
+measured-back Measured.NotAllowed = refl
+
+speed : Told → Speed
+speed (kmh v) = Speed.Kmh v
+speed noInformation = Speed.Unknown
+
+speed-back : (r : Speed) → speed (saysTold r) ≡ r
+unfolding speed
+speed-back (Speed.Kmh v) = refl
+speed-back Speed.Unknown = refl
+
+more : Content → More
+more (ofSignal d preset main target) = More.Signal d preset (speed main) (speed target)
+more (ofWarning d preset) = More.Warning d preset
+more (ofRoute v) = More.Route v
+more nothing = More.Nothing
+
+more-back : (r : More) → more (saysContent r) ≡ r
+unfolding more
+more-back (More.Signal d preset main target) = rw (speed-back main, speed-back target)
+more-back (More.Warning d preset) = refl
+more-back (More.Route v) = refl
+more-back More.Nothing = refl
+
+said : Message → Said
+said m = record { direction = m .direction; kind = m .kind; place = m .place; ay = m .ay; az = m .az; content = more (m .content) }
+
+said-back : (r : Said) → said (saysMessage r) ≡ r
+unfolding said
+said-back r = rw (more-back (r .content))
+
+judged : Outcome Message → Judged
+judged (gives m) = Judged.Accepted (said m)
+judged (refuses n) =
+    pick (eqb n 10) Judged.One
+    (pick (eqb n 11) Judged.Many
+    (pick (eqb n 12) Judged.Unread
+    (pick (eqb n 13) Judged.NoRow
+    (pick (eqb n 14) Judged.BothWays Judged.NoDistance))))
+
+judged-back : (r : Judged) → judged (saysJudged r) ≡ r
+unfolding judged
+judged-back (Judged.Accepted m) = rw (said-back m)
+judged-back Judged.One = refl
+judged-back Judged.Many = refl
+judged-back Judged.Unread = refl
+judged-back Judged.NoRow = refl
+judged-back Judged.BothWays = refl
+judged-back Judged.NoDistance = refl
+
+pub distance-determined : (κs : Lfts 0) (a : Dens κs distance-kinds.ps) (r r′ : Measured)
+    (x x′ : AtExit (endedOf 0 distance-kinds.ps distance-kinds.r) κs)
+    → distance-reads.Post κs a r x → distance-reads.Post κs a r′ x′ → r ≡ r′
+distance-determined κs a r r′ x x′ p q = told saysMeasured measured measured-back r r′ p q
+
+pub speed-determined : (κs : Lfts 0) (a : Dens κs speed-kinds.ps) (r r′ : Speed)
+    (x x′ : AtExit (endedOf 0 speed-kinds.ps speed-kinds.r) κs)
+    → speed-reads.Post κs a r x → speed-reads.Post κs a r′ x′ → r ≡ r′
+speed-determined κs a r r′ x x′ p q = told saysTold speed speed-back r r′ p q
+
+pub judge-determined : (κs : Lfts 0) (a : Dens κs judge-kinds.ps) (r r′ : Judged)
+    (x x′ : AtExit (endedOf 0 judge-kinds.ps judge-kinds.r) κs)
+    → judge-reads.Post κs a r x → judge-reads.Post κs a r′ x′ → r ≡ r′
+judge-determined κs a r r′ x x′ p q = told saysJudged judged judged-back r r′ p q

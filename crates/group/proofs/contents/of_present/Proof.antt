@@ -1,0 +1,63 @@
+-- By the kind.
+-- Assumes nothing.
+use mathlib.Core.Path.{_∙_}
+use borrow.Author.Needs.{needs}
+use Rattle.group.proofs.contents.of_present.Statement.{statement}
+use Rattle.group.proofs.contents.of_present.Tie as tie
+
+enum-told : tie.Need-enum-told
+enum-told c = search needs
+
+of-signal-requires : tie.Need-of-signal-requires
+of-signal-requires c κs = search needs
+
+enum-told-2 : tie.Need-enum-told-2
+enum-told-2 c = search needs
+
+of-warning-requires : tie.Need-of-warning-requires
+of-warning-requires c κs = search needs
+
+enum-told-3 : tie.Need-enum-told-3
+enum-told-3 c = search needs
+
+enum-told-4 : tie.Need-enum-told-4
+enum-told-4 c = search needs
+
+enum-told-5 : tie.Need-enum-told-5
+enum-told-5 c = search needs
+
+route-speed-requires : tie.Need-route-speed-requires
+route-speed-requires c κs = search needs
+
+returns : tie.Need-returns
+returns c = c .of-signal .ensures ∙ rw (c .before .enum-told .given .1)
+
+returns-2 : tie.Need-returns-2
+returns-2 c = c .of-warning .ensures ∙ rw (c .before .enum-told2 .given .1)
+
+returns-3 : tie.Need-returns-3
+returns-3 c = rw (c .enum-told3 .given .1)
+
+returns-4 : tie.Need-returns-4
+returns-4 c = rw (c .enum-told4 .given .1)
+
+returns-5 : tie.Need-returns-5
+returns-5 c = rw (c .before .enum-told5 .given .1, c .route-speed .ensures)
+
+pub of-present-spec : {M : Type 1} → statement M
+of-present-spec =
+    tie.close
+    (tie.spec
+    enum-told
+    of-signal-requires
+    enum-told-2
+    of-warning-requires
+    enum-told-3
+    enum-told-4
+    enum-told-5
+    route-speed-requires
+    returns
+    returns-2
+    returns-3
+    returns-4
+    returns-5)

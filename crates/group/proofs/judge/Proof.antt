@@ -1,0 +1,58 @@
+-- The count is judged first, then the balises are read, then the rows decide.
+-- Assumes nothing.
+use mathlib.Core.Path.{_≡_, sym, ap, _∙_}
+use mathlib.Core.Bool.{Bool}
+use borrow.Author.Tests.{eq-eqb, ne-eqb, lt-ltb, le-ltb}
+use lib.ListN.{take}
+use Rattle.words.specs.Answer.{gives, refuses, pick}
+use Rattle.group.specs.Balise.{balises, readAll}
+use Rattle.group.specs.Judge.{judge}
+use borrow.Author.Needs.{needs}
+use Rattle.group.proofs.judge.Statement.{statement}
+use Rattle.group.proofs.judge.Tie as tie
+
+returns : tie.Need-returns
+unfolding judge
+returns c = rw (eq-eqb (c .before .before .args .group .count) 1 (c .if1 .taken))
+
+returns-2 : tie.Need-returns-2
+unfolding judge
+returns-2 c =
+    let n = c .before .before .before .args .group .count in
+    rw (ne-eqb n 1 (c .before .if1 .left), lt-ltb 5 n (c .if2 .taken))
+
+cast-n : tie.Need-cast-n
+cast-n c = search needs
+
+read-all-requires : tie.Need-read-all-requires
+read-all-requires c κs = search needs
+
+read-requires : tie.Need-read-requires
+read-requires c κs = search needs
+
+returns-3 : tie.Need-returns-3
+unfolding judge balises
+returns-3 c =
+    let r = c .before .before .before in
+    let g = r .before .before .before .before .args .group in
+    let n = g .count in
+    let e : readAll (take n (g .kept)) ≡ gives (take n (r .read-all .result .parts)) =
+    sym (r .read-all .ensures)
+    ∙ ap (λ (b : Bool). pick b (gives (take n (r .read-all .result .parts))) (refuses 12)) (c .before .before .if3 .taken) in
+    c .read .ensures ∙ sym (rw (ne-eqb n 1 (r .before .before .if1 .left), le-ltb 5 n (r .before .if2 .left), e))
+
+returns-4 : tie.Need-returns-4
+unfolding judge balises
+returns-4 c =
+    let r = c .before in
+    let g = r .before .before .before .before .args .group in
+    let n = g .count in
+    let e : readAll (take n (g .kept)) ≡ refuses 12 =
+    sym (r .read-all .ensures)
+    ∙ ap (λ (b : Bool). pick b (gives (take n (r .read-all .result .parts))) (refuses 12)) (c .if3 .left) in
+    rw (ne-eqb n 1 (r .before .before .if1 .left), le-ltb 5 n (r .before .if2 .left), e)
+
+pub judge-spec : {M : Type 1} → statement M
+judge-spec =
+    tie.close
+    (tie.spec returns returns-2 cast-n read-all-requires read-requires returns-3 returns-4)

@@ -1,0 +1,59 @@
+-- What the group says decides whether it is accepted.
+-- Assumes nothing.
+use mathlib.Core.Path.{_≡_, sym, ap, _∙_}
+use lib.ListN.{take}
+use Rattle.words.specs.Answer.{gives, refuses}
+use Rattle.group.specs.Row.{Y, Z}
+use Rattle.group.specs.Judge.{contentOf}
+use Rattle.group.specs.Says.{saysContent, saysContained}
+use borrow.Author.Needs.{needs}
+use Rattle.group.proofs.judging.as_present.Statement.{statement}
+use Rattle.group.proofs.judging.as_present.Tie as tie
+
+y-of-requires : tie.Need-y-of-requires
+y-of-requires c κs = search needs
+
+z-of-requires : tie.Need-z-of-requires
+z-of-requires c κs = search needs
+
+of-present-requires : tie.Need-of-present-requires
+of-present-requires c κs = search needs
+
+enum-known-more : tie.Need-enum-known-more
+enum-known-more c = search needs
+
+message-requires : tie.Need-message-requires
+message-requires c κs = search needs
+
+enum-told : tie.Need-enum-told
+enum-told c = search needs
+
+returns : tie.Need-returns
+returns c =
+    let m = c .before .before in
+    let f = m .before .before in
+    let s = f .before .before .before in
+    let e : contentOf (s .args .kind) (Y (s .args .a .part)) (Z (s .args .a .part)) (take (s .args .n) (s .args .p)) ≡ gives (saysContent (m .more .given .0 .0)) =
+    rw (← f .before .before .y-of .ensures, ← f .before .z-of .ensures) (sym (f .of-present .ensures) ∙ ap saysContained (m .more .given .1)) in
+    rw e (ap gives (c .message .ensures))
+
+returns-2 : tie.Need-returns-2
+returns-2 c =
+    let f = c .before .before in
+    let s = f .before .before .before in
+    let e : contentOf (s .args .kind) (Y (s .args .a .part)) (Z (s .args .a .part)) (take (s .args .n) (s .args .p)) ≡ refuses 15 =
+    rw (← f .before .before .y-of .ensures, ← f .before .z-of .ensures) (sym (f .of-present .ensures) ∙ ap saysContained (c .enum-told .given .1)) in
+    rw e
+
+pub as-present-spec : {M : Type 1} → statement M
+as-present-spec =
+    tie.close
+    (tie.spec
+    y-of-requires
+    z-of-requires
+    of-present-requires
+    enum-known-more
+    message-requires
+    enum-told
+    returns
+    returns-2)

@@ -1,0 +1,150 @@
+// What an accepted group says beyond its kind: its distance, its speeds.
+ghost use mathlib.Core.Path.{_≡_};
+ghost use Prim.Native.Nat.{_≤_};
+ghost use lib.ListN.{take};
+ghost use Rattle.group.specs.Distance.{linkDistance};
+ghost use Rattle.group.specs.Speed.{targetFigure, routeSpeed};
+ghost use Rattle.group.specs.Judge.{yOf, zOf, distanceOf, contentOf};
+ghost use Rattle.group.specs.Says.{saysMeasured, saysContained, saysSought};
+use crate::Content;
+use crate::Kind;
+use crate::Measured;
+use crate::Placed;
+use crate::parts;
+use crate::parts::Sought;
+
+// What a present group says beyond its kind, or that its distance is not allowed.
+pub enum Contained {
+    NotAllowed,
+    Is(Content),
+}
+
+// The figure Y of a balise that was looked for, 0 if there is none.
+fn y_sought(b: Sought) -> u8
+    ensures { λ r. ⌜ r ≡ yOf (saysSought b) ⌝ }
+{
+    match b {
+        Sought::Is(placed) => {
+            let part = placed.part;
+            parts::y_of(part)
+        }
+        Sought::Missing => 0,
+    }
+}
+
+// The figure Z of a balise that was looked for, 0 if there is none.
+fn z_sought(b: Sought) -> u8
+    ensures { λ r. ⌜ r ≡ zOf (saysSought b) ⌝ }
+{
+    match b {
+        Sought::Is(placed) => {
+            let part = placed.part;
+            parts::z_of(part)
+        }
+        Sought::Missing => 0,
+    }
+}
+
+// The distance from BY, BZ and the 14 (C), if there is one.
+fn link_distance(by: u8, bz: u8, c: Sought) -> Measured
+    ensures { λ r. ⌜ saysMeasured r ≡ linkDistance by bz (saysSought c) ⌝ }
+{
+    match c {
+        Sought::Is(placed) => {
+            if bz == 0 {
+                let part = placed.part;
+                crate::distance(by, parts::y_of(part))
+            } else {
+                Measured::NotAllowed
+            }
+        }
+        Sought::Missing => crate::distance(by, bz),
+    }
+}
+
+// The distance of a present signal or a present warning board.
+fn distance_of(p: [Placed; 5], n: usize) -> Measured
+    requires { ⌜ n ≤ 5 ⌝ }
+    ensures { λ r. ⌜ saysMeasured r ≡ distanceOf (take n p) ⌝ }
+{
+    let b = parts::first_of(p, n, 9);
+    let c = parts::first_of(p, n, 14);
+    link_distance(y_sought(b), z_sought(b), c)
+}
+
+// The target figure, with the prefix rule.
+fn target_figure(ay: u8, az: u8, py: u8, pz: u8) -> u8
+    ensures { λ r. ⌜ r ≡ targetFigure ay az py pz ⌝ }
+{
+    if (7 <= py) & (py <= 14) & (pz != 0) & (az == 1) {
+        match ay {
+            1..=12 => 0,
+            14 => 0,
+            _ => az,
+        }
+    } else {
+        az
+    }
+}
+
+// The speed of a route board.
+fn route_speed(ay: u8, az: u8) -> u16
+    ensures { λ r. ⌜ r ≡ routeSpeed ay az ⌝ }
+{
+    match ay {
+        4 => 140,
+        _ => 10 * az as u16,
+    }
+}
+
+// What a present signal says.
+fn of_signal(ay: u8, az: u8, p: [Placed; 5], n: usize) -> Contained
+    requires { ⌜ n ≤ 5 ⌝ }
+    ensures { λ r. ⌜ saysContained r ≡ contentOf Kind.Signal ay az (take n p) ⌝ }
+{
+    match distance_of(p, n) {
+        Measured::Dm(distance) => {
+            let b = parts::first_of(p, n, 9);
+            let prefix = parts::first_of(p, n, 8);
+            let figure = target_figure(ay, az, y_sought(prefix), z_sought(prefix));
+            Contained::Is(Content::Signal {
+                distance,
+                preset: y_sought(b) == 14,
+                main: crate::speed(ay),
+                target: crate::speed(figure),
+            })
+        }
+        Measured::NotAllowed => Contained::NotAllowed,
+    }
+}
+
+// What a present warning board says.
+fn of_warning(ay: u8, az: u8, p: [Placed; 5], n: usize) -> Contained
+    requires { ⌜ n ≤ 5 ⌝ }
+    ensures { λ r. ⌜ saysContained r ≡ contentOf Kind.Warning ay az (take n p) ⌝ }
+{
+    match distance_of(p, n) {
+        Measured::Dm(distance) => {
+            let b = parts::first_of(p, n, 9);
+            Contained::Is(Content::Warning {
+                distance,
+                preset: y_sought(b) == 14,
+            })
+        }
+        Measured::NotAllowed => Contained::NotAllowed,
+    }
+}
+
+// What a present group says beyond its kind, or that its distance is not allowed.
+pub fn of_present(kind: Kind, ay: u8, az: u8, p: [Placed; 5], n: usize) -> Contained
+    requires { ⌜ n ≤ 5 ⌝ }
+    ensures { λ r. ⌜ saysContained r ≡ contentOf kind ay az (take n p) ⌝ }
+{
+    match kind {
+        Kind::Signal => of_signal(ay, az, p, n),
+        Kind::Warning => of_warning(ay, az, p, n),
+        Kind::Annulled => Contained::Is(Content::Nothing),
+        Kind::Line => Contained::Is(Content::Nothing),
+        Kind::Route => Contained::Is(Content::Route(route_speed(ay, az))),
+    }
+}

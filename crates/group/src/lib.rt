@@ -1,0 +1,162 @@
+// Balises as received, and the judgement of a closed group: rows, distances, speeds.
+// Promises: a group is its message, or refused with 10 to 15, exactly as document 01's rows and tables say.
+// Specification: specs/Rows.antt (the rows), specs/Judge.antt (the judgement), specs/Distance.antt, specs/Speed.antt, specs/Says.antt.
+ghost use mathlib.Core.Path.{_≡_};
+ghost use Rattle.group.specs.Distance.{distance};
+ghost use Rattle.group.specs.Speed.{signalSpeed};
+ghost use Rattle.group.specs.Judge.{judge};
+ghost use Rattle.group.specs.Says.{saysMeasured, saysTold, saysJudged};
+
+mod contents;
+mod judging;
+mod parts;
+mod reading;
+mod rows;
+mod tables;
+
+// What was heard at a balise: three received words, a marker, or nothing readable.
+pub enum Heard {
+    Words(u8, u8, u8),
+    Marker,
+    Unreadable,
+}
+
+// A balise as received: its place in dm, and what was heard there.
+pub struct Balise {
+    pub place: u32,
+    pub heard: Heard,
+}
+
+// A group: its first five balises, how many there were (255 stands for 255 or more), and the last one's place.
+pub struct Group {
+    pub kept: [Balise; 5],
+    pub count: u8,
+    pub last: u32,
+}
+
+// A balise as read: the figures of X, Y and Z, the number of a number balise (12), or a marker.
+pub enum Part {
+    Figures(u8, u8, u8),
+    Number(u16),
+    Marker,
+}
+
+// A balise as read, with its place.
+pub struct Placed {
+    pub place: u32,
+    pub part: Part,
+}
+
+// The kinds of groups.
+pub enum Kind {
+    Signal,
+    Warning,
+    Annulled,
+    Line,
+    Route,
+}
+
+// The direction of a group.
+pub enum Direction {
+    Present,
+    Opposite,
+}
+
+// What a figure tells of a speed.
+pub enum Told {
+    Unknown,
+    Kmh(u16),
+}
+
+// What looking up a distance answers: decimetres, or refusal 15.
+pub enum Measured {
+    Dm(u32),
+    NotAllowed,
+}
+
+// What a group says beyond its kind.
+pub enum Content {
+    Signal {
+        distance: u32,
+        preset: bool,
+        main: Told,
+        target: Told,
+    },
+    Warning {
+        distance: u32,
+        preset: bool,
+    },
+    Route(u16),
+    Nothing,
+}
+
+// The message of an accepted group; place is that of its A balise.
+pub struct Message {
+    pub direction: Direction,
+    pub kind: Kind,
+    pub place: u32,
+    pub ay: u8,
+    pub az: u8,
+    pub content: Content,
+}
+
+// What judging a group answers: its message, or the refusals 10 to 15 in this order.
+pub enum Judged {
+    Accepted(Message),
+    One,
+    Many,
+    Unread,
+    NoRow,
+    BothWays,
+    NoDistance,
+}
+
+// The distance of a figure in column BY of table DF, or refusal 15.
+pub fn distance(by: u8, figure: u8) -> Measured
+    ensures { λ r. ⌜ saysMeasured r ≡ distance by figure ⌝ }
+{
+    if by > 14 {
+        return Measured::NotAllowed;
+    }
+    match figure {
+        1..=14 => {
+            let i = by as usize;
+            let d = tables::BASES[i] as i32 + tables::STEPS[i] * figure as i32;
+            Measured::Dm(d as u32)
+        }
+        _ => Measured::NotAllowed,
+    }
+}
+
+// What a figure of a signal tells of a speed.
+pub fn speed(figure: u8) -> Told
+    ensures { λ r. ⌜ saysTold r ≡ signalSpeed figure ⌝ }
+{
+    if figure < 14 {
+        Told::Kmh(tables::SPEEDS[figure as usize])
+    } else {
+        Told::Unknown
+    }
+}
+
+// The judgement of a closed group: its message, or refusal 10, 11, 12, 13, 14 or 15.
+pub fn judge(group: Group) -> Judged
+    ensures { λ r. ⌜ saysJudged r ≡ judge group ⌝ }
+{
+    let count = group.count;
+    let kept = group.kept;
+    if count == 1 {
+        return Judged::One;
+    }
+    if count > 5 {
+        return Judged::Many;
+    }
+    let n = count as usize;
+    let all = reading::read_all(kept, n);
+    if all.good {
+        let parts = all.parts;
+        judging::read(parts, n)
+    } else {
+        Judged::Unread
+    }
+}

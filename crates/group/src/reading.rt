@@ -1,0 +1,75 @@
+// Reading the balises of a group from what was heard.
+ghost use mathlib.Core.Path.{_≡_};
+ghost use Prim.Native.Nat.{_≤_};
+ghost use lib.ListN.{take};
+ghost use Rattle.telegram.specs.Says.{saysTelegram};
+ghost use Rattle.group.specs.Balise.{partSaid, partHeard, readAll};
+ghost use Rattle.group.specs.Says.{saysPartRead, saysAllRead};
+use crate::Balise;
+use crate::Heard;
+use crate::Part;
+use crate::Placed;
+use telegram::Telegram;
+use telegram::TelegramRead;
+
+// What reading a balise answers: it as read, or refusal 12.
+pub enum PartRead {
+    Is(Part),
+    Refused,
+}
+
+// What reading the balises of a group answers: good and the balises, or refusal 12.
+pub struct AllRead {
+    pub good: bool,
+    pub parts: [Placed; 5],
+}
+
+// A telegram as a part of a group.
+fn part_of(t: Telegram) -> Part
+    ensures { λ r. ⌜ r ≡ partSaid (saysTelegram t) ⌝ }
+{
+    match t {
+        Telegram::Figures(x, y, z) => Part::Figures(x, y, z),
+        Telegram::Number(m) => Part::Number(m),
+    }
+}
+
+// What was heard, read, or refusal 12.
+pub fn part_heard(heard: Heard) -> PartRead
+    ensures { λ r. ⌜ saysPartRead r ≡ partHeard heard ⌝ }
+{
+    match heard {
+        Heard::Words(x, y, z) => match telegram::read(x, y, z) {
+            TelegramRead::Is(t) => PartRead::Is(part_of(t)),
+            TelegramRead::NotCode(_) => PartRead::Refused,
+            TelegramRead::Fifteen(_) => PartRead::Refused,
+        },
+        Heard::Marker => PartRead::Is(Part::Marker),
+        Heard::Unreadable => PartRead::Refused,
+    }
+}
+
+// The first n balises read, or refusal 12.
+pub fn read_all(kept: [Balise; 5], n: usize) -> AllRead
+    requires { ⌜ n ≤ 5 ⌝ }
+    ensures { λ r. ⌜ saysAllRead n r ≡ readAll (take n kept) ⌝ }
+{
+    let mut parts = [Placed {
+        place: 0,
+        part: Part::Marker,
+    }; 5];
+    let mut i = 0;
+    while i < n {
+        let b = kept[i];
+        let heard = b.heard;
+        let PartRead::Is(part) = part_heard(heard) else {
+            return AllRead { good: false, parts };
+        };
+        parts[i] = Placed {
+            place: b.place,
+            part,
+        };
+        i += 1;
+    }
+    AllRead { good: true, parts }
+}
