@@ -23,32 +23,32 @@ use Rattle.contact.proofs.judge.Kinds as judge-kinds
 use Rattle.contact.proofs.judge.Reads as judge-reads
 
 -- From what an answer says, the answer.
-abbrev begunOf : Outcome Search → Begun
+abbrev pub begunOf : Outcome Search → Begun
 begunOf (gives s) = Begun.Search s
 begunOf (refuses n) = Begun.Beyond
 
-begun-back : (r : Begun) → begunOf (saysBegun r) ≡ r
+pub begun-back : (r : Begun) → begunOf (saysBegun r) ≡ r
 begun-back (Begun.Search s) = refl
 begun-back Begun.Beyond = refl
 
-abbrev nextOf : Outcome Handed → Next
+abbrev pub nextOf : Outcome Handed → Next
 nextOf (gives (handed start length then)) = Next.Contact start length then
 nextOf (gives noFurther) = Next.NoFurther
 nextOf (refuses n) = pick (eqb n 9) Next.Cut Next.Beyond
 
-next-back : (r : Next) → nextOf (saysNext r) ≡ r
+pub next-back : (r : Next) → nextOf (saysNext r) ≡ r
 next-back (Next.Contact start length then) = refl
 next-back Next.NoFurther = refl
 next-back Next.Cut = refl
 next-back Next.Beyond = refl
 
-abbrev judgedOf : Outcome Contact → Judged
+abbrev pub judgedOf : Outcome Contact → Judged
 judgedOf (gives (read m first count)) = told (λ t. Judged.Read t first count) Judged.Neither m
 judgedOf (gives marker) = Judged.Marker
 judgedOf (refuses n) =
     pick (eqb n 4) Judged.NotSeven (pick (eqb n 5) Judged.Beyond (pick (eqb n 7) Judged.Differ Judged.Neither))
 
-judged-back : (r : Judged) → judgedOf (saysJudged r) ≡ r
+pub judged-back : (r : Judged) → judgedOf (saysJudged r) ≡ r
 judged-back (Judged.Read t first count) = ap (λ (u : Telegram). Judged.Read u first count) (telegram-back t)
 judged-back Judged.Marker = refl
 judged-back Judged.NotSeven = refl

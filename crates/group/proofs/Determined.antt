@@ -24,45 +24,45 @@ use Rattle.group.proofs.judge.Kinds as judge-kinds
 use Rattle.group.proofs.judge.Reads as judge-reads
 
 -- From what an answer says, the answer.
-measured : Outcome ℕ → Measured
+pub measured : Outcome ℕ → Measured
 measured (gives d) = Measured.Dm d
 measured (refuses n) = Measured.NotAllowed
 
-measured-back : (r : Measured) → measured (saysMeasured r) ≡ r
+pub measured-back : (r : Measured) → measured (saysMeasured r) ≡ r
 unfolding measured
 measured-back (Measured.Dm d) = refl
 measured-back Measured.NotAllowed = refl
 
-speed : Told → Speed
+pub speed : Told → Speed
 speed (kmh v) = Speed.Kmh v
 speed noInformation = Speed.Unknown
 
-speed-back : (r : Speed) → speed (saysTold r) ≡ r
+pub speed-back : (r : Speed) → speed (saysTold r) ≡ r
 unfolding speed
 speed-back (Speed.Kmh v) = refl
 speed-back Speed.Unknown = refl
 
-more : Content → More
+pub more : Content → More
 more (ofSignal d preset main target) = More.Signal d preset (speed main) (speed target)
 more (ofWarning d preset) = More.Warning d preset
 more (ofRoute v) = More.Route v
 more nothing = More.Nothing
 
-more-back : (r : More) → more (saysContent r) ≡ r
+pub more-back : (r : More) → more (saysContent r) ≡ r
 unfolding more
 more-back (More.Signal d preset main target) = rw (speed-back main, speed-back target)
 more-back (More.Warning d preset) = refl
 more-back (More.Route v) = refl
 more-back More.Nothing = refl
 
-said : Message → Said
+pub said : Message → Said
 said m = record { direction = m .direction; kind = m .kind; place = m .place; ay = m .ay; az = m .az; content = more (m .content) }
 
-said-back : (r : Said) → said (saysMessage r) ≡ r
+pub said-back : (r : Said) → said (saysMessage r) ≡ r
 unfolding said
 said-back r = rw (more-back (r .content))
 
-judged : Outcome Message → Judged
+pub judged : Outcome Message → Judged
 judged (gives m) = Judged.Accepted (said m)
 judged (refuses n) =
     pick (eqb n 10) Judged.One
@@ -71,7 +71,7 @@ judged (refuses n) =
     (pick (eqb n 13) Judged.NoRow
     (pick (eqb n 14) Judged.BothWays Judged.NoDistance))))
 
-judged-back : (r : Judged) → judged (saysJudged r) ≡ r
+pub judged-back : (r : Judged) → judged (saysJudged r) ≡ r
 unfolding judged
 judged-back (Judged.Accepted m) = rw (said-back m)
 judged-back Judged.One = refl

@@ -30,11 +30,11 @@ use Rattle.telegram.proofs.survey.Kinds as survey-kinds
 use Rattle.telegram.proofs.survey.Reads as survey-reads
 
 -- From what an answer says, the answer.
-abbrev pairOf : Outcome Good → Pair
+abbrev pub pairOf : Outcome Good → Pair
 pairOf (gives g) = Pair.Good
 pairOf (refuses n) = Pair.NotSeven
 
-pair-back : (r : Pair) → pairOf (saysPair r) ≡ r
+pub pair-back : (r : Pair) → pairOf (saysPair r) ≡ r
 pair-back Pair.Good = refl
 pair-back Pair.NotSeven = refl
 
@@ -46,13 +46,13 @@ pub telegram-back : (t : Telegram) → telegramOf (saysTelegram t) ≡ t
 telegram-back (Telegram.Figures x y z) = refl
 telegram-back (Telegram.Number m) = refl
 
-abbrev wordOf : Letter → Word
+abbrev pub wordOf : Letter → Word
 wordOf X = Word.X
 wordOf Y = Word.Y
 wordOf Z = Word.Z
 wordOf YZ = Word.YZ
 
-word-back : (w : Word) → wordOf (saysWord w) ≡ w
+pub word-back : (w : Word) → wordOf (saysWord w) ≡ w
 word-back Word.X = refl
 word-back Word.Y = refl
 word-back Word.Z = refl
@@ -72,22 +72,22 @@ abbrev pub told : {A : Type 0} → (Telegram → A) → A → Reading → A
 told some none (reads m) = some (telegramOf m)
 told some none (refused n letter) = none
 
-abbrev foundOf : Outcome Single → Found
+abbrev pub foundOf : Outcome Single → Found
 foundOf (gives (at p m)) = told (λ t. Found.At p t) Found.NoPlace m
 foundOf (refuses n) = pick (eqb n 4) Found.NotSeven (pick (eqb n 5) Found.Beyond Found.NoPlace)
 
-found-back : (r : Found) → foundOf (saysFound r) ≡ r
+pub found-back : (r : Found) → foundOf (saysFound r) ≡ r
 found-back (Found.At p t) = ap (λ (u : Telegram). Found.At p u) (telegram-back t)
 found-back Found.NotSeven = refl
 found-back Found.Beyond = refl
 found-back Found.NoPlace = refl
 
-abbrev surveyedOf : Outcome Alike → Surveyed
+abbrev pub surveyedOf : Outcome Alike → Surveyed
 surveyedOf (gives (alike m first count)) = told (λ t. Surveyed.Alike t first count) Surveyed.NoPlace m
 surveyedOf (refuses n) =
     pick (eqb n 4) Surveyed.NotSeven (pick (eqb n 5) Surveyed.Beyond (pick (eqb n 6) Surveyed.NoPlace Surveyed.Differ))
 
-surveyed-back : (r : Surveyed) → surveyedOf (saysSurveyed r) ≡ r
+pub surveyed-back : (r : Surveyed) → surveyedOf (saysSurveyed r) ≡ r
 surveyed-back (Surveyed.Alike t first count) = ap (λ (u : Telegram). Surveyed.Alike u first count) (telegram-back t)
 surveyed-back Surveyed.Differ = refl
 surveyed-back Surveyed.NotSeven = refl

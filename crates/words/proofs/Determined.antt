@@ -22,38 +22,38 @@ use Rattle.words.proofs.write_long.Kinds as write-long-kinds
 use Rattle.words.proofs.write_long.Reads as write-long-reads
 
 -- From what an answer says, the answer.
-shortRead : Outcome ℕ → ShortRead
+pub shortRead : Outcome ℕ → ShortRead
 shortRead (gives x) = ShortRead.Figure x
 shortRead (refuses n) = ShortRead.NotCode
 
-shortRead-back : (r : ShortRead) → shortRead (saysShortRead r) ≡ r
+pub shortRead-back : (r : ShortRead) → shortRead (saysShortRead r) ≡ r
 unfolding shortRead
 shortRead-back (ShortRead.Figure x) = refl
 shortRead-back ShortRead.NotCode = refl
 
-shortWritten : Outcome ℕ → ShortWritten
+pub shortWritten : Outcome ℕ → ShortWritten
 shortWritten (gives w) = ShortWritten.Word w
 shortWritten (refuses n) = ShortWritten.TooLarge
 
-shortWritten-back : (r : ShortWritten) → shortWritten (saysShortWritten r) ≡ r
+pub shortWritten-back : (r : ShortWritten) → shortWritten (saysShortWritten r) ≡ r
 unfolding shortWritten
 shortWritten-back (ShortWritten.Word w) = refl
 shortWritten-back ShortWritten.TooLarge = refl
 
-longRead : Outcome ℕ → LongRead
+pub longRead : Outcome ℕ → LongRead
 longRead (gives x) = LongRead.Figure x
 longRead (refuses n) = LongRead.NotCode
 
-longRead-back : (r : LongRead) → longRead (saysLongRead r) ≡ r
+pub longRead-back : (r : LongRead) → longRead (saysLongRead r) ≡ r
 unfolding longRead
 longRead-back (LongRead.Figure x) = refl
 longRead-back LongRead.NotCode = refl
 
-longWritten : Outcome ℕ → LongWritten
+pub longWritten : Outcome ℕ → LongWritten
 longWritten (gives w) = LongWritten.Word w
 longWritten (refuses n) = LongWritten.TooLarge
 
-longWritten-back : (r : LongWritten) → longWritten (saysLongWritten r) ≡ r
+pub longWritten-back : (r : LongWritten) → longWritten (saysLongWritten r) ≡ r
 unfolding longWritten
 longWritten-back (LongWritten.Word w) = refl
 longWritten-back LongWritten.TooLarge = refl
