@@ -1,0 +1,79 @@
+-- What is left of the text falls.
+use Prim.Native.Nat.{_-_}
+use lib.ListN.{length}
+use borrow.Author.Needs.{needs}
+use Rattle.rows.proofs.groups.group_of.Statement.{statement}
+use Rattle.rows.proofs.groups.group_of.Tie as tie
+
+abbrev Inv-loop : tie.InvT-loop
+Inv-loop text group₀ at₀ group at = Unit {0}
+
+abbrev μ-loop : tie.MeasureT-loop
+μ-loop text group₀ at₀ group at = length text - at
+
+empty-requires : tie.Need-empty-requires Inv-loop μ-loop
+empty-requires c κs = search needs
+
+loop-holds : tie.Need-loop-holds Inv-loop μ-loop
+loop-holds c = search needs
+
+next-of-requires : tie.Need-next-of-requires Inv-loop μ-loop
+next-of-requires c κs = search needs
+
+sub-heard-of : tie.Need-sub-heard-of Inv-loop μ-loop
+sub-heard-of c = search needs
+
+part-heard-of-start : tie.Need-part-heard-of-start Inv-loop μ-loop
+part-heard-of-start c = search needs
+
+part-heard-of-end : tie.Need-part-heard-of-end Inv-loop μ-loop
+part-heard-of-end c = search needs
+
+heard-of-requires : tie.Need-heard-of-requires Inv-loop μ-loop
+heard-of-requires c κs = search needs
+
+enum-known-heard : tie.Need-enum-known-heard Inv-loop μ-loop
+enum-known-heard c = search needs
+
+enum-told : tie.Need-enum-told Inv-loop μ-loop
+enum-told c = search needs
+
+returns : tie.Need-returns Inv-loop μ-loop
+returns c = search needs
+
+joined-requires : tie.Need-joined-requires Inv-loop μ-loop
+joined-requires c κs = search needs
+
+add-at : tie.Need-add-at Inv-loop μ-loop
+add-at c = search needs
+
+loop-less : tie.Need-loop-less Inv-loop μ-loop
+loop-less c = search needs
+
+loop-again : tie.Need-loop-again Inv-loop μ-loop
+loop-again c = search needs
+
+returns-2 : tie.Need-returns-2 Inv-loop μ-loop
+returns-2 c = search needs
+
+pub group-of-spec : {M : Type 1} → statement M
+group-of-spec =
+    tie.close
+    (tie.spec
+    Inv-loop
+    μ-loop
+    empty-requires
+    loop-holds
+    next-of-requires
+    sub-heard-of
+    part-heard-of-start
+    part-heard-of-end
+    heard-of-requires
+    enum-known-heard
+    enum-told
+    returns
+    joined-requires
+    add-at
+    loop-less
+    loop-again
+    returns-2)

@@ -1,0 +1,45 @@
+// Holds the crate `group` against table DF and tables HS and FS of source 000, and against groups worked out by hand from
+// document 01. Writes each group with its answer, a line for each difference, and counts. Its arguments name the three files.
+ghost use Rattle.io.specs.Counts.{Counts};
+
+mod answers;
+mod balises;
+mod distances;
+mod fields;
+mod files;
+mod groups;
+mod say;
+mod speeds;
+mod tally;
+
+use files::File;
+
+// Opens the file that an argument names.
+fn opened(which: usize) -> i32 {
+    let mut path = io::buffer();
+    let n = os::arg(which, &mut path);
+    os::open_read(&path[..n])
+}
+
+// Reads the file that an argument names, as far as the buffer holds it; of one that cannot be opened, nothing.
+fn read_file(which: usize, buf: &mut [u8]) -> usize
+    ensures { λ r. ⌜ Counts r (now (buf .exit)) ⌝ }
+{
+    let fd = opened(which);
+    let n = io::read_full(fd, buf);
+    libc::close(fd);
+    n
+}
+
+// Compares each entry of the file that an argument names, and tells the counts.
+fn run(which: usize, file: File) {
+    let mut buf = io::large_buffer();
+    let n = read_file(which, &mut buf);
+    files::compare(file, &buf[..n]);
+}
+
+fn main() {
+    run(1, File::Distances);
+    run(2, File::Speeds);
+    run(3, File::Groups);
+}
