@@ -1,0 +1,85 @@
+-- Each contract fixes the number that its function returns and what it leaves in each array that it was lent: any two that
+-- it allows are equal.
+-- Assumes nothing.
+use mathlib.Core.Path.{_≡_, sym, _∙_}
+use lib.IntN.{ℤ}
+use contract.Lifetimes.{Lfts}
+use borrow.Fn.Kinds.{Dens, endedOf}
+use denote.Triple.Clauses.{AtExit}
+use Rattle.abi.proofs.codes.atc2_read_short.Kinds as read-short-kinds
+use Rattle.abi.proofs.codes.atc2_read_short.Reads as read-short-reads
+use Rattle.abi.proofs.codes.atc2_write_short.Kinds as write-short-kinds
+use Rattle.abi.proofs.codes.atc2_write_short.Reads as write-short-reads
+use Rattle.abi.proofs.codes.atc2_read_long.Kinds as read-long-kinds
+use Rattle.abi.proofs.codes.atc2_read_long.Reads as read-long-reads
+use Rattle.abi.proofs.codes.atc2_write_long.Kinds as write-long-kinds
+use Rattle.abi.proofs.codes.atc2_write_long.Reads as write-long-reads
+use Rattle.abi.proofs.telegrams.atc2_read_telegram.Kinds as read-telegram-kinds
+use Rattle.abi.proofs.telegrams.atc2_read_telegram.Reads as read-telegram-reads
+use Rattle.abi.proofs.telegrams.atc2_find.Kinds as find-kinds
+use Rattle.abi.proofs.telegrams.atc2_find.Reads as find-reads
+use Rattle.abi.proofs.contacts.atc2_judge.Kinds as judge-kinds
+use Rattle.abi.proofs.contacts.atc2_judge.Reads as judge-reads
+use Rattle.abi.proofs.contacts.atc2_begin.Kinds as begin-kinds
+use Rattle.abi.proofs.contacts.atc2_begin.Reads as begin-reads
+use Rattle.abi.proofs.contacts.atc2_next_contact.Kinds as next-contact-kinds
+use Rattle.abi.proofs.contacts.atc2_next_contact.Reads as next-contact-reads
+use Rattle.abi.proofs.distances.atc2_distance.Kinds as distance-kinds
+use Rattle.abi.proofs.distances.atc2_distance.Reads as distance-reads
+
+pub atc2-read-short-determined : (κs : Lfts 0) (a : Dens κs read-short-kinds.ps) (r r′ : ℤ)
+    (x x′ : AtExit (endedOf 0 read-short-kinds.ps read-short-kinds.r) κs)
+    → read-short-reads.Post κs a r x → read-short-reads.Post κs a r′ x′ → r ≡ r′
+atc2-read-short-determined κs a r r′ x x′ p q = p ∙ sym q
+
+pub atc2-write-short-determined : (κs : Lfts 0) (a : Dens κs write-short-kinds.ps) (r r′ : ℤ)
+    (x x′ : AtExit (endedOf 0 write-short-kinds.ps write-short-kinds.r) κs)
+    → write-short-reads.Post κs a r x → write-short-reads.Post κs a r′ x′ → r ≡ r′
+atc2-write-short-determined κs a r r′ x x′ p q = p ∙ sym q
+
+pub atc2-read-long-determined : (κs : Lfts 0) (a : Dens κs read-long-kinds.ps) (r r′ : ℤ)
+    (x x′ : AtExit (endedOf 0 read-long-kinds.ps read-long-kinds.r) κs)
+    → read-long-reads.Post κs a r x → read-long-reads.Post κs a r′ x′ → r ≡ r′
+atc2-read-long-determined κs a r r′ x x′ p q = p ∙ sym q
+
+pub atc2-write-long-determined : (κs : Lfts 0) (a : Dens κs write-long-kinds.ps) (r r′ : ℤ)
+    (x x′ : AtExit (endedOf 0 write-long-kinds.ps write-long-kinds.r) κs)
+    → write-long-reads.Post κs a r x → write-long-reads.Post κs a r′ x′ → r ≡ r′
+atc2-write-long-determined κs a r r′ x x′ p q = p ∙ sym q
+
+pub atc2-read-telegram-determined : (κs : Lfts 0) (a : Dens κs read-telegram-kinds.ps) (r r′ : ℤ)
+    (x x′ : AtExit (endedOf 0 read-telegram-kinds.ps read-telegram-kinds.r) κs)
+    → read-telegram-reads.Post κs a r x → read-telegram-reads.Post κs a r′ x′ → r ≡ r′
+atc2-read-telegram-determined κs a r r′ x x′ p q = p ∙ sym q
+
+-- `out` is the sixth of the arguments of `atc2_find` and of `atc2_judge`.
+pub atc2-find-determined : (κs : Lfts 2) (a : Dens κs find-kinds.ps) (r r′ : ℤ)
+    (x x′ : AtExit (endedOf 2 find-kinds.ps find-kinds.r) κs)
+    → find-reads.Post κs a r x → find-reads.Post κs a r′ x′
+    → (r ≡ r′) × (x .1 .1 .1 .1 .1 .0 .now ≡ x′ .1 .1 .1 .1 .1 .0 .now)
+atc2-find-determined κs a r r′ x x′ p q = (p .0 ∙ sym (q .0), p .1 ∙ sym (q .1))
+
+pub atc2-judge-determined : (κs : Lfts 2) (a : Dens κs judge-kinds.ps) (r r′ : ℤ)
+    (x x′ : AtExit (endedOf 2 judge-kinds.ps judge-kinds.r) κs)
+    → judge-reads.Post κs a r x → judge-reads.Post κs a r′ x′
+    → (r ≡ r′) × (x .1 .1 .1 .1 .1 .0 .now ≡ x′ .1 .1 .1 .1 .1 .0 .now)
+atc2-judge-determined κs a r r′ x x′ p q = (p .0 ∙ sym (q .0), p .1 ∙ sym (q .1))
+
+-- `search` is the fourth of the arguments of `atc2_begin`.
+pub atc2-begin-determined : (κs : Lfts 2) (a : Dens κs begin-kinds.ps) (r r′ : ℤ)
+    (x x′ : AtExit (endedOf 2 begin-kinds.ps begin-kinds.r) κs)
+    → begin-reads.Post κs a r x → begin-reads.Post κs a r′ x′
+    → (r ≡ r′) × (x .1 .1 .1 .0 .now ≡ x′ .1 .1 .1 .0 .now)
+atc2-begin-determined κs a r r′ x x′ p q = (p .0 ∙ sym (q .0), p .1 ∙ sym (q .1))
+
+-- `search` and `out` are the second and the third of the arguments of `atc2_next_contact`.
+pub atc2-next-contact-determined : (κs : Lfts 3) (a : Dens κs next-contact-kinds.ps) (r r′ : ℤ)
+    (x x′ : AtExit (endedOf 3 next-contact-kinds.ps next-contact-kinds.r) κs)
+    → next-contact-reads.Post κs a r x → next-contact-reads.Post κs a r′ x′
+    → (r ≡ r′) × (x .1 .0 .now ≡ x′ .1 .0 .now) × (x .1 .1 .0 .now ≡ x′ .1 .1 .0 .now)
+atc2-next-contact-determined κs a r r′ x x′ p q = (p .0 ∙ sym (q .0), p .1 .0 ∙ sym (q .1 .0), p .1 .1 ∙ sym (q .1 .1))
+
+pub atc2-distance-determined : (κs : Lfts 0) (a : Dens κs distance-kinds.ps) (r r′ : ℤ)
+    (x x′ : AtExit (endedOf 0 distance-kinds.ps distance-kinds.r) κs)
+    → distance-reads.Post κs a r x → distance-reads.Post κs a r′ x′ → r ≡ r′
+atc2-distance-determined κs a r r′ x x′ p q = p ∙ sym q

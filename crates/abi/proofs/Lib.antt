@@ -1,0 +1,4 @@
+-- What the proofs of several functions use, and that the contracts fix every answer.
+pub mod Carried
+pub mod TableDF
+pub mod Determined

@@ -1,0 +1,30 @@
+-- `atc2_write_long` returns the word, or the refusal, as `write_long` answers.
+-- Assumes nothing.
+use mathlib.Core.Path.{_∙_}
+use borrow.Author.Needs.{needs}
+use Rattle.words.specs.Says.{saysLongWritten}
+use Rattle.abi.specs.Face.{returned, itself}
+use Rattle.abi.proofs.Carried.{carried, as-i32}
+use Rattle.abi.proofs.codes.atc2_write_long.Statement.{statement}
+use Rattle.abi.proofs.codes.atc2_write_long.Tie as tie
+
+write-long-requires : tie.Need-write-long-requires
+write-long-requires c κs = search needs
+
+enum-known-w : tie.Need-enum-known-w
+enum-known-w c = search needs
+
+cast-result : tie.Need-cast-result
+cast-result c = search needs
+
+enum-told : tie.Need-enum-told
+enum-told c = search needs
+
+returns : tie.Need-returns
+returns c = as-i32 (search needs) ∙ carried (returned itself) saysLongWritten (c .before .w .given .1) (c .before .before .before .write-long .ensures)
+
+returns-2 : tie.Need-returns-2
+returns-2 c = carried (returned itself) saysLongWritten (c .enum-told .given .1) (c .before .before .write-long .ensures)
+
+pub atc2-write-long-spec : {M : Type 1} → statement M
+atc2-write-long-spec = tie.close (tie.spec write-long-requires enum-known-w cast-result enum-told returns returns-2)

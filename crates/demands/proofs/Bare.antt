@@ -1,0 +1,46 @@
+-- No refusal carries a figure, and what is refused stays as it was.
+-- Assumes nothing.
+use mathlib.Core.Path.{_≡_, sym, ap, _∙_}
+use mathlib.Core.List.{List}
+use Prim.Native.Nat.{ℕ}
+use Rattle.words.specs.Says.{saysShortRead, saysShortWritten, saysLongRead, saysLongWritten}
+use Rattle.telegram.specs.Says.{saysPair, saysTelegramRead, saysFound, saysSurveyed}
+use Rattle.contact.specs.Says.{saysBegun, saysNext, saysJudged}
+use Rattle.group.specs.Says.{saysMeasured, saysJudged as saysGroup}
+use Rattle.ride.specs.Says.{saysChecked, saysReport, saysWay}
+use Rattle.ride.specs.Step.{Step, step, End}
+use Rattle.ride.specs.Over.{Run, run}
+use Rattle.words.proofs.Told.{told}
+use Rattle.words.proofs.Determined as words-are
+use Rattle.telegram.proofs.Determined as telegram-is
+use Rattle.contact.proofs.Determined as contact-is
+use Rattle.group.proofs.Determined as group-is
+use Rattle.ride.proofs.Determined as ride-is
+use Rattle.demands.specs.Demand1.{Untouched}
+use Rattle.demands.proofs.Rides.{step-untouched, run-untouched, group-clears, end-clears}
+
+pub untouched : Untouched
+untouched = record {
+  step = λ ride gap bytes r n c e. ap (λ (s : Step). s .ride) (c .1) ∙ step-untouched ride gap bytes n (sym (ap (λ (s : Step). s .lines) (c .1)) ∙ e);
+  run = λ ride gap trace r n c e.
+      let is = c .4 ∙ ap (λ (v : List ℕ). run ride gap v) (c .3) in
+      ap (λ (s : Run). s .ride) is ∙ run-untouched ride gap trace n (sym (ap (λ (s : Run). s .answer) is) ∙ e);
+  group = group-clears;
+  end = λ ride r n c is e. ap (λ (s : End). s .ride) (c .1) ∙ end-clears ride n is e;
+  short-read = λ n r r′ p q. told saysShortRead words-are.shortRead words-are.shortRead-back r r′ p q;
+  short-written = λ n r r′ p q. told saysShortWritten words-are.shortWritten words-are.shortWritten-back r r′ p q;
+  long-read = λ n r r′ p q. told saysLongRead words-are.longRead words-are.longRead-back r r′ p q;
+  long-written = λ n r r′ p q. told saysLongWritten words-are.longWritten words-are.longWritten-back r r′ p q;
+  pair = λ n r r′ p q. told saysPair telegram-is.pairOf telegram-is.pair-back r r′ p q;
+  telegram-read = λ n at r r′ p q. told saysTelegramRead telegram-is.readOf telegram-is.read-back r r′ p q;
+  found = λ n r r′ p q. told saysFound telegram-is.foundOf telegram-is.found-back r r′ p q;
+  surveyed = λ n r r′ p q. told saysSurveyed telegram-is.surveyedOf telegram-is.surveyed-back r r′ p q;
+  begun = λ n r r′ p q. told saysBegun contact-is.begunOf contact-is.begun-back r r′ p q;
+  next = λ n r r′ p q. told saysNext contact-is.nextOf contact-is.next-back r r′ p q;
+  contact-judged = λ n r r′ p q. told saysJudged contact-is.judgedOf contact-is.judged-back r r′ p q;
+  measured = λ n r r′ p q. told saysMeasured group-is.measured group-is.measured-back r r′ p q;
+  group-judged = λ n r r′ p q. told saysGroup group-is.judged group-is.judged-back r r′ p q;
+  checked = λ n r r′ p q. told saysChecked ride-is.checkedOf ride-is.checked-back r r′ p q;
+  report = λ n r r′ p q. told saysReport ride-is.reportOf ride-is.report-back r r′ p q;
+  way = λ n r r′ p q. told saysWay ride-is.wayOf ride-is.way-back r r′ p q;
+}

@@ -1,0 +1,83 @@
+-- The detector and the judging of a contact refuse as document 01's table says.
+-- Assumes nothing.
+use mathlib.Core.Path.{_≡_, refl, sym, ap, _∙_, subst}
+use mathlib.Core.Bool.{Bool, true, false, not, _&&_}
+use mathlib.Core.List.{List, [], _∷_}
+use Prim.Native.Nat.{ℕ, zero, suc, _+_, _-_}
+use lib.Dec.{leb}
+use lib.ListN.{length}
+use Rattle.words.specs.Answer.{Outcome, gives, refuses, pick}
+use Rattle.telegram.specs.Stretch.{bitAt, inside}
+use Rattle.telegram.specs.Place.{places, wordsAt}
+use Rattle.contact.specs.History.{opens, closes, after}
+use Rattle.contact.specs.Contacts.{Mode, outside, since, Contacts, contact, quiet, refused, contacts, contactsFrom, Handed, handed, noFurther, first, nextContact, fromStart, begun}
+use Rattle.contact.specs.Judge.{allAlike, firstPlace, isMarker, Contact, read, marker, judgement, judged}
+use Rattle.contact.specs.declared.Search.{Search}
+use Rattle.demands.specs.Rules.{Rule, row, Decided, Given}
+use Rattle.demands.specs.Table.{notSeven, beyond, placesDiffer, isRead, neither, cutFirst, cut}
+use Rattle.demands.specs.Demand1.{nextRules, judgeRules}
+use Rattle.demands.proofs.Rules.{true-not-false, if-not, given}
+use Rattle.demands.proofs.Refusals.{beyond-is, stretch-then}
+
+-- The beginning of a search: 5.
+pub beginning : (b : List ℕ) (start len : ℕ) → Decided Given (row 5 (beyond b start len) ∷ []) (begun b start len)
+unfolding begun
+beginning b start len =
+    subst (λ (t : Bool). Decided Given (row 5 t ∷ []) (begun b start len)) (sym (beyond-is b start len))
+    (if-not Given [] (refuses 5) (gives (fromStart start len)) (given (fromStart start len)) (inside b start len))
+
+-- what comes first, where it is a refusal, is 9
+Nine : Contacts → Type 0
+Nine (contact start len then rest) = Unit {0}
+Nine quiet = Unit {0}
+Nine (refused n) = n ≡ 9
+
+nine-pick : (t : Bool) (x y : Contacts) → Nine x → Nine y → Nine (pick t x y)
+nine-pick true x y p q = p
+nine-pick false x y p q = q
+
+only-nine : (n : ℕ) (b : List ℕ) (mode : Mode) (history i : ℕ) → Nine (contacts b mode history i n)
+unfolding contacts Nine
+only-nine zero b outside history i = tt
+only-nine zero b (since start) history i = refl
+only-nine (suc n) b outside history i =
+    let latest = after history (bitAt b i) in
+    nine-pick (opens latest) (contacts b (since i) latest (i + 1) n) (contacts b outside latest (i + 1) n)
+    (only-nine n b (since i) latest (i + 1)) (only-nine n b outside latest (i + 1))
+only-nine (suc n) b (since start) history i =
+    let latest = after history (bitAt b i) in
+    let then : Search = record { next = i + 1; left = n; history = latest } in
+    nine-pick (closes latest) (contact start (i - start) then (contacts b outside latest (i + 1) n)) (contacts b (since start) latest (i + 1) n)
+    tt (only-nine n b (since start) latest (i + 1))
+
+-- The next contact: 5, 9.
+pub nexting : (b : List ℕ) (search : Search) → Decided Given (nextRules b search) (nextContact b search)
+unfolding nextContact contactsFrom cut Nine
+nexting b search =
+    subst (λ (t : Bool). Decided Given (row 5 t ∷ row 9 (cut b search) ∷ []) (nextContact b search)) (sym (beyond-is b (search .next) (search .left)))
+    (go (inside b (search .next) (search .left)) (contacts b outside (search .history) (search .next) (search .left)) (only-nine (search .left) b outside (search .history) (search .next)))
+  where
+    go : (t : Bool) (cs : Contacts) → Nine cs → Decided Given (row 5 (not t) ∷ row 9 (cutFirst cs) ∷ []) (first (pick t cs (refused 5)))
+    go false cs nine = (λ q. refl, λ q. absurd (true-not-false q))
+    go true (contact start len then rest) nine =
+        (λ q. absurd (true-not-false (sym q)), λ q. (λ p. absurd (true-not-false (sym p)), λ p. (handed start len then, refl)))
+    go true quiet nine = (λ q. absurd (true-not-false (sym q)), λ q. (λ p. absurd (true-not-false (sym p)), λ p. (noFurther, refl)))
+    go true (refused n) nine = (λ q. absurd (true-not-false (sym q)), λ q. (λ p. ap refuses nine, λ p. absurd (true-not-false p)))
+
+-- (a) to (d), from whether there are two places, whether they are alike, and whether the bits are a marker's
+lettered : (two alike mark : Bool) (a m : Contact)
+    → Decided Given (row 7 (not alike) ∷ row 8 (not (two && alike) && not mark) ∷ [])
+    (pick (two && alike) (gives a) (pick (not alike) (refuses 7) (pick mark (gives m) (refuses 8))))
+lettered true false mark a m = (λ q. refl, λ q. absurd (true-not-false q))
+lettered false false mark a m = (λ q. refl, λ q. absurd (true-not-false q))
+lettered true true mark a m = (λ q. absurd (true-not-false (sym q)), λ q. (λ p. absurd (true-not-false (sym p)), λ p. (a, refl)))
+lettered false true true a m = (λ q. absurd (true-not-false (sym q)), λ q. (λ p. absurd (true-not-false (sym p)), λ p. (m, refl)))
+lettered false true false a m = (λ q. absurd (true-not-false (sym q)), λ q. (λ p. refl, λ p. absurd (true-not-false p)))
+
+-- The judging of a contact: 4, 5, 7, 8.
+pub judging : (b : List ℕ) (start len s t : ℕ) → Decided Given (judgeRules b start len s t) (judged b start len s t)
+unfolding judged judgement placesDiffer neither isRead
+judging b start len s t =
+    let ps = places b start len s t in
+    stretch-then b start len s t (row 7 (placesDiffer b start len s t) ∷ row 8 (neither b start len s t) ∷ []) (judgement b start len ps)
+    (lettered (leb 2 (length ps)) (allAlike b ps) (isMarker b start len) (read (wordsAt b (firstPlace ps)) (firstPlace ps) (length ps)) marker)

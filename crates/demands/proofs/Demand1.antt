@@ -1,0 +1,38 @@
+-- Demand 1 holds: each contract hands over its specification, and each specification refuses as the table says.
+-- Assumes nothing.
+use mathlib.Core.Path.{_≡_, sym, ap, _∙_, subst}
+use mathlib.Core.List.{List, [], _∷_}
+use Prim.Native.Nat.{ℕ}
+use Rattle.words.specs.Answer.{Outcome}
+use Rattle.telegram.specs.Place.{found}
+use Rattle.telegram.specs.Survey.{surveyed}
+use Rattle.contact.specs.Contacts.{begun, nextContact}
+use Rattle.contact.specs.Judge.{judged}
+use Rattle.ride.specs.Step.{Step}
+use Rattle.ride.specs.Over.{Run, run}
+use Rattle.demands.specs.Rules.{Rule, Decided, Given}
+use Rattle.demands.specs.Demand1.{IsTelegram, Demand1}
+use Rattle.demands.proofs.Refusals.{reading, writing, pairing, wording, finding, surveying}
+use Rattle.demands.proofs.Contacts.{beginning, nexting, judging}
+use Rattle.demands.proofs.Groups.{measuring, grouping}
+use Rattle.demands.proofs.Rides.{checking, stepping, running}
+
+pub demand1 : Demand1
+demand1 = record {
+  read-short = λ w r c. rw (c .1) (reading 8 w);
+  write-short = λ x r c. rw (c .1) (writing 8 15 x);
+  read-long = λ w r c. rw (c .1) (reading 16 w);
+  write-long = λ x r c. rw (c .1) (writing 16 2047 x);
+  good-pair = λ s t r c. rw (c .1) (pairing s t);
+  read-telegram = λ x y z r c. rw (c .1) (wording x y z);
+  find = λ b start len s t r c. let e = c .4 ∙ ap (λ (v : List ℕ). found v start len s t) (c .3) in rw e (finding b start len s t);
+  survey = λ b start len s t r c. let e = c .4 ∙ ap (λ (v : List ℕ). surveyed v start len s t) (c .3) in rw e (surveying b start len s t);
+  begin = λ b start len r c. let e = c .4 ∙ ap (λ (v : List ℕ). begun v start len) (c .3) in rw e (beginning b start len);
+  next-contact = λ b search r c. let e = c .4 ∙ ap (λ (v : List ℕ). nextContact v search) (c .3) in rw e (nexting b search);
+  judge-contact = λ b start len s t r c. let e = c .4 ∙ ap (λ (v : List ℕ). judged v start len s t) (c .3) in rw e (judging b start len s t);
+  distance = λ by figure r c. rw (c .1) (measuring by figure);
+  judge-group = λ g r c. rw (c .1) (grouping g);
+  check-record = λ ride bytes r c. rw (c .1) (checking ride bytes);
+  step = λ ride gap bytes r c. let e = ap (λ (s : Step). s .lines) (c .1) in rw e (stepping ride gap bytes);
+  run = λ ride gap trace r c. let e = ap (λ (s : Run). s .answer) (c .4 ∙ ap (λ (v : List ℕ). run ride gap v) (c .3)) in rw e (running ride gap trace);
+}

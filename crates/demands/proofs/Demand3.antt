@@ -1,0 +1,33 @@
+-- Demand 3 holds.
+-- Assumes nothing.
+use Rattle.words.specs.Says.{saysShortRead, saysLongRead}
+use Rattle.demands.specs.Line.{OneBalise, Proper}
+use Rattle.demands.specs.Contracts.{ReadShort, ReadLong}
+use Rattle.demands.specs.Demand3.{OnlyTheSent, Demand3}
+use Rattle.demands.proofs.Noise.{noise-law}
+use Rattle.demands.proofs.Sent.{AllSent}
+use Rattle.demands.proofs.Stretch.{all-sent}
+use Rattle.demands.proofs.Handed.{asking-ends, every-sent, all-places-sent, unflipped-comes}
+use Rattle.demands.proofs.Together.{judge-sent, survey-sent}
+use Rattle.demands.proofs.Clean.{comes-all-sent}
+
+-- Where every place has the words sent, only the sent is handed out. This is all that is asked of a hypothesis on the flips.
+pub only-the-sent : (o : OneBalise) → Proper o → AllSent o → OnlyTheSent o
+only-the-sent o proper every-place =
+    record {
+      every = every-sent o proper every-place;
+      unflipped = unflipped-comes o proper;
+      all-places = all-places-sent o proper every-place;
+      judge = judge-sent o proper every-place;
+      survey = survey-sent o proper every-place;
+    }
+
+pub demand-3 : Demand3
+demand-3 =
+    record {
+      short-code = noise-law 8 saysShortRead ReadShort (λ w r called. called .1);
+      long-code = noise-law 16 saysLongRead ReadLong (λ w r called. called .1);
+      stretch = λ o proper quiet. only-the-sent o proper (all-sent o proper quiet);
+      ends = asking-ends;
+      clean = λ o proper clean. comes-all-sent o clean proper;
+    }

@@ -1,0 +1,82 @@
+-- No condition of demand 3 can be spared: for each a line that breaks it alone, of which what was not sent is handed out.
+-- (That a telegram of four flips can be another telegram is in Witnesses.)
+-- Assumes nothing.
+use mathlib.Core.Path.{_≡_, refl, sym}
+use mathlib.Core.Bool.{false}
+use mathlib.Core.List.{List, [], _∷_}
+use Prim.Native.Nat.{ℕ}
+use Rattle.words.specs.Answer.{Outcome, gives}
+use Rattle.words.specs.Bits.{word}
+use Rattle.words.specs.Plain.{isCheck, covers, count, even, isCode, onwards, figure}
+use Rattle.words.specs.Code.{other, exchanged, readWord}
+use Rattle.telegram.specs.Stretch.{bitsAt, inside}
+use Rattle.telegram.specs.Sync.{differing, isGood}
+use Rattle.telegram.specs.Telegram.{Message, figures, reads, shortWord, longWord, telegram}
+use Rattle.telegram.specs.Place.{areSyncs, wordsAt, isPlace, from, those, places, Single, at, found}
+use Rattle.telegram.proofs.Calls.{Called}
+use Rattle.demands.specs.Line.{OneBalise, sentBit, receivedBit, inStretch, unequal, flip, sum, flips, syncFlips, dataFlips, lineBit, sentAt}
+use Rattle.demands.proofs.Handed.{specified}
+
+-- A stretch of forty bits, the whole buffer, that begins at the line bit `phase`.
+abbrev forty : List ℕ → ℕ → ℕ → ℕ → ℕ → ℕ → Message → ℕ → OneBalise
+forty buffer s t x y z message phase =
+    record { buffer = buffer; start = 0; len = 40; s = s; t = t; x = x; y = y; z = z; message = message; phase = phase }
+
+-- "Together with the next": two flips in each of two telegrams, none in a sync word. The balise sends 5, 13 and 7 between 08 and
+-- E7 hex; five bits late 5, 8 and 3 are handed out.
+abbrev apart : OneBalise
+apart = forty (0x08 ∷ 0x5a ∷ 0x8e ∷ 0x3c ∷ 0xe7 ∷ []) 0x08 0xe7 0x5a 0xd4 0x71 (figures 5 13 7) 5
+
+apart-sent : telegram (apart .x) (apart .y) (apart .z) ≡ reads (apart .message)
+unfolding telegram shortWord readWord isCode even count covers exchanged other word figure onwards isCheck
+apart-sent = refl
+
+apart-flips : (syncFlips apart 0 ≡ 0) × (dataFlips apart 0 ≡ 2) × (syncFlips apart 1 ≡ 0) × (dataFlips apart 1 ≡ 2)
+unfolding syncFlips dataFlips flips sum flip inStretch unequal receivedBit sentBit
+apart-flips = (refl, refl, refl, refl)
+
+apart-found : (a : Outcome Single) → Called (apart .buffer) (apart .s) (apart .t) 0 40 a → a ≡ gives (at 0 (reads (figures 5 8 3)))
+unfolding found isGood differing inside places those from isPlace areSyncs wordsAt bitsAt telegram shortWord longWord readWord isCode even count covers exchanged other word figure onwards isCheck
+apart-found a k = sym (specified k)
+
+apart-false : sentAt apart 0 ≡ false
+unfolding sentAt lineBit
+apart-false = refl
+
+-- "No sync bit flips": one flip in a sync word and one in X. The balise sends noughts between 00 and 7F hex; a telegram is handed
+-- out one bit late, where none was sent.
+abbrev sync-flip : OneBalise
+sync-flip = forty (0 ∷ 0 ∷ 0 ∷ 0 ∷ 0x7f ∷ []) 0x00 0x7f 0 0 0 (figures 0 0 0) 1
+
+sync-flip-sent : telegram (sync-flip .x) (sync-flip .y) (sync-flip .z) ≡ reads (sync-flip .message)
+unfolding telegram shortWord readWord isCode even count covers exchanged other word figure onwards isCheck
+sync-flip-sent = refl
+
+sync-flip-flips : (syncFlips sync-flip 0 ≡ 0) × (dataFlips sync-flip 0 ≡ 0) × (syncFlips sync-flip 1 ≡ 1) × (dataFlips sync-flip 1 ≡ 1)
+unfolding syncFlips dataFlips flips sum flip inStretch unequal receivedBit sentBit
+sync-flip-flips = (refl, refl, refl, refl)
+
+sync-flip-found : (a : Outcome Single) → Called (sync-flip .buffer) (sync-flip .s) (sync-flip .t) 0 40 a → a ≡ gives (at 0 (reads (figures 0 0 0)))
+unfolding found isGood differing inside places those from isPlace areSyncs wordsAt bitsAt telegram shortWord longWord readWord isCode even count covers exchanged other word figure onwards isCheck
+sync-flip-found a k = sym (specified k)
+
+sync-flip-false : sentAt sync-flip 0 ≡ false
+unfolding sentAt lineBit
+sync-flip-false = refl
+
+-- "Seven of their eight bits" (refusal 4): 6D and B6 hex differ in six. Two flips in one telegram, none in a sync word: of 10, 7 and
+-- 13 the place three bits late would read 2, 8 and 10.
+abbrev six : OneBalise
+six = forty (0x6d ∷ 0x2b ∷ 0x8e ∷ 0xa5 ∷ 0xb6 ∷ []) 0x6d 0xb6 0xa5 0x71 0xd4 (figures 10 7 13) 3
+
+six-sent : telegram (six .x) (six .y) (six .z) ≡ reads (six .message)
+unfolding telegram shortWord readWord isCode even count covers exchanged other word figure onwards isCheck
+six-sent = refl
+
+six-flips : (syncFlips six 0 ≡ 0) × (dataFlips six 0 ≡ 0) × (syncFlips six 1 ≡ 0) × (dataFlips six 1 ≡ 2)
+unfolding syncFlips dataFlips flips sum flip inStretch unequal receivedBit sentBit
+six-flips = (refl, refl, refl, refl)
+
+six-place : (places (six .buffer) 0 40 (six .s) (six .t) ≡ 0 ∷ []) × (wordsAt (six .buffer) 0 ≡ reads (figures 2 8 10))
+unfolding places those from isPlace areSyncs wordsAt bitsAt telegram shortWord longWord readWord isCode even count covers exchanged other word figure onwards isCheck
+six-place = (refl, refl)

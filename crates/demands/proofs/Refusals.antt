@@ -1,0 +1,152 @@
+-- The specification of each function refuses as document 01's table says.
+-- Assumes nothing.
+use mathlib.Core.Path.{_≡_, refl, sym, ap, ap₂, _∙_, subst}
+use mathlib.Core.Bool.{Bool, true, false, not, _&&_, _||_}
+use mathlib.Core.List.{List, [], _∷_}
+use Prim.Native.Nat.{ℕ, _+_, _*_, _^_, _≤_, _<_}
+use lib.Dec.{eqb, leb, ltb}
+use lib.ListN.{length}
+use borrow.Author.Tests.{le-ltb, lt-ltb, le-leb, lt-leb, leb-true, leb-false, ltb-true, ltb-false}
+use Rattle.words.specs.Answer.{Outcome, gives, refuses, pick}
+use Rattle.words.specs.Plain.{isCode, figure}
+use Rattle.words.specs.Code.{exchanged, readWord, sent, writeWord}
+use Rattle.telegram.specs.Sync.{Good, good, isGood, pairOf}
+use Rattle.telegram.specs.Telegram.{Message, figures, number, Letter, X, Y, Z, YZ, Reading, reads, refused, then, notFifteen, shortWord, longWord, telegram}
+use Rattle.telegram.specs.Stretch.{inside}
+use Rattle.telegram.specs.Place.{Single, at, firstOf, wordsAt, places, found}
+use Rattle.telegram.specs.Survey.{Alike, alike, allAs, together, surveyed}
+use Rattle.contact.specs.Judge.{allAlike}
+use Rattle.demands.specs.Rules.{Rule, row, Decided, Given}
+use Rattle.demands.specs.Table.{notCode, above, fifteen, notSeven, beyond, isEmpty, noPlace, placesDiffer}
+use Rattle.demands.specs.Demand1.{rowAt, IsTelegram, isNumber, rulesAfterX, telegramRules, findRules, surveyRules}
+use Rattle.demands.proofs.Rules.{true-not-false, if-so, if-not, given}
+
+-- A received word of n bits: 1.
+pub reading : (n w : ℕ) → Decided Given (row 1 (notCode n w) ∷ []) (readWord n w)
+unfolding notCode readWord
+reading n w = if-not Given [] (refuses 1) (gives (figure n (exchanged n w))) (given (figure n (exchanged n w))) (isCode n (exchanged n w))
+
+-- no more is not above
+above-leb : (x largest : ℕ) → ltb largest x ≡ not (leb x largest)
+above-leb x largest = go (leb x largest) refl
+  where
+    go : (t : Bool) → leb x largest ≡ t → ltb largest x ≡ not t
+    go true e = le-ltb largest x (leb-true x largest e)
+    go false e = lt-ltb largest x (leb-false x largest e)
+
+-- and no less is not below
+below-ltb : (x bound : ℕ) → leb bound x ≡ not (ltb x bound)
+below-ltb x bound = go (ltb x bound) refl
+  where
+    go : (t : Bool) → ltb x bound ≡ t → leb bound x ≡ not t
+    go true e = lt-leb bound x (ltb-true x bound e)
+    go false e = le-leb bound x (ltb-false x bound e)
+
+-- A figure to write: 2.
+pub writing : (n largest x : ℕ) → Decided Given (row 2 (above largest x) ∷ []) (writeWord n largest x)
+unfolding above writeWord
+writing n largest x =
+    subst (λ (t : Bool). Decided Given (row 2 t ∷ []) (writeWord n largest x)) (sym (above-leb x largest))
+    (if-not Given [] (refuses 2) (gives (sent n x)) (given (sent n x)) (leb x largest))
+
+-- A sync pair: 4.
+pub pairing : (s t : ℕ) → Decided Given (row 4 (notSeven s t) ∷ []) (pairOf s t)
+unfolding notSeven pairOf isGood
+pairing s t = if-not Given [] (refuses 4) (gives good) (given good) (isGood s t)
+
+-- A short word of a telegram, 1 and then 3, before what follows it.
+short-then : (letter : Letter) (w : ℕ) (rules : List (Rule Reading)) (next : ℕ → Reading)
+    → Decided IsTelegram rules (next (figure 8 (exchanged 8 w)))
+    → Decided IsTelegram (rowAt letter 1 (notCode 8 w) ∷ rowAt letter 3 (fifteen w) ∷ rules) (then letter (shortWord w) next)
+unfolding notCode fifteen shortWord readWord
+short-then letter w rules next rest = go (isCode 8 (exchanged 8 w)) (eqb f 15) refl
+  where
+    f : ℕ
+    f = figure 8 (exchanged 8 w)
+
+    go : (c t : Bool) → eqb f 15 ≡ t
+        → Decided IsTelegram (rowAt letter 1 (not c) ∷ rowAt letter 3 (c && eqb f 15) ∷ rules) (then letter (notFifteen (pick c (gives f) (refuses 1))) next)
+    go false t e = (λ q. refl, λ q. absurd (true-not-false q))
+    go true true e =
+        subst (λ (u : Bool). Decided IsTelegram (rowAt letter 1 false ∷ rowAt letter 3 u ∷ rules) (then letter (pick u (refuses 3) (gives f)) next)) (sym e)
+        (λ q. absurd (true-not-false (sym q)), λ q. (λ p. refl, λ p. absurd (true-not-false p)))
+    go true false e =
+        subst (λ (u : Bool). Decided IsTelegram (rowAt letter 1 false ∷ rowAt letter 3 u ∷ rules) (then letter (pick u (refuses 3) (gives f)) next)) (sym e)
+        (λ q. absurd (true-not-false (sym q)), λ q. (λ p. absurd (true-not-false (sym p)), λ p. rest))
+
+-- Y and Z as one long word, 1.
+long-then : (y z : ℕ) → Decided IsTelegram (rowAt YZ 1 (notCode 16 (y * 256 + z)) ∷ []) (then YZ (longWord y z) (λ m. reads (number m)))
+unfolding notCode longWord readWord
+long-then y z = go (isCode 16 (exchanged 16 (y * 256 + z)))
+  where
+    m : ℕ
+    m = figure 16 (exchanged 16 (y * 256 + z))
+
+    go : (c : Bool) → Decided IsTelegram (rowAt YZ 1 (not c) ∷ []) (then YZ (pick c (gives m) (refuses 1)) (λ k. reads (number k)))
+    go true = (λ q. absurd (true-not-false (sym q)), λ q. (number m, refl))
+    go false = (λ q. refl, λ q. absurd (true-not-false q))
+
+-- Three received words: word by word, each 1 and then 3.
+pub wording : (x y z : ℕ) → Decided IsTelegram (telegramRules x y z) (telegram x y z)
+unfolding telegram
+wording x y z =
+    short-then X x (rulesAfterX x y z)
+    (λ a. pick (eqb a 12) (then YZ (longWord y z) (λ m. reads (number m))) (then Y (shortWord y) (λ b. then Z (shortWord z) (λ c. reads (figures a b c)))))
+    (go (isNumber x))
+  where
+    a : ℕ
+    a = figure 8 (exchanged 8 x)
+
+    go : (t : Bool)
+        → Decided IsTelegram
+        (pick t (rowAt YZ 1 (notCode 16 (y * 256 + z)) ∷ [])
+        (rowAt Y 1 (notCode 8 y) ∷ rowAt Y 3 (fifteen y) ∷ rowAt Z 1 (notCode 8 z) ∷ rowAt Z 3 (fifteen z) ∷ []))
+        (pick t (then YZ (longWord y z) (λ m. reads (number m))) (then Y (shortWord y) (λ b. then Z (shortWord z) (λ c. reads (figures a b c)))))
+    go true = long-then y z
+    go false = short-then Y y (rowAt Z 1 (notCode 8 z) ∷ rowAt Z 3 (fifteen z) ∷ []) (λ b. then Z (shortWord z) (λ c. reads (figures a b c))) (short-then Z z [] (λ c. reads (figures a (figure 8 (exchanged 8 y)) c)) (figures a (figure 8 (exchanged 8 y)) (figure 8 (exchanged 8 z)), refl))
+
+-- beyond is not inside
+pub beyond-is : (b : List ℕ) (start len : ℕ) → beyond b start len ≡ not (inside b start len)
+unfolding beyond inside
+beyond-is b start len =
+    ap₂ (λ (x y : Bool). x || y)
+    (ap₂ (λ (x y : Bool). x || y) (above-leb (start + len) (8 * length b)) (below-ltb (start + len) (2 ^ 64))) (above-leb len 16777216)
+    ∙ any-not (leb (start + len) (8 * length b)) (ltb (start + len) (2 ^ 64)) (leb len 16777216)
+  where
+    any-not : (x y z : Bool) → ((not x || not y) || not z) ≡ not ((x && y) && z)
+    any-not true true z = refl
+    any-not true false z = refl
+    any-not false y z = refl
+
+-- The sync pair, 4, and the stretch, 5, before what follows them.
+pub stretch-then : {A : Type 0} (b : List ℕ) (start len s t : ℕ) (rules : List (Rule (Outcome A))) (o : Outcome A) → Decided Given rules o
+    → Decided Given (row 4 (notSeven s t) ∷ row 5 (beyond b start len) ∷ rules) (pick (isGood s t) (pick (inside b start len) o (refuses 5)) (refuses 4))
+unfolding notSeven isGood
+stretch-then b start len s t rules o rest =
+    if-not Given (row 5 (beyond b start len) ∷ rules) (refuses 4) (pick (inside b start len) o (refuses 5))
+    (subst (λ (t : Bool). Decided Given (row 5 t ∷ rules) (pick (inside b start len) o (refuses 5))) (sym (beyond-is b start len))
+    (if-not Given rules (refuses 5) o rest (inside b start len))) (isGood s t)
+
+-- The search for single telegrams: 4, 5, 6.
+pub finding : (b : List ℕ) (start len s t : ℕ)
+    → Decided Given (findRules b start len s t) (found b start len s t)
+unfolding found noPlace
+finding b start len s t = stretch-then b start len s t (row 6 (isEmpty (places b start len s t)) ∷ []) (firstOf b (places b start len s t)) (go (places b start len s t))
+  where
+    go : (ps : List ℕ) → Decided Given (row 6 (isEmpty ps) ∷ []) (firstOf b ps)
+    go [] = (λ q. refl, λ q. absurd (true-not-false q))
+    go (p ∷ ps) = (λ q. absurd (true-not-false (sym q)), λ q. (at p (wordsAt b p), refl))
+
+-- All places of a stretch: 4, 5, 6, 7.
+pub surveying : (b : List ℕ) (start len s t : ℕ)
+    → Decided Given (surveyRules b start len s t) (surveyed b start len s t)
+unfolding surveyed noPlace placesDiffer
+surveying b start len s t =
+    stretch-then b start len s t (row 6 (isEmpty (places b start len s t)) ∷ row 7 (not (allAlike b (places b start len s t))) ∷ [])
+    (together b (places b start len s t)) (go (places b start len s t))
+  where
+    go : (ps : List ℕ) → Decided Given (row 6 (isEmpty ps) ∷ row 7 (not (allAlike b ps)) ∷ []) (together b ps)
+    go [] = (λ q. refl, λ q. absurd (true-not-false q))
+    go (p ∷ ps) =
+        let a = alike (wordsAt b p) p (length (p ∷ ps)) in
+        (λ q. absurd (true-not-false (sym q)), λ q. if-not Given [] (refuses 7) (gives a) (given a) (allAs b p ps))

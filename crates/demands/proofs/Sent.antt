@@ -1,0 +1,30 @@
+-- What it is for bit p to have the words sent, at their true place; and that a telegram is read there as it was sent.
+-- Assumes nothing.
+use mathlib.Core.Path.{_≡_, ap₂, _∙_}
+use mathlib.Core.Bool.{true}
+use Prim.Native.Nat.{ℕ, _+_}
+use Rattle.words.specs.Plain.{among}
+use Rattle.telegram.specs.Stretch.{bitsAt}
+use Rattle.telegram.specs.Telegram.{Reading, reads, telegram}
+use Rattle.telegram.specs.Place.{wordsAt}
+use Rattle.demands.specs.Line.{OneBalise, Proper, sentAt}
+use Rattle.demands.specs.Demand3.{placesOf}
+
+-- The words received at bit p are the words sent there.
+pub record Sent (o : OneBalise) (p : ℕ) : Type 0 where
+  pub at-true : sentAt o p ≡ true
+  pub x-is : bitsAt (o .buffer) (p + 8) 8 ≡ o .x
+  pub y-is : bitsAt (o .buffer) (p + 16) 8 ≡ o .y
+  pub z-is : bitsAt (o .buffer) (p + 24) 8 ≡ o .z
+
+-- At every place of the stretch.
+abbrev pub AllSent : OneBalise → Type 0
+AllSent o = (p : ℕ) → among p (placesOf o) ≡ true → Sent o p
+
+pub same-words : (o : OneBalise) (p : ℕ) {x y z : ℕ} → bitsAt (o .buffer) (p + 8) 8 ≡ x → bitsAt (o .buffer) (p + 16) 8 ≡ y → bitsAt (o .buffer) (p + 24) 8 ≡ z
+    → wordsAt (o .buffer) p ≡ telegram x y z
+unfolding wordsAt
+same-words o p x-is y-is z-is = ap₂ (λ (f : ℕ → Reading) (k : ℕ). f k) (ap₂ telegram x-is y-is) z-is
+
+pub read-as-sent : (o : OneBalise) → Proper o → (p : ℕ) → Sent o p → wordsAt (o .buffer) p ≡ reads (o .message)
+read-as-sent o proper p there = same-words o p (there .x-is) (there .y-is) (there .z-is) ∙ proper .valid

@@ -1,0 +1,177 @@
+-- Where every place has the words sent, the places are alike: `survey` and `judge` never answer 7, and read what was sent.
+-- Assumes nothing.
+use mathlib.Core.Path.{_≡_, refl, sym, ap, ap₂, _∙_, subst}
+use mathlib.Core.Logic.{_⊎_, inl, inr}
+use mathlib.Core.Bool.{Bool, true, false}
+use mathlib.Core.List.{List, [], _∷_}
+use Prim.Native.Nat.{ℕ, _+_}
+use native.Mathlib.Omega.{arith}
+use lib.Dec.{eqb, leb}
+use lib.ListN.{length}
+use borrow.Author.Tests.{eq-eqb}
+use Rattle.words.specs.Answer.{Outcome, gives, refuses, pick}
+use Rattle.words.specs.Plain.{among}
+use Rattle.telegram.specs.Stretch.{bitsAt}
+use Rattle.telegram.specs.Telegram.{Reading}
+use Rattle.telegram.specs.Place.{wordsAt}
+use Rattle.telegram.specs.Survey.{sameWords, allAs, Alike, alike, together, surveyed}
+use Rattle.contact.specs.Judge.{Contact, read, marker, isMarker, judged}
+use Rattle.contact.proofs.Judging.{markerOr, fromSurvey, by-survey}
+use Rattle.demands.specs.Line.{OneBalise, Proper}
+use Rattle.demands.specs.Calls.{SurveyCalled, JudgeCalled}
+use Rattle.demands.specs.Demand3.{TheSent, placesOf, TogetherTheSent}
+use Rattle.demands.proofs.Places.{and-true, or-left, or-right}
+use Rattle.demands.proofs.Sent.{Sent, AllSent}
+use Rattle.demands.proofs.Handed.{the-sent}
+
+-- Places that have the words sent are alike.
+all-alike : (o : OneBalise) (p : ℕ) → Sent o p → (ps : List ℕ) → ((q : ℕ) → among q ps ≡ true → Sent o q) → allAs (o .buffer) p ps ≡ true
+unfolding allAs sameWords
+all-alike o p here [] all = refl
+all-alike o p here (q ∷ ps) all =
+    let there = all q (or-left (among q ps) (eq-eqb q q refl)) in
+    let b = o .buffer in
+    and-true
+    (and-true
+    (and-true (eq-eqb (bitsAt b (p + 8) 8) (bitsAt b (q + 8) 8) (here .x-is ∙ sym (there .x-is)))
+    (eq-eqb (bitsAt b (p + 16) 8) (bitsAt b (q + 16) 8) (here .y-is ∙ sym (there .y-is))))
+    (eq-eqb (bitsAt b (p + 24) 8) (bitsAt b (q + 24) 8) (here .z-is ∙ sym (there .z-is))))
+    (all-alike o p here ps (λ r within. all r (or-right (eqb r q) within)))
+
+module _ (o : OneBalise) (proper : Proper o) (every-place : AllSent o) where
+  abbrev b : List ℕ
+  b = o .buffer
+
+  -- What is known of a reading with its first place and their number.
+  pub record Known (m : Reading) (first count : ℕ) : Type 0 where
+    pub the-first : TheSent o first m
+    pub as-many : count ≡ length (placesOf o)
+
+  -- An answer that all places are alike.
+  pub record AllAlike (a : Outcome Alike) : Type 0 where
+    pub message : Reading
+    pub first : ℕ
+    pub count : ℕ
+    pub is : a ≡ gives (alike message first count)
+    pub known : Known message first count
+
+  -- The survey of the stretch finds no place, or all places alike.
+  abbrev Survey : Outcome Alike → Type 0
+  Survey a = (a ≡ refuses 6) ⊎ AllAlike a
+
+  survey-of : (ps : List ℕ) → placesOf o ≡ ps → Survey (together b ps)
+  survey-of [] list = inl refl
+  survey-of (p ∷ ps) list =
+      inr record {
+        message = wordsAt b p;
+        first = p;
+        count = length (p ∷ ps);
+        is = ap (λ (t : Bool). pick t (gives (alike (wordsAt b p) p (length (p ∷ ps)))) (refuses 7)) alike-all;
+        known = record {
+          the-first = the-sent o proper p (wordsAt b p) here refl;
+          as-many = ap length (sym list);
+        };
+      }
+    where
+      sent : (q : ℕ) → among q (p ∷ ps) ≡ true → Sent o q
+      sent q there = every-place q (ap (among q) list ∙ there)
+
+      here : Sent o p
+      here = sent p (or-left (among p ps) (eq-eqb p p refl))
+
+      alike-all : allAs b p ps ≡ true
+      alike-all = all-alike o p here ps (λ q there. sent q (or-right (eqb q p) there))
+
+  the-survey : Survey (surveyed b (o .start) (o .len) (o .s) (o .t))
+  unfolding surveyed
+  the-survey =
+      subst Survey
+      (sym (ap₂ (λ (g i : Bool). pick g (pick i (together b (placesOf o)) (refuses 5)) (refuses 4)) (proper .pair) (proper .taken)))
+      (survey-of (placesOf o) refl)
+
+  -- What a call of `survey` answers, and what a call of `judge`.
+  survey-says : (a : Outcome Alike) → SurveyCalled b (o .s) (o .t) (o .start) (o .len) a → surveyed b (o .start) (o .len) (o .s) (o .t) ≡ a
+  survey-says a k =
+      let g = k .given in
+      let same : surveyed (g .0 .now) (g .1 .0) (g .1 .1 .0) (g .1 .1 .1 .0) (g .1 .1 .1 .1 .0) ≡ surveyed b (o .start) (o .len) (o .s) (o .t) =
+      simp (k .buffer, k .first-bit, k .bits, k .sync, k .other) in
+      sym same ∙ sym (k .kept) ∙ k .says
+
+  judge-says : (a : Outcome Contact) → JudgeCalled b (o .s) (o .t) (o .start) (o .len) a → judged b (o .start) (o .len) (o .s) (o .t) ≡ a
+  judge-says a k =
+      let g = k .given in
+      let same : judged (g .0 .now) (g .1 .0) (g .1 .1 .0) (g .1 .1 .1 .0) (g .1 .1 .1 .1 .0) ≡ judged b (o .start) (o .len) (o .s) (o .t) =
+      simp (k .buffer, k .first-bit, k .bits, k .sync, k .other) in
+      sym same ∙ sym (k .kept) ∙ k .says
+
+  same-known : {m n : Reading} {p q k l : ℕ} → m ≡ n → p ≡ q → k ≡ l → Known m p k → Known n q l
+  same-known {m} {n} {p} {q} {k} {l} e f g known =
+      subst (λ (v : ℕ). Known n q v) g (subst (λ (v : ℕ). Known n v k) f (subst (λ (v : Reading). Known v p k) e known))
+
+  pub survey-sent : TogetherTheSent o (SurveyCalled b (o .s) (o .t) (o .start) (o .len)) alike
+  survey-sent =
+      record {
+        never-7 = λ k. never the-survey (survey-says (refuses 7) k);
+        first-sent = λ m first count k. known the-survey m first count (survey-says (gives (alike m first count)) k) .the-first;
+        counted = λ m first count k. known the-survey m first count (survey-says (gives (alike m first count)) k) .as-many;
+      }
+    where
+      never : {a : Outcome Alike} → Survey a → a ≡ refuses 7 → ⊥
+      never (inl none) e = let z : _≡_ {A = ℕ} 6 7 = cc in omega arith
+      never (inr r) e = let f = r .is in let z : _≡_ {A = ℕ} 0 1 = cc in omega arith
+
+      known : {a : Outcome Alike} → Survey a → (m : Reading) (first count : ℕ) → a ≡ gives (alike m first count) → Known m first count
+      known (inl none) m first count e = absurd (let z : _≡_ {A = ℕ} 0 1 = cc in omega arith)
+      known (inr r) m first count e =
+          let f = r .is in
+          let same-m : r .message ≡ m = cc in
+          let same-p : r .first ≡ first = cc in
+          let same-k : r .count ≡ count = cc in
+          same-known same-m same-p same-k (r .known)
+
+  pub judge-sent : TogetherTheSent o (JudgeCalled b (o .s) (o .t) (o .start) (o .len)) read
+  judge-sent =
+      record {
+        never-7 = λ k. never the-survey (by (refuses 7) k);
+        first-sent = λ m first count k. known the-survey m first count (by (gives (read m first count)) k) .the-first;
+        counted = λ m first count k. known the-survey m first count (by (gives (read m first count)) k) .as-many;
+      }
+    where
+      by : (a : Outcome Contact) → JudgeCalled b (o .s) (o .t) (o .start) (o .len) a
+          → fromSurvey (markerOr b (o .start) (o .len)) (surveyed b (o .start) (o .len) (o .s) (o .t)) ≡ a
+      by a k = sym (by-survey b (o .start) (o .len) (o .s) (o .t)) ∙ judge-says a k
+
+      never-left : (t : Bool) → pick t (gives marker) (refuses 8) ≡ refuses 7 → ⊥
+      never-left true e = let z : _≡_ {A = ℕ} 0 1 = cc in omega arith
+      never-left false e = let z : _≡_ {A = ℕ} 8 7 = cc in omega arith
+
+      never-several : (t u : Bool) (m : Reading) (first count : ℕ) → pick t (gives (read m first count)) (pick u (gives marker) (refuses 8)) ≡ refuses 7 → ⊥
+      never-several true u m first count e = let z : _≡_ {A = ℕ} 0 1 = cc in omega arith
+      never-several false u m first count e = never-left u e
+
+      never : {a : Outcome Alike} → Survey a → fromSurvey (markerOr b (o .start) (o .len)) a ≡ refuses 7 → ⊥
+      never (inl none) e = never-left (isMarker b (o .start) (o .len)) (sym (ap (fromSurvey (markerOr b (o .start) (o .len))) none) ∙ e)
+      never (inr r) e =
+          never-several (leb 2 (r .count)) (isMarker b (o .start) (o .len)) (r .message) (r .first) (r .count)
+          (sym (ap (fromSurvey (markerOr b (o .start) (o .len))) (r .is)) ∙ e)
+
+      known-left : (t : Bool) (m : Reading) (first count : ℕ) → pick t (gives marker) (refuses 8) ≡ gives (read m first count) → Known m first count
+      known-left true m first count e = absurd (let z : _≡_ {A = ℕ} 0 1 = cc in omega arith)
+      known-left false m first count e = absurd (let z : _≡_ {A = ℕ} 0 1 = cc in omega arith)
+
+      known-several : (t u : Bool) (n m : Reading) (p q k l : ℕ) → Known n p k
+          → pick t (gives (read n p k)) (pick u (gives marker) (refuses 8)) ≡ gives (read m q l) → Known m q l
+      known-several true u n m p q k l it e =
+          let same-m : n ≡ m = cc in
+          let same-p : p ≡ q = cc in
+          let same-k : k ≡ l = cc in
+          same-known same-m same-p same-k it
+      known-several false u n m p q k l it e = known-left u m q l e
+
+      known : {a : Outcome Alike} → Survey a → (m : Reading) (first count : ℕ)
+          → fromSurvey (markerOr b (o .start) (o .len)) a ≡ gives (read m first count) → Known m first count
+      known (inl none) m first count e =
+          known-left (isMarker b (o .start) (o .len)) m first count (sym (ap (fromSurvey (markerOr b (o .start) (o .len))) none) ∙ e)
+      known (inr r) m first count e =
+          known-several (leb 2 (r .count)) (isMarker b (o .start) (o .len)) (r .message) m (r .first) first (r .count) count (r .known)
+          (sym (ap (fromSurvey (markerOr b (o .start) (o .len))) (r .is)) ∙ e)

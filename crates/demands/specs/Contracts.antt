@@ -1,0 +1,159 @@
+-- What the contracts of the public functions allow: the theorems take these as their hypotheses.
+-- Assumes nothing.
+use Prim.Native.Nat.{ℕ}
+use mathlib.Core.Path.{_≡_}
+use mathlib.Core.List.{List}
+use contract.Lifetimes.{Lfts}
+use denote.Ref.{RefT, now}
+use borrow.Fn.Kinds.{endedOf}
+use denote.Triple.Clauses.{AtExit}
+use Rattle.words.specs.declared.ShortRead.{ShortRead}
+use Rattle.words.specs.declared.ShortWritten.{ShortWritten}
+use Rattle.words.specs.declared.LongRead.{LongRead}
+use Rattle.words.specs.declared.LongWritten.{LongWritten}
+use Rattle.telegram.specs.declared.Pair.{Pair}
+use Rattle.telegram.specs.declared.TelegramRead.{TelegramRead}
+use Rattle.telegram.specs.declared.Found.{Found}
+use Rattle.telegram.specs.declared.Surveyed.{Surveyed}
+use Rattle.contact.specs.declared.Search.{Search}
+use Rattle.contact.specs.declared.Begun.{Begun}
+use Rattle.contact.specs.declared.Next.{Next}
+use Rattle.contact.specs.declared.Judged.{Judged}
+use Rattle.group.specs.declared.Group.{Group}
+use Rattle.group.specs.declared.Measured.{Measured}
+use Rattle.group.specs.declared.Told.{Told}
+use Rattle.group.specs.declared.Judged.{Judged as GroupJudged}
+use Rattle.ride.specs.declared.Ride.{Ride}
+use Rattle.ride.specs.declared.Checked.{Checked}
+use Rattle.ride.specs.declared.Stepped.{Stepped}
+use Rattle.ride.specs.declared.Ended.{Ended}
+use Rattle.ride.specs.declared.Ran.{Ran}
+use Rattle.words.proofs.read_short.Kinds as read-short-kinds
+use Rattle.words.proofs.read_short.Reads as read-short-reads
+use Rattle.words.proofs.write_short.Kinds as write-short-kinds
+use Rattle.words.proofs.write_short.Reads as write-short-reads
+use Rattle.words.proofs.read_long.Kinds as read-long-kinds
+use Rattle.words.proofs.read_long.Reads as read-long-reads
+use Rattle.words.proofs.write_long.Kinds as write-long-kinds
+use Rattle.words.proofs.write_long.Reads as write-long-reads
+use Rattle.telegram.proofs.good_pair.Kinds as good-pair-kinds
+use Rattle.telegram.proofs.good_pair.Reads as good-pair-reads
+use Rattle.telegram.proofs.read.Kinds as read-kinds
+use Rattle.telegram.proofs.read.Reads as read-reads
+use Rattle.telegram.proofs.find.Kinds as find-kinds
+use Rattle.telegram.proofs.find.Reads as find-reads
+use Rattle.telegram.proofs.survey.Kinds as survey-kinds
+use Rattle.telegram.proofs.survey.Reads as survey-reads
+use Rattle.contact.proofs.begin.Kinds as begin-kinds
+use Rattle.contact.proofs.begin.Reads as begin-reads
+use Rattle.contact.proofs.next_contact.Kinds as next-kinds
+use Rattle.contact.proofs.next_contact.Reads as next-reads
+use Rattle.contact.proofs.judge.Kinds as judge-kinds
+use Rattle.contact.proofs.judge.Reads as judge-reads
+use Rattle.group.proofs.distance.Kinds as distance-kinds
+use Rattle.group.proofs.distance.Reads as distance-reads
+use Rattle.group.proofs.speed.Kinds as speed-kinds
+use Rattle.group.proofs.speed.Reads as speed-reads
+use Rattle.group.proofs.judge.Kinds as judge-group-kinds
+use Rattle.group.proofs.judge.Reads as judge-group-reads
+use Rattle.ride.proofs.fresh.Kinds as fresh-kinds
+use Rattle.ride.proofs.fresh.Reads as fresh-reads
+use Rattle.ride.proofs.check_record.Kinds as check-record-kinds
+use Rattle.ride.proofs.check_record.Reads as check-record-reads
+use Rattle.ride.proofs.step.Kinds as step-kinds
+use Rattle.ride.proofs.step.Reads as step-reads
+use Rattle.ride.proofs.end.Kinds as end-kinds
+use Rattle.ride.proofs.end.Reads as end-reads
+use Rattle.ride.proofs.run.Kinds as run-kinds
+use Rattle.ride.proofs.run.Reads as run-reads
+
+-- The contract of `read_short` allows the answer r for the word w.
+abbrev pub ReadShort : ℕ → ShortRead → Type 0
+ReadShort w r = (x : AtExit (endedOf 0 read-short-kinds.ps read-short-kinds.r) tt) × read-short-reads.Post tt (w, tt) r x
+
+-- The contract of `write_short` allows the answer r for the figure x.
+abbrev pub WriteShort : ℕ → ShortWritten → Type 0
+WriteShort x r = (e : AtExit (endedOf 0 write-short-kinds.ps write-short-kinds.r) tt) × write-short-reads.Post tt (x, tt) r e
+
+-- The contract of `read_long` allows the answer r for the word w.
+abbrev pub ReadLong : ℕ → LongRead → Type 0
+ReadLong w r = (x : AtExit (endedOf 0 read-long-kinds.ps read-long-kinds.r) tt) × read-long-reads.Post tt (w, tt) r x
+
+-- The contract of `write_long` allows the answer r for the figure x.
+abbrev pub WriteLong : ℕ → LongWritten → Type 0
+WriteLong x r = (e : AtExit (endedOf 0 write-long-kinds.ps write-long-kinds.r) tt) × write-long-reads.Post tt (x, tt) r e
+
+-- The contract of `good_pair` allows the answer r for the sync words s and t.
+abbrev pub GoodPair : ℕ → ℕ → Pair → Type 0
+GoodPair s t r = (e : AtExit (endedOf 0 good-pair-kinds.ps good-pair-kinds.r) tt) × good-pair-reads.Post tt (s, (t, tt)) r e
+
+-- The contract of `telegram::read` allows the answer r for the received words x, y and z.
+abbrev pub ReadTelegram : ℕ → ℕ → ℕ → TelegramRead → Type 0
+ReadTelegram x y z r = (e : AtExit (endedOf 0 read-kinds.ps read-kinds.r) tt) × read-reads.Post tt (x, (y, (z, tt))) r e
+
+-- The contract of `find` allows the answer r, where the lent buffer holds the bytes b, for this stretch and these sync words.
+abbrev pub Find : List ℕ → ℕ → ℕ → ℕ → ℕ → Found → Type 0
+Find b start len s t r =
+    (κs : Lfts 1) × (buf : RefT (List ℕ)) × (e : AtExit (endedOf 1 find-kinds.ps find-kinds.r) κs)
+    × (now buf ≡ b) × find-reads.Post κs (buf, (start, (len, (s, (t, tt))))) r e
+
+-- The contract of `survey` allows the answer r, likewise.
+abbrev pub Survey : List ℕ → ℕ → ℕ → ℕ → ℕ → Surveyed → Type 0
+Survey b start len s t r =
+    (κs : Lfts 1) × (buf : RefT (List ℕ)) × (e : AtExit (endedOf 1 survey-kinds.ps survey-kinds.r) κs)
+    × (now buf ≡ b) × survey-reads.Post κs (buf, (start, (len, (s, (t, tt))))) r e
+
+-- The contract of `begin` allows the answer r for this stretch of the buffer.
+abbrev pub Begin : List ℕ → ℕ → ℕ → Begun → Type 0
+Begin b start len r =
+    (κs : Lfts 1) × (buf : RefT (List ℕ)) × (e : AtExit (endedOf 1 begin-kinds.ps begin-kinds.r) κs)
+    × (now buf ≡ b) × begin-reads.Post κs (buf, (start, (len, tt))) r e
+
+-- The contract of `next_contact` allows the answer r for this search over the buffer.
+abbrev pub NextContact : List ℕ → Search → Next → Type 0
+NextContact b search r =
+    (κs : Lfts 1) × (buf : RefT (List ℕ)) × (e : AtExit (endedOf 1 next-kinds.ps next-kinds.r) κs)
+    × (now buf ≡ b) × next-reads.Post κs (search, (buf, tt)) r e
+
+-- The contract of `contact::judge` allows the answer r for this stretch of the buffer and these sync words.
+abbrev pub JudgeContact : List ℕ → ℕ → ℕ → ℕ → ℕ → Judged → Type 0
+JudgeContact b start len s t r =
+    (κs : Lfts 1) × (buf : RefT (List ℕ)) × (e : AtExit (endedOf 1 judge-kinds.ps judge-kinds.r) κs)
+    × (now buf ≡ b) × judge-reads.Post κs (buf, (start, (len, (s, (t, tt))))) r e
+
+-- The contract of `distance` allows the answer r for column BY and this figure.
+abbrev pub Distance : ℕ → ℕ → Measured → Type 0
+Distance by figure r =
+    (e : AtExit (endedOf 0 distance-kinds.ps distance-kinds.r) tt) × distance-reads.Post tt (by, (figure, tt)) r e
+
+-- The contract of `speed` allows the answer r for this figure.
+abbrev pub Speed : ℕ → Told → Type 0
+Speed figure r = (e : AtExit (endedOf 0 speed-kinds.ps speed-kinds.r) tt) × speed-reads.Post tt (figure, tt) r e
+
+-- The contract of `group::judge` allows the answer r for this group.
+abbrev pub JudgeGroup : Group → GroupJudged → Type 0
+JudgeGroup g r = (e : AtExit (endedOf 0 judge-group-kinds.ps judge-group-kinds.r) tt) × judge-group-reads.Post tt (g, tt) r e
+
+-- The contract of `fresh` allows the ride r.
+abbrev pub Fresh : Ride → Type 0
+Fresh r = (e : AtExit (endedOf 0 fresh-kinds.ps fresh-kinds.r) tt) × fresh-reads.Post tt tt r e
+
+-- The contract of `check_record` allows the answer r for these eight bytes after this ride.
+abbrev pub CheckRecord : Ride → List ℕ → Checked → Type 0
+CheckRecord ride bytes r =
+    (e : AtExit (endedOf 0 check-record-kinds.ps check-record-kinds.r) tt) × check-record-reads.Post tt (ride, (bytes, tt)) r e
+
+-- The contract of `step` allows the answer r for these eight bytes after this ride, with this gap.
+abbrev pub StepOf : Ride → ℕ → List ℕ → Stepped → Type 0
+StepOf ride gap bytes r =
+    (e : AtExit (endedOf 0 step-kinds.ps step-kinds.r) tt) × step-reads.Post tt (ride, (gap, (bytes, tt))) r e
+
+-- The contract of `end` allows the answer r for this ride.
+abbrev pub EndOf : Ride → Ended → Type 0
+EndOf ride r = (e : AtExit (endedOf 0 end-kinds.ps end-kinds.r) tt) × end-reads.Post tt (ride, tt) r e
+
+-- The contract of `run` allows the answer r for this trace after this ride, with this gap.
+abbrev pub RunOver : Ride → ℕ → List ℕ → Ran → Type 0
+RunOver ride gap trace r =
+    (κs : Lfts 1) × (lent : RefT (List ℕ)) × (e : AtExit (endedOf 1 run-kinds.ps run-kinds.r) κs)
+    × (now lent ≡ trace) × run-reads.Post κs (ride, (gap, (lent, tt))) r e

@@ -1,0 +1,10 @@
+pub mod Rules
+pub mod Table
+pub mod Contracts
+pub mod Demand1
+pub mod Cases
+pub mod RowCases
+pub mod Demand2
+pub mod Line
+pub mod Calls
+pub mod Demand3

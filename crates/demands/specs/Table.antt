@@ -1,0 +1,162 @@
+-- Document 01's table of refusal numbers, row by row. Each condition stands alone, and names no number.
+-- Assumes nothing.
+use Prim.Native.Nat.{ℕ, _+_, _*_, _%_, _^_}
+use mathlib.Core.Bool.{Bool, true, false, not, _&&_, _||_}
+use mathlib.Core.List.{List, [], _∷_}
+use lib.Dec.{eqb, ltb, leb}
+use lib.ListN.{length}
+use Rattle.words.specs.Answer.{Outcome, gives, refuses}
+use Rattle.words.specs.Plain.{isCode, figure}
+use Rattle.words.specs.Code.{exchanged}
+use Rattle.telegram.specs.Sync.{differing}
+use Rattle.telegram.specs.Place.{places}
+use Rattle.telegram.specs.Survey.{allAs}
+use Rattle.contact.specs.Contacts.{Contacts, contact, quiet, refused, outside, contacts}
+use Rattle.contact.specs.Judge.{allAlike, isMarker}
+use Rattle.contact.specs.declared.Search.{Search}
+use Rattle.group.specs.Balise.{balises, partHeard, readAll}
+use Rattle.group.specs.Row.{Fit, misfit, fit}
+use Rattle.group.specs.Rows.{present, opposite, fitIn}
+use Rattle.group.specs.Judge.{distanceOf}
+use Rattle.group.specs.declared.Balise.{Balise}
+use Rattle.group.specs.declared.Group.{Group}
+use Rattle.group.specs.declared.Kind.{Kind}
+use Rattle.group.specs.declared.Placed.{Placed}
+use Rattle.ride.specs.Record.{odometerOf, inOrder}
+use Rattle.ride.specs.Joining.{allowed}
+
+-- 1: "not a code word", of n bits
+unfoldable pub notCode : ℕ → ℕ → Bool
+notCode n w = not (isCode n (exchanged n w))
+
+-- 2: "figure to write above 15 or above 2,047"
+unfoldable pub above : ℕ → ℕ → Bool
+above largest x = ltb largest x
+
+-- 3: "a short word of a telegram reads 15"
+unfoldable pub fifteen : ℕ → Bool
+fifteen w = isCode 8 (exchanged 8 w) && eqb (figure 8 (exchanged 8 w)) 15
+
+-- 4: "sync pair doesn't differ in seven bits"
+unfoldable pub notSeven : ℕ → ℕ → Bool
+notSeven s t = not (eqb (differing s t 8) 7)
+
+-- 5: "stretch beyond the buffer, or above 16,777,216 bits": it ends behind the buffer's last bit, or where bits have no number
+-- of 64 bits, or it is too long
+unfoldable pub beyond : List ℕ → ℕ → ℕ → Bool
+beyond b start len = ltb (8 * length b) (start + len) || leb (2 ^ 64) (start + len) || ltb 16777216 len
+
+-- Whether a list is empty.
+abbrev pub isEmpty : {A : Type 0} → List A → Bool
+isEmpty [] = true
+isEmpty (x ∷ xs) = false
+
+-- 6: "no place in the stretch"
+unfoldable pub noPlace : List ℕ → ℕ → ℕ → ℕ → ℕ → Bool
+noPlace b start len s t = isEmpty (places b start len s t)
+
+-- 7: "places differ", of those of a stretch
+unfoldable pub placesDiffer : List ℕ → ℕ → ℕ → ℕ → ℕ → Bool
+placesDiffer b start len s t = not (allAlike b (places b start len s t))
+
+-- Whether a contact is a telegram's: "two or more places, all with the same X, Y and Z".
+unfoldable pub isRead : List ℕ → ℕ → ℕ → ℕ → ℕ → Bool
+isRead b start len s t = leb 2 (length (places b start len s t)) && allAlike b (places b start len s t)
+
+-- 8: "contact neither telegram nor marker"
+unfoldable pub neither : List ℕ → ℕ → ℕ → ℕ → ℕ → Bool
+neither b start len s t = not (isRead b start len s t) && not (isMarker b start len)
+
+-- Whether the next contact, of those that come, is cut.
+abbrev pub cutFirst : Contacts → Bool
+cutFirst (contact start len then rest) = false
+cutFirst quiet = false
+cutFirst (refused n) = true
+
+-- 9: "contact cut by the end of the record": the next one that opens does not close in the bits left
+unfoldable pub cut : List ℕ → Search → Bool
+cut b search = cutFirst (contacts b outside (search .history) (search .next) (search .left))
+
+-- 10: "group of one balise"
+abbrev pub oneBalise : Group → Bool
+oneBalise g = eqb (g .count) 1
+
+-- 11: "group of more than five"
+abbrev pub moreThanFive : Group → Bool
+moreThanFive g = ltb 5 (g .count)
+
+-- Whether an answer is a refusal.
+abbrev pub isRefusal : {A : Type 0} → Outcome A → Bool
+isRefusal (gives x) = false
+isRefusal (refuses n) = true
+
+-- Whether one of the balises is unreadable, or its words are refused.
+abbrev pub someUnread : List Balise → Bool
+someUnread [] = false
+someUnread (b ∷ bs) = isRefusal (partHeard (b .heard)) || someUnread bs
+
+-- 12: "a balise unreadable, or its words refused"
+unfoldable pub unread : Group → Bool
+unread g = someUnread (balises g)
+
+-- What was read, or nothing.
+abbrev pub listOf : {A : Type 0} → Outcome (List A) → List A
+listOf (gives xs) = xs
+listOf (refuses n) = []
+
+-- The balises of a group as read.
+unfoldable pub partsOf : Group → List Placed
+partsOf g = listOf (readAll (balises g))
+
+-- Whether no row of a direction fits.
+abbrev pub isMisfit : Fit → Bool
+isMisfit misfit = true
+isMisfit (fit kind a) = false
+
+-- 13: "no row fits"
+unfoldable pub noRow : List Placed → Bool
+noRow bs = isMisfit (fitIn present bs) && isMisfit (fitIn opposite bs)
+
+-- 14: "rows of both directions fit"
+unfoldable pub bothWays : List Placed → Bool
+bothWays bs = not (isMisfit (fitIn present bs)) && not (isMisfit (fitIn opposite bs))
+
+-- Whether a distance is judged: "for present signals and present warning boards only".
+abbrev pub judgedKind : Kind → Bool
+judgedKind Kind.Signal = true
+judgedKind Kind.Warning = true
+judgedKind Kind.Annulled = false
+judgedKind Kind.Line = false
+judgedKind Kind.Route = false
+
+abbrev pub isJudged : Fit → Bool
+isJudged misfit = false
+isJudged (fit kind a) = judgedKind kind
+
+-- 15: "distance not allowed"
+unfoldable pub notAllowed : List Placed → Bool
+notAllowed bs = isJudged (fitIn present bs) && isRefusal (distanceOf bs)
+
+-- 15 again, for the table of distances by itself: no column above 14, no figure but 1 to 14
+unfoldable pub noDistance : ℕ → ℕ → Bool
+noDistance by figure = ltb 14 by || not (leb 1 figure && leb figure 14)
+
+-- 16: "trace length not a multiple of 8"
+unfoldable pub badLength : List ℕ → Bool
+badLength trace = not (eqb (length trace % 8) 0)
+
+-- 16: "kind above 3, or bytes 5 to 7 not zero where they must be"
+unfoldable pub badRecord : List ℕ → Bool
+badRecord r = not (inOrder r)
+
+-- 17: "odometer below the last accepted one"
+unfoldable pub wentBack : ℕ → List ℕ → Bool
+wentBack last r = ltb (odometerOf r) last
+
+-- 18: "odometer above 4,000,000,000"
+unfoldable pub tooFar : List ℕ → Bool
+tooFar r = ltb 4000000000 (odometerOf r)
+
+-- 19: "gap outside 1 to 200"
+unfoldable pub badGap : ℕ → Bool
+badGap gap = not (allowed gap)

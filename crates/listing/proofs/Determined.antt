@@ -1,0 +1,62 @@
+-- Each contract fixes its function's whole answer and the lent buffer then: any two answers that it allows are equal, and so
+-- are the buffers.
+-- Assumes nothing.
+use mathlib.Core.Path.{_≡_, refl, sym, ap, _∙_}
+use mathlib.Core.List.{List}
+use Prim.Native.Nat.{ℕ}
+use lib.Dec.{eqb}
+use contract.Lifetimes.{Lfts}
+use borrow.Fn.Kinds.{Dens, endedOf}
+use denote.Triple.Clauses.{AtExit}
+use denote.Ref.{now}
+use Rattle.words.specs.Answer.{Outcome, gives, refuses, pick}
+use Rattle.listing.specs.declared.Put.{Put}
+use Rattle.listing.specs.declared.Done.{Done}
+use Rattle.listing.specs.declared.Listed.{Listed}
+use Rattle.listing.specs.Put.{Ends, next, noRoom, Filled, filled}
+use Rattle.listing.specs.List.{Taken, Listing}
+use Rattle.listing.specs.Says.{saysPut, saysDone, saysListed}
+use Rattle.listing.proofs.put_line.Kinds as put-line-kinds
+use Rattle.listing.proofs.put_line.Reads as put-line-reads
+use Rattle.listing.proofs.list.Kinds as list-kinds
+use Rattle.listing.proofs.list.Reads as list-reads
+
+-- From what an answer says, the answer.
+abbrev putOf : Ends → Put
+putOf (next at) = Put.Next at
+putOf noRoom = Put.NoRoom
+
+put-back : (r : Put) → putOf (saysPut r) ≡ r
+put-back (Put.Next at) = refl
+put-back Put.NoRoom = refl
+
+abbrev doneOf : Outcome Taken → Done
+doneOf (gives t) = Done.Took (t .records) (t .bytes)
+doneOf (refuses n) = pick (eqb n 19) Done.Gap Done.Length
+
+done-back : (d : Done) → doneOf (saysDone d) ≡ d
+done-back (Done.Took records bytes) = refl
+done-back Done.Gap = refl
+done-back Done.Length = refl
+
+abbrev listedOf : Listing → Listed
+listedOf l = record { ride = l .ride; number = l .number; done = doneOf (l .answer) }
+
+listed-back : (r : Listed) (out : List ℕ) → listedOf (saysListed r out) ≡ r
+listed-back r out = ap (λ (d : Done). record { ride = r .ride; number = r .number; done = d }) (done-back (r .done))
+
+pub put-line-determined : (κs : Lfts 1) (a : Dens κs put-line-kinds.ps) (r r′ : Put)
+    (x x′ : AtExit (endedOf 1 put-line-kinds.ps put-line-kinds.r) κs)
+    → put-line-reads.Post κs a r x → put-line-reads.Post κs a r′ x′ → (r ≡ r′) × (now (x .1 .0) ≡ now (x′ .1 .0))
+put-line-determined κs a r r′ x x′ p q =
+    let same : filled (saysPut r) (now (x .1 .0)) ≡ filled (saysPut r′) (now (x′ .1 .0)) = p ∙ sym q in
+    (sym (put-back r) ∙ ap (λ (f : Filled). putOf (f .ends)) same ∙ put-back r′, ap (λ (f : Filled). f .buffer) same)
+
+pub list-determined : (κs : Lfts 2) (a : Dens κs list-kinds.ps) (r r′ : Listed)
+    (x x′ : AtExit (endedOf 2 list-kinds.ps list-kinds.r) κs)
+    → list-reads.Post κs a r x → list-reads.Post κs a r′ x′ → (r ≡ r′) × (now (x .1 .1 .1 .1 .0) ≡ now (x′ .1 .1 .1 .1 .0))
+list-determined κs a r r′ x x′ p q =
+    let same : saysListed r (now (x .1 .1 .1 .1 .0)) ≡ saysListed r′ (now (x′ .1 .1 .1 .1 .0)) = p ∙ sym q in (
+      sym (listed-back r (now (x .1 .1 .1 .1 .0))) ∙ ap listedOf same ∙ listed-back r′ (now (x′ .1 .1 .1 .1 .0)),
+      ap (λ (l : Listing). l .out) same,
+    )

@@ -1,0 +1,43 @@
+-- Document 01's lines, and its ride in full, as text.
+-- Assumes nothing.
+use mathlib.Core.Path.{_≡_, refl}
+use mathlib.Core.List.{List, _++_}
+use Prim.Native.Nat.{ℕ}
+use lib.ListN.{replicate}
+use Rattle.group.specs.declared.Direction.{Direction}
+use Rattle.group.specs.declared.Kind.{Kind}
+use Rattle.ride.specs.declared.Mark.{Mark}
+use Rattle.ride.specs.declared.Line.{Line}
+use Rattle.listing.specs.Text.{codes, digits, decimal, seen, text}
+
+first-signal : text (Line.Group (record { place = 1000; direction = Direction.Present; kind = Kind.Signal; mark = Mark.First })) ≡ codes "1000 present signal first\n"
+unfolding text seen decimal digits
+first-signal = refl
+
+opposite-signal : text (Line.Group (record { place = 1000; direction = Direction.Opposite; kind = Kind.Signal; mark = Mark.Unmarked })) ≡ codes "1000 opposite signal\n"
+unfolding text seen decimal digits
+opposite-signal = refl
+
+missed : text (Line.Missed 5800) ≡ codes "5800 missed\n"
+unfolding text decimal digits
+missed = refl
+
+trace-refused : text (Line.Trace 16) ≡ codes "trace refused 16\n"
+unfolding text decimal digits
+trace-refused = refl
+
+fault : text (Line.Fault 1000 13) ≡ codes "1000 fault 13\n"
+unfolding text decimal digits
+fault = refl
+
+record-refused : text (Line.Record 3 17) ≡ codes "record 3 refused 17\n"
+unfolding text decimal digits
+record-refused = refl
+
+nought : decimal 0 ≡ codes "0"
+unfolding decimal digits
+nought = refl
+
+largest : decimal 18446744073709551615 ≡ codes "18446744073709551615"
+unfolding decimal digits
+largest = refl

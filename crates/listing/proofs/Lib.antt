@@ -1,0 +1,10 @@
+pub mod Decimal
+pub mod Placing
+pub mod Standing
+pub mod Words
+pub mod Longest
+pub mod Texts
+pub mod Turns
+pub mod Bounds
+pub mod Examples
+pub mod Determined

@@ -1,0 +1,46 @@
+-- No line is longer than 64 bytes.
+-- Assumes nothing.
+use mathlib.Core.Path.{_≡_, refl}
+use mathlib.Core.List.{List, [], _∷_, _++_}
+use Prim.Native.Nat.{ℕ, _+_, _≤_}
+use native.Mathlib.Omega.{arith}
+use lib.ListN.{length, length-append}
+use Rattle.group.specs.declared.Direction.{Direction}
+use Rattle.group.specs.declared.Kind.{Kind}
+use Rattle.ride.specs.declared.Mark.{Mark}
+use Rattle.ride.specs.declared.Seen.{Seen}
+use Rattle.ride.specs.declared.Line.{Line}
+use Rattle.listing.specs.Text.{codes, decimal, direction, kind, mark, seen, text}
+use Rattle.listing.proofs.Decimal.{decimal-length}
+
+direction-length : (d : Direction) → length (direction d) ≤ 8
+direction-length Direction.Present = omega arith
+direction-length Direction.Opposite = omega arith
+
+kind-length : (k : Kind) → length (kind k) ≤ 8
+kind-length Kind.Signal = omega arith
+kind-length Kind.Warning = omega arith
+kind-length Kind.Annulled = omega arith
+kind-length Kind.Line = omega arith
+kind-length Kind.Route = omega arith
+
+mark-length : (m : Mark) → length (mark m) ≤ 6
+mark-length Mark.Unmarked = omega arith
+mark-length Mark.First = omega arith
+mark-length Mark.Early = omega arith
+mark-length Mark.Good = omega arith
+mark-length Mark.Late = omega arith
+
+seen-length : (s : Seen) → length (seen s) ≤ 64
+unfolding seen
+seen-length s =
+    simp length-append
+    (omega (arith, decimal-length (s .place), direction-length (s .direction), kind-length (s .kind), mark-length (s .mark)))
+
+pub longest : (l : Line) → length (text l) ≤ 64
+unfolding text
+longest (Line.Group s) = seen-length s
+longest (Line.Fault place n) = simp length-append (omega (arith, decimal-length place, decimal-length n))
+longest (Line.Missed place) = simp length-append (omega (arith, decimal-length place))
+longest (Line.Record number n) = simp length-append (omega (arith, decimal-length number, decimal-length n))
+longest (Line.Trace n) = simp length-append (omega (arith, decimal-length n))

@@ -1,0 +1,121 @@
+-- The listing record by record: from each record on it comes to the same.
+-- Assumes nothing.
+use Prim.Native.Nat.{ℕ, zero, suc, _+_, _-_, _*_, _/_, _≤_, _<_}
+use native.Mathlib.Omega.{arith}
+use native.Mathlib.Nat.{add-zero, zero-add, sub-zero, add-assoc}
+use mathlib.Core.Path.{_≡_, refl, ap, sym, _∙_}
+use mathlib.Core.Bool.{Bool, true, false, _&&_}
+use mathlib.Core.List.{List, [], _∷_, _++_}
+use lib.Dec.{ltb}
+use lib.ListN.{length, take, drop, length-append}
+use lib.Seq.{drop-drop}
+use borrow.Author.Tests.{ltb-true, ltb-false}
+use Rattle.words.specs.Answer.{gives, pick}
+use Rattle.ride.specs.declared.Line.{Line}
+use Rattle.ride.specs.declared.Ride.{Ride}
+use Rattle.ride.specs.Step.{Step, treat}
+use Rattle.ride.specs.Over.{firstRecords, records, linesFor, Ridden, rideOver}
+use Rattle.listing.specs.Put.{placed}
+use Rattle.listing.specs.List.{textOf, isTaken, taken, Taken, Listing, listOf}
+use Rattle.listing.proofs.Placing.{placed-none, placed-length, placed-join}
+use Rattle.listing.proofs.Texts.{text-join}
+
+abbrev pub listing : ℕ → ℕ → Ride → ℕ → List ℕ → Listing
+listing n bytes ride number out = record { answer = gives (record { records = n; bytes = bytes }); ride = ride; number = number; out = out }
+
+-- n records more, after i records that gave `at` bytes
+abbrev after : ℕ → Ride → ℕ → ℕ → ℕ → List (List ℕ) → List ℕ → ℕ → Listing
+after gap ride number i at rs out n =
+    let ridden : Ridden = rideOver (λ odometer. gap) ride number (take n rs) in
+    let written : List ℕ = textOf (ridden .lines) in
+    listing (i + n) (at + length written) (ridden .ride) (number + n) (placed written out at)
+
+-- as many more as are taken
+unfoldable pub fromHere : ℕ → Ride → ℕ → ℕ → ℕ → List (List ℕ) → List ℕ → Listing
+fromHere gap ride number i at rs out = after gap ride number i at rs out (taken gap ride number (length out - at) rs)
+
+-- From the first record it is the whole listing.
+pub from-first : (gap : ℕ) (ride : Ride) (number : ℕ) (rs : List (List ℕ)) (out : List ℕ)
+    → fromHere gap ride number 0 0 rs out ≡ listOf gap ride number (taken gap ride number (length out) rs) rs out
+unfolding fromHere listOf
+from-first gap ride number rs out = simp (sub-zero, zero-add)
+
+-- The text of one record's lines.
+abbrev pub textAt : ℕ → Ride → ℕ → List ℕ → List ℕ
+textAt gap ride number r = textOf (linesFor number (treat ride gap r .lines))
+
+module _ (gap : ℕ) (ride : Ride) (number i at : ℕ) (r : List ℕ) (rs : List (List ℕ)) (out : List ℕ) where
+  abbrev t : List ℕ
+  t = textAt gap ride number r
+
+  abbrev then : Ride
+  then = treat ride gap r .ride
+
+  one-more : (n : ℕ) → at + length t ≤ length out
+      → after gap ride number i at (r ∷ rs) out (suc n) ≡ after gap then (suc number) (i + 1) (at + length t) rs (placed t out at) n
+  unfolding rideOver
+  one-more n fits =
+      let rest : Ridden = rideOver (λ odometer. gap) then (suc number) (take n rs) in
+      let u : List ℕ = textOf (rest .lines) in
+      let both : textOf (linesFor number (treat ride gap r .lines) ++ rest .lines) ≡ t ++ u = text-join (linesFor number (treat ride gap r .lines)) (rest .lines) in
+      let counted : i + suc n ≡ i + 1 + n = omega arith in
+      let numbered : number + suc n ≡ suc number + n = omega arith in
+      let bytes : at + length (t ++ u) ≡ at + length t + length u = omega (arith, length-append t u) in
+      ap (λ (w : List ℕ). listing (i + suc n) (at + length w) (rest .ride) (number + suc n) (placed w out at)) both
+      ∙ ap (λ (k : ℕ). listing k (at + length (t ++ u)) (rest .ride) (number + suc n) (placed (t ++ u) out at)) counted
+      ∙ ap (λ (k : ℕ). listing (i + 1 + n) k (rest .ride) (number + suc n) (placed (t ++ u) out at)) bytes
+      ∙ ap (λ (k : ℕ). listing (i + 1 + n) (at + length t + length u) (rest .ride) k (placed (t ++ u) out at)) numbered
+      ∙ ap (listing (i + 1 + n) (at + length t + length u) (rest .ride) (suc number + n)) (sym (placed-join t out at fits u))
+
+  -- A record that is taken.
+  pub from-next : isTaken number (length out - at) ≡ true → at + length t ≤ length out
+      → fromHere gap ride number i at (r ∷ rs) out ≡ fromHere gap then (suc number) (i + 1) (at + length t) rs (placed t out at)
+  unfolding fromHere taken
+  from-next e fits =
+      let n : ℕ = taken gap then (suc number) (length out - at - length t) rs in
+      let room : length out - at - length t ≡ length (placed t out at) - (at + length t) = omega (arith, placed-length t out at fits) in
+      ap (λ (b : Bool). after gap ride number i at (r ∷ rs) out (pick b (suc n) 0)) e
+      ∙ one-more n fits
+      ∙ ap (λ (k : ℕ). after gap then (suc number) (i + 1) (at + length t) rs (placed t out at) (taken gap then (suc number) k rs)) room
+
+-- No record more.
+pub from-last : (gap : ℕ) (ride : Ride) (number i at : ℕ) (rs : List (List ℕ)) (out : List ℕ) → taken gap ride number (length out - at) rs ≡ 0
+    → listing i at ride number out ≡ fromHere gap ride number i at rs out
+unfolding fromHere rideOver textOf
+from-last gap ride number i at rs out e =
+    sym (ap (after gap ride number i at rs out) e ∙ simp (add-zero, placed-none))
+
+-- The records of a trace that are left after i.
+abbrev pub leftOf : List ℕ → ℕ → ℕ → List (List ℕ)
+leftOf trace count i = firstRecords (count - i) (drop (i * 8) trace)
+
+pub left-next : (trace : List ℕ) (count i : ℕ) → i < count → leftOf trace count i ≡ take 8 (drop (i * 8) trace) ∷ leftOf trace count (i + 1)
+unfolding firstRecords
+left-next trace count i h =
+    let e : count - i ≡ suc (count - (i + 1)) = omega arith in
+    let p : i * 8 + 8 ≡ (i + 1) * 8 = omega arith in
+    ap (λ (k : ℕ). firstRecords k (drop (i * 8) trace)) e
+    ∙ ap (λ (l : List ℕ). take 8 (drop (i * 8) trace) ∷ firstRecords (count - (i + 1)) l)
+    (drop-drop 8 (i * 8) trace ∙ ap (λ (k : ℕ). drop k trace) p)
+
+pub left-all : (trace : List ℕ) → leftOf trace (length trace / 8) 0 ≡ records trace
+left-all trace = ap (λ (k : ℕ). firstRecords k trace) (sub-zero (length trace / 8))
+
+-- Where the loop stops, no record is taken.
+stopped : (gap : ℕ) (ride : Ride) (number room : ℕ) (trace : List ℕ) (count i : ℕ) (b : Bool) → ltb i count ≡ b → (b && isTaken number room) ≡ false
+    → taken gap ride number room (leftOf trace count i) ≡ 0
+unfolding taken firstRecords
+stopped gap ride number room trace count i true more e =
+    ap (taken gap ride number room) (left-next trace count i (ltb-true i count more)) ∙ simp e
+stopped gap ride number room trace count i false more e =
+    let none : count - i ≡ 0 = omega (arith, ltb-false i count more) in
+    ap (λ (k : ℕ). taken gap ride number room (firstRecords k (drop (i * 8) trace))) none
+
+pub no-more : (gap : ℕ) (ride : Ride) (number room : ℕ) (trace : List ℕ) (count i : ℕ) → (ltb i count && isTaken number room) ≡ false
+    → taken gap ride number room (leftOf trace count i) ≡ 0
+no-more gap ride number room trace count i e = stopped gap ride number room trace count i (ltb i count) refl e
+
+-- A test that holds, part by part.
+pub both : (a b : Bool) → (a && b) ≡ true → (a ≡ true) × (b ≡ true)
+both true b e = (refl, e)
+both false b e = let z : true ≡ b = cc in (e, sym z)

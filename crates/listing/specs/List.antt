@@ -1,0 +1,76 @@
+-- The listing of a trace: the lines of its records as text at the start of a lent buffer.
+-- Assumes nothing.
+use Prim.Native.Nat.{ℕ, suc, _+_, _-_, _%_}
+use mathlib.Core.Bool.{Bool, _&&_}
+use mathlib.Core.List.{List, [], _∷_, _++_}
+use lib.Dec.{eqb, leb, ltb}
+use lib.ListN.{length, take}
+use Rattle.words.specs.Answer.{Outcome, gives, refuses, pick}
+use Rattle.ride.specs.declared.Line.{Line}
+use Rattle.ride.specs.declared.Ride.{Ride}
+use Rattle.ride.specs.Joining.{allowed}
+use Rattle.ride.specs.Step.{Step, treat}
+use Rattle.ride.specs.Over.{records, linesFor, Ridden, rideOver}
+use Rattle.listing.specs.Text.{text}
+use Rattle.listing.specs.Put.{placed}
+
+-- The text of some lines, one after the other.
+unfoldable pub textOf : List Line → List ℕ
+textOf [] = []
+textOf (l ∷ ls) = text l ++ textOf ls
+
+-- Whether the record with this number is taken: its lines, at most two of at most 64 bytes, have room, and the next
+-- record's number is still below 2^64.
+abbrev pub isTaken : ℕ → ℕ → Bool
+isTaken number room = leb 128 room && ltb number 18446744073709551615
+
+-- How many of some records are taken, one after the other, from a state and the first one's number, into so much room.
+unfoldable pub taken : ℕ → Ride → ℕ → ℕ → List (List ℕ) → ℕ
+taken gap ride number room [] = 0
+taken gap ride number room (r ∷ rs) =
+    let s : Step = treat ride gap r in
+    let left : ℕ = room - length (textOf (linesFor number (s .lines))) in
+    pick (isTaken number room) (suc (taken gap (s .ride) (suc number) left rs)) 0
+
+-- How many records were taken, and how many bytes written.
+pub record Taken : Type 0 where
+  pub records : ℕ
+  pub bytes : ℕ
+
+-- What listing answers: what was taken, or the number of its refusal; the state and the next record's number then; and the
+-- buffer then.
+pub record Listing : Type 0 where
+  pub answer : Outcome Taken
+  pub ride : Ride
+  pub number : ℕ
+  pub out : List ℕ
+
+-- The listing of n records: the text of the lines of the ride over them, at the start of the buffer.
+unfoldable pub listOf : ℕ → Ride → ℕ → ℕ → List (List ℕ) → List ℕ → Listing
+listOf gap ride number n rs out =
+    let ridden : Ridden = rideOver (λ odometer. gap) ride number (take n rs) in
+    let written : List ℕ = textOf (ridden .lines) in
+    record {
+      answer = gives (record { records = n; bytes = length written });
+      ride = ridden .ride;
+      number = number + n;
+      out = placed written out 0;
+    }
+
+-- The listing of as many of some records as are taken into the buffer.
+abbrev pub listTaken : ℕ → Ride → ℕ → List (List ℕ) → List ℕ → Listing
+listTaken gap ride number rs out = listOf gap ride number (taken gap ride number (length out) rs) rs out
+
+-- A refusal takes nothing and leaves the buffer.
+abbrev pub unlisted : Ride → ℕ → List ℕ → ℕ → Listing
+unlisted ride number out n = record { answer = refuses n; ride = ride; number = number; out = out }
+
+-- The listing of a trace from the record with this number on: "gap outside 1 to 200" is 19, "trace length not a multiple of
+-- 8" is 16, each "before any record"; else as many records as are taken into the buffer.
+unfoldable pub list : Ride → ℕ → ℕ → List ℕ → List ℕ → Listing
+list ride gap number trace out =
+    pick (allowed gap)
+    (pick (eqb (length trace % 8) 0)
+    (listTaken gap ride number (records trace) out)
+    (unlisted ride number out 16))
+    (unlisted ride number out 19)

@@ -1,0 +1,32 @@
+-- A text put into a lent buffer: every byte of the buffer after it.
+-- Assumes nothing.
+use Prim.Native.Nat.{ℕ, _+_}
+use mathlib.Core.List.{List, _++_}
+use lib.Dec.{leb}
+use lib.ListN.{length, take, drop}
+use Rattle.words.specs.Answer.{pick}
+
+-- The buffer with the text in it from the place `at` on: the bytes before and behind the text stay.
+unfoldable pub placed : List ℕ → List ℕ → ℕ → List ℕ
+placed text buffer at = take at buffer ++ text ++ drop (at + length text) buffer
+
+-- Where putting a text ends: with the place behind it, or for want of room (document 01 has no number for that).
+pub data Ends : Type 0 where
+  next : ℕ → Ends
+  noRoom : Ends
+
+-- What putting a text comes to: where it ends, and the buffer then.
+pub record Filled : Type 0 where
+  pub ends : Ends
+  pub buffer : List ℕ
+
+-- An end and a buffer together.
+abbrev pub filled : Ends → List ℕ → Filled
+filled ends buffer = record { ends = ends; buffer = buffer }
+
+-- The text is put into the buffer from the place `at` on if it fits; otherwise the buffer stays as it is.
+unfoldable pub put : List ℕ → List ℕ → ℕ → Filled
+put text buffer at =
+    pick (leb (at + length text) (length buffer))
+    (filled (next (at + length text)) (placed text buffer at))
+    (filled noRoom buffer)

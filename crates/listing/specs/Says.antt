@@ -1,0 +1,25 @@
+-- What each case of this crate's answers says.
+-- Assumes nothing.
+use Prim.Native.Nat.{ℕ}
+use mathlib.Core.List.{List}
+use Rattle.words.specs.Answer.{Outcome, gives, refuses}
+use Rattle.listing.specs.declared.Put.{Put}
+use Rattle.listing.specs.declared.Done.{Done}
+use Rattle.listing.specs.declared.Listed.{Listed}
+use Rattle.listing.specs.Put.{Ends, next, noRoom}
+use Rattle.listing.specs.List.{Taken, Listing}
+
+-- The place behind the line, or that there is no room for it.
+abbrev pub saysPut : Put → Ends
+saysPut (Put.Next at) = next at
+saysPut Put.NoRoom = noRoom
+
+-- What was taken; "gap outside 1 to 200" is 19, "trace length not a multiple of 8" is 16.
+abbrev pub saysDone : Done → Outcome Taken
+saysDone (Done.Took records bytes) = gives (record { records = records; bytes = bytes })
+saysDone Done.Gap = refuses 19
+saysDone Done.Length = refuses 16
+
+-- A listing: what was taken, the state and the next number, and the buffer then.
+abbrev pub saysListed : Listed → List ℕ → Listing
+saysListed l out = record { answer = saysDone (l .done); ride = l .ride; number = l .number; out = out }

@@ -1,0 +1,64 @@
+-- The lines of a listing as text (document 01, "One ride in full"): ASCII codes, with a newline at the end of each line.
+-- Assumes nothing.
+use Prim.Native.Nat.{ℕ, zero, suc, _+_, _/_, _%_}
+use Prim.Native.Char.{code}
+use Prim.Native.String.{String, [] as empty, _∷_ as _then_}
+use mathlib.Core.List.{List, [], _∷_, _++_}
+use lib.Dec.{ltb}
+use Rattle.words.specs.Answer.{pick}
+use Rattle.group.specs.declared.Direction.{Direction}
+use Rattle.group.specs.declared.Kind.{Kind}
+use Rattle.ride.specs.declared.Mark.{Mark}
+use Rattle.ride.specs.declared.Seen.{Seen}
+use Rattle.ride.specs.declared.Line.{Line}
+
+-- A quoted text as the codes of its characters.
+abbrev pub codes : String → List ℕ
+codes empty = []
+codes (c then s) = code c ∷ codes s
+
+-- The code of a digit.
+abbrev pub digit : ℕ → ℕ
+digit d = 48 + d
+
+-- The digits of a number, the highest first, of which there are at most so many.
+unfoldable pub digits : ℕ → ℕ → List ℕ
+digits zero n = []
+digits (suc most) n = pick (ltb n 10) (digit n ∷ []) (digits most (n / 10) ++ (digit (n % 10) ∷ []))
+
+-- A number in decimal without leading zeroes. A number of a line is below 2^64 and has at most 20 digits.
+unfoldable pub decimal : ℕ → List ℕ
+decimal n = digits 20 n
+
+-- The word for a direction.
+abbrev pub direction : Direction → List ℕ
+direction Direction.Present = codes "present"
+direction Direction.Opposite = codes "opposite"
+
+-- The word for a kind.
+abbrev pub kind : Kind → List ℕ
+kind Kind.Signal = codes "signal"
+kind Kind.Warning = codes "warning"
+kind Kind.Annulled = codes "annulled"
+kind Kind.Line = codes "line"
+kind Kind.Route = codes "route"
+
+-- A mark after its space; a group without one ends before it.
+abbrev pub mark : Mark → List ℕ
+mark Mark.Unmarked = []
+mark Mark.First = codes " first"
+mark Mark.Early = codes " early"
+mark Mark.Good = codes " good"
+mark Mark.Late = codes " late"
+
+-- The text of an accepted group: `1000 present signal first`, `1000 opposite signal`.
+unfoldable pub seen : Seen → List ℕ
+seen s = decimal (s .place) ++ codes " " ++ direction (s .direction) ++ codes " " ++ kind (s .kind) ++ mark (s .mark) ++ codes "\n"
+
+-- The text of a line: an accepted group; `1000 fault 13`; `5800 missed`; `record 3 refused 17`; `trace refused 16`.
+unfoldable pub text : Line → List ℕ
+text (Line.Group s) = seen s
+text (Line.Fault place n) = decimal place ++ codes " fault " ++ decimal n ++ codes "\n"
+text (Line.Missed place) = decimal place ++ codes " missed\n"
+text (Line.Record number n) = codes "record " ++ decimal number ++ codes " refused " ++ decimal n ++ codes "\n"
+text (Line.Trace n) = codes "trace refused " ++ decimal n ++ codes "\n"

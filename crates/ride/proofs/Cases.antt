@@ -1,0 +1,73 @@
+-- The cases of the definitions, each from an equation of what they go by.
+-- Assumes nothing.
+use Prim.Native.Nat.{ℕ, _+_, _-_, _*_, _/_}
+use mathlib.Core.Path.{_≡_, refl, ap}
+use mathlib.Core.Bool.{Bool, true, false}
+use mathlib.Core.List.{List, [], _∷_}
+use lib.Dec.{ltb}
+use lib.ListN.{getD}
+use Rattle.group.specs.declared.Balise.{Balise}
+use Rattle.group.specs.declared.Group.{Group}
+use Rattle.group.specs.declared.Told.{Told as Speed}
+use Rattle.group.specs.declared.Content.{Content as More}
+use Rattle.group.specs.declared.Judged.{Judged}
+use Rattle.group.specs.Says.{saysTold, saysContent, saysJudged}
+use Rattle.group.specs.Judge.{judge}
+use Rattle.ride.specs.declared.Linking.{Linking}
+use Rattle.ride.specs.declared.Known.{Known}
+use Rattle.ride.specs.declared.Ride.{Ride}
+use Rattle.ride.specs.State.{noBalise, isOpen}
+use Rattle.ride.specs.Linking.{markAt, markOf, isOverdue, missedPlace}
+use Rattle.ride.specs.Closing.{Closing, linkingFrom, mainFrom, targetFrom, knownFrom, markFrom, closeAs, close, leave}
+use Rattle.ride.specs.Step.{end, ended}
+
+-- ---- linking that is set
+
+pub mark-set : (l : Linking) (D a place : ℕ) → l ≡ Linking.Set D a → markAt D (place - a) ≡ markOf l place
+mark-set l D a place e = rw e
+
+pub overdue-set : (l : Linking) (D a odometer : ℕ) → l ≡ Linking.Set D a → ltb (6 * D) (5 * (odometer - a)) ≡ isOverdue l odometer
+overdue-set l D a odometer e = rw e
+
+pub missed-set : (l : Linking) (D a : ℕ) → l ≡ Linking.Set D a → a + 6 * D / 5 ≡ missedPlace l
+missed-set l D a e = rw e
+
+-- ---- what an accepted group says
+
+target-same : (t : Speed) → t ≡ targetFrom (saysTold t)
+target-same (Speed.Kmh v) = refl
+target-same Speed.Unknown = refl
+
+pub main-kmh : (t : Speed) (v : ℕ) (before : Speed) → t ≡ Speed.Kmh v → Speed.Kmh v ≡ mainFrom (saysTold t) before
+main-kmh t v before e = rw e
+
+pub known-signal : (more : More) (D : ℕ) (preset : Bool) (main target : Speed) (place : ℕ) (known : Known) → more ≡ More.Signal D preset main target
+    → _≡_ {A = Known} (record { linking = linkingFrom D preset place; main = mainFrom (saysTold main) (known .main); target = target })
+    (knownFrom (saysContent more) place known)
+known-signal more D preset main target place known e =
+    rw e (ap (λ (t : Speed). record { linking = linkingFrom D preset place; main = mainFrom (saysTold main) (known .main); target = t }) (target-same target))
+
+pub mark-signal : (more : More) (D : ℕ) (preset : Bool) (main target : Speed) (place : ℕ) (l : Linking) → more ≡ More.Signal D preset main target
+    → markOf l place ≡ markFrom (saysContent more) place l
+mark-signal more D preset main target place l e = rw e
+
+-- ---- a judgement
+
+pub first-place : (bs : List Balise) (b : Balise) → b .place ≡ 0 → getD bs 0 b .place ≡ getD bs 0 noBalise .place
+first-place [] b e = e
+first-place (x ∷ bs) b e = refl
+
+-- closing with the judgement that was given
+pub closed-as : (g : Group) (known : Known) (j : Judged) → saysJudged j ≡ judge g → closeAs g known (saysJudged j) ≡ close g known
+unfolding close
+closed-as g known j e = ap (closeAs g known) e
+
+-- ---- the end
+
+pub end-open : (ride : Ride) (c : Closing) → isOpen (ride .group) ≡ true → c ≡ close (ride .group) (ride .known) → ended (ride .odometer) c ≡ end ride
+unfolding end
+end-open ride c e h = rw (e, h)
+
+pub end-none : (ride : Ride) (c : Closing) → isOpen (ride .group) ≡ false → c ≡ leave (ride .group) (ride .known) → ended (ride .odometer) c ≡ end ride
+unfolding end
+end-none ride c e h = rw (e, h)

@@ -1,0 +1,124 @@
+-- Each contract fixes its function's whole answer: any two answers that it allows are equal.
+-- Assumes nothing.
+use mathlib.Core.Path.{_≡_, refl, sym, ap, _∙_}
+use mathlib.Core.List.{List, [], _∷_}
+use Prim.Native.Nat.{ℕ}
+use lib.Dec.{eqb}
+use contract.Lifetimes.{Lfts}
+use borrow.Fn.Kinds.{Dens, endedOf}
+use denote.Triple.Clauses.{AtExit}
+use Rattle.words.specs.Answer.{Outcome, gives, refuses, pick}
+use Rattle.ride.specs.Record.{Entry}
+use Rattle.ride.specs.Step.{Step, End}
+use Rattle.ride.specs.Over.{Through, Run}
+use Rattle.ride.specs.Says.{saysWrong, saysChecked, saysLines, saysReport, saysStepped, saysEnded, saysWay, saysRan}
+use Rattle.ride.specs.declared.Wrong.{Wrong}
+use Rattle.ride.specs.declared.Checked.{Checked}
+use Rattle.ride.specs.declared.Line.{Line}
+use Rattle.ride.specs.declared.Lines.{Lines}
+use Rattle.ride.specs.declared.Report.{Report}
+use Rattle.ride.specs.declared.Ride.{Ride}
+use Rattle.ride.specs.declared.Stepped.{Stepped}
+use Rattle.ride.specs.declared.Ended.{Ended}
+use Rattle.ride.specs.declared.Way.{Way}
+use Rattle.ride.specs.declared.Ran.{Ran}
+use Rattle.ride.proofs.fresh.Kinds as fresh-kinds
+use Rattle.ride.proofs.fresh.Reads as fresh-reads
+use Rattle.ride.proofs.check_record.Kinds as check-kinds
+use Rattle.ride.proofs.check_record.Reads as check-reads
+use Rattle.ride.proofs.step.Kinds as step-kinds
+use Rattle.ride.proofs.step.Reads as step-reads
+use Rattle.ride.proofs.end.Kinds as end-kinds
+use Rattle.ride.proofs.end.Reads as end-reads
+use Rattle.ride.proofs.run.Kinds as run-kinds
+use Rattle.ride.proofs.run.Reads as run-reads
+
+-- From what an answer says, the answer.
+abbrev pub wrongOf : ℕ → Wrong
+wrongOf n = pick (eqb n 16) Wrong.Malformed (pick (eqb n 18) Wrong.TooHigh Wrong.TooLow)
+
+pub wrong-back : (w : Wrong) → wrongOf (saysWrong w) ≡ w
+wrong-back Wrong.Malformed = refl
+wrong-back Wrong.TooHigh = refl
+wrong-back Wrong.TooLow = refl
+
+abbrev pub checkedOf : Outcome Entry → Checked
+checkedOf (gives e) = Checked.Accepted (e .odometer) (e .passed)
+checkedOf (refuses n) = Checked.Refused (wrongOf n)
+
+pub checked-back : (r : Checked) → checkedOf (saysChecked r) ≡ r
+checked-back (Checked.Accepted odometer passed) = refl
+checked-back (Checked.Refused w) = ap Checked.Refused (wrong-back w)
+
+abbrev pub linesOf : List Line → Lines
+linesOf [] = Lines.None
+linesOf (a ∷ []) = Lines.One a
+linesOf (a ∷ b ∷ more) = Lines.Two a b
+
+pub lines-back : (ls : Lines) → linesOf (saysLines ls) ≡ ls
+lines-back Lines.None = refl
+lines-back (Lines.One a) = refl
+lines-back (Lines.Two a b) = refl
+
+abbrev pub reportOf : Outcome (List Line) → Report
+reportOf (gives ls) = Report.Lines (linesOf ls)
+reportOf (refuses n) = pick (eqb n 19) Report.Gap (Report.Refused (wrongOf n))
+
+pub report-back : (r : Report) → reportOf (saysReport r) ≡ r
+report-back Report.Gap = refl
+report-back (Report.Refused Wrong.Malformed) = refl
+report-back (Report.Refused Wrong.TooHigh) = refl
+report-back (Report.Refused Wrong.TooLow) = refl
+report-back (Report.Lines ls) = ap Report.Lines (lines-back ls)
+
+abbrev pub steppedOf : Step → Stepped
+steppedOf s = record { ride = s .ride; closed = s .closed; report = reportOf (s .lines) }
+
+pub stepped-back : (r : Stepped) → steppedOf (saysStepped r) ≡ r
+stepped-back r = ap (λ (p : Report). record { ride = r .ride; closed = r .closed; report = p }) (report-back (r .report))
+
+abbrev pub endedOf′ : End → Ended
+endedOf′ e = record { ride = e .ride; closed = e .closed; lines = linesOf (e .lines) }
+
+pub ended-back : (r : Ended) → endedOf′ (saysEnded r) ≡ r
+ended-back r = ap (λ (ls : Lines). record { ride = r .ride; closed = r .closed; lines = ls }) (lines-back (r .lines))
+
+abbrev pub wayOf : Outcome Through → Way
+wayOf (gives t) = Way.Through
+wayOf (refuses n) = pick (eqb n 19) Way.Gap Way.Length
+
+pub way-back : (w : Way) → wayOf (saysWay w) ≡ w
+way-back Way.Through = refl
+way-back Way.Gap = refl
+way-back Way.Length = refl
+
+abbrev pub ranOf : Run → Ran
+ranOf r = record { ride = r .ride; way = wayOf (r .answer) }
+
+pub ran-back : (r : Ran) → ranOf (saysRan r) ≡ r
+ran-back r = ap (λ (w : Way). record { ride = r .ride; way = w }) (way-back (r .way))
+
+pub fresh-determined : (κs : Lfts 0) (a : Dens κs fresh-kinds.ps) (r r′ : Ride)
+    (x x′ : AtExit (endedOf 0 fresh-kinds.ps fresh-kinds.r) κs)
+    → fresh-reads.Post κs a r x → fresh-reads.Post κs a r′ x′ → r ≡ r′
+fresh-determined κs a r r′ x x′ p q = p ∙ sym q
+
+pub check-record-determined : (κs : Lfts 0) (a : Dens κs check-kinds.ps) (r r′ : Checked)
+    (x x′ : AtExit (endedOf 0 check-kinds.ps check-kinds.r) κs)
+    → check-reads.Post κs a r x → check-reads.Post κs a r′ x′ → r ≡ r′
+check-record-determined κs a r r′ x x′ p q = sym (checked-back r) ∙ ap checkedOf (p ∙ sym q) ∙ checked-back r′
+
+pub step-determined : (κs : Lfts 0) (a : Dens κs step-kinds.ps) (r r′ : Stepped)
+    (x x′ : AtExit (endedOf 0 step-kinds.ps step-kinds.r) κs)
+    → step-reads.Post κs a r x → step-reads.Post κs a r′ x′ → r ≡ r′
+step-determined κs a r r′ x x′ p q = sym (stepped-back r) ∙ ap steppedOf (p ∙ sym q) ∙ stepped-back r′
+
+pub end-determined : (κs : Lfts 0) (a : Dens κs end-kinds.ps) (r r′ : Ended)
+    (x x′ : AtExit (endedOf 0 end-kinds.ps end-kinds.r) κs)
+    → end-reads.Post κs a r x → end-reads.Post κs a r′ x′ → r ≡ r′
+end-determined κs a r r′ x x′ p q = sym (ended-back r) ∙ ap endedOf′ (p ∙ sym q) ∙ ended-back r′
+
+pub run-determined : (κs : Lfts 1) (a : Dens κs run-kinds.ps) (r r′ : Ran)
+    (x x′ : AtExit (endedOf 1 run-kinds.ps run-kinds.r) κs)
+    → run-reads.Post κs a r x → run-reads.Post κs a r′ x′ → r ≡ r′
+run-determined κs a r r′ x x′ p q = sym (ran-back r) ∙ ap ranOf (p ∙ sym q) ∙ ran-back r′

@@ -1,0 +1,7 @@
+pub mod Cases
+pub mod Steps
+pub mod Turns
+pub mod Law
+pub mod Examples
+pub mod Determined
+pub mod InFull

@@ -1,0 +1,43 @@
+-- `check_record` asks what the definition asks, in its order.
+use borrow.Author.Tests.{le-ltb, lt-ltb, not-true, not-false}
+use Rattle.ride.specs.Record.{check}
+use borrow.Author.Needs.{needs}
+use Rattle.ride.proofs.check_record.Statement.{statement}
+use Rattle.ride.proofs.check_record.Tie as tie
+
+in-order-requires : tie.Need-in-order-requires
+in-order-requires c κs = search needs
+
+returns : tie.Need-returns
+unfolding check
+returns c = simp (← c .before .in-order .ensures, not-true (c .before .in-order .result) (c .if1 .taken))
+
+odometer-of-requires : tie.Need-odometer-of-requires
+odometer-of-requires c κs = search needs
+
+returns-2 : tie.Need-returns-2
+unfolding check
+returns-2 c = simp (← c .before .before .before .in-order .ensures, not-false (c .before .before .before .in-order .result) (c .before .before .if1 .left), ← c .before .odometer-of .ensures, lt-ltb _ _ (c .if2 .taken))
+
+returns-3 : tie.Need-returns-3
+unfolding check
+returns-3 c = simp (← c .before .before .before .before .before .in-order .ensures, not-false (c .before .before .before .before .before .in-order .result) (c .before .before .before .before .if1 .left), ← c .before .before .before .odometer-of .ensures, le-ltb _ _ (c .before .before .if2 .left), lt-ltb _ _ (c .if3 .taken))
+
+what-passed-requires : tie.Need-what-passed-requires
+what-passed-requires c κs = search needs
+
+returns-4 : tie.Need-returns-4
+unfolding check
+returns-4 c = simp (← c .before .before .before .before .before .before .in-order .ensures, not-false (c .before .before .before .before .before .before .in-order .result) (c .before .before .before .before .before .if1 .left), ← c .before .before .before .before .odometer-of .ensures, le-ltb _ _ (c .before .before .before .if2 .left), le-ltb _ _ (c .before .if3 .left), ← c .what-passed .ensures)
+
+pub check-record-spec : {M : Type 1} → statement M
+check-record-spec =
+    tie.close
+    (tie.spec
+    in-order-requires
+    returns
+    odometer-of-requires
+    returns-2
+    returns-3
+    what-passed-requires
+    returns-4)

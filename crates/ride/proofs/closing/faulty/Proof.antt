@@ -1,0 +1,27 @@
+-- `faulty` puts the fault's line and that nothing is known together.
+use mathlib.Core.Path.{refl}
+use Rattle.ride.proofs.Cases.{first-place}
+use Rattle.group.specs.declared.Heard.{Heard}
+use borrow.Author.Needs.{needs}
+use Rattle.ride.proofs.closing.faulty.Statement.{statement}
+use Rattle.ride.proofs.closing.faulty.Tie as tie
+
+element-copy-out-first : tie.Need-element-copy-out-first
+element-copy-out-first c = search needs
+
+no-group-requires : tie.Need-no-group-requires
+no-group-requires c κs = search needs
+
+nothing-known-requires : tie.Need-nothing-known-requires
+nothing-known-requires c κs = search needs
+
+cast-t11 : tie.Need-cast-t11
+cast-t11 c = search needs
+
+returns : tie.Need-returns
+returns c = rw (c .before .before .no-group .ensures, c .before .nothing-known .ensures, first-place (c .before .before .before .before .args .t1 .kept) (record { place = 0; heard = Heard.Words 0 0 0 }) refl)
+
+pub faulty-spec : {M : Type 1} → statement M
+faulty-spec =
+    tie.close
+    (tie.spec element-copy-out-first no-group-requires nothing-known-requires cast-t11 returns)

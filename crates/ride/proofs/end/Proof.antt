@@ -1,0 +1,39 @@
+-- `end` closes the open group, and leaves one that is not open.
+use mathlib.Core.Path.{sym, _∙_}
+use Rattle.ride.proofs.Cases.{end-open, end-none}
+use borrow.Author.Needs.{needs}
+use Rattle.ride.proofs.end.Statement.{statement}
+use Rattle.ride.proofs.end.Tie as tie
+
+is-open-requires : tie.Need-is-open-requires
+is-open-requires c κs = search needs
+
+close-requires : tie.Need-close-requires
+close-requires c κs = search needs
+
+at-end-requires : tie.Need-at-end-requires
+at-end-requires c κs = search needs
+
+returns : tie.Need-returns
+returns c = c .at-end .ensures ∙ end-open (c .before .before .before .before .before .before .args .ride) _ (sym (c .before .before .before .is-open .ensures) ∙ c .before .before .if1 .taken) (c .before .close .ensures)
+
+leave-requires : tie.Need-leave-requires
+leave-requires c κs = search needs
+
+at-end-requires-2 : tie.Need-at-end-requires-2
+at-end-requires-2 c κs = search needs
+
+returns-2 : tie.Need-returns-2
+returns-2 c = c .at-end2 .ensures ∙ end-none (c .before .before .before .before .before .before .args .ride) _ (sym (c .before .before .before .is-open .ensures) ∙ c .before .before .if1 .left) (c .before .leave .ensures)
+
+pub end-spec : {M : Type 1} → statement M
+end-spec =
+    tie.close
+    (tie.spec
+    is-open-requires
+    close-requires
+    at-end-requires
+    returns
+    leave-requires
+    at-end-requires-2
+    returns-2)

@@ -1,0 +1,14 @@
+-- `exceeds` is the definition's test, on numbers wide enough for the sum.
+use mathlib.Core.Path.{refl}
+use native.Mathlib.Omega.{arith}
+use Rattle.ride.proofs.joining.exceeds.Statement.{statement}
+use Rattle.ride.proofs.joining.exceeds.Tie as tie
+
+add-result : tie.Need-add-result
+add-result c = omega arith
+
+returns : tie.Need-returns
+returns c = refl
+
+pub exceeds-spec : {M : Type 1} → statement M
+exceeds-spec = tie.close (tie.spec add-result returns)

@@ -1,0 +1,59 @@
+-- `take_up` goes by what passed, and by whether the group is open.
+use mathlib.Core.Path.{sym, _∙_}
+use Rattle.ride.specs.Joining.{join}
+use Rattle.ride.proofs.Steps.{take-position, take-open, take-none}
+use borrow.Author.Needs.{needs}
+use Rattle.ride.proofs.joining.take_up.Statement.{statement}
+use Rattle.ride.proofs.joining.take_up.Tie as tie
+
+enum-told : tie.Need-enum-told
+enum-told c = search needs
+
+enum-known-passed : tie.Need-enum-known-passed
+enum-known-passed c = search needs
+
+is-open-requires : tie.Need-is-open-requires
+is-open-requires c κs = search needs
+
+join-requires : tie.Need-join-requires
+join-requires c κs = search needs
+
+no-group-requires : tie.Need-no-group-requires
+no-group-requires c κs = search needs
+
+join-requires-2 : tie.Need-join-requires-2
+join-requires-2 c κs = search needs
+
+returns : tie.Need-returns
+returns c =
+    let a = c .before .before .args in
+    take-position (a .group) (a .odometer) (a .passed) (c .enum-told .given .1)
+
+returns-2 : tie.Need-returns-2
+returns-2 c =
+    let s = c .before .before in
+    let a = s .before .before .before .before .args in
+    c .join .ensures
+    ∙ take-open (a .group) (a .odometer) (a .passed) _ (s .before .before .passed .given .1) (sym (s .is-open .ensures) ∙ c .before .if1 .taken)
+
+returns-3 : tie.Need-returns-3
+returns-3 c =
+    let s = c .before .before .before in
+    let a = s .before .before .before .before .args in
+    c .join2 .ensures
+    ∙ take-none (a .group) _ (a .odometer) (a .passed) _ (s .before .before .passed .given .1) (sym (s .is-open .ensures) ∙ c .before .before .if1 .left)
+    (c .before .no-group .ensures)
+
+pub take-up-spec : {M : Type 1} → statement M
+take-up-spec =
+    tie.close
+    (tie.spec
+    enum-told
+    enum-known-passed
+    is-open-requires
+    join-requires
+    no-group-requires
+    join-requires-2
+    returns
+    returns-2
+    returns-3)

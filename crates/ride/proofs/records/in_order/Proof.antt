@@ -1,0 +1,25 @@
+-- `in_order` is the test of the definition, with `&` grouped from the left.
+use mathlib.Core.Path.{refl}
+use Rattle.ride.specs.Record.{inOrder}
+use borrow.Author.Needs.{needs}
+use Rattle.ride.proofs.records.in_order.Statement.{statement}
+use Rattle.ride.proofs.records.in_order.Tie as tie
+
+array-read-kind : tie.Need-array-read-kind
+array-read-kind c = search needs
+
+array-read-x : tie.Need-array-read-x
+array-read-x c = search needs
+
+array-read-y : tie.Need-array-read-y
+array-read-y c = search needs
+
+array-read-z : tie.Need-array-read-z
+array-read-z c = search needs
+
+returns : tie.Need-returns
+unfolding inOrder
+returns c = refl
+
+pub in-order-spec : {M : Type 1} → statement M
+in-order-spec = tie.close (tie.spec array-read-kind array-read-x array-read-y array-read-z returns)

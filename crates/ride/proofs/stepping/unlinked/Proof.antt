@@ -1,0 +1,10 @@
+-- `unlinked` writes the fields of the definition.
+use mathlib.Core.Path.{refl}
+use Rattle.ride.proofs.stepping.unlinked.Statement.{statement}
+use Rattle.ride.proofs.stepping.unlinked.Tie as tie
+
+returns : tie.Need-returns
+returns c = refl
+
+pub unlinked-spec : {M : Type 1} → statement M
+unlinked-spec = tie.close (tie.spec returns)

@@ -1,0 +1,85 @@
+-- Closing and judging a group (document 01, "A ride"): what its judgement does to what is known, and its line.
+-- Assumes nothing.
+use Prim.Native.Nat.{ℕ}
+use mathlib.Core.Bool.{Bool}
+use mathlib.Core.List.{List, [], _∷_}
+use lib.ListN.{getD}
+use Rattle.words.specs.Answer.{Outcome, gives, refuses, pick}
+use Rattle.group.specs.declared.Group.{Group}
+use Rattle.group.specs.declared.Told.{Told as Speed}
+use Rattle.group.specs.Speed.{Told, kmh, noInformation}
+use Rattle.group.specs.Message.{Content, ofSignal, ofWarning, ofRoute, nothing, Message}
+use Rattle.group.specs.Judge.{judge}
+use Rattle.ride.specs.declared.Linking.{Linking}
+use Rattle.ride.specs.declared.Known.{Known}
+use Rattle.ride.specs.declared.Mark.{Mark}
+use Rattle.ride.specs.declared.Line.{Line}
+use Rattle.ride.specs.State.{noBalise, noGroup, nothingKnown}
+use Rattle.ride.specs.Linking.{markOf}
+
+-- "It then sets linking anew, or ends it if BY = 14", a preset point.
+abbrev pub linkingFrom : ℕ → Bool → ℕ → Linking
+linkingFrom D preset a = pick preset Linking.Unset (Linking.Set D a)
+
+-- "AY = 14 leaves the main speed as it was"
+abbrev pub mainFrom : Told → Speed → Speed
+mainFrom (kmh v) before = Speed.Kmh v
+mainFrom noInformation before = before
+
+-- "the target becomes AZ's, or none"
+abbrev pub targetFrom : Told → Speed
+targetFrom (kmh v) = Speed.Kmh v
+targetFrom noInformation = Speed.Unknown
+
+-- What is known after an accepted group that says this, with its A balise at place a. A present signal sets it; "all
+-- other groups leave these as they were."
+abbrev pub knownFrom : Content → ℕ → Known → Known
+knownFrom (ofSignal D preset main target) a known =
+    record { linking = linkingFrom D preset a; main = mainFrom main (known .main); target = targetFrom target }
+knownFrom (ofWarning D preset) a known = known
+knownFrom (ofRoute v) a known = known
+knownFrom nothing a known = known
+
+-- What is known after a judgement. "A refused group ends linking and clears main speed and target."
+abbrev pub knownAfter : Outcome Message → Known → Known
+knownAfter (gives m) known = knownFrom (m .content) (m .place) known
+knownAfter (refuses n) known = nothingKnown
+
+-- The mark of an accepted group: "a mark stands on present signals alone".
+abbrev pub markFrom : Content → ℕ → Linking → Mark
+markFrom (ofSignal D preset main target) a linking = markOf linking a
+markFrom (ofWarning D preset) a linking = Mark.Unmarked
+markFrom (ofRoute v) a linking = Mark.Unmarked
+markFrom nothing a linking = Mark.Unmarked
+
+-- The place of a group's first balise.
+abbrev pub firstPlace : Group → ℕ
+firstPlace g = getD (g .kept) 0 noBalise .place
+
+-- The line of a group after its judgement, from the linking before it: "A group's line begins with the place of its A
+-- balise"; a fault is shown "with the first balise's place".
+abbrev pub lineOf : Group → Linking → Outcome Message → Line
+lineOf g linking (gives m) =
+    Line.Group
+    (record { place = m .place; direction = m .direction; kind = m .kind; mark = markFrom (m .content) (m .place) linking })
+lineOf g linking (refuses n) = Line.Fault (firstPlace g) n
+
+-- What closing leaves: the lines it gives, the group that closed, the group that is there then, and what is known then.
+pub record Closing : Type 0 where
+  pub lines : List Line
+  pub closed : Group
+  pub group : Group
+  pub known : Known
+
+-- A group closes with this judgement.
+abbrev pub closeAs : Group → Known → Outcome Message → Closing
+closeAs g known judged =
+    record { lines = lineOf g (known .linking) judged ∷ []; closed = g; group = noGroup; known = knownAfter judged known }
+
+-- "close and judge it"
+unfoldable pub close : Group → Known → Closing
+close g known = closeAs g known (judge g)
+
+-- No group closes.
+unfoldable pub leave : Group → Known → Closing
+leave g known = record { lines = []; closed = noGroup; group = g; known = known }

@@ -1,0 +1,62 @@
+-- A ride over a whole trace: the lines and the state of its records, one after the other.
+-- Assumes nothing.
+use Prim.Native.Nat.{ℕ, zero, suc, _/_, _%_}
+use mathlib.Core.List.{List, [], _∷_, _++_}
+use lib.Dec.{eqb}
+use lib.ListN.{length, take, drop}
+use Rattle.words.specs.Answer.{Outcome, gives, refuses, pick}
+use Rattle.ride.specs.declared.Line.{Line}
+use Rattle.ride.specs.declared.Ride.{Ride}
+use Rattle.ride.specs.Record.{odometerOf}
+use Rattle.ride.specs.Joining.{allowed}
+use Rattle.ride.specs.Step.{Step, treat}
+
+-- The first n records of a trace: "records of one fixed size, no header: 8 bytes".
+unfoldable pub firstRecords : ℕ → List ℕ → List (List ℕ)
+firstRecords zero trace = []
+firstRecords (suc n) trace = take 8 trace ∷ firstRecords n (drop 8 trace)
+
+-- All records of a trace.
+abbrev pub records : List ℕ → List (List ℕ)
+records trace = firstRecords (length trace / 8) trace
+
+-- The lines of the record with this number: those of its step, or that it was refused.
+abbrev pub linesFor : ℕ → Outcome (List Line) → List Line
+linesFor number (gives lines) = lines
+linesFor number (refuses n) = Line.Record number n ∷ []
+
+-- What a ride over some records comes to: its lines, and the state after them.
+pub record Ridden : Type 0 where
+  pub lines : List Line
+  pub ride : Ride
+
+-- A record's lines before those of the rest.
+abbrev pub before : List Line → Ridden → Ridden
+before lines rest = record { lines = lines ++ rest .lines; ride = rest .ride }
+
+-- The ride over some records, the first of which has this number, with the gap that the rule gives for each record's
+-- odometer: each record is treated in the state that the one before left.
+unfoldable pub rideOver : (ℕ → ℕ) → Ride → ℕ → List (List ℕ) → Ridden
+rideOver gaps ride number [] = record { lines = []; ride = ride }
+rideOver gaps ride number (r ∷ rs) =
+    let s : Step = treat ride (gaps (odometerOf r)) r in
+    before (linesFor number (s .lines)) (rideOver gaps (s .ride) (suc number) rs)
+
+-- What is said of a ride through all records: that it is one.
+pub data Through : Type 0 where
+  through : Through
+
+-- What a run answers: that it went through, or the number of its refusal; and the state after it.
+pub record Run : Type 0 where
+  pub answer : Outcome Through
+  pub ride : Ride
+
+-- The run over a whole trace: "gap outside 1 to 200" is 19, "trace length not a multiple of 8" is 16, each "before any
+-- record"; else the state after all records.
+unfoldable pub run : Ride → ℕ → List ℕ → Run
+run ride gap trace =
+    pick (allowed gap)
+    (pick (eqb (length trace % 8) 0)
+    (record { answer = gives through; ride = rideOver (λ odometer. gap) ride 1 (records trace) .ride })
+    (record { answer = refuses 16; ride = ride }))
+    (record { answer = refuses 19; ride = ride })

@@ -1,0 +1,198 @@
+// Closing and judging a group: what is known then, and its line.
+ghost use mathlib.Core.Path.{_≡_};
+ghost use Rattle.words.specs.Answer.{gives, refuses};
+ghost use Rattle.group.specs.Says.{saysTold, saysContent, saysMessage};
+ghost use Rattle.ride.specs.State.{nothingKnown};
+ghost use Rattle.ride.specs.Closing.{linkingFrom, mainFrom, knownFrom, markFrom, closeAs, close, leave};
+ghost use Rattle.ride.specs.Step.{ended};
+ghost use Rattle.ride.specs.Says.{saysClosed, saysEnded};
+use crate::Ended;
+use crate::Known;
+use crate::Line;
+use crate::Lines;
+use crate::Linking;
+use crate::Mark;
+use crate::Ride;
+use crate::Seen;
+use crate::joining::no_group;
+use crate::marks::mark_of;
+use group::Content;
+use group::Group;
+use group::Judged;
+use group::Message;
+use group::Told;
+
+// What closing leaves: its lines, the group that closed, the group that is there then, and what is known then.
+pub struct Closed {
+    pub lines: Lines,
+    pub closed: Group,
+    pub group: Group,
+    pub known: Known,
+}
+
+// Nothing is known.
+pub fn nothing_known() -> Known
+    ensures { λ r. ⌜ r ≡ nothingKnown ⌝ }
+{
+    Known {
+        linking: Linking::Unset,
+        main: Told::Unknown,
+        target: Told::Unknown,
+    }
+}
+
+// The main speed after a present signal that tells this.
+fn main_from(told: Told, before: Told) -> Told
+    ensures { λ r. ⌜ r ≡ mainFrom (saysTold told) before ⌝ }
+{
+    match told {
+        Told::Kmh(v) => Told::Kmh(v),
+        Told::Unknown => before,
+    }
+}
+
+// The linking that a present signal sets.
+fn linking_from(distance: u32, preset: bool, place: u32) -> Linking
+    ensures { λ r. ⌜ r ≡ linkingFrom distance preset place ⌝ }
+{
+    if preset {
+        return Linking::Unset;
+    }
+    Linking::Set {
+        distance,
+        from: place,
+    }
+}
+
+// What is known after an accepted group: a present signal sets it, all others leave it.
+fn known_from(content: Content, place: u32, known: Known) -> Known
+    ensures { λ r. ⌜ r ≡ knownFrom (saysContent content) place known ⌝ }
+{
+    match content {
+        Content::Signal {
+            distance,
+            preset,
+            main,
+            target,
+        } => {
+            let before = known.main;
+            Known {
+                linking: linking_from(distance, preset, place),
+                main: main_from(main, before),
+                target,
+            }
+        }
+        Content::Warning {
+            distance: _,
+            preset: _,
+        } => known,
+        Content::Route(_) => known,
+        Content::Nothing => known,
+    }
+}
+
+// The mark of an accepted group: present signals alone have one.
+fn mark_from(content: Content, place: u32, linking: Linking) -> Mark
+    ensures { λ r. ⌜ r ≡ markFrom (saysContent content) place linking ⌝ }
+{
+    match content {
+        Content::Signal {
+            distance: _,
+            preset: _,
+            main: _,
+            target: _,
+        } => mark_of(linking, place),
+        Content::Warning {
+            distance: _,
+            preset: _,
+        } => Mark::Unmarked,
+        Content::Route(_) => Mark::Unmarked,
+        Content::Nothing => Mark::Unmarked,
+    }
+}
+
+// What closing leaves after an accepted group.
+fn accepted(group: Group, known: Known, message: Message) -> Closed
+    ensures { λ r. ⌜ saysClosed r ≡ closeAs group known (gives (saysMessage message)) ⌝ }
+{
+    let content = message.content;
+    let direction = message.direction;
+    let kind = message.kind;
+    let linking = known.linking;
+    let seen = Seen {
+        place: message.place as u64,
+        direction,
+        kind,
+        mark: mark_from(content, message.place, linking),
+    };
+    let after = known_from(content, message.place, known);
+    let none = no_group();
+    Closed {
+        lines: Lines::One(Line::Group(seen)),
+        closed: group,
+        group: none,
+        known: after,
+    }
+}
+
+// What closing leaves after a group that is refused with this number.
+fn faulty(group: Group, known: Known, number: u8) -> Closed
+    ensures { λ r. ⌜ saysClosed r ≡ closeAs group known (refuses number) ⌝ }
+{
+    let first = group.kept[0];
+    let none = no_group();
+    let nothing = nothing_known();
+    Closed {
+        lines: Lines::One(Line::Fault(first.place as u64, number)),
+        closed: group,
+        group: none,
+        known: nothing,
+    }
+}
+
+// Close and judge the group.
+pub fn close(group: Group, known: Known) -> Closed
+    ensures { λ r. ⌜ saysClosed r ≡ close group known ⌝ }
+{
+    match group::judge(group) {
+        Judged::Accepted(message) => accepted(group, known, message),
+        Judged::One => faulty(group, known, 10),
+        Judged::Many => faulty(group, known, 11),
+        Judged::Unread => faulty(group, known, 12),
+        Judged::NoRow => faulty(group, known, 13),
+        Judged::BothWays => faulty(group, known, 14),
+        Judged::NoDistance => faulty(group, known, 15),
+    }
+}
+
+// No group closes.
+pub fn leave(group: Group, known: Known) -> Closed
+    ensures { λ r. ⌜ saysClosed r ≡ leave group known ⌝ }
+{
+    let none = no_group();
+    Closed {
+        lines: Lines::None,
+        closed: none,
+        group,
+        known,
+    }
+}
+
+// What the end leaves after its closing.
+pub fn at_end(odometer: u32, last: Closed) -> Ended
+    ensures { λ r. ⌜ saysEnded r ≡ ended odometer (saysClosed last) ⌝ }
+{
+    let lines = last.lines;
+    let closed = last.closed;
+    let group = last.group;
+    let known = last.known;
+    Ended {
+        ride: Ride {
+            odometer,
+            group,
+            known,
+        },
+        closed,
+        lines,
+    }
+}

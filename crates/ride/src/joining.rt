@@ -1,0 +1,92 @@
+// Balises that belong together: when a group is left behind, and how a balise joins one.
+ghost use mathlib.Core.Path.{_≡_};
+ghost use Prim.Native.Nat.{_+_};
+ghost use lib.Dec.{ltb};
+ghost use Rattle.ride.specs.State.{noGroup, isOpen};
+ghost use Rattle.ride.specs.Joining.{allowed, counted, join, takeUp};
+use crate::Passed;
+use group::Balise;
+use group::Group;
+use group::Heard;
+
+// Whether the gap is 1 to 200.
+pub fn allowed(gap: u32) -> bool
+    ensures { λ r. ⌜ r ≡ allowed gap ⌝ }
+{
+    (1 <= gap) & (gap <= 200)
+}
+
+// No group.
+pub fn no_group() -> Group
+    ensures { λ r. ⌜ r ≡ noGroup ⌝ }
+{
+    let none = Balise {
+        place: 0,
+        heard: Heard::Unreadable,
+    };
+    Group {
+        kept: [none; 5],
+        count: 0,
+        last: 0,
+    }
+}
+
+// Whether the group is open.
+pub fn is_open(group: Group) -> bool
+    ensures { λ r. ⌜ r ≡ isOpen group ⌝ }
+{
+    group.count > 0
+}
+
+// Whether the odometer exceeds a balise's place by more than the gap.
+pub fn exceeds(odometer: u32, last: u32, gap: u32) -> bool
+    ensures { λ r. ⌜ r ≡ ltb (last + gap) odometer ⌝ }
+{
+    odometer as u64 > last as u64 + gap as u64
+}
+
+// One balise more; 255 stands for 255 or more.
+fn counted(count: u8) -> u8
+    ensures { λ r. ⌜ r ≡ counted count ⌝ }
+{
+    if count < 255 {
+        return count + 1;
+    }
+    255
+}
+
+// The group with one balise more.
+fn join(group: Group, balise: Balise) -> Group
+    ensures { λ r. ⌜ r ≡ join group balise ⌝ }
+{
+    let count = group.count;
+    let mut kept = group.kept;
+    if count < 5 {
+        kept[count as usize] = balise;
+    }
+    Group {
+        kept,
+        count: counted(count),
+        last: balise.place,
+    }
+}
+
+// The group after a record: a balise joins the open group or opens one.
+pub fn take_up(group: Group, odometer: u32, passed: Passed) -> Group
+    ensures { λ r. ⌜ r ≡ takeUp group odometer passed ⌝ }
+{
+    match passed {
+        Passed::Position => group,
+        Passed::Balise(heard) => {
+            let balise = Balise {
+                place: odometer,
+                heard,
+            };
+            if is_open(group) {
+                join(group, balise)
+            } else {
+                join(no_group(), balise)
+            }
+        }
+    }
+}

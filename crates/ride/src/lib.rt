@@ -1,0 +1,199 @@
+// A ride over the records of a trace: the check of a record, what is known on the way, the lines that it gives.
+// Promises: every record is treated by document 01's steps 1 to 4 in order, from whatever state is lent; a refused one changes nothing.
+// Specification: specs/Record.antt, State.antt, Joining.antt, Linking.antt, Closing.antt, Step.antt, Over.antt (a whole trace), Says.antt (the answers).
+ghost use mathlib.Core.Path.{_≡_};
+ghost use Rattle.ride.specs.Record.{check};
+ghost use Rattle.ride.specs.State.{freshRide};
+ghost use Rattle.ride.specs.Step.{step, end};
+ghost use Rattle.ride.specs.Over.{run};
+ghost use Rattle.ride.specs.Says.{saysChecked, saysStepped, saysEnded, saysRan};
+
+mod closing;
+mod joining;
+mod marks;
+mod records;
+mod stepping;
+mod trace;
+
+use group::Direction;
+use group::Group;
+use group::Heard;
+use group::Kind;
+use group::Told;
+
+// Linking: not set, or set with a distance in dm from a place.
+pub enum Linking {
+    Unset,
+    Set { distance: u32, from: u32 },
+}
+
+// What is known on the way. A refused group takes it back to that of a fresh ride.
+pub struct Known {
+    pub linking: Linking,
+    pub main: Told,
+    pub target: Told,
+}
+
+// The state of a ride: the last accepted odometer, the group (open if its count is above 0), and what is known.
+pub struct Ride {
+    pub odometer: u32,
+    pub group: Group,
+    pub known: Known,
+}
+
+// What a record says beyond its odometer: a balise as heard, or a position only.
+pub enum Passed {
+    Balise(Heard),
+    Position,
+}
+
+// Why a record is refused: 16, 18 and 17 in this order.
+pub enum Wrong {
+    Malformed,
+    TooHigh,
+    TooLow,
+}
+
+// What checking a record answers: its odometer and what it says, or why it is refused.
+pub enum Checked {
+    Accepted(u32, Passed),
+    Refused(Wrong),
+}
+
+// The mark of a present signal; other groups have none.
+pub enum Mark {
+    Unmarked,
+    First,
+    Early,
+    Good,
+    Late,
+}
+
+// An accepted group as a line shows it; place is that of its A balise.
+pub struct Seen {
+    pub place: u64,
+    pub direction: Direction,
+    pub kind: Kind,
+    pub mark: Mark,
+}
+
+// A line: an accepted group; a refused group's first place and number; a missed signal's place; a refused record's number in
+// the trace and its refusal; the refusal of a whole trace.
+pub enum Line {
+    Group(Seen),
+    Fault(u64, u8),
+    Missed(u64),
+    Record(u64, u8),
+    Trace(u8),
+}
+
+// The lines of one record or of the end, in order: at most two.
+pub enum Lines {
+    None,
+    One(Line),
+    Two(Line, Line),
+}
+
+// What a step reports: that the gap is refused (19), why the record is, or its lines.
+pub enum Report {
+    Gap,
+    Refused(Wrong),
+    Lines(Lines),
+}
+
+// What a step answers: the state after it, the group that closed (none: one with count 0), and the report.
+pub struct Stepped {
+    pub ride: Ride,
+    pub closed: Group,
+    pub report: Report,
+}
+
+// What ending the ride answers: the state after it, the group that closed, and its line.
+pub struct Ended {
+    pub ride: Ride,
+    pub closed: Group,
+    pub lines: Lines,
+}
+
+// How a run over a trace went: through all records, or refused for its gap (19) or the trace's length (16).
+pub enum Way {
+    Through,
+    Gap,
+    Length,
+}
+
+// What a run over a trace answers: the state after it, and how it went.
+pub struct Ran {
+    pub ride: Ride,
+    pub way: Way,
+}
+
+// A fresh ride: nothing is known, no group is open, no odometer is below its own.
+pub fn fresh() -> Ride
+    ensures { λ r. ⌜ r ≡ freshRide ⌝ }
+{
+    let group = joining::no_group();
+    let known = closing::nothing_known();
+    Ride {
+        odometer: 0,
+        group,
+        known,
+    }
+}
+
+// The check of a record's eight bytes: 16, 18, 17 in this order, or what the record says.
+pub fn check_record(ride: Ride, bytes: [u8; 8]) -> Checked
+    ensures { λ r. ⌜ saysChecked r ≡ check (ride .odometer) bytes ⌝ }
+{
+    if !records::in_order(bytes) {
+        return Checked::Refused(Wrong::Malformed);
+    }
+    let odometer = records::odometer_of(bytes);
+    if odometer > 4000000000 {
+        return Checked::Refused(Wrong::TooHigh);
+    }
+    if odometer < ride.odometer {
+        return Checked::Refused(Wrong::TooLow);
+    }
+    Checked::Accepted(odometer, records::what_passed(bytes))
+}
+
+// One record's step: 19 for the gap, or steps 1 to 4 of document 01.
+pub fn step(ride: Ride, gap: u32, bytes: [u8; 8]) -> Stepped
+    ensures { λ r. ⌜ saysStepped r ≡ step ride gap bytes ⌝ }
+{
+    if !joining::allowed(gap) {
+        return stepping::unchanged(ride, Report::Gap);
+    }
+    let checked = check_record(ride, bytes);
+    let Checked::Accepted(odometer, passed) = checked else {
+        return stepping::unchanged(ride, Report::Refused(records::why(checked)));
+    };
+    stepping::go_on(ride, gap, odometer, passed)
+}
+
+// The end of a ride: an open group closes.
+pub fn end(ride: Ride) -> Ended
+    ensures { λ r. ⌜ saysEnded r ≡ end ride ⌝ }
+{
+    let odometer = ride.odometer;
+    let group = ride.group;
+    let known = ride.known;
+    if joining::is_open(group) {
+        return closing::at_end(odometer, closing::close(group, known));
+    }
+    closing::at_end(odometer, closing::leave(group, known))
+}
+
+// The ride over a whole trace: 19 for the gap, 16 for the trace's length, or the state after all its records.
+pub fn run(ride: Ride, gap: u32, trace: &[u8]) -> Ran
+    ensures { λ r. ⌜ saysRan r ≡ run ride gap (now (trace .entry)) ⌝ }
+{
+    if !joining::allowed(gap) {
+        return trace::went(ride, Way::Gap);
+    }
+    if trace.len() % 8 != 0 {
+        return trace::went(ride, Way::Length);
+    }
+    trace::went(trace::over(ride, gap, trace), Way::Through)
+}

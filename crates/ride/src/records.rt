@@ -1,0 +1,62 @@
+// The eight bytes of a record: odometer, kind, and the received words.
+ghost use mathlib.Core.Path.{_≡_};
+ghost use Prim.Native.Nat.{_+_, _*_};
+ghost use Rattle.ride.specs.Record.{odometerOf, inOrder, passedOf};
+ghost use Rattle.ride.specs.declared.Wrong.{Wrong};
+ghost use Rattle.ride.specs.declared.Checked.{Checked};
+use crate::Checked;
+use crate::Passed;
+use crate::Wrong;
+use group::Heard;
+
+// Four bytes as a number, high byte first.
+fn high_first(a: u8, b: u8, c: u8, d: u8) -> u32
+    ensures { λ r. ⌜ r ≡ ((a * 256 + b) * 256 + c) * 256 + d ⌝ }
+{
+    ((a as u32 * 256 + b as u32) * 256 + c as u32) * 256 + d as u32
+}
+
+// The odometer in dm: bytes 0 to 3, high byte first.
+pub fn odometer_of(bytes: [u8; 8]) -> u32
+    ensures { λ r. ⌜ r ≡ odometerOf bytes ⌝ }
+{
+    high_first(bytes[0], bytes[1], bytes[2], bytes[3])
+}
+
+// Whether the kind is at most 3, and bytes 5 to 7 are zero for the kinds 1 to 3.
+pub fn in_order(bytes: [u8; 8]) -> bool
+    ensures { λ r. ⌜ r ≡ inOrder bytes ⌝ }
+{
+    let kind = bytes[4];
+    let x = bytes[5];
+    let y = bytes[6];
+    let z = bytes[7];
+    (kind <= 3) & ((kind == 0) | ((x == 0) & (y == 0) & (z == 0)))
+}
+
+// What the record says beyond its odometer, by its kind.
+pub fn what_passed(bytes: [u8; 8]) -> Passed
+    ensures { λ r. ⌜ r ≡ passedOf bytes ⌝ }
+{
+    let kind = bytes[4];
+    if kind == 0 {
+        return Passed::Balise(Heard::Words(bytes[5], bytes[6], bytes[7]));
+    }
+    if kind == 1 {
+        return Passed::Balise(Heard::Marker);
+    }
+    if kind == 2 {
+        return Passed::Balise(Heard::Unreadable);
+    }
+    Passed::Position
+}
+
+// Why a refused record is refused.
+pub fn why(checked: Checked) -> Wrong
+    ensures { λ r. ⌜ ((w : Wrong) → checked ≡ Checked.Refused w → r ≡ w) ⌝ }
+{
+    match checked {
+        Checked::Refused(wrong) => wrong,
+        Checked::Accepted(_, _) => Wrong::Malformed,
+    }
+}

@@ -1,0 +1,119 @@
+// Steps 2 to 4 of an accepted record, and what a refused one leaves.
+ghost use mathlib.Core.Path.{_≡_};
+ghost use mathlib.Core.List.{[], _∷_, _++_};
+ghost use Prim.Native.Nat.{_≤_};
+ghost use lib.ListN.{length};
+ghost use Rattle.ride.specs.declared.Line.{Line};
+ghost use Rattle.ride.specs.State.{noGroup};
+ghost use Rattle.ride.specs.Step.{closeBehind, isMissed, unlinked, goOn};
+ghost use Rattle.ride.specs.Says.{saysLines, saysStepped, saysClosed, saysReport};
+use crate::Known;
+use crate::Line;
+use crate::Lines;
+use crate::Linking;
+use crate::Passed;
+use crate::Report;
+use crate::Ride;
+use crate::Stepped;
+use crate::closing::Closed;
+use crate::closing::close;
+use crate::closing::leave;
+use crate::joining::exceeds;
+use crate::joining::is_open;
+use crate::joining::no_group;
+use crate::joining::take_up;
+use crate::marks::is_overdue;
+use crate::marks::missed_place;
+use group::Group;
+
+// A step that leaves the state unchanged.
+pub fn unchanged(ride: Ride, report: Report) -> Stepped
+    ensures { λ r. ⌜ saysStepped r ≡ record { lines = saysReport report; closed = noGroup; ride = ride } ⌝ }
+{
+    let none = no_group();
+    Stepped {
+        ride,
+        closed: none,
+        report,
+    }
+}
+
+// Step 2: an open group closes if the odometer exceeds its last balise by more than the gap.
+fn close_behind(ride: Ride, gap: u32, odometer: u32) -> Closed
+    ensures { λ r. ⌜ saysClosed r ≡ closeBehind gap odometer (ride .group) (ride .known) ⌝ }
+{
+    let group = ride.group;
+    let known = ride.known;
+    let last = group.last;
+    if is_open(group) & exceeds(odometer, last, gap) {
+        return close(group, known);
+    }
+    leave(group, known)
+}
+
+// Whether the expected signal is missed: no group is open, and it is overdue.
+fn is_missed(odometer: u32, group: Group, known: Known) -> bool
+    ensures { λ r. ⌜ r ≡ isMissed odometer group known ⌝ }
+{
+    let linking = known.linking;
+    !is_open(group) & is_overdue(linking, odometer)
+}
+
+// What is known once linking has ended.
+fn unlinked(known: Known) -> Known
+    ensures { λ r. ⌜ r ≡ unlinked known ⌝ }
+{
+    let main = known.main;
+    let target = known.target;
+    Known {
+        linking: Linking::Unset,
+        main,
+        target,
+    }
+}
+
+// The lines, and after them that a signal was missed at this place.
+fn and_missed(lines: Lines, place: u64) -> Lines
+    requires { ⌜ length (saysLines lines) ≤ 1 ⌝ }
+    ensures { λ r. ⌜ saysLines r ≡ saysLines lines ++ (Line.Missed place ∷ []) ⌝ }
+{
+    match lines {
+        Lines::None => Lines::One(Line::Missed(place)),
+        Lines::One(first) => Lines::Two(first, Line::Missed(place)),
+        Lines::Two(first, second) => Lines::Two(first, second),
+    }
+}
+
+// Steps 2 to 4 for an accepted record.
+pub fn go_on(ride: Ride, gap: u32, odometer: u32, passed: Passed) -> Stepped
+    ensures { λ r. ⌜ saysStepped r ≡ goOn ride gap (record { odometer = odometer; passed = passed }) ⌝ }
+{
+    let two = close_behind(ride, gap, odometer);
+    let lines = two.lines;
+    let closed = two.closed;
+    let left = two.group;
+    let known = two.known;
+    let group = take_up(left, odometer, passed);
+    if is_missed(odometer, left, known) {
+        let linking = known.linking;
+        let after = unlinked(known);
+        return Stepped {
+            ride: Ride {
+                odometer,
+                group,
+                known: after,
+            },
+            closed,
+            report: Report::Lines(and_missed(lines, missed_place(linking))),
+        };
+    }
+    Stepped {
+        ride: Ride {
+            odometer,
+            group,
+            known,
+        },
+        closed,
+        report: Report::Lines(lines),
+    }
+}
