@@ -1,6 +1,6 @@
 -- No refusal carries a figure, and what is refused stays as it was.
 -- Assumes nothing.
-use mathlib.Core.Path.{_≡_, sym, ap, _∙_}
+use mathlib.Core.Path.{sym, ap, ap₂, _∙_}
 use mathlib.Core.List.{List}
 use Prim.Native.Nat.{ℕ}
 use Rattle.words.specs.Says.{saysShortRead, saysShortWritten, saysLongRead, saysLongWritten}
@@ -10,14 +10,20 @@ use Rattle.group.specs.Says.{saysMeasured, saysJudged as saysGroup}
 use Rattle.ride.specs.Says.{saysChecked, saysReport, saysWay}
 use Rattle.ride.specs.Step.{Step, step, End}
 use Rattle.ride.specs.Over.{Run, run}
+use Rattle.listing.specs.Text.{text}
+use Rattle.listing.specs.Put.{Filled, put}
+use Rattle.listing.specs.List.{Listing, list}
+use Rattle.listing.specs.Says.{saysDone}
 use Rattle.words.proofs.Told.{told}
 use Rattle.words.proofs.Determined as words-are
 use Rattle.telegram.proofs.Determined as telegram-is
 use Rattle.contact.proofs.Determined as contact-is
 use Rattle.group.proofs.Determined as group-is
 use Rattle.ride.proofs.Determined as ride-is
+use Rattle.listing.proofs.Determined as listing-is
 use Rattle.demands.specs.Demand1.{Untouched}
 use Rattle.demands.proofs.Rides.{step-untouched, run-untouched, group-clears, end-clears}
+use Rattle.demands.proofs.Listings.{list-untouched, put-untouched}
 
 pub untouched : Untouched
 untouched = record {
@@ -25,6 +31,16 @@ untouched = record {
   run = λ ride gap trace r n c e.
       let is = c .4 ∙ ap (λ (v : List ℕ). run ride gap v) (c .3) in
       ap (λ (s : Run). s .ride) is ∙ run-untouched ride gap trace n (sym (ap (λ (s : Run). s .answer) is) ∙ e);
+  list = λ ride gap number trace before r after n c e.
+      let is = c .7 ∙ ap₂ (λ (v w : List ℕ). list ride gap number v w) (c .4) (c .5) in
+      let kept = list-untouched ride gap number trace before n (sym (ap (λ (l : Listing). l .answer) is) ∙ e) in (
+        ap (λ (l : Listing). l .ride) is ∙ kept .0,
+        ap (λ (l : Listing). l .number) is ∙ kept .1,
+        sym (c .6) ∙ ap (λ (l : Listing). l .out) is ∙ kept .2,
+      );
+  put-line = λ line before at r after c e.
+      let is = c .5 ∙ ap (λ (v : List ℕ). put (text line) v at) (c .3) in
+      sym (c .4) ∙ ap (λ (f : Filled). f .buffer) is ∙ put-untouched (text line) before at (sym (ap (λ (f : Filled). f .ends) is) ∙ e);
   group = group-clears;
   end = λ ride r n c is e. ap (λ (s : End). s .ride) (c .1) ∙ end-clears ride n is e;
   short-read = λ n r r′ p q. told saysShortRead words-are.shortRead words-are.shortRead-back r r′ p q;
@@ -43,4 +59,5 @@ untouched = record {
   checked = λ n r r′ p q. told saysChecked ride-is.checkedOf ride-is.checked-back r r′ p q;
   report = λ n r r′ p q. told saysReport ride-is.reportOf ride-is.report-back r r′ p q;
   way = λ n r r′ p q. told saysWay ride-is.wayOf ride-is.way-back r r′ p q;
+  done = λ n r r′ p q. told saysDone listing-is.doneOf listing-is.done-back r r′ p q;
 }

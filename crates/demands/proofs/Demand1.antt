@@ -1,6 +1,6 @@
 -- Demand 1 holds: each contract hands over its specification, and each specification refuses as the table says.
 -- Assumes nothing.
-use mathlib.Core.Path.{_≡_, sym, ap, _∙_, subst}
+use mathlib.Core.Path.{ap, ap₂, _∙_}
 use mathlib.Core.List.{List, [], _∷_}
 use Prim.Native.Nat.{ℕ}
 use Rattle.words.specs.Answer.{Outcome}
@@ -10,12 +10,14 @@ use Rattle.contact.specs.Contacts.{begun, nextContact}
 use Rattle.contact.specs.Judge.{judged}
 use Rattle.ride.specs.Step.{Step}
 use Rattle.ride.specs.Over.{Run, run}
+use Rattle.listing.specs.List.{Listing, list}
 use Rattle.demands.specs.Rules.{Rule, Decided, Given}
 use Rattle.demands.specs.Demand1.{IsTelegram, Demand1}
 use Rattle.demands.proofs.Refusals.{reading, writing, pairing, wording, finding, surveying}
 use Rattle.demands.proofs.Contacts.{beginning, nexting, judging}
 use Rattle.demands.proofs.Groups.{measuring, grouping}
 use Rattle.demands.proofs.Rides.{checking, stepping, running}
+use Rattle.demands.proofs.Listings.{listing}
 
 pub demand1 : Demand1
 demand1 = record {
@@ -35,4 +37,7 @@ demand1 = record {
   check-record = λ ride bytes r c. rw (c .1) (checking ride bytes);
   step = λ ride gap bytes r c. let e = ap (λ (s : Step). s .lines) (c .1) in rw e (stepping ride gap bytes);
   run = λ ride gap trace r c. let e = ap (λ (s : Run). s .answer) (c .4 ∙ ap (λ (v : List ℕ). run ride gap v) (c .3)) in rw e (running ride gap trace);
+  list = λ ride gap number trace before r after c.
+      let e = ap (λ (l : Listing). l .answer) (c .7 ∙ ap₂ (λ (v w : List ℕ). list ride gap number v w) (c .4) (c .5)) in
+      rw e (listing ride gap number trace before);
 }

@@ -3,6 +3,7 @@ pub mod Refusals
 pub mod Contacts
 pub mod Groups
 pub mod Rides
+pub mod Listings
 pub mod Bare
 pub mod Demand1
 pub mod Cases

@@ -75,7 +75,7 @@ running ride gap trace = go (allowed gap) (eqb (length trace % 8) 0)
     go true false = (λ q. absurd (true-not-false (sym q)), λ q. (λ p. refl, λ p. absurd (true-not-false p)))
     go true true = (λ q. absurd (true-not-false (sym q)), λ q. (λ p. absurd (true-not-false (sym p)), λ p. (through, refl)))
 
-gives-not : {A : Type 0} {x : A} {n : ℕ} → gives x ≡ refuses n → ⊥
+pub gives-not : {A : Type 0} {x : A} {n : ℕ} → gives x ≡ refuses n → ⊥
 gives-not e = let z : _≡_ {A = ℕ} 0 1 = cc in omega arith
 
 -- A refused step leaves the ride.

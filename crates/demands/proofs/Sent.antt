@@ -1,14 +1,30 @@
 -- What it is for bit p to have the words sent, at their true place; and that a telegram is read there as it was sent.
 -- Assumes nothing.
 use mathlib.Core.Path.{_≡_, ap₂, _∙_}
-use mathlib.Core.Bool.{true}
-use Prim.Native.Nat.{ℕ, _+_}
+use mathlib.Core.Bool.{true, _&&_}
+use Prim.Native.Nat.{ℕ, _+_, _%_, _≤_}
+use lib.Dec.{eqb, leb}
+use borrow.Author.Tests.{le-leb, leb-true, eqb-true, eq-eqb}
 use Rattle.words.specs.Plain.{among}
 use Rattle.telegram.specs.Stretch.{bitsAt}
 use Rattle.telegram.specs.Telegram.{Reading, reads, telegram}
 use Rattle.telegram.specs.Place.{wordsAt}
-use Rattle.demands.specs.Line.{OneBalise, Proper, sentAt}
+use Rattle.demands.specs.Line.{OneBalise, Proper, lineBit, sentAt}
 use Rattle.demands.specs.Demand3.{placesOf}
+use Rattle.demands.proofs.Places.{and-parts, and-true}
+
+-- What it says that a telegram was sent at bit p.
+pub sent-parts : (o : OneBalise) (p : ℕ) → sentAt o p ≡ true → (o .start ≤ p) × (p + 40 ≤ o .start + o .len) × (lineBit o p % 32 ≡ 0)
+unfolding sentAt
+sent-parts o p e =
+    let h = and-parts (leb (o .start) p && leb (p + 40) (o .start + o .len)) (eqb (lineBit o p % 32) 0) e in
+    let g = and-parts (leb (o .start) p) (leb (p + 40) (o .start + o .len)) (h .0) in
+    (leb-true (o .start) p (g .0), leb-true (p + 40) (o .start + o .len) (g .1), eqb-true (lineBit o p % 32) 0 (h .1))
+
+pub parts-sent : (o : OneBalise) (p : ℕ) → o .start ≤ p → p + 40 ≤ o .start + o .len → lineBit o p % 32 ≡ 0 → sentAt o p ≡ true
+unfolding sentAt
+parts-sent o p low high straight =
+    and-true (and-true (le-leb (o .start) p low) (le-leb (p + 40) (o .start + o .len) high)) (eq-eqb (lineBit o p % 32) 0 straight)
 
 -- The words received at bit p are the words sent there.
 pub record Sent (o : OneBalise) (p : ℕ) : Type 0 where

@@ -5,19 +5,18 @@ use mathlib.Core.Path.{_≡_, sym, ap, ap₂, _∙_, subst}
 use mathlib.Core.Bool.{true}
 use Prim.Native.Nat.{ℕ, _+_, _*_, _/_, _%_, _≤_, _<_}
 use native.Mathlib.Omega.{arith}
-use borrow.Author.Tests.{le-leb, eq-eqb}
 use Rattle.telegram.specs.Stretch.{bitAt, bitsAt}
 use Rattle.telegram.specs.Sync.{differing}
 use Rattle.telegram.specs.Telegram.{telegram}
 use Rattle.telegram.specs.Place.{wordsAt, accepted, isPlace, places}
-use Rattle.demands.specs.Line.{OneBalise, Proper, FewFlips, repeated, sentBit, unequal, flip, flips, dataFlips, lineBit, sentAt}
+use Rattle.demands.specs.Line.{OneBalise, Proper, FewFlips, repeated, sentBit, unequal, flip, flips, dataFlips, lineBit}
 use Rattle.demands.proofs.Sums.{sum-ext}
 use Rattle.demands.proofs.Bits.{spelt-on, bitsAt-lt, differing-bits}
 use Rattle.demands.proofs.Telegrams.{taken, telegram-still}
 use Rattle.demands.proofs.Round.{data-sent, word-x, word-y, word-z, word-yz}
 use Rattle.demands.proofs.Window.{flip-is, flips-part}
-use Rattle.demands.proofs.Places.{and-true, place-parts, listed}
-use Rattle.demands.proofs.Sent.{Sent, AllSent}
+use Rattle.demands.proofs.Places.{place-parts, listed}
+use Rattle.demands.proofs.Sent.{parts-sent, Sent, AllSent}
 use Rattle.demands.proofs.Wrong.{aligned}
 
 module _ (o : OneBalise) (proper : Proper o) (quiet : FewFlips o) (p : ℕ) (after-start : o .start ≤ p) (before-end : p + 40 ≤ o .start + o .len) where
@@ -48,7 +47,7 @@ module _ (o : OneBalise) (proper : Proper o) (quiet : FewFlips o) (p : ℕ) (aft
 
   -- There words that are accepted are the words sent.
   as-sent : q % 32 ≡ 0 → accepted (wordsAt (o .buffer) p) ≡ true → Sent o p
-  unfolding wordsAt sentAt
+  unfolding wordsAt
   as-sent straight e =
       let u : ℕ = bitsAt (o .buffer) (p + 8) 8 in
       let v : ℕ = bitsAt (o .buffer) (p + 16) 8 in
@@ -67,7 +66,7 @@ module _ (o : OneBalise) (proper : Proper o) (quiet : FewFlips o) (p : ℕ) (aft
       (bitsAt-lt (o .buffer) (p + 8) 8) (bitsAt-lt (o .buffer) (p + 16) 8) (bitsAt-lt (o .buffer) (p + 24) 8)
       near-x near-y near-z near-yz (o .message) (r .0) (proper .valid) (r .1) in
       record {
-        at-true = and-true (and-true (le-leb (o .start) p after-start) (le-leb (p + 40) (o .start + o .len) before-end)) (eq-eqb (q % 32) 0 straight);
+        at-true = parts-sent o p after-start before-end straight;
         x-is = same .0;
         y-is = same .1;
         z-is = same .2;

@@ -6,6 +6,8 @@ use mathlib.Core.Bool.{Bool, true, false}
 use mathlib.Core.List.{List, [], _∷_}
 use Prim.Native.Nat.{ℕ, _+_}
 use native.Mathlib.Omega.{arith}
+use contract.Lifetimes.{Lfts}
+use borrow.Fn.Kinds.{RK, resT, Out}
 use lib.Dec.{eqb, leb}
 use lib.ListN.{length}
 use borrow.Author.Tests.{eq-eqb}
@@ -15,10 +17,11 @@ use Rattle.telegram.specs.Stretch.{bitsAt}
 use Rattle.telegram.specs.Telegram.{Reading}
 use Rattle.telegram.specs.Place.{wordsAt}
 use Rattle.telegram.specs.Survey.{sameWords, allAs, Alike, alike, together, surveyed}
+use Rattle.telegram.proofs.find.Kinds as find-kinds
 use Rattle.contact.specs.Judge.{Contact, read, marker, isMarker, judged}
 use Rattle.contact.proofs.Judging.{markerOr, fromSurvey, by-survey}
 use Rattle.demands.specs.Line.{OneBalise, Proper}
-use Rattle.demands.specs.Calls.{SurveyCalled, JudgeCalled}
+use Rattle.demands.specs.Calls.{CalledOver, SurveyCalled, JudgeCalled}
 use Rattle.demands.specs.Demand3.{TheSent, placesOf, TogetherTheSent}
 use Rattle.demands.proofs.Places.{and-true, or-left, or-right}
 use Rattle.demands.proofs.Sent.{Sent, AllSent}
@@ -37,6 +40,17 @@ all-alike o p here (q ∷ ps) all =
     (eq-eqb (bitsAt b (p + 16) 8) (bitsAt b (q + 16) 8) (here .y-is ∙ sym (there .y-is))))
     (eq-eqb (bitsAt b (p + 24) 8) (bitsAt b (q + 24) 8) (here .z-is ∙ sym (there .z-is))))
     (all-alike o p here ps (λ r within. all r (or-right (eqb r q) within)))
+
+-- A call answers as the specification `spec` says.
+as-specified : {r : RK 1} {Post : Out 1 find-kinds.ps r} {A : Type 0} {says : (κs : Lfts 1) → resT r κs .Denot → Outcome A}
+    {b : List ℕ} {s t start len : ℕ} {a : Outcome A} (spec : List ℕ → ℕ → ℕ → ℕ → ℕ → Outcome A) (k : CalledOver r Post says b s t start len a)
+    → spec (k .given .0 .now) (k .given .1 .0) (k .given .1 .1 .0) (k .given .1 .1 .1 .0) (k .given .1 .1 .1 .1 .0) ≡ says (k .κs) (k .answer)
+    → spec b start len s t ≡ a
+as-specified {b = b} {s = s} {t = t} {start = start} {len = len} spec k kept =
+    let g = k .given in
+    let same : spec (g .0 .now) (g .1 .0) (g .1 .1 .0) (g .1 .1 .1 .0) (g .1 .1 .1 .1 .0) ≡ spec b start len s t =
+    simp (k .buffer, k .first-bit, k .bits, k .sync, k .other) in
+    sym same ∙ kept ∙ k .answers
 
 module _ (o : OneBalise) (proper : Proper o) (every-place : AllSent o) where
   abbrev b : List ℕ
@@ -91,18 +105,10 @@ module _ (o : OneBalise) (proper : Proper o) (every-place : AllSent o) where
 
   -- What a call of `survey` answers, and what a call of `judge`.
   survey-says : (a : Outcome Alike) → SurveyCalled b (o .s) (o .t) (o .start) (o .len) a → surveyed b (o .start) (o .len) (o .s) (o .t) ≡ a
-  survey-says a k =
-      let g = k .given in
-      let same : surveyed (g .0 .now) (g .1 .0) (g .1 .1 .0) (g .1 .1 .1 .0) (g .1 .1 .1 .1 .0) ≡ surveyed b (o .start) (o .len) (o .s) (o .t) =
-      simp (k .buffer, k .first-bit, k .bits, k .sync, k .other) in
-      sym same ∙ sym (k .kept) ∙ k .says
+  survey-says a k = as-specified surveyed k (sym (k .kept))
 
   judge-says : (a : Outcome Contact) → JudgeCalled b (o .s) (o .t) (o .start) (o .len) a → judged b (o .start) (o .len) (o .s) (o .t) ≡ a
-  judge-says a k =
-      let g = k .given in
-      let same : judged (g .0 .now) (g .1 .0) (g .1 .1 .0) (g .1 .1 .1 .0) (g .1 .1 .1 .1 .0) ≡ judged b (o .start) (o .len) (o .s) (o .t) =
-      simp (k .buffer, k .first-bit, k .bits, k .sync, k .other) in
-      sym same ∙ sym (k .kept) ∙ k .says
+  judge-says a k = as-specified judged k (sym (k .kept))
 
   same-known : {m n : Reading} {p q k l : ℕ} → m ≡ n → p ≡ q → k ≡ l → Known m p k → Known n q l
   same-known {m} {n} {p} {q} {k} {l} e f g known =

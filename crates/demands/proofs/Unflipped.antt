@@ -4,8 +4,8 @@ use mathlib.Core.Path.{_≡_, refl, sym, ap, _∙_}
 use mathlib.Core.Bool.{Bool, true, false, _&&_, _||_}
 use Prim.Native.Nat.{ℕ, _+_, _*_, _/_, _%_, _≤_, _<_}
 use native.Mathlib.Omega.{arith}
-use lib.Dec.{eqb, leb}
-use borrow.Author.Tests.{leb-true, eqb-true, eqb-false, eq-eqb}
+use lib.Dec.{eqb}
+use borrow.Author.Tests.{eqb-true, eqb-false, eq-eqb}
 use Rattle.words.specs.Plain.{among}
 use Rattle.telegram.specs.Stretch.{bitAt, bitsAt}
 use Rattle.telegram.specs.Telegram.{reads}
@@ -15,8 +15,8 @@ use Rattle.demands.specs.Demand3.{placesOf}
 use Rattle.demands.proofs.Bits.{spelt-alike}
 use Rattle.demands.proofs.Round.{data-sent, first-sync, second-sync, word-x, word-y, word-z}
 use Rattle.demands.proofs.Window.{unflipped-bit, no-flip}
-use Rattle.demands.proofs.Places.{and-parts, and-true, or-left, or-right, parts-place, lists}
-use Rattle.demands.proofs.Sent.{same-words}
+use Rattle.demands.proofs.Places.{and-true, or-left, or-right, parts-place, lists}
+use Rattle.demands.proofs.Sent.{same-words, sent-parts}
 
 module _ (o : OneBalise) (proper : Proper o) (p : ℕ) (after-start : o .start ≤ p) (before-end : p + 40 ≤ o .start + o .len)
     (aligned : lineBit o p % 32 ≡ 0) (quiet : (i : ℕ) → i < 40 → flip o (lineBit o p + i) ≡ 0) where
@@ -79,14 +79,6 @@ module _ (o : OneBalise) (proper : Proper o) (p : ℕ) (after-start : o .start �
 
   is-a-place : isPlace (o .buffer) (o .start) (o .len) (o .s) (o .t) p ≡ true
   is-a-place = parts-place (o .buffer) (o .start) (o .len) (o .s) (o .t) p before-end syncs-are (ap accepted words-are)
-
--- What it says that a telegram was sent at bit p.
-pub sent-parts : (o : OneBalise) (p : ℕ) → sentAt o p ≡ true → (o .start ≤ p) × (p + 40 ≤ o .start + o .len) × (lineBit o p % 32 ≡ 0)
-unfolding sentAt
-sent-parts o p e =
-    let h = and-parts (leb (o .start) p && leb (p + 40) (o .start + o .len)) (eqb (lineBit o p % 32) 0) e in
-    let g = and-parts (leb (o .start) p) (leb (p + 40) (o .start + o .len)) (h .0) in
-    (leb-true (o .start) p (g .0), leb-true (p + 40) (o .start + o .len) (g .1), eqb-true (lineBit o p % 32) 0 (h .1))
 
 pub unflipped-place : (o : OneBalise) → Proper o → (p : ℕ) → sentAt o p ≡ true → flipsAt o p ≡ 0 → isPlace (o .buffer) (o .start) (o .len) (o .s) (o .t) p ≡ true
 unfolding flipsAt

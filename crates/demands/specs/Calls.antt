@@ -5,20 +5,19 @@ use Prim.Native.Nat.{ℕ, _+_, _-_}
 use mathlib.Core.Path.{_≡_}
 use mathlib.Core.List.{List}
 use contract.Lifetimes.{Lfts}
-use borrow.Fn.Kinds.{Dens, endedOf}
+use borrow.Fn.Kinds.{RK, Dens, resT, Out, endedOf}
 use denote.Triple.Clauses.{AtExit}
 use Rattle.words.specs.Answer.{Outcome, gives}
 use Rattle.telegram.specs.Telegram.{Reading}
 use Rattle.telegram.specs.Place.{at}
 use Rattle.telegram.specs.Survey.{Alike}
 use Rattle.telegram.specs.Says.{saysSurveyed}
-use Rattle.telegram.specs.declared.Surveyed.{Surveyed}
+use Rattle.telegram.proofs.find.Kinds as find-kinds
 use Rattle.telegram.proofs.survey.Kinds as survey-kinds
 use Rattle.telegram.proofs.survey.Reads as survey-reads
 use Rattle.telegram.proofs.Calls.{Called}
 use Rattle.contact.specs.Judge.{Contact}
 use Rattle.contact.specs.Says.{saysJudged}
-use Rattle.contact.specs.declared.Judged.{Judged}
 use Rattle.contact.proofs.judge.Kinds as judge-kinds
 use Rattle.contact.proofs.judge.Reads as judge-reads
 
@@ -29,30 +28,26 @@ pub data HandedOut (b : List ℕ) (s t : ℕ) : ℕ → ℕ → ℕ → Reading 
   later : {start len p q : ℕ} {m n : Reading} → Called b s t start len (gives (at p m))
       → HandedOut b s t (p + 1) (start + len - (p + 1)) q n → HandedOut b s t start len q n
 
--- A call of `survey` with the buffer b, a stretch and a sync pair, which its contract allows to answer with o.
-pub record SurveyCalled (b : List ℕ) (s t start len : ℕ) (o : Outcome Alike) : Type 0 where
+-- A call with the buffer b, a stretch and a sync pair, as those of `find` are, of a function whose result is of the kind r and
+-- whose contract `Post` allows it to answer with a.
+pub record CalledOver (r : RK 1) (Post : Out 1 find-kinds.ps r) {A : Type 0} (says : (κs : Lfts 1) → resT r κs .Denot → Outcome A)
+    (b : List ℕ) (s t start len : ℕ) (a : Outcome A) : Type 0 where
   pub κs : Lfts 1
-  pub given : Dens κs survey-kinds.ps
-  pub answer : Surveyed
-  pub left : AtExit (endedOf 1 survey-kinds.ps survey-kinds.r) κs
+  pub given : Dens κs find-kinds.ps
+  pub answer : resT r κs .Denot
+  pub left : AtExit (endedOf 1 find-kinds.ps r) κs
   pub buffer : given .0 .now ≡ b
   pub first-bit : given .1 .0 ≡ start
   pub bits : given .1 .1 .0 ≡ len
   pub sync : given .1 .1 .1 .0 ≡ s
   pub other : given .1 .1 .1 .1 .0 ≡ t
-  pub kept : survey-reads.Post κs given answer left
-  pub says : saysSurveyed answer ≡ o
+  pub kept : Post κs given answer left
+  pub answers : says κs answer ≡ a
 
--- A call of `judge` with the buffer b, a stretch and a sync pair, which its contract allows to answer with o.
-pub record JudgeCalled (b : List ℕ) (s t start len : ℕ) (o : Outcome Contact) : Type 0 where
-  pub κs : Lfts 1
-  pub given : Dens κs judge-kinds.ps
-  pub answer : Judged
-  pub left : AtExit (endedOf 1 judge-kinds.ps judge-kinds.r) κs
-  pub buffer : given .0 .now ≡ b
-  pub first-bit : given .1 .0 ≡ start
-  pub bits : given .1 .1 .0 ≡ len
-  pub sync : given .1 .1 .1 .0 ≡ s
-  pub other : given .1 .1 .1 .1 .0 ≡ t
-  pub kept : judge-reads.Post κs given answer left
-  pub says : saysJudged answer ≡ o
+-- A call of `survey`.
+abbrev pub SurveyCalled : List ℕ → ℕ → ℕ → ℕ → ℕ → Outcome Alike → Type 0
+SurveyCalled = CalledOver survey-kinds.r survey-reads.Post (λ κs. saysSurveyed)
+
+-- A call of `judge`.
+abbrev pub JudgeCalled : List ℕ → ℕ → ℕ → ℕ → ℕ → Outcome Contact → Type 0
+JudgeCalled = CalledOver judge-kinds.r judge-reads.Post (λ κs. saysJudged)

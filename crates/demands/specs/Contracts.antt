@@ -28,6 +28,9 @@ use Rattle.ride.specs.declared.Checked.{Checked}
 use Rattle.ride.specs.declared.Stepped.{Stepped}
 use Rattle.ride.specs.declared.Ended.{Ended}
 use Rattle.ride.specs.declared.Ran.{Ran}
+use Rattle.ride.specs.declared.Line.{Line}
+use Rattle.listing.specs.declared.Put.{Put}
+use Rattle.listing.specs.declared.Listed.{Listed}
 use Rattle.words.proofs.read_short.Kinds as read-short-kinds
 use Rattle.words.proofs.read_short.Reads as read-short-reads
 use Rattle.words.proofs.write_short.Kinds as write-short-kinds
@@ -66,6 +69,10 @@ use Rattle.ride.proofs.end.Kinds as end-kinds
 use Rattle.ride.proofs.end.Reads as end-reads
 use Rattle.ride.proofs.run.Kinds as run-kinds
 use Rattle.ride.proofs.run.Reads as run-reads
+use Rattle.listing.proofs.put_line.Kinds as put-line-kinds
+use Rattle.listing.proofs.put_line.Reads as put-line-reads
+use Rattle.listing.proofs.list.Kinds as list-kinds
+use Rattle.listing.proofs.list.Reads as list-reads
 
 -- The contract of `read_short` allows the answer r for the word w.
 abbrev pub ReadShort : ℕ → ShortRead → Type 0
@@ -157,3 +164,17 @@ abbrev pub RunOver : Ride → ℕ → List ℕ → Ran → Type 0
 RunOver ride gap trace r =
     (κs : Lfts 1) × (lent : RefT (List ℕ)) × (e : AtExit (endedOf 1 run-kinds.ps run-kinds.r) κs)
     × (now lent ≡ trace) × run-reads.Post κs (ride, (gap, (lent, tt))) r e
+
+-- The contract of `put_line` allows the answer r for this line at this place, and that the lent buffer, which held `before`,
+-- holds `after` then.
+abbrev pub PutLine : Line → List ℕ → ℕ → Put → List ℕ → Type 0
+PutLine line before at r after =
+    (κs : Lfts 1) × (lent : RefT (List ℕ)) × (e : AtExit (endedOf 1 put-line-kinds.ps put-line-kinds.r) κs)
+    × (now lent ≡ before) × (now (e .1 .0) ≡ after) × put-line-reads.Post κs (line, (lent, (at, tt))) r e
+
+-- The contract of `list` allows the answer r for this trace, and that the lent buffer, which held `before`, holds `after` then.
+abbrev pub ListInto : Ride → ℕ → ℕ → List ℕ → List ℕ → Listed → List ℕ → Type 0
+ListInto ride gap number trace before r after =
+    (κs : Lfts 2) × (lent : RefT (List ℕ)) × (out : RefT (List ℕ)) × (e : AtExit (endedOf 2 list-kinds.ps list-kinds.r) κs)
+    × (now lent ≡ trace) × (now out ≡ before) × (now (e .1 .1 .1 .1 .0) ≡ after)
+    × list-reads.Post κs (ride, (gap, (number, (lent, (out, tt))))) r e

@@ -40,9 +40,14 @@ use Rattle.ride.specs.declared.Checked.{Checked}
 use Rattle.ride.specs.declared.Stepped.{Stepped}
 use Rattle.ride.specs.declared.Ended.{Ended}
 use Rattle.ride.specs.declared.Ran.{Ran}
+use Rattle.ride.specs.declared.Line.{Line}
+use Rattle.listing.specs.Put.{noRoom}
+use Rattle.listing.specs.Says.{saysPut, saysDone}
+use Rattle.listing.specs.declared.Put.{Put}
+use Rattle.listing.specs.declared.Listed.{Listed}
 use Rattle.demands.specs.Rules.{Rule, row, Decided, Given}
 use Rattle.demands.specs.Table.{notCode, above, fifteen, notSeven, beyond, noPlace, placesDiffer, neither, cut, oneBalise, moreThanFive, unread, partsOf, noRow, bothWays, notAllowed, noDistance, badLength, badRecord, wentBack, tooFar, badGap}
-use Rattle.demands.specs.Contracts.{ReadShort, WriteShort, ReadLong, WriteLong, GoodPair, ReadTelegram, Find, Survey, Begin, NextContact, JudgeContact, Distance, JudgeGroup, CheckRecord, StepOf, EndOf, RunOver}
+use Rattle.demands.specs.Contracts.{ReadShort, WriteShort, ReadLong, WriteLong, GoodPair, ReadTelegram, Find, Survey, Begin, NextContact, JudgeContact, Distance, JudgeGroup, CheckRecord, StepOf, EndOf, RunOver, PutLine, ListInto}
 
 -- A row of the table at the word of a telegram that this letter names.
 abbrev pub rowAt : Letter → ℕ → Bool → Rule Reading
@@ -135,14 +140,23 @@ pub record Demand1 : Type 0 where
   pub step : (ride : Ride) (gap : ℕ) (bytes : List ℕ) (r : Stepped) → StepOf ride gap bytes r
       → Decided Given (stepRules ride gap bytes) (saysStepped r .lines)
   pub run : (ride : Ride) (gap : ℕ) (trace : List ℕ) (r : Ran) → RunOver ride gap trace r → Decided Given (runRules gap trace) (saysRan r .answer)
+  pub list : (ride : Ride) (gap number : ℕ) (trace before : List ℕ) (r : Listed) (after : List ℕ) → ListInto ride gap number trace before r after
+      → Decided Given (runRules gap trace) (saysDone (r .done))
 
 -- "A refusal hands out no figure, and lent memory and state stay untouched unless the table says otherwise."
--- Only `listing` and the face for C are lent memory that they may write; their contracts say that a refusal leaves it.
+-- Of the libraries only `listing` is lent memory that it may write. (The face for C leaves every lent array as it was where it
+-- refuses: `left` of crates/abi/specs/Face.antt.)
 pub record Untouched : Type 0 where
   -- a refused step and a refused run leave the ride as it was
   pub step : (ride : Ride) (gap : ℕ) (bytes : List ℕ) (r : Stepped) (n : ℕ) → StepOf ride gap bytes r
       → saysStepped r .lines ≡ refuses n → r .ride ≡ ride
   pub run : (ride : Ride) (gap : ℕ) (trace : List ℕ) (r : Ran) (n : ℕ) → RunOver ride gap trace r → saysRan r .answer ≡ refuses n → r .ride ≡ ride
+  -- so does a refused listing, which leaves the number and the lent buffer too; a line without room leaves the buffer
+  pub list : (ride : Ride) (gap number : ℕ) (trace before : List ℕ) (r : Listed) (after : List ℕ) (n : ℕ)
+      → ListInto ride gap number trace before r after → saysDone (r .done) ≡ refuses n
+      → (r .ride ≡ ride) × (r .number ≡ number) × (after ≡ before)
+  pub put-line : (line : Line) (before : List ℕ) (at : ℕ) (r : Put) (after : List ℕ) → PutLine line before at r after
+      → saysPut r ≡ noRoom → after ≡ before
   -- a refused group, 10 to 15, leaves no group and nothing known
   pub group : (g : Group) (known : Known) (n : ℕ) → judge g ≡ refuses n
       → (close g known .group ≡ noGroup) × (close g known .known ≡ nothingKnown)
@@ -166,3 +180,4 @@ pub record Untouched : Type 0 where
   pub checked : Bare saysChecked
   pub report : Bare saysReport
   pub way : Bare saysWay
+  pub done : Bare saysDone

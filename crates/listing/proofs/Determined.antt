@@ -22,19 +22,19 @@ use Rattle.listing.proofs.list.Kinds as list-kinds
 use Rattle.listing.proofs.list.Reads as list-reads
 
 -- From what an answer says, the answer.
-abbrev putOf : Ends → Put
+abbrev pub putOf : Ends → Put
 putOf (next at) = Put.Next at
 putOf noRoom = Put.NoRoom
 
-put-back : (r : Put) → putOf (saysPut r) ≡ r
+pub put-back : (r : Put) → putOf (saysPut r) ≡ r
 put-back (Put.Next at) = refl
 put-back Put.NoRoom = refl
 
-abbrev doneOf : Outcome Taken → Done
+abbrev pub doneOf : Outcome Taken → Done
 doneOf (gives t) = Done.Took (t .records) (t .bytes)
 doneOf (refuses n) = pick (eqb n 19) Done.Gap Done.Length
 
-done-back : (d : Done) → doneOf (saysDone d) ≡ d
+pub done-back : (d : Done) → doneOf (saysDone d) ≡ d
 done-back (Done.Took records bytes) = refl
 done-back Done.Gap = refl
 done-back Done.Length = refl
