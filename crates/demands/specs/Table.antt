@@ -129,6 +129,7 @@ judgedKind Kind.Annulled = false
 judgedKind Kind.Line = false
 judgedKind Kind.Route = false
 
+-- The same of how a group fits the present rows.
 abbrev pub isJudged : Fit → Bool
 isJudged misfit = false
 isJudged (fit kind a) = judgedKind kind

@@ -25,7 +25,7 @@ abbrev pub accepted : Reading → Bool
 accepted (reads m) = true
 accepted (refused n letter) = false
 
--- Whether p is a place of the stretch that begins at `start` and has `len` bits, with the sync words s and t.
+-- Whether p, a bit of the stretch that begins at `start` and has `len` bits, is a place, with the sync words s and t.
 unfoldable pub isPlace : List ℕ → ℕ → ℕ → ℕ → ℕ → ℕ → Bool
 isPlace b start len s t p = leb (p + 40) (start + len) && areSyncs s t (bitsAt b p 8) (bitsAt b (p + 32) 8) && accepted (wordsAt b p)
 

@@ -31,6 +31,7 @@ abbrev pub notFifteen : Outcome ℕ → Outcome ℕ
 notFifteen (gives x) = pick (eqb x 15) (refuses 3) (gives x)
 notFifteen (refuses n) = refuses n
 
+-- What the received short word w of a telegram reads.
 unfoldable pub shortWord : ℕ → Outcome ℕ
 shortWord w = notFifteen (readShort w)
 

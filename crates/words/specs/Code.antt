@@ -28,16 +28,18 @@ sent n x = exchanged n (plainWord n x)
 unfoldable pub writeWord : ℕ → ℕ → ℕ → Outcome ℕ
 writeWord n largest x = pick (leb x largest) (gives (sent n x)) (refuses 2)
 
--- The short code M(8,4), figures 0 to 15.
+-- The short code M(8,4): what a received byte reads.
 abbrev pub readShort : ℕ → Outcome ℕ
 readShort = readWord 8
 
+-- Its figures are 0 to 15: what writing one answers.
 abbrev pub writeShort : ℕ → Outcome ℕ
 writeShort = writeWord 8 15
 
--- The long code M(16,11), figures 0 to 2,047.
+-- The long code M(16,11): what sixteen received bits read.
 abbrev pub readLong : ℕ → Outcome ℕ
 readLong = readWord 16
 
+-- Its figures are 0 to 2,047: what writing one answers.
 abbrev pub writeLong : ℕ → Outcome ℕ
 writeLong = writeWord 16 2047
