@@ -1,8 +1,9 @@
 /*
  * The balise bench checker's libraries for C and C++.
  *
- * Link with libabi.a (rt staticlib abi). Each function is total: whatever is passed, it returns one of the values listed,
- * and a refusal, -N for document 01's number N, leaves every lent array as it was. Buffers are read only while the call runs.
+ * Link with libabi.a (rt staticlib abi). Each function is total: whatever numbers and bytes are passed, it returns one of the values
+ * listed, and a refusal, -N for document 01's number N, leaves every lent array as it was. Buffers are read only while the call runs.
+ * The caller keeps: buf points to n bytes, search and out to as many numbers as they are declared with, and no two of them overlap.
  */
 #ifndef ATC2_H
 #define ATC2_H
@@ -46,7 +47,7 @@ int32_t atc2_judge(const uint8_t *buf, size_t n, size_t start, size_t len, uint8
  * -5: the stretch is not inside the n bytes, or too long. */
 int32_t atc2_begin(const uint8_t *buf, size_t n, size_t start, size_t len, uint64_t search[3]);
 
-/* The next contact of a search: 1, and out = start, length, and search moves on behind its closing bit; 0: no further one opens.
+/* The next contact of a search: 1, and out = start, length, and search moves on behind its closing bit; 0: no further one opens, both as they were.
  * -5 as above; -9: a contact is cut by the end. A history above 65535 counts by its low sixteen bits. */
 int32_t atc2_next_contact(const uint8_t *buf, size_t n, uint64_t search[3], uint64_t out[2]);
 

@@ -1,4 +1,4 @@
--- Every row in its shortest and its longest form is judged as document 01 says: each case is computed.
+-- The rows in short and in long forms are judged as document 01 says: each case is computed.
 -- Assumes nothing.
 use Prim.Native.Nat.{ℕ}
 use mathlib.Core.Path.{_≡_, refl}

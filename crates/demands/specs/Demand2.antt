@@ -96,7 +96,7 @@ pub record Demand2 : Type 0 where
   pub words : Words
   pub groups : Groups
   pub marks : Marks
-  -- every row of the groups, in its shortest and in its longest form, and just outside
+  -- the rows of the groups, in short and in long forms, and just outside
   pub rows : AllJudged rowCases
   -- document 01's table of proved cases under a single claim, and its ride in full
   pub cases : Cases

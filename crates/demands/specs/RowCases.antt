@@ -1,4 +1,4 @@
--- Every row of document 01's groups, in its shortest and in its longest form: what is judged of it.
+-- The rows of document 01's groups, in short and in long forms, and just outside: what is judged of each.
 -- Assumes nothing.
 use Prim.Native.Nat.{ℕ, _+_}
 use mathlib.Core.Path.{_≡_}

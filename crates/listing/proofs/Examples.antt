@@ -1,4 +1,4 @@
--- Document 01's lines, and its ride in full, as text.
+-- Document 01's lines as text.
 -- Assumes nothing.
 use mathlib.Core.Path.{_≡_, refl}
 use mathlib.Core.List.{List, _++_}

@@ -1,0 +1,167 @@
+/* times NAME FILE..: for each stretch of 16,777,216 bits, both sides do the same jobs over it. Their answers are compared
+   first, and a difference ends the run with status 1; then each side does the job five times, in turn, and a line says the
+   least time of each in processor seconds and the ratio, proved to plain. NAME is what the line calls the stretch; that
+   named `line` is gone over as a vehicle hears it, contact after contact, each judged. */
+#include "pair.h"
+#include "sides.h"
+
+#include <inttypes.h>
+#include <stdio.h>
+#include <string.h>
+#include <time.h>
+
+#define BYTES (16777216 / 8)
+#define ROUNDS 5
+
+static uint8_t stretch[BYTES];
+
+/* ---- What a job answered, as one number: every value of every answer counts, and their order ---- */
+
+static uint64_t digest, answers;
+
+static void note(uint64_t value)
+{
+    digest = (digest ^ value) * 0x100000001B3;
+    digest ^= digest >> 29;
+}
+
+static void note_answer(int32_t answer)
+{
+    answers++;
+    note((uint64_t)answer);
+}
+
+/* ---- The jobs ---- */
+
+/* Every place of the stretch: asked again from the bit after each. */
+static void find_all(const struct side *side)
+{
+    uint64_t out[2] = {0, 0};
+    size_t start = 0;
+    for (;;) {
+        int32_t answer = side->find(stretch, BYTES, start, 8 * BYTES - start, BENCH_S, BENCH_T, out);
+        note_answer(answer);
+        note(out[0]);
+        note(out[1]);
+        if (answer != 0)
+            return;
+        start = (size_t)out[0] + 1;
+    }
+}
+
+/* The whole stretch, as one contact. */
+static void judge_whole(const struct side *side)
+{
+    uint64_t out[3] = {0, 0, 0};
+    note_answer(side->judge(stretch, BYTES, 0, 8 * BYTES, BENCH_S, BENCH_T, out));
+    for (int i = 0; i < 3; i++)
+        note(out[i]);
+}
+
+/* Every contact of the stretch, and with judge its judgement. */
+static void pass(const struct side *side, bool judge)
+{
+    uint64_t search[3] = {0, 0, 0}, out[2] = {0, 0}, said[3] = {0, 0, 0};
+    int32_t answer = side->begin(stretch, BYTES, 0, 8 * BYTES, search);
+    while (answer >= 0) {
+        answer = side->next_contact(stretch, BYTES, search, out);
+        note_answer(answer);
+        for (int i = 0; i < 3; i++)
+            note(search[i]);
+        note(out[0]);
+        note(out[1]);
+        if (answer != 1)
+            return;
+        if (judge) {
+            note_answer(side->judge(stretch, BYTES, (size_t)out[0], (size_t)out[1], BENCH_S, BENCH_T, said));
+            for (int i = 0; i < 3; i++)
+                note(said[i]);
+        }
+    }
+}
+
+static void next_all(const struct side *side)
+{
+    pass(side, false);
+}
+
+static void next_and_judge(const struct side *side)
+{
+    pass(side, true);
+}
+
+static const struct {
+    const char *name;
+    void (*job)(const struct side *side);
+    bool is_of_line;
+} jobs[] = {
+    {"find", find_all, false},
+    {"judge", judge_whole, false},
+    {"next_contact", next_all, false},
+    {"next_contact, judge", next_and_judge, true},
+};
+
+/* ---- Measuring ---- */
+
+static double now(void)
+{
+    struct timespec t;
+    clock_gettime(CLOCK_PROCESS_CPUTIME_ID, &t);
+    return (double)t.tv_sec + (double)t.tv_nsec / 1e9;
+}
+
+static double measured(void (*job)(const struct side *), const struct side *side)
+{
+    digest = answers = 0;
+    double began = now();
+    job(side);
+    return now() - began;
+}
+
+static bool load(const char *file)
+{
+    FILE *in = fopen(file, "rb");
+    if (in == NULL)
+        return false;
+    bool whole = fread(stretch, 1, BYTES, in) == BYTES;
+    fclose(in);
+    return whole;
+}
+
+static bool run_job(size_t i, const char *name)
+{
+    double least[2] = {1e9, 1e9};
+    measured(jobs[i].job, &plain);
+    uint64_t wanted = digest, many = answers;
+    measured(jobs[i].job, &proved);
+    if (digest != wanted || answers != many) {
+        printf("%s, %s: the two sides DIFFER\n", jobs[i].name, name);
+        return false;
+    }
+    for (int round = 0; round < ROUNDS; round++)
+        for (int k = 0; k < 2; k++) {
+            double took = measured(jobs[i].job, k == 0 ? &proved : &plain);
+            if (took < least[k])
+                least[k] = took;
+        }
+    printf("%-20s %-10s %8" PRIu64 " answers alike; proved %.4f s, plain %.4f s, ratio %.2f\n", jobs[i].name, name, many, least[0], least[1],
+           least[0] / least[1]);
+    fflush(stdout);
+    return true;
+}
+
+int main(int argc, char **argv)
+{
+    bool good = argc >= 3;
+    for (int a = 1; good && a + 1 < argc; a += 2) {
+        if (!load(argv[a + 1])) {
+            fprintf(stderr, "times: %s has no %d bytes\n", argv[a + 1], BYTES);
+            return 2;
+        }
+        bool is_line = strcmp(argv[a], "line") == 0;
+        for (size_t i = 0; good && i < sizeof jobs / sizeof jobs[0]; i++)
+            if (jobs[i].is_of_line == is_line)
+                good = run_job(i, argv[a]);
+    }
+    return good ? 0 : 1;
+}
