@@ -10,6 +10,10 @@ use borrow.Author.Tests.{eq-eqb}
 use Rattle.words.specs.Plain.{among}
 use Rattle.telegram.specs.Telegram.{Message, reads}
 use Rattle.telegram.specs.Place.{wordsAt, isPlace, places, from, those, Single, at}
+use Rattle.telegram.specs.Says.{saysTelegram}
+use Rattle.telegram.specs.declared.Telegram.{Telegram}
+use Rattle.telegram.specs.declared.Found.{Found}
+use Rattle.telegram.proofs.Determined.{found-back}
 use Rattle.telegram.proofs.Law.{withTelegrams}
 use Rattle.demands.specs.Line.{OneBalise, Proper, FewFlips, Clean, flip, flips, syncFlips, dataFlips, lineBit, sentAt, flipsAt}
 use Rattle.demands.specs.Demand3.{ComesOf, placesOf, allSent}
@@ -18,7 +22,7 @@ use Rattle.demands.proofs.Places.{place-parts, lists-alike, or-left, or
 use Rattle.demands.proofs.Sent.{read-as-sent}
 use Rattle.demands.proofs.Stretch.{place-sent, all-sent}
 use Rattle.demands.proofs.Unflipped.{unflipped-place}
-use Rattle.demands.proofs.Handed.{comes-is}
+use Rattle.demands.proofs.Handed.{answerOf, comes-is}
 
 both-ways : (a b : Bool) → (a ≡ true → b ≡ true) → (b ≡ true → a ≡ true) → a ≡ b
 both-ways true b there back = sym (there refl)
@@ -30,6 +34,11 @@ with-message : (b : List ℕ) (m : Message) (ps : List ℕ) → ((p : ℕ) → a
 with-message b m [] all = refl
 with-message b m (p ∷ ps) all =
     ap₂ _∷_ (ap (at p) (all p (or-left (among p ps) (eq-eqb p p refl)))) (with-message b m ps (λ r there. all r (or-right (eqb r p) there)))
+
+-- The places listed, as `find` answers them.
+answers : (m : Telegram) (ps : List ℕ) → map answerOf (map (λ p. at p (reads (saysTelegram m))) ps) ≡ map (λ p. Found.At p m) ps
+answers m [] = refl
+answers m (p ∷ ps) = ap₂ _∷_ (found-back (Found.At p m)) (answers m ps)
 
 module _ (o : OneBalise) (clean : Clean o) where
   none : (j n : ℕ) → flips o j n ≡ 0
@@ -53,9 +62,11 @@ module _ (o : OneBalise) (clean : Clean o) where
         (λ e. place-sent o proper clean-few p l (place-parts (o .buffer) (o .start) (o .len) (o .s) (o .t) p e .0) e .at-true)
         (λ sent. unflipped-place o proper p sent (none (lineBit o p) 40)))
 
-    pub comes-all-sent : (w : List Single) → ComesOf o w → w ≡ allSent o
+    pub comes-all-sent : (w : List Found) → ComesOf o w → w ≡ allSent o
     comes-all-sent w c =
         comes-is o proper w c
-        ∙ with-message (o .buffer) (o .message) (placesOf o)
+        ∙ ap (map answerOf)
+        (with-message (o .buffer) (saysTelegram (o .telegram)) (placesOf o)
         (λ p there. read-as-sent o proper p (all-sent o proper clean-few p there))
-        ∙ ap (map (λ p. at p (reads (o .message)))) true-places
+        ∙ ap (map (λ p. at p (reads (saysTelegram (o .telegram))))) true-places)
+        ∙ answers (o .telegram) (those (sentAt o) (from (o .start) (o .len)))

@@ -14,10 +14,11 @@ use Rattle.contact.specs.Contacts.{Mode, outside, since, Contacts, contact, qui
 use Rattle.contact.specs.Judge.{allAlike, firstPlace, isMarker, Contact, read, marker, judgement, judged}
 use Rattle.contact.specs.declared.Search.{Search}
 use Rattle.demands.specs.Rules.{Rule, row, Decided, Given}
-use Rattle.demands.specs.Table.{notSeven, beyond, placesDiffer, isRead, neither, cutFirst, cut}
+use Rattle.demands.specs.Table.{notSeven, beyond, placesDiffer, isRead, neither, cut}
 use Rattle.demands.specs.Demand1.{nextRules, judgeRules}
 use Rattle.demands.proofs.Rules.{true-not-false, if-not, given}
 use Rattle.demands.proofs.Refusals.{beyond-is, stretch-then}
+use Rattle.demands.proofs.Cut.{cutFirst, cut-is}
 
 -- The beginning of a search: 5.
 pub beginning : (b : List ℕ) (start len : ℕ) → Decided Given (row 5 (beyond b start len) ∷ []) (begun b start len)
@@ -52,10 +53,11 @@ only-nine (suc n) b (since start) history i =
 
 -- The next contact: 5, 9.
 pub nexting : (b : List ℕ) (search : Search) → Decided Given (nextRules b search) (nextContact b search)
-unfolding nextContact contactsFrom cut Nine
+unfolding nextContact contactsFrom Nine
 nexting b search =
     subst (λ (t : Bool). Decided Given (row 5 t ∷ row 9 (cut b search) ∷ []) (nextContact b search)) (sym (beyond-is b (search .next) (search .left)))
-    (go (inside b (search .next) (search .left)) (contacts b outside (search .history) (search .next) (search .left)) (only-nine (search .left) b outside (search .history) (search .next)))
+    (subst (λ (u : Bool). Decided Given (row 5 (not (inside b (search .next) (search .left))) ∷ row 9 u ∷ []) (nextContact b search)) (cut-is b search)
+    (go (inside b (search .next) (search .left)) (contacts b outside (search .history) (search .next) (search .left)) (only-nine (search .left) b outside (search .history) (search .next))))
   where
     go : (t : Bool) (cs : Contacts) → Nine cs → Decided Given (row 5 (not t) ∷ row 9 (cutFirst cs) ∷ []) (first (pick t cs (refused 5)))
     go false cs nine = (λ q. refl, λ q. absurd (true-not-false q))

@@ -3,11 +3,13 @@
 use mathlib.Core.Path.{_≡_, refl, sym, ap, _∙_, subst}
 use mathlib.Core.Bool.{Bool, true, false, not, _&&_, _||_}
 use mathlib.Core.List.{List, [], _∷_}
-use Prim.Native.Nat.{ℕ, zero, suc, _+_}
+use Prim.Native.Nat.{ℕ, zero, suc, _+_, _*_}
 use lib.Dec.{eqb, leb, ltb, leb·zero, leb·suc-zero, leb·suc-suc}
 use lib.ListN.{length}
 use Rattle.words.specs.Answer.{Outcome, gives, refuses, pick}
-use Rattle.telegram.specs.Telegram.{Reading, reads, refused, figures, number, telegram}
+use Rattle.words.specs.Plain.{isCode, figure}
+use Rattle.words.specs.Code.{exchanged, readWord}
+use Rattle.telegram.specs.Telegram.{Letter, X, Y as WordY, Z as WordZ, YZ, Reading, reads, refused, figures, number, then as word-then, notFifteen, shortWord, longWord, telegram}
 use Rattle.group.specs.Balise.{balises, then, partOf, partHeard, readAll}
 use Rattle.group.specs.Row.{Found, none, found, Y, Z, Fit, misfit, fit}
 use Rattle.group.specs.Rows.{present, opposite, fitIn}
@@ -23,9 +25,14 @@ use Rattle.group.specs.declared.Kind.{Kind}
 use Rattle.group.specs.declared.Part.{Part}
 use Rattle.group.specs.declared.Placed.{Placed}
 use Rattle.demands.specs.Rules.{Rule, row, Decided, Given}
-use Rattle.demands.specs.Table.{oneBalise, moreThanFive, isRefusal, someUnread, unread, listOf, partsOf, isMisfit, noRow, bothWays, judgedKind, isJudged, notAllowed, noDistance}
+use Rattle.demands.specs.Table.{notCode, fifteen, oneBalise, moreThanFive, isNumber, isBad, wordsRefused, isUnread, someUnread, unread, listOf, partsOf, isMisfit, noRow, bothWays, judgedKind, isJudged, notAllowed, noLink, noDistance}
 use Rattle.demands.specs.Demand1.{groupRules}
 use Rattle.demands.proofs.Rules.{true-not-false, if-so, if-not, given}
+
+-- Whether an answer is a refusal.
+abbrev isRefusal : {A : Type 0} → Outcome A → Bool
+isRefusal (gives x) = false
+isRefusal (refuses n) = true
 
 -- an answer whose refusal can only have this number
 Only : {A : Type 0} → ℕ → Outcome A → Type 0
@@ -65,22 +72,33 @@ unfolding Only
 lone k t (gives x) only e = (λ q. absurd (true-not-false (sym q ∙ sym e)), λ q. (x, refl))
 lone k t (refuses n) only e = (λ q. ap refuses only, λ q. absurd (true-not-false (e ∙ q)))
 
+or-true : (t : Bool) → (t || true) ≡ true
+or-true true = refl
+or-true false = refl
+
+or-false : (t : Bool) → (t || false) ≡ t
+or-false true = refl
+or-false false = refl
+
+distance-refused : (by f : ℕ) → isRefusal (distance by f) ≡ noDistance by f
+unfolding noDistance distance
+distance-refused by f = go (leb 1 f && leb f 14)
+  where
+    go : (t : Bool) → isRefusal (pick t (inTable columns by f) (refuses 15)) ≡ (ltb 14 by || not t)
+    go true = column-there columns by f ∙ sym (or-false (ltb 14 by))
+    go false = sym (or-true (ltb 14 by))
+
+link-refused : (by bz : ℕ) (c : Found) → isRefusal (linkDistance by bz c) ≡ noLink by bz c
+link-refused by bz none = distance-refused by bz
+link-refused by bz (found c) = go (eqb bz 0)
+  where
+    go : (t : Bool) → isRefusal (pick t (distance by (Y (c .part))) (refuses 15)) ≡ (not t || noDistance by (Y (c .part)))
+    go true = distance-refused by (Y (c .part))
+    go false = refl
+
 -- Table DF: 15.
 pub measuring : (by f : ℕ) → Decided Given (row 15 (noDistance by f) ∷ []) (distance by f)
-unfolding noDistance distance
-measuring by f = lone 15 (noDistance by f) (distance by f) (distance-fifteen by f) (go (leb 1 f && leb f 14))
-  where
-    swapped : (t : Bool) → t ≡ (t || false)
-    swapped true = refl
-    swapped false = refl
-
-    always : (t : Bool) → true ≡ (t || true)
-    always true = refl
-    always false = refl
-
-    go : (t : Bool) → isRefusal (pick t (inTable columns by f) (refuses 15)) ≡ (ltb 14 by || not t)
-    go true = column-there columns by f ∙ swapped (ltb 14 by)
-    go false = always (ltb 14 by)
+measuring by f = lone 15 (noDistance by f) (distance by f) (distance-fifteen by f) (distance-refused by f)
 
 -- ---- reading the balises
 
@@ -95,6 +113,74 @@ unfolding Only
 heard-twelve (Heard.Words x y z) = part-twelve (telegram x y z)
 heard-twelve Heard.Marker = tt
 heard-twelve Heard.Unreadable = refl
+
+-- whether words are refused
+abbrev isRefused : Reading → Bool
+isRefused (reads m) = false
+isRefused (refused n letter) = true
+
+-- a word, and then what follows it
+refused-then : (letter : Letter) (t : Bool) (n f : ℕ) (next : ℕ → Reading) → isRefused (word-then letter (pick t (refuses n) (gives f)) next) ≡ (t || isRefused (next f))
+refused-then letter true n f next = refl
+refused-then letter false n f next = refl
+
+short-is : (w : ℕ) → shortWord w ≡ pick (isBad w) (refuses (pick (notCode 8 w) 1 3)) (gives (figure 8 (exchanged 8 w)))
+unfolding shortWord readWord notCode fifteen
+short-is w = go (isCode 8 (exchanged 8 w))
+  where
+    f : ℕ
+    f = figure 8 (exchanged 8 w)
+
+    go : (c : Bool) → notFifteen (pick c (gives f) (refuses 1)) ≡ pick (not c || (c && eqb f 15)) (refuses (pick (not c) 1 3)) (gives f)
+    go true = refl
+    go false = refl
+
+long-is : (y z : ℕ) → longWord y z ≡ pick (notCode 16 (y * 256 + z)) (refuses 1) (gives (figure 16 (exchanged 16 (y * 256 + z))))
+unfolding longWord readWord notCode
+long-is y z = go (isCode 16 (exchanged 16 (y * 256 + z)))
+  where
+    m : ℕ
+    m = figure 16 (exchanged 16 (y * 256 + z))
+
+    go : (c : Bool) → pick c (gives m) (refuses 1) ≡ pick (not c) (refuses 1) (gives m)
+    go true = refl
+    go false = refl
+
+-- Words are refused exactly if one that is looked at is.
+words-refused : (x y z : ℕ) → isRefused (telegram x y z) ≡ wordsRefused x y z
+unfolding telegram wordsRefused
+words-refused x y z =
+    short-then X x (λ a. pick (eqb a 12) (word-then YZ (longWord y z) (λ m. reads (number m))) (yThenZ a))
+    ∙ ap (λ (t : Bool). isBad x || t) (go (isNumber x))
+  where
+    fig : ℕ → ℕ
+    fig w = figure 8 (exchanged 8 w)
+
+    yThenZ : ℕ → Reading
+    yThenZ a = word-then WordY (shortWord y) (λ b. word-then WordZ (shortWord z) (λ c. reads (figures a b c)))
+
+    short-then : (letter : Letter) (w : ℕ) (next : ℕ → Reading) → isRefused (word-then letter (shortWord w) next) ≡ (isBad w || isRefused (next (fig w)))
+    short-then letter w next =
+        ap (λ (o : Outcome ℕ). isRefused (word-then letter o next)) (short-is w) ∙ refused-then letter (isBad w) (pick (notCode 8 w) 1 3) (fig w) next
+
+    go : (t : Bool) → isRefused (pick t (word-then YZ (longWord y z) (λ m. reads (number m))) (yThenZ (fig x))) ≡ pick t (notCode 16 (y * 256 + z)) (isBad y || isBad z)
+    go true =
+        ap (λ (o : Outcome ℕ). isRefused (word-then YZ o (λ m. reads (number m)))) (long-is y z)
+        ∙ refused-then YZ (notCode 16 (y * 256 + z)) 1 (figure 16 (exchanged 16 (y * 256 + z))) (λ m. reads (number m)) ∙ or-false (notCode 16 (y * 256 + z))
+    go false =
+        short-then WordY y (λ b. word-then WordZ (shortWord z) (λ c. reads (figures (fig x) b c)))
+        ∙ ap (λ (t : Bool). isBad y || t) (short-then WordZ z (λ c. reads (figures (fig x) (fig y) c)) ∙ or-false (isBad z))
+
+-- So is what was heard.
+heard-refused : (h : Heard) → isRefusal (partHeard h) ≡ isUnread h
+heard-refused (Heard.Words x y z) = go (telegram x y z) ∙ words-refused x y z
+  where
+    go : (r : Reading) → isRefusal (partOf r) ≡ isRefused r
+    go (reads (figures a b c)) = refl
+    go (reads (number m)) = refl
+    go (refused n letter) = refl
+heard-refused Heard.Marker = refl
+heard-refused Heard.Unreadable = refl
 
 -- one is not read, and all are refused with 12; or all are read
 pub data Read : Bool → Outcome (List Placed) → Type 0 where
@@ -111,7 +197,9 @@ more place (gives p) only u o (all ps) = all (record { place = place; part = p }
 pub read-is : (bs : List Balise) → Read (someUnread bs) (readAll bs)
 unfolding readAll
 read-is [] = all []
-read-is (b ∷ bs) = more (b .place) (partHeard (b .heard)) (heard-twelve (b .heard)) (someUnread bs) (readAll bs) (read-is bs)
+read-is (b ∷ bs) =
+    subst (λ (t : Bool). Read (t || someUnread bs) (readAll (b ∷ bs))) (heard-refused (b .heard))
+    (more (b .place) (partHeard (b .heard)) (heard-twelve (b .heard)) (someUnread bs) (readAll bs) (read-is bs))
 
 -- ---- the rows
 
@@ -128,6 +216,10 @@ refusal-then (refuses n) f = refl
 distanceOf-fifteen : (bs : List Placed) → Only 15 (distanceOf bs)
 unfolding distanceOf
 distanceOf-fifteen bs = link-fifteen (yOf (B bs)) (zOf (B bs)) (C bs)
+
+distanceOf-refused : (bs : List Placed) → isRefusal (distanceOf bs) ≡ noLink (yOf (B bs)) (zOf (B bs)) (C bs)
+unfolding distanceOf
+distanceOf-refused bs = link-refused (yOf (B bs)) (zOf (B bs)) (C bs)
 
 -- what a group of the present direction says can only be refused with 15, and is if its distance is judged and not allowed
 content-fifteen : (kind : Kind) (ay az : ℕ) (bs : List Placed) → Only 15 (contentOf kind ay az bs)
@@ -174,7 +266,8 @@ from-twelve : (u : Bool) (o : Outcome (List Placed)) → Read u o
     → Decided Given (row 12 u ∷ row 13 (noRow (listOf o)) ∷ row 14 (bothWays (listOf o)) ∷ row 15 (notAllowed (listOf o)) ∷ []) (then o judgeRead)
 unfolding judgeRead noRow bothWays notAllowed
 from-twelve u o bad = (λ q. refl, λ q. absurd (true-not-false q))
-from-twelve u o (all ps) = (λ q. absurd (true-not-false (sym q)), λ q. decided (fitIn present ps) (fitIn opposite ps) ps)
+from-twelve u o (all ps) = (λ q. absurd (true-not-false (sym q)), λ q. subst (λ (t : Bool). Decided Given (row 13 (noRow ps) ∷ row 14 (bothWays ps) ∷ row 15 (isJudged (fitIn present ps) && t) ∷ []) (judgeRead ps))
+    (distanceOf-refused ps) (decided (fitIn present ps) (fitIn opposite ps) ps))
 
 -- The judgement of a group: 10, 11, 12, 13, 14, 15.
 pub grouping : (g : Group) → Decided Given (groupRules g) (judge g)

@@ -1,5 +1,6 @@
 pub mod Rules
 pub mod Refusals
+pub mod Cut
 pub mod Contacts
 pub mod Groups
 pub mod Rides

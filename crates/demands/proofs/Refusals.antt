@@ -17,8 +17,8 @@ use Rattle.telegram.specs.Place.{Single, at, firstOf, wordsAt, places, found}
 use Rattle.telegram.specs.Survey.{Alike, alike, allAs, together, surveyed}
 use Rattle.contact.specs.Judge.{allAlike}
 use Rattle.demands.specs.Rules.{Rule, row, Decided, Given}
-use Rattle.demands.specs.Table.{notCode, above, fifteen, notSeven, beyond, isEmpty, noPlace, placesDiffer}
-use Rattle.demands.specs.Demand1.{rowAt, IsTelegram, isNumber, rulesAfterX, telegramRules, findRules, surveyRules}
+use Rattle.demands.specs.Table.{notCode, above, fifteen, notSeven, beyond, isEmpty, noPlace, placesDiffer, isNumber}
+use Rattle.demands.specs.Demand1.{rowAt, IsTelegram, rulesAfterX, telegramRules, findRules, surveyRules}
 use Rattle.demands.proofs.Rules.{true-not-false, if-so, if-not, given}
 
 -- A received word of n bits: 1.

@@ -9,6 +9,7 @@ use Rattle.words.specs.Plain.{among}
 use Rattle.telegram.specs.Stretch.{bitsAt}
 use Rattle.telegram.specs.Telegram.{Reading, reads, telegram}
 use Rattle.telegram.specs.Place.{wordsAt}
+use Rattle.telegram.specs.Says.{saysTelegram}
 use Rattle.demands.specs.Line.{OneBalise, Proper, lineBit, sentAt}
 use Rattle.demands.specs.Demand3.{placesOf}
 use Rattle.demands.proofs.Places.{and-parts, and-true}
@@ -42,5 +43,5 @@ pub same-words : (o : OneBalise) (p : ℕ) {x y z : ℕ} → bitsAt (o .buffer) 
 unfolding wordsAt
 same-words o p x-is y-is z-is = ap₂ (λ (f : ℕ → Reading) (k : ℕ). f k) (ap₂ telegram x-is y-is) z-is
 
-pub read-as-sent : (o : OneBalise) → Proper o → (p : ℕ) → Sent o p → wordsAt (o .buffer) p ≡ reads (o .message)
+pub read-as-sent : (o : OneBalise) → Proper o → (p : ℕ) → Sent o p → wordsAt (o .buffer) p ≡ reads (saysTelegram (o .telegram))
 read-as-sent o proper p there = same-words o p (there .x-is) (there .y-is) (there .z-is) ∙ proper .valid

@@ -6,22 +6,24 @@ use mathlib.Core.Bool.{Bool, true, false}
 use mathlib.Core.List.{List, [], _∷_}
 use Prim.Native.Nat.{ℕ, _+_}
 use native.Mathlib.Omega.{arith}
-use contract.Lifetimes.{Lfts}
-use borrow.Fn.Kinds.{RK, resT, Out}
 use lib.Dec.{eqb, leb}
 use lib.ListN.{length}
 use borrow.Author.Tests.{eq-eqb}
 use Rattle.words.specs.Answer.{Outcome, gives, refuses, pick}
 use Rattle.words.specs.Plain.{among}
 use Rattle.telegram.specs.Stretch.{bitsAt}
-use Rattle.telegram.specs.Telegram.{Reading}
+use Rattle.telegram.specs.Telegram.{Reading, reads}
 use Rattle.telegram.specs.Place.{wordsAt}
 use Rattle.telegram.specs.Survey.{sameWords, allAs, Alike, alike, together, surveyed}
-use Rattle.telegram.proofs.find.Kinds as find-kinds
+use Rattle.telegram.specs.Says.{saysTelegram, saysSurveyed}
+use Rattle.telegram.specs.declared.Telegram.{Telegram}
+use Rattle.telegram.specs.declared.Surveyed.{Surveyed}
 use Rattle.contact.specs.Judge.{Contact, read, marker, isMarker, judged}
+use Rattle.contact.specs.Says.{saysJudged}
+use Rattle.contact.specs.declared.Judged.{Judged}
 use Rattle.contact.proofs.Judging.{markerOr, fromSurvey, by-survey}
 use Rattle.demands.specs.Line.{OneBalise, Proper}
-use Rattle.demands.specs.Calls.{CalledOver, SurveyCalled, JudgeCalled}
+use Rattle.demands.specs.Contracts.{Survey as SurveyAllows, JudgeContact}
 use Rattle.demands.specs.Demand3.{TheSent, placesOf, TogetherTheSent}
 use Rattle.demands.proofs.Places.{and-true, or-left, or-right}
 use Rattle.demands.proofs.Sent.{Sent, AllSent}
@@ -41,24 +43,14 @@ all-alike o p here (q ∷ ps) all =
     (eq-eqb (bitsAt b (p + 24) 8) (bitsAt b (q + 24) 8) (here .z-is ∙ sym (there .z-is))))
     (all-alike o p here ps (λ r within. all r (or-right (eqb r q) within)))
 
--- A call answers as the specification `spec` says.
-as-specified : {r : RK 1} {Post : Out 1 find-kinds.ps r} {A : Type 0} {says : (κs : Lfts 1) → resT r κs .Denot → Outcome A}
-    {b : List ℕ} {s t start len : ℕ} {a : Outcome A} (spec : List ℕ → ℕ → ℕ → ℕ → ℕ → Outcome A) (k : CalledOver r Post says b s t start len a)
-    → spec (k .given .0 .now) (k .given .1 .0) (k .given .1 .1 .0) (k .given .1 .1 .1 .0) (k .given .1 .1 .1 .1 .0) ≡ says (k .κs) (k .answer)
-    → spec b start len s t ≡ a
-as-specified {b = b} {s = s} {t = t} {start = start} {len = len} spec k kept =
-    let g = k .given in
-    let same : spec (g .0 .now) (g .1 .0) (g .1 .1 .0) (g .1 .1 .1 .0) (g .1 .1 .1 .1 .0) ≡ spec b start len s t =
-    simp (k .buffer, k .first-bit, k .bits, k .sync, k .other) in
-    sym same ∙ kept ∙ k .answers
-
 module _ (o : OneBalise) (proper : Proper o) (every-place : AllSent o) where
   abbrev b : List ℕ
   b = o .buffer
 
   -- What is known of a reading with its first place and their number.
   pub record Known (m : Reading) (first count : ℕ) : Type 0 where
-    pub the-first : TheSent o first m
+    pub first-is : Sent o first
+    pub read-there : m ≡ wordsAt b first
     pub as-many : count ≡ length (placesOf o)
 
   -- An answer that all places are alike.
@@ -82,7 +74,8 @@ module _ (o : OneBalise) (proper : Proper o) (every-place : AllSent o) where
         count = length (p ∷ ps);
         is = ap (λ (t : Bool). pick t (gives (alike (wordsAt b p) p (length (p ∷ ps)))) (refuses 7)) alike-all;
         known = record {
-          the-first = the-sent o proper p (wordsAt b p) here refl;
+          first-is = here;
+          read-there = refl;
           as-many = ap length (sym list);
         };
       }
@@ -104,22 +97,25 @@ module _ (o : OneBalise) (proper : Proper o) (every-place : AllSent o) where
       (survey-of (placesOf o) refl)
 
   -- What a call of `survey` answers, and what a call of `judge`.
-  survey-says : (a : Outcome Alike) → SurveyCalled b (o .s) (o .t) (o .start) (o .len) a → surveyed b (o .start) (o .len) (o .s) (o .t) ≡ a
-  survey-says a k = as-specified surveyed k (sym (k .kept))
+  survey-says : (r : Surveyed) → SurveyAllows b (o .start) (o .len) (o .s) (o .t) r → surveyed b (o .start) (o .len) (o .s) (o .t) ≡ saysSurveyed r
+  survey-says r c = sym (c .4 ∙ ap (λ (v : List ℕ). surveyed v (o .start) (o .len) (o .s) (o .t)) (c .3))
 
-  judge-says : (a : Outcome Contact) → JudgeCalled b (o .s) (o .t) (o .start) (o .len) a → judged b (o .start) (o .len) (o .s) (o .t) ≡ a
-  judge-says a k = as-specified judged k (sym (k .kept))
+  judge-says : (r : Judged) → JudgeContact b (o .start) (o .len) (o .s) (o .t) r → judged b (o .start) (o .len) (o .s) (o .t) ≡ saysJudged r
+  judge-says r c = sym (c .4 ∙ ap (λ (v : List ℕ). judged v (o .start) (o .len) (o .s) (o .t)) (c .3))
+
+  known-sent : (m : Telegram) (first count : ℕ) → Known (reads (saysTelegram m)) first count → TheSent o first m
+  known-sent m first count known = the-sent o proper first m (known .first-is) (known .read-there)
 
   same-known : {m n : Reading} {p q k l : ℕ} → m ≡ n → p ≡ q → k ≡ l → Known m p k → Known n q l
   same-known {m} {n} {p} {q} {k} {l} e f g known =
       subst (λ (v : ℕ). Known n q v) g (subst (λ (v : ℕ). Known n v k) f (subst (λ (v : Reading). Known v p k) e known))
 
-  pub survey-sent : TogetherTheSent o (SurveyCalled b (o .s) (o .t) (o .start) (o .len)) alike
+  pub survey-sent : TogetherTheSent o (SurveyAllows b (o .start) (o .len) (o .s) (o .t)) Surveyed.Differ Surveyed.Alike
   survey-sent =
       record {
-        never-7 = λ k. never the-survey (survey-says (refuses 7) k);
-        first-sent = λ m first count k. known the-survey m first count (survey-says (gives (alike m first count)) k) .the-first;
-        counted = λ m first count k. known the-survey m first count (survey-says (gives (alike m first count)) k) .as-many;
+        never-7 = λ k. never the-survey (survey-says Surveyed.Differ k);
+        first-sent = λ m first count k. known-sent m first count (of m first count k);
+        counted = λ m first count k. of m first count k .as-many;
       }
     where
       never : {a : Outcome Alike} → Survey a → a ≡ refuses 7 → ⊥
@@ -135,17 +131,20 @@ module _ (o : OneBalise) (proper : Proper o) (every-place : AllSent o) where
           let same-k : r .count ≡ count = cc in
           same-known same-m same-p same-k (r .known)
 
-  pub judge-sent : TogetherTheSent o (JudgeCalled b (o .s) (o .t) (o .start) (o .len)) read
+      of : (m : Telegram) (first count : ℕ) → SurveyAllows b (o .start) (o .len) (o .s) (o .t) (Surveyed.Alike m first count) → Known (reads (saysTelegram m)) first count
+      of m first count k = known the-survey (reads (saysTelegram m)) first count (survey-says (Surveyed.Alike m first count) k)
+
+  pub judge-sent : TogetherTheSent o (JudgeContact b (o .start) (o .len) (o .s) (o .t)) Judged.Differ Judged.Read
   judge-sent =
       record {
-        never-7 = λ k. never the-survey (by (refuses 7) k);
-        first-sent = λ m first count k. known the-survey m first count (by (gives (read m first count)) k) .the-first;
-        counted = λ m first count k. known the-survey m first count (by (gives (read m first count)) k) .as-many;
+        never-7 = λ k. never the-survey (by Judged.Differ k);
+        first-sent = λ m first count k. known-sent m first count (of m first count k);
+        counted = λ m first count k. of m first count k .as-many;
       }
     where
-      by : (a : Outcome Contact) → JudgeCalled b (o .s) (o .t) (o .start) (o .len) a
-          → fromSurvey (markerOr b (o .start) (o .len)) (surveyed b (o .start) (o .len) (o .s) (o .t)) ≡ a
-      by a k = sym (by-survey b (o .start) (o .len) (o .s) (o .t)) ∙ judge-says a k
+      by : (r : Judged) → JudgeContact b (o .start) (o .len) (o .s) (o .t) r
+          → fromSurvey (markerOr b (o .start) (o .len)) (surveyed b (o .start) (o .len) (o .s) (o .t)) ≡ saysJudged r
+      by r k = sym (by-survey b (o .start) (o .len) (o .s) (o .t)) ∙ judge-says r k
 
       never-left : (t : Bool) → pick t (gives marker) (refuses 8) ≡ refuses 7 → ⊥
       never-left true e = let z : _≡_ {A = ℕ} 0 1 = cc in omega arith
@@ -181,3 +180,6 @@ module _ (o : OneBalise) (proper : Proper o) (every-place : AllSent o) where
       known (inr r) m first count e =
           known-several (leb 2 (r .count)) (isMarker b (o .start) (o .len)) (r .message) m (r .first) first (r .count) count (r .known)
           (sym (ap (fromSurvey (markerOr b (o .start) (o .len))) (r .is)) ∙ e)
+
+      of : (m : Telegram) (first count : ℕ) → JudgeContact b (o .start) (o .len) (o .s) (o .t) (Judged.Read m first count) → Known (reads (saysTelegram m)) first count
+      of m first count k = known the-survey (reads (saysTelegram m)) first count (by (Judged.Read m first count) k)

@@ -13,7 +13,10 @@ use Rattle.telegram.specs.Stretch.{bitsAt, inside}
 use Rattle.telegram.specs.Sync.{differing, isGood}
 use Rattle.telegram.specs.Telegram.{figures, reads, shortWord, longWord, telegram}
 use Rattle.telegram.specs.Place.{areSyncs, wordsAt, isPlace, from, those, places, Single, at, found}
-use Rattle.telegram.proofs.Calls.{Called}
+use Rattle.telegram.specs.Says.{saysTelegram, saysFound}
+use Rattle.telegram.specs.declared.Telegram.{Telegram}
+use Rattle.telegram.specs.declared.Found.{Found}
+use Rattle.demands.specs.Contracts.{Find}
 use Rattle.demands.specs.Line.{OneBalise, Proper, FewFlips, sentBit, receivedBit, inStretch, unequal, flip, sum, flips, syncFlips, dataFlips}
 use Rattle.demands.specs.Demand3.{ComesOf}
 use Rattle.demands.proofs.Computed.{quietAt, few-flips}
@@ -32,7 +35,7 @@ three-flips =
       x = 0x17;
       y = 0x8e;
       z = 0x5a;
-      message = figures 1 8 5;
+      telegram = Telegram.Figures 1 8 5;
       phase = 16;
     }
 
@@ -47,7 +50,8 @@ unfolding quietAt syncFlips dataFlips flips sum flip inStretch unequal receivedB
 three-flips-few = few-flips three-flips 5 (omega arith) tt
 
 -- and the two telegrams behind are handed out.
-three-flips-comes : (w : List Single) → ComesOf three-flips w → w ≡ at 48 (reads (figures 1 8 5)) ∷ at 80 (reads (figures 1 8 5)) ∷ []
+three-flips-comes : (w : List Found) → ComesOf three-flips w
+    → w ≡ Found.At 48 (Telegram.Figures 1 8 5) ∷ Found.At 80 (Telegram.Figures 1 8 5) ∷ []
 unfolding places those from isPlace areSyncs wordsAt bitsAt telegram shortWord longWord readWord isCode even count covers exchanged other word figure onwards isCheck
 three-flips-comes w c = comes-is three-flips three-flips-proper w c
 
@@ -63,7 +67,7 @@ four-flips =
       x = 0x17;
       y = 0x8e;
       z = 0x5a;
-      message = figures 1 8 5;
+      telegram = Telegram.Figures 1 8 5;
       phase = 16;
     }
 
@@ -73,7 +77,7 @@ unfolding dataFlips flips sum flip inStretch unequal receivedBit sentBit
 four-flips-not-few h = let f : 4 ≤ 3 = h .few 1 in omega arith
 
 -- And what was not sent is handed out, at a true place.
-four-flips-found : (a : Outcome Single) → Called (four-flips .buffer) (four-flips .s) (four-flips .t) (four-flips .start) (four-flips .len) a
-    → a ≡ gives (at 16 (reads (figures 9 8 5)))
+four-flips-found : (r : Found) → Find (four-flips .buffer) (four-flips .start) (four-flips .len) (four-flips .s) (four-flips .t) r
+    → saysFound r ≡ gives (at 16 (reads (figures 9 8 5)))
 unfolding found isGood differing inside places those from isPlace areSyncs wordsAt bitsAt telegram shortWord longWord readWord isCode even count covers exchanged other word figure onwards isCheck
-four-flips-found a k = sym (specified k)
+four-flips-found r k = sym (specified (four-flips .buffer) (four-flips .start) (four-flips .len) (four-flips .s) (four-flips .t) r k)

@@ -46,7 +46,7 @@ use Rattle.listing.specs.Says.{saysPut, saysDone}
 use Rattle.listing.specs.declared.Put.{Put}
 use Rattle.listing.specs.declared.Listed.{Listed}
 use Rattle.demands.specs.Rules.{Rule, row, Decided, Given}
-use Rattle.demands.specs.Table.{notCode, above, fifteen, notSeven, beyond, noPlace, placesDiffer, neither, cut, oneBalise, moreThanFive, unread, partsOf, noRow, bothWays, notAllowed, noDistance, badLength, badRecord, wentBack, tooFar, badGap}
+use Rattle.demands.specs.Table.{notCode, above, fifteen, notSeven, beyond, noPlace, placesDiffer, neither, cut, oneBalise, moreThanFive, isNumber, unread, partsOf, noRow, bothWays, notAllowed, noDistance, badLength, badRecord, wentBack, tooFar, badGap}
 use Rattle.demands.specs.Contracts.{ReadShort, WriteShort, ReadLong, WriteLong, GoodPair, ReadTelegram, Find, Survey, Begin, NextContact, JudgeContact, Distance, JudgeGroup, CheckRecord, StepOf, EndOf, RunOver, PutLine, ListInto}
 
 -- A row of the table at the word of a telegram that this letter names.
@@ -56,10 +56,6 @@ rowAt letter n condition = record { holds = condition; answer = refused n letter
 -- A telegram was read.
 abbrev pub IsTelegram : Reading → Type 0
 IsTelegram o = (m : Message) × (o ≡ reads m)
-
--- Whether the word x reads 12, a number balise's.
-abbrev pub isNumber : ℕ → Bool
-isNumber x = eqb (figure 8 (exchanged 8 x)) 12
 
 -- After X: if it reads 12, Y and Z as one long word, 1; else Y, then Z, each 1, then 3.
 abbrev pub rulesAfterX : ℕ → ℕ → ℕ → List (Rule Reading)

@@ -4,7 +4,8 @@
 -- telegram with the set sync words, if no sync bit flips and no telegram, alone or together with the next, cut ones
 -- included, has more than three flipped data bits, every telegram handed out is the one sent, at its true place, and every
 -- unflipped telegram lying with both its sync words in the stretch is handed out."
--- What is sent, what flips and the hypothesis on the flips: specs/Line.antt. Calls and their contracts: specs/Calls.antt.
+-- What is sent, what flips and the hypothesis on the flips: specs/Line.antt. What the contracts allow:
+-- specs/Contracts.antt; calls of `find` one after the other: specs/Calls.antt.
 -- That all of this holds: proofs/Demand3.antt.
 -- Assumes nothing.
 use Prim.Native.Nat.{ℕ}
@@ -14,18 +15,19 @@ use mathlib.Core.Bool.{true}
 use mathlib.Core.List.{List, List·Memᴰ, map}
 use lib.Bits.{bitXor}
 use lib.ListN.{length}
-use Rattle.words.specs.Answer.{Outcome, gives, refuses}
+use Rattle.words.specs.Answer.{Outcome, gives}
 use Rattle.words.specs.Plain.{among}
 use Rattle.words.specs.Says.{saysShortRead, saysLongRead}
-use Rattle.telegram.specs.Telegram.{Reading, reads}
-use Rattle.telegram.specs.Place.{wordsAt, places, Single, at, from, those}
-use Rattle.telegram.specs.Survey.{alike}
-use Rattle.telegram.proofs.Law.{Comes}
-use Rattle.telegram.proofs.Calls.{Called}
-use Rattle.contact.specs.Judge.{read}
+use Rattle.telegram.specs.Telegram.{reads}
+use Rattle.telegram.specs.Place.{wordsAt, places, from, those}
+use Rattle.telegram.specs.Says.{saysTelegram}
+use Rattle.telegram.specs.declared.Telegram.{Telegram}
+use Rattle.telegram.specs.declared.Found.{Found}
+use Rattle.telegram.specs.declared.Surveyed.{Surveyed}
+use Rattle.contact.specs.declared.Judged.{Judged}
 use Rattle.demands.specs.Line.{OneBalise, Proper, FewFlips, Clean, sentAt, flipsAt}
-use Rattle.demands.specs.Contracts.{ReadShort, ReadLong}
-use Rattle.demands.specs.Calls.{HandedOut, SurveyCalled, JudgeCalled}
+use Rattle.demands.specs.Contracts.{ReadShort, ReadLong, Find, Survey, JudgeContact}
+use Rattle.demands.specs.Calls.{HandedOut, Comes}
 
 -- An answer that gives a figure.
 abbrev pub Accepted : Outcome ℕ → Type 0
@@ -45,40 +47,40 @@ NoiseLaw {A} says Reads =
     → says sent ≡ gives x → ByFlipsAlone x (says flipped) (says received)
 
 -- The telegram m at bit p is the one sent, at its true place.
-pub record TheSent (o : OneBalise) (p : ℕ) (m : Reading) : Type 0 where
+pub record TheSent (o : OneBalise) (p : ℕ) (m : Telegram) : Type 0 where
   pub true-place : sentAt o p ≡ true
-  pub as-sent : m ≡ reads (o .message)
+  pub as-sent : m ≡ o .telegram
 
--- The list w is all that come of calling `find` with the stretch, and from the bit after each place, until it answers 6.
-abbrev pub ComesOf : OneBalise → List Single → Type 0
-ComesOf o w = Comes (Called (o .buffer) (o .s) (o .t)) (o .start) (o .len) w
+-- The list is all that comes of calling `find` with the stretch, and from the bit after each place, until it answers 6.
+abbrev pub ComesOf : OneBalise → List Found → Type 0
+ComesOf o w = Comes (o .buffer) (o .s) (o .t) (o .start) (o .len) w
 
 -- The places of the stretch, with the set sync words.
 abbrev pub placesOf : OneBalise → List ℕ
 placesOf o = places (o .buffer) (o .start) (o .len) (o .s) (o .t)
 
--- The places taken together, by `judge` or `survey`: `Answers a` is that it is called and answers with a, and `found m first count`
--- is its answer that the places all read m, with the first of them and their number. It never answers that they differ; what it
--- reads is what was sent, at a true place; and what it counts are the places.
-pub record TogetherTheSent (o : OneBalise) {A : Type 0} (Answers : Outcome A → Type 0) (found : Reading → ℕ → ℕ → A) : Type 0 where
-  pub never-7 : Answers (refuses 7) → ⊥
-  pub first-sent : (m : Reading) (first count : ℕ) → Answers (gives (found m first count)) → TheSent o first m
-  pub counted : (m : Reading) (first count : ℕ) → Answers (gives (found m first count)) → count ≡ length (placesOf o)
+-- The places taken together, by `judge` or `survey`: `Answers a` is that its contract allows the answer a; `differ` is its answer
+-- that they differ (7), and `alike m first count` that they all read m, with the first of them and their number. It never
+-- answers that they differ; what it reads is what was sent, at a true place; and what it counts are the places.
+pub record TogetherTheSent (o : OneBalise) {A : Type 0} (Answers : A → Type 0) (differ : A) (alike : Telegram → ℕ → ℕ → A) : Type 0 where
+  pub never-7 : Answers differ → ⊥
+  pub first-sent : (m : Telegram) (first count : ℕ) → Answers (alike m first count) → TheSent o first m
+  pub counted : (m : Telegram) (first count : ℕ) → Answers (alike m first count) → count ≡ length (placesOf o)
 
 -- "Every telegram handed out is the one sent, at its true place, and every unflipped telegram lying with both its sync words in
 -- the stretch is handed out": by `find`, asked as often as one likes (`every`) and until 6 (`unflipped`), and by those that take
--- all places together. All places are true.
+-- all places together. All places are true, and have the words sent.
 pub record OnlyTheSent (o : OneBalise) : Type 0 where
-  pub every : (p : ℕ) (m : Reading) → HandedOut (o .buffer) (o .s) (o .t) (o .start) (o .len) p m → TheSent o p m
-  pub unflipped : (w : List Single) → ComesOf o w → (p : ℕ) → sentAt o p ≡ true → flipsAt o p ≡ 0
-      → List·Memᴰ (at p (reads (o .message))) w
-  pub all-places : (p : ℕ) → among p (placesOf o) ≡ true → TheSent o p (wordsAt (o .buffer) p)
-  pub judge : TogetherTheSent o (JudgeCalled (o .buffer) (o .s) (o .t) (o .start) (o .len)) read
-  pub survey : TogetherTheSent o (SurveyCalled (o .buffer) (o .s) (o .t) (o .start) (o .len)) alike
+  pub every : (p : ℕ) (m : Telegram) → HandedOut (o .buffer) (o .s) (o .t) (o .start) (o .len) p m → TheSent o p m
+  pub unflipped : (w : List Found) → ComesOf o w → (p : ℕ) → sentAt o p ≡ true → flipsAt o p ≡ 0
+      → List·Memᴰ (Found.At p (o .telegram)) w
+  pub all-places : (p : ℕ) → among p (placesOf o) ≡ true → (sentAt o p ≡ true) × (wordsAt (o .buffer) p ≡ reads (saysTelegram (o .telegram)))
+  pub judge : TogetherTheSent o (JudgeContact (o .buffer) (o .start) (o .len) (o .s) (o .t)) Judged.Differ Judged.Read
+  pub survey : TogetherTheSent o (Survey (o .buffer) (o .start) (o .len) (o .s) (o .t)) Surveyed.Differ Surveyed.Alike
 
 -- What comes of a clean stretch: the telegram sent, at each true place, in order.
-abbrev pub allSent : OneBalise → List Single
-allSent o = map (λ p. at p (reads (o .message))) (those (sentAt o) (from (o .start) (o .len)))
+abbrev pub allSent : OneBalise → List Found
+allSent o = map (λ p. Found.At p (o .telegram)) (those (sentAt o) (from (o .start) (o .len)))
 
 -- Demand 3. Of a telegram that has flips, up to three, it says only that it is handed out as it was sent or not at all. It says
 -- nothing of a stretch from two balises, or of where the detector cuts a stretch.
@@ -89,7 +91,7 @@ pub record Demand3 : Type 0 where
   -- "Over any stretch (not refused with 4 or 5) .. if no sync bit flips and no telegram .. has more than three flipped data bits .."
   pub stretch : (o : OneBalise) → Proper o → FewFlips o → OnlyTheSent o
   -- asking ends: one who is answered at every call of `find` comes to 6
-  pub ends : (o : OneBalise) → Proper o → ((start len : ℕ) → (a : Outcome Single) × Called (o .buffer) (o .s) (o .t) start len a)
-      → (w : List Single) × ComesOf o w
+  pub ends : (o : OneBalise) → Proper o → ((start len : ℕ) → (r : Found) × Find (o .buffer) start len (o .s) (o .t) r)
+      → (w : List Found) × ComesOf o w
   -- if nothing flips, what comes is the telegram sent, at every true place and nowhere else
-  pub clean : (o : OneBalise) → Proper o → Clean o → (w : List Single) → ComesOf o w → w ≡ allSent o
+  pub clean : (o : OneBalise) → Proper o → Clean o → (w : List Found) → ComesOf o w → w ≡ allSent o

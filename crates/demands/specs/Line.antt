@@ -11,7 +11,9 @@ use lib.Dec.{eqb, leb, ltb}
 use Rattle.words.specs.Answer.{pick}
 use Rattle.telegram.specs.Stretch.{bitAt, inside}
 use Rattle.telegram.specs.Sync.{isGood}
-use Rattle.telegram.specs.Telegram.{Message, reads, telegram}
+use Rattle.telegram.specs.Telegram.{reads, telegram}
+use Rattle.telegram.specs.Says.{saysTelegram}
+use Rattle.telegram.specs.declared.Telegram.{Telegram}
 
 -- One balise, heard over one stretch of a lent buffer.
 pub record OneBalise : Type 0 where
@@ -22,11 +24,11 @@ pub record OneBalise : Type 0 where
   -- the sync words, in either order
   pub s : ℕ
   pub t : ℕ
-  -- the words of the telegram, and what they say
+  -- the words of the telegram, and the telegram that they are
   pub x : ℕ
   pub y : ℕ
   pub z : ℕ
-  pub message : Message
+  pub telegram : Telegram
   -- the line bit with which the stretch begins: any, so either sync word comes first, and the first telegram may be cut
   pub phase : ℕ
 
@@ -34,7 +36,7 @@ pub record OneBalise : Type 0 where
 pub record Proper (o : OneBalise) : Type 0 where
   pub bytes : (o .s < 256) × (o .t < 256) × (o .x < 256) × (o .y < 256) × (o .z < 256)
   pub pair : isGood (o .s) (o .t) ≡ true
-  pub valid : telegram (o .x) (o .y) (o .z) ≡ reads (o .message)
+  pub valid : telegram (o .x) (o .y) (o .z) ≡ reads (saysTelegram (o .telegram))
   pub taken : inside (o .buffer) (o .start) (o .len) ≡ true
 
 -- The eight bytes that the balise repeats.

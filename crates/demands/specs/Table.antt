@@ -1,25 +1,27 @@
 -- Document 01's table of refusal numbers, row by row. Each condition stands alone, and names no number.
 -- Assumes nothing.
-use Prim.Native.Nat.{ℕ, _+_, _*_, _%_, _^_}
+use Prim.Native.Nat.{ℕ, zero, suc, _+_, _*_, _%_, _^_}
 use mathlib.Core.Bool.{Bool, true, false, not, _&&_, _||_}
 use mathlib.Core.List.{List, [], _∷_}
 use lib.Dec.{eqb, ltb, leb}
 use lib.ListN.{length}
-use Rattle.words.specs.Answer.{Outcome, gives, refuses}
+use Rattle.words.specs.Answer.{Outcome, gives, refuses, pick}
 use Rattle.words.specs.Plain.{isCode, figure}
 use Rattle.words.specs.Code.{exchanged}
+use Rattle.telegram.specs.Stretch.{bitAt}
 use Rattle.telegram.specs.Sync.{differing}
 use Rattle.telegram.specs.Place.{places}
 use Rattle.telegram.specs.Survey.{allAs}
-use Rattle.contact.specs.Contacts.{Contacts, contact, quiet, refused, outside, contacts}
+use Rattle.contact.specs.History.{after, zeroes}
 use Rattle.contact.specs.Judge.{allAlike, isMarker}
 use Rattle.contact.specs.declared.Search.{Search}
-use Rattle.group.specs.Balise.{balises, partHeard, readAll}
-use Rattle.group.specs.Row.{Fit, misfit, fit}
+use Rattle.group.specs.Balise.{balises, readAll}
+use Rattle.group.specs.Row.{Found, none, found, Y, Fit, misfit, fit}
 use Rattle.group.specs.Rows.{present, opposite, fitIn}
-use Rattle.group.specs.Judge.{distanceOf}
+use Rattle.group.specs.Judge.{yOf, zOf, B, C}
 use Rattle.group.specs.declared.Balise.{Balise}
 use Rattle.group.specs.declared.Group.{Group}
+use Rattle.group.specs.declared.Heard.{Heard}
 use Rattle.group.specs.declared.Kind.{Kind}
 use Rattle.group.specs.declared.Placed.{Placed}
 use Rattle.ride.specs.Record.{odometerOf, inOrder}
@@ -67,15 +69,33 @@ isRead b start len s t = leb 2 (length (places b start len s t)) && allAlike b (
 unfoldable pub neither : List ℕ → ℕ → ℕ → ℕ → ℕ → Bool
 neither b start len s t = not (isRead b start len s t) && not (isMarker b start len)
 
--- Whether the next contact, of those that come, is cut.
-abbrev pub cutFirst : Contacts → Bool
-cutFirst (contact start len then rest) = false
-cutFirst quiet = false
-cutFirst (refused n) = true
+-- Whether one of the numbers below n passes the test.
+unfoldable pub some : (ℕ → Bool) → ℕ → Bool
+some test zero = false
+some test (suc n) = some test n || test n
 
--- 9: "contact cut by the end of the record": the next one that opens does not close in the bits left
+-- The history of a search once it has gone on by n bits of the buffer.
+unfoldable pub historyAfter : List ℕ → Search → ℕ → ℕ
+historyAfter b search zero = search .history
+historyAfter b search (suc n) = after (historyAfter b search n) (bitAt b (search .next + n))
+
+-- The zeroes among the latest sixteen with bit k, counted from the search's next.
+unfoldable pub zeroesWith : List ℕ → Search → ℕ → ℕ
+zeroesWith b search k = zeroes (historyAfter b search (suc k))
+
+-- Whether bit k brings the zeroes to 8 or more.
+abbrev pub toEight : List ℕ → Search → ℕ → Bool
+toEight b search k = leb 8 (zeroesWith b search k)
+
+-- Whether bit j comes after bit k, and brings them to 4 or fewer.
+abbrev pub laterToFour : List ℕ → Search → ℕ → ℕ → Bool
+laterToFour b search k j = ltb k j && leb (zeroesWith b search j) 4
+
+-- 9: "contact cut by the end of the record": of the bits left, one brings the zeroes to 8 or more, none before it does, and
+-- none after it brings them to 4 or fewer
 unfoldable pub cut : List ℕ → Search → Bool
-cut b search = cutFirst (contacts b outside (search .history) (search .next) (search .left))
+cut b search =
+    some (λ k. toEight b search k && not (some (toEight b search) k) && not (some (laterToFour b search k) (search .left))) (search .left)
 
 -- 10: "group of one balise"
 abbrev pub oneBalise : Group → Bool
@@ -85,15 +105,28 @@ oneBalise g = eqb (g .count) 1
 abbrev pub moreThanFive : Group → Bool
 moreThanFive g = ltb 5 (g .count)
 
--- Whether an answer is a refusal.
-abbrev pub isRefusal : {A : Type 0} → Outcome A → Bool
-isRefusal (gives x) = false
-isRefusal (refuses n) = true
+-- Whether the word x reads 12, a number balise's.
+abbrev pub isNumber : ℕ → Bool
+isNumber x = eqb (figure 8 (exchanged 8 x)) 12
 
--- Whether one of the balises is unreadable, or its words are refused.
+-- Whether a short word of a telegram is refused.
+abbrev pub isBad : ℕ → Bool
+isBad w = notCode 8 w || fifteen w
+
+-- Whether the words of a telegram are refused: X is, or, if it reads 12, Y and Z together are, or else Y or Z is.
+unfoldable pub wordsRefused : ℕ → ℕ → ℕ → Bool
+wordsRefused x y z = isBad x || pick (isNumber x) (notCode 16 (y * 256 + z)) (isBad y || isBad z)
+
+-- Whether what was heard is unreadable, or words that are refused.
+abbrev pub isUnread : Heard → Bool
+isUnread (Heard.Words x y z) = wordsRefused x y z
+isUnread Heard.Marker = false
+isUnread Heard.Unreadable = true
+
+-- Whether it is so of one of the balises.
 abbrev pub someUnread : List Balise → Bool
 someUnread [] = false
-someUnread (b ∷ bs) = isRefusal (partHeard (b .heard)) || someUnread bs
+someUnread (b ∷ bs) = isUnread (b .heard) || someUnread bs
 
 -- 12: "a balise unreadable, or its words refused"
 unfoldable pub unread : Group → Bool
@@ -134,13 +167,19 @@ abbrev pub isJudged : Fit → Bool
 isJudged misfit = false
 isJudged (fit kind a) = judgedKind kind
 
--- 15: "distance not allowed"
-unfoldable pub notAllowed : List Placed → Bool
-notAllowed bs = isJudged (fitIn present bs) && isRefusal (distanceOf bs)
-
--- 15 again, for the table of distances by itself: no column above 14, no figure but 1 to 14
+-- 15, for the table of distances by itself: no column above 14, no figure but 1 to 14
 unfoldable pub noDistance : ℕ → ℕ → Bool
 noDistance by figure = ltb 14 by || not (leb 1 figure && leb figure 14)
+
+-- Whether BY, BZ and the 14, if there is one, give no distance. "Without a 14, BZ must be 1 to 14. With a 14 (C), BZ must be
+-- 0 and CY 1 to 14, and CY is used for BZ."
+abbrev pub noLink : ℕ → ℕ → Found → Bool
+noLink by bz none = noDistance by bz
+noLink by bz (found c) = not (eqb bz 0) || noDistance by (Y (c .part))
+
+-- 15: "distance not allowed"
+unfoldable pub notAllowed : List Placed → Bool
+notAllowed bs = isJudged (fitIn present bs) && noLink (yOf (B bs)) (zOf (B bs)) (C bs)
 
 -- 16: "trace length not a multiple of 8"
 unfoldable pub badLength : List ℕ → Bool
