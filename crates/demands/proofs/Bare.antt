@@ -8,7 +8,7 @@ use Rattle.telegram.specs.Says.{saysPair, saysTelegramRead, saysFound, saysSurv
 use Rattle.contact.specs.Says.{saysBegun, saysNext, saysJudged}
 use Rattle.group.specs.Says.{saysMeasured, saysJudged as saysGroup}
 use Rattle.ride.specs.Says.{saysChecked, saysReport, saysWay}
-use Rattle.ride.specs.Step.{Step, step, End}
+use Rattle.ride.specs.Step.{Step, step}
 use Rattle.ride.specs.Over.{Run, run}
 use Rattle.listing.specs.Text.{text}
 use Rattle.listing.specs.Put.{Filled, put}
@@ -22,12 +22,15 @@ use Rattle.group.proofs.Determined as group-is
 use Rattle.ride.proofs.Determined as ride-is
 use Rattle.listing.proofs.Determined as listing-is
 use Rattle.demands.specs.Demand1.{Untouched}
-use Rattle.demands.proofs.Rides.{step-untouched, run-untouched, group-clears, end-clears}
+use Rattle.demands.proofs.Rides.{step-untouched, run-untouched}
+use Rattle.demands.proofs.Steps.{group-refused, end-refused}
 use Rattle.demands.proofs.Listings.{list-untouched, put-untouched}
 
 pub untouched : Untouched
 untouched = record {
-  step = λ ride gap bytes r n c e. ap (λ (s : Step). s .ride) (c .1) ∙ step-untouched ride gap bytes n (sym (ap (λ (s : Step). s .lines) (c .1)) ∙ e);
+  step = λ ride gap bytes r n c e.
+      let kept = step-untouched ride gap bytes n (sym (ap (λ (s : Step). s .lines) (c .1)) ∙ e) in
+      (ap (λ (s : Step). s .ride) (c .1) ∙ kept .0, ap (λ (s : Step). s .closed) (c .1) ∙ kept .1);
   run = λ ride gap trace r n c e.
       let is = c .4 ∙ ap (λ (v : List ℕ). run ride gap v) (c .3) in
       ap (λ (s : Run). s .ride) is ∙ run-untouched ride gap trace n (sym (ap (λ (s : Run). s .answer) is) ∙ e);
@@ -41,8 +44,8 @@ untouched = record {
   put-line = λ line before at r after c e.
       let is = c .5 ∙ ap (λ (v : List ℕ). put (text line) v at) (c .3) in
       sym (c .4) ∙ ap (λ (f : Filled). f .buffer) is ∙ put-untouched (text line) before at (sym (ap (λ (f : Filled). f .ends) is) ∙ e);
-  group = group-clears;
-  end = λ ride r n c is e. ap (λ (s : End). s .ride) (c .1) ∙ end-clears ride n is e;
+  group = group-refused;
+  end = end-refused;
   short-read = λ n r r′ p q. told saysShortRead words-are.shortRead words-are.shortRead-back r r′ p q;
   short-written = λ n r r′ p q. told saysShortWritten words-are.shortWritten words-are.shortWritten-back r r′ p q;
   long-read = λ n r r′ p q. told saysLongRead words-are.longRead words-are.longRead-back r r′ p q;

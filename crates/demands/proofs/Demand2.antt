@@ -39,10 +39,11 @@ use Rattle.group.proofs.Entries.{speed-in, speed-out}
 use Rattle.ride.specs.Linking.{markAt, markOf}
 use Rattle.ride.specs.declared.Mark.{Mark}
 use Rattle.demands.specs.Table.{someUnread, unread, listOf, partsOf}
-use Rattle.demands.specs.Demand2.{M8, noColumn, Words, Groups, Marks, Demand2}
+use Rattle.demands.specs.Cases.{M8}
+use Rattle.demands.specs.Demand2.{noColumn, Words, Groups, Marks, Demand2}
 use Rattle.demands.proofs.Groups.{Read, bad, all, read-is}
 use Rattle.demands.proofs.Rules.{true-not-false}
-use Rattle.demands.proofs.RowCases.{rows-judged}
+use Rattle.demands.proofs.RowCases.{present-judged, opposite-judged, outside-judged}
 use Rattle.demands.proofs.Cases.{cases-hold}
 
 -- ---- words
@@ -184,4 +185,4 @@ marks = record {
 }
 
 pub demand2 : Demand2
-demand2 = record { words = words; groups = groups; marks = marks; rows = rows-judged; cases = cases-hold }
+demand2 = record { words = words; groups = groups; marks = marks; present = present-judged; opposite = opposite-judged; outside = outside-judged; cases = cases-hold }

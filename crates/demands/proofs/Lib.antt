@@ -4,6 +4,9 @@ pub mod Cut
 pub mod Contacts
 pub mod Groups
 pub mod Rides
+pub mod Messages
+pub mod Steps
+pub mod Linking
 pub mod Listings
 pub mod Bare
 pub mod Demand1

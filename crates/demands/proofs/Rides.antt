@@ -8,16 +8,11 @@ use native.Mathlib.Omega.{arith}
 use lib.Dec.{eqb, ltb}
 use lib.ListN.{length}
 use Rattle.words.specs.Answer.{Outcome, gives, refuses, pick}
-use Rattle.group.specs.Judge.{judge}
-use Rattle.group.specs.declared.Group.{Group}
 use Rattle.ride.specs.Record.{Entry, odometerOf, passedOf, inOrder, check}
-use Rattle.ride.specs.State.{noGroup, isOpen, nothingKnown}
+use Rattle.ride.specs.State.{noGroup}
 use Rattle.ride.specs.Joining.{allowed}
-use Rattle.ride.specs.Closing.{Closing, closeAs, close, leave}
-use Rattle.ride.specs.Step.{Step, goOn, refuseOr, refused, treat, step, End, ended, end}
+use Rattle.ride.specs.Step.{Step, goOn, refuseOr, refused, treat, step}
 use Rattle.ride.specs.Over.{records, rideOver, Through, through, Run, run}
-use Rattle.ride.specs.declared.Known.{Known}
-use Rattle.ride.specs.declared.Line.{Line}
 use Rattle.ride.specs.declared.Ride.{Ride}
 use Rattle.demands.specs.Rules.{Rule, row, Decided, Given}
 use Rattle.demands.specs.Table.{badLength, badRecord, wentBack, tooFar, badGap}
@@ -79,13 +74,15 @@ pub gives-not : {A : Type 0} {x : A} {n : ℕ} → gives x ≡ refuses n → ⊥
 gives-not e = let z : _≡_ {A = ℕ} 0 1 = cc in omega arith
 
 -- A refused step leaves the ride.
-pub step-untouched : (ride : Ride) (gap : ℕ) (r : List ℕ) (n : ℕ) → step ride gap r .lines ≡ refuses n → step ride gap r .ride ≡ ride
+pub step-untouched : (ride : Ride) (gap : ℕ) (r : List ℕ) (n : ℕ) → step ride gap r .lines ≡ refuses n
+    → (step ride gap r .ride ≡ ride) × (step ride gap r .closed ≡ noGroup)
 unfolding step treat goOn
 step-untouched ride gap r n e = go (allowed gap) (check (ride .odometer) r) e
   where
-    go : (t : Bool) (o : Outcome Entry) → pick t (refuseOr ride gap o) (refused ride 19) .lines ≡ refuses n → pick t (refuseOr ride gap o) (refused ride 19) .ride ≡ ride
-    go false o q = refl
-    go true (refuses k) q = refl
+    go : (t : Bool) (o : Outcome Entry) → pick t (refuseOr ride gap o) (refused ride 19) .lines ≡ refuses n
+        → (pick t (refuseOr ride gap o) (refused ride 19) .ride ≡ ride) × (pick t (refuseOr ride gap o) (refused ride 19) .closed ≡ noGroup)
+    go false o q = (refl, refl)
+    go true (refuses k) q = (refl, refl)
     go true (gives x) q = absurd (gives-not q)
 
 -- A refused run leaves the ride.
@@ -98,17 +95,3 @@ run-untouched ride gap trace n e = go (allowed gap) (eqb (length trace % 8) 0) e
     go false u q = refl
     go true false q = refl
     go true true q = absurd (gives-not q)
-
--- A refused group leaves no group and nothing known.
-pub group-clears : (g : Group) (known : Known) (n : ℕ) → judge g ≡ refuses n → (close g known .group ≡ noGroup) × (close g known .known ≡ nothingKnown)
-unfolding close
-group-clears g known n e =
-    (refl, ap (λ (o : Outcome _). closeAs g known o .known) e)
-
--- At the end nothing else is changed.
-pub end-clears : (ride : Ride) (n : ℕ) → isOpen (ride .group) ≡ true → judge (ride .group) ≡ refuses n
-    → end ride .ride ≡ record { odometer = ride .odometer; group = noGroup; known = nothingKnown }
-unfolding end close
-end-clears ride n is e =
-    ap (λ (t : Bool). ended (ride .odometer) (pick t (close (ride .group) (ride .known)) (leave (ride .group) (ride .known))) .ride) is
-    ∙ ap (λ (o : Outcome _). ended (ride .odometer) (closeAs (ride .group) (ride .known) o) .ride) e

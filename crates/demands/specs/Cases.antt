@@ -25,6 +25,11 @@ use Rattle.ride.specs.declared.Ride.{Ride}
 use Rattle.ride.specs.declared.Ran.{Ran}
 use Rattle.demands.specs.Contracts.{ReadShort, WriteShort, ReadLong, WriteLong, Distance, Fresh, RunOver}
 
+-- "M(8,4) is, for 0 to 15"
+abbrev pub M8 : List ℕ
+M8 =
+    0x00 ∷ 0x17 ∷ 0x2B ∷ 0x3C ∷ 0x4D ∷ 0x5A ∷ 0x66 ∷ 0x71 ∷ 0x8E ∷ 0x99 ∷ 0xA5 ∷ 0xB2 ∷ 0xC3 ∷ 0xD4 ∷ 0xE8 ∷ 0xFF ∷ []
+
 -- A case: what is asked of a function, and what document 01 says must come.
 pub data Case : Type 0 where
   short : ℕ → ℕ → Case

@@ -1,5 +1,10 @@
 -- Demand 1: "Any bits, any trace, any settings: every call ends with a named reading or a numbered refusal of document 01,
--- given exactly under the condition written there."
+-- given exactly under the condition written there. A refusal hands out no figure, and lent memory and state stay untouched
+-- unless the table says otherwise."
+-- The first sentence is the record `Demand1`, the second the record `Untouched`. The conditions are specs/Table.antt, what the
+-- contracts allow is specs/Contracts.antt. That every call ends is the kit's own check of each function, and no theorem here. The
+-- functions that cannot refuse (`fresh`, `speed`, `end`, `put_line`) have no list. Those of the face for C (crates/abi) have
+-- contracts of their own over the same definitions.
 -- Assumes nothing.
 use Prim.Native.Nat.{ℕ, _+_, _*_}
 use mathlib.Core.Bool.{Bool, true, false}
@@ -30,11 +35,10 @@ use Rattle.group.specs.Says.{saysMeasured, saysJudged as saysGroup}
 use Rattle.group.specs.declared.Group.{Group}
 use Rattle.group.specs.declared.Measured.{Measured}
 use Rattle.group.specs.declared.Judged.{Judged as GroupJudged}
-use Rattle.group.specs.Judge.{judge}
 use Rattle.ride.specs.State.{noGroup, isOpen, nothingKnown}
-use Rattle.ride.specs.Closing.{close}
-use Rattle.ride.specs.Says.{saysChecked, saysReport, saysStepped, saysWay, saysRan}
-use Rattle.ride.specs.declared.Known.{Known}
+use Rattle.ride.specs.Joining.{takeUp}
+use Rattle.ride.specs.Closing.{firstPlace}
+use Rattle.ride.specs.Says.{saysChecked, saysReport, saysStepped, saysEnded, saysWay, saysRan}
 use Rattle.ride.specs.declared.Ride.{Ride}
 use Rattle.ride.specs.declared.Checked.{Checked}
 use Rattle.ride.specs.declared.Stepped.{Stepped}
@@ -48,6 +52,7 @@ use Rattle.listing.specs.declared.Listed.{Listed}
 use Rattle.demands.specs.Rules.{Rule, row, Decided, Given}
 use Rattle.demands.specs.Table.{notCode, above, fifteen, notSeven, beyond, noPlace, placesDiffer, neither, cut, oneBalise, moreThanFive, isNumber, unread, partsOf, noRow, bothWays, notAllowed, noDistance, badLength, badRecord, wentBack, tooFar, badGap}
 use Rattle.demands.specs.Contracts.{ReadShort, WriteShort, ReadLong, WriteLong, GoodPair, ReadTelegram, Find, Survey, Begin, NextContact, JudgeContact, Distance, JudgeGroup, CheckRecord, StepOf, EndOf, RunOver, PutLine, ListInto}
+use Rattle.demands.specs.Steps.{OneStep, LeavesBehind}
 
 -- A row of the table at the word of a telegram that this letter names.
 abbrev pub rowAt : Letter → ℕ → Bool → Rule Reading
@@ -143,9 +148,9 @@ pub record Demand1 : Type 0 where
 -- Of the libraries only `listing` is lent memory that it may write. (The face for C leaves every lent array as it was where it
 -- refuses: `left` of crates/abi/specs/Face.antt.)
 pub record Untouched : Type 0 where
-  -- a refused step and a refused run leave the ride as it was
+  -- a refused step closes no group, and it and a refused run leave the ride as it was
   pub step : (ride : Ride) (gap : ℕ) (bytes : List ℕ) (r : Stepped) (n : ℕ) → StepOf ride gap bytes r
-      → saysStepped r .lines ≡ refuses n → r .ride ≡ ride
+      → saysStepped r .lines ≡ refuses n → (r .ride ≡ ride) × (r .closed ≡ noGroup)
   pub run : (ride : Ride) (gap : ℕ) (trace : List ℕ) (r : Ran) (n : ℕ) → RunOver ride gap trace r → saysRan r .answer ≡ refuses n → r .ride ≡ ride
   -- so does a refused listing, which leaves the number and the lent buffer too; a line without room leaves the buffer
   pub list : (ride : Ride) (gap number : ℕ) (trace before : List ℕ) (r : Listed) (after : List ℕ) (n : ℕ)
@@ -153,12 +158,24 @@ pub record Untouched : Type 0 where
       → (r .ride ≡ ride) × (r .number ≡ number) × (after ≡ before)
   pub put-line : (line : Line) (before : List ℕ) (at : ℕ) (r : Put) (after : List ℕ) → PutLine line before at r after
       → saysPut r ≡ noRoom → after ≡ before
-  -- a refused group, 10 to 15, leaves no group and nothing known
-  pub group : (g : Group) (known : Known) (n : ℕ) → judge g ≡ refuses n
-      → (close g known .group ≡ noGroup) × (close g known .known ≡ nothingKnown)
-  -- and nothing else is changed: at the end the odometer stays
-  pub end : (ride : Ride) (r : Ended) (n : ℕ) → EndOf ride r → isOpen (ride .group) ≡ true → judge (ride .group) ≡ refuses n
-      → r .ride ≡ record { odometer = ride .odometer; group = noGroup; known = nothingKnown }
+  -- "but for the group refusals": a group that is left behind and refused with n, 10 to 15, gives the fault line, is handed out as
+  -- the one that closed, and leaves nothing known and no group but what the record itself takes up
+  pub group : (o : OneStep) (j : GroupJudged) (n : ℕ) → LeavesBehind o → JudgeGroup (o .ride .group) j → saysGroup j ≡ refuses n
+      → saysStepped (o .answer)
+      ≡ record {
+        lines = gives (Line.Fault (firstPlace (o .ride .group)) n ∷ []);
+        closed = o .ride .group;
+        ride = record { odometer = o .odometer; group = takeUp noGroup (o .odometer) (o .passed); known = nothingKnown };
+      }
+  -- the same where the end of the ride closes it; the odometer stays
+  pub end : (ride : Ride) (r : Ended) (j : GroupJudged) (n : ℕ) → EndOf ride r → isOpen (ride .group) ≡ true → JudgeGroup (ride .group) j
+      → saysGroup j ≡ refuses n
+      → saysEnded r
+      ≡ record {
+        lines = Line.Fault (firstPlace (ride .group)) n ∷ [];
+        closed = ride .group;
+        ride = record { odometer = ride .odometer; group = noGroup; known = nothingKnown };
+      }
   -- no refusal carries a figure
   pub short-read : Bare saysShortRead
   pub short-written : Bare saysShortWritten

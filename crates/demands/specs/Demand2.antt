@@ -31,14 +31,9 @@ use Rattle.ride.specs.Linking.{markAt, markOf}
 use Rattle.ride.specs.declared.Linking.{Linking}
 use Rattle.ride.specs.declared.Mark.{Mark}
 use Rattle.demands.specs.Table.{oneBalise, moreThanFive, unread, partsOf}
-use Rattle.demands.specs.RowCases.{rowCases, AllJudged}
-use Rattle.demands.specs.Cases.{Cases}
+use Rattle.demands.specs.RowCases.{presentCases, oppositeCases, outsideCases, AllJudged}
+use Rattle.demands.specs.Cases.{M8, Cases}
 use Rattle.demands.specs.Contracts.{ReadShort, WriteShort, ReadLong, WriteLong, ReadTelegram, Distance, Speed, JudgeGroup}
-
--- M(8,4) for 0 to 15, as document 01 prints it.
-abbrev pub M8 : List ℕ
-M8 =
-    0x00 ∷ 0x17 ∷ 0x2B ∷ 0x3C ∷ 0x4D ∷ 0x5A ∷ 0x66 ∷ 0x71 ∷ 0x8E ∷ 0x99 ∷ 0xA5 ∷ 0xB2 ∷ 0xC3 ∷ 0xD4 ∷ 0xE8 ∷ 0xFF ∷ []
 
 -- The two codes and the telegram.
 pub record Words : Type 0 where
@@ -97,6 +92,8 @@ pub record Demand2 : Type 0 where
   pub groups : Groups
   pub marks : Marks
   -- the rows of the groups, in short and in long forms, and just outside
-  pub rows : AllJudged rowCases
+  pub present : AllJudged presentCases
+  pub opposite : AllJudged oppositeCases
+  pub outside : AllJudged outsideCases
   -- document 01's table of proved cases under a single claim, and its ride in full
   pub cases : Cases

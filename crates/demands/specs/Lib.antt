@@ -1,9 +1,11 @@
 pub mod Rules
 pub mod Table
 pub mod Contracts
+pub mod Steps
 pub mod Demand1
 pub mod Cases
 pub mod RowCases
+pub mod Linking
 pub mod Demand2
 pub mod Line
 pub mod Calls

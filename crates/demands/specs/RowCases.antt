@@ -1,100 +1,162 @@
--- The rows of document 01's groups, in short and in long forms, and just outside: what is judged of each.
+-- The rows of document 01's groups, each in its shortest form and with all its optional members, and just outside: what is
+-- judged of each. The balises lie 3 metres apart, the first at 1000 dm, and are given as they are received.
 -- Assumes nothing.
-use Prim.Native.Nat.{ℕ, _+_}
+use Prim.Native.Nat.{ℕ, _+_, _*_}
 use mathlib.Core.Path.{_≡_}
-use mathlib.Core.List.{List, [], _∷_}
+use mathlib.Core.Bool.{true, false}
+use mathlib.Core.List.{List, [], _∷_, _++_}
+use lib.ListN.{length, take, getD, replicate}
 use Rattle.words.specs.Answer.{Outcome, gives, refuses}
-use Rattle.group.specs.Message.{Message}
-use Rattle.group.specs.Judge.{judgeRead}
+use Rattle.group.specs.Message.{Content, ofSignal, ofWarning, ofRoute, nothing, Message}
+use Rattle.group.specs.Speed.{kmh, noInformation}
+use Rattle.group.specs.Says.{saysJudged}
+use Rattle.group.specs.declared.Balise.{Balise}
 use Rattle.group.specs.declared.Direction.{Direction}
+use Rattle.group.specs.declared.Group.{Group}
+use Rattle.group.specs.declared.Heard.{Heard}
+use Rattle.group.specs.declared.Judged.{Judged}
 use Rattle.group.specs.declared.Kind.{Kind}
-use Rattle.group.specs.declared.Part.{Part}
-use Rattle.group.specs.declared.Placed.{Placed}
+use Rattle.demands.specs.Cases.{M8}
+use Rattle.demands.specs.Contracts.{JudgeGroup}
 
--- A group as it was read: figures X, Y, Z; a number balise; a marker. The balises lie 3 metres apart, the first at 1000 dm.
-abbrev pub f : ℕ → ℕ → ℕ → Part
-f = Part.Figures
+-- The balise that sends the figures x, y and z: the words of M(8,4).
+abbrev pub f : ℕ → ℕ → ℕ → Heard
+f x y z = Heard.Words (getD M8 x 0) (getD M8 y 0) (getD M8 z 0)
 
-abbrev pub N : Part
-N = Part.Number 1612
+-- The number balise with 1612: "1612 is D1/C6".
+abbrev pub N : Heard
+N = Heard.Words 0xC3 0xD1 0xC6
 
-abbrev pub M : Part
-M = Part.Marker
+-- A marker.
+abbrev pub M : Heard
+M = Heard.Marker
 
-abbrev pub from : ℕ → List Part → List Placed
+-- Balises 3 metres apart, from this place on.
+abbrev pub from : ℕ → List Heard → List Balise
 from place [] = []
-from place (p ∷ ps) = record { place = place; part = p } ∷ from (place + 30) ps
+from place (h ∷ hs) = record { place = place; heard = h } ∷ from (place + 30) hs
 
--- What is asked of a message here: direction, kind and the place of A; or the number of its refusal.
-pub data Shape : Type 0 where
-  is : Direction → Kind → ℕ → Shape
-  refusedAs : ℕ → Shape
+-- The group of these balises. It keeps five; where there are fewer, the rest is never looked at.
+abbrev pub groupOf : List Heard → Group
+groupOf hs =
+    record {
+      kept = take 5 (from 1000 hs ++ replicate 5 (record { place = 0; heard = Heard.Unreadable }));
+      count = length hs;
+      last = 970 + 30 * length hs;
+    }
 
-abbrev pub shapeOf : Outcome Message → Shape
-shapeOf (gives m) = is (m .direction) (m .kind) (m .place)
-shapeOf (refuses n) = refusedAs n
-
--- The balises of a group, and what must come.
+-- A group, and what must be judged of it.
 pub record RowCase : Type 0 where
-  pub balises : List Part
-  pub judged : Shape
+  pub balises : List Heard
+  pub judged : Outcome Message
 
-abbrev pub present : List Part → Kind → ℕ → RowCase
-present bs kind a = record { balises = bs; judged = is Direction.Present kind a }
+-- A group in this direction: its kind, the place of its A, AY and AZ, and what more it says.
+abbrev pub is : Direction → List Heard → Kind → ℕ → ℕ → ℕ → Content → RowCase
+is direction hs kind place ay az content =
+    record {
+      balises = hs;
+      judged = gives (record { direction = direction; kind = kind; place = place; ay = ay; az = az; content = content });
+    }
 
-abbrev pub opposite : List Part → Kind → ℕ → RowCase
-opposite bs kind a = record { balises = bs; judged = is Direction.Opposite kind a }
+-- A group in the present direction.
+abbrev pub present : List Heard → Kind → ℕ → ℕ → ℕ → Content → RowCase
+present = is Direction.Present
 
-abbrev pub rowCases : List RowCase
-rowCases =
-    -- signal: [12] [8] 1 9 [14] [12], and the same with 4 for 1
-    present (f 1 8 5 ∷ f 9 2 4 ∷ []) Kind.Signal 1000
-    ∷ present (N ∷ f 8 7 1 ∷ f 1 8 5 ∷ f 9 2 0 ∷ f 14 4 0 ∷ []) Kind.Signal 1060
-    ∷ present (f 8 7 1 ∷ f 1 8 5 ∷ f 9 2 0 ∷ f 14 4 0 ∷ N ∷ []) Kind.Signal 1030
-    ∷ present (f 4 8 5 ∷ f 9 2 4 ∷ []) Kind.Signal 1000
-    ∷ present (N ∷ f 8 7 1 ∷ f 4 8 5 ∷ f 9 2 0 ∷ f 14 4 0 ∷ []) Kind.Signal 1060
+-- A group in the opposite direction: it says nothing more.
+abbrev pub opposite : List Heard → Kind → ℕ → ℕ → ℕ → RowCase
+opposite hs kind place ay az = is Direction.Opposite hs kind place ay az nothing
+
+-- A group that is refused with this number.
+abbrev pub refusedAs : ℕ → List Heard → RowCase
+refusedAs n hs = record { balises = hs; judged = refuses n }
+
+-- "Present direction, in the order passed"
+abbrev pub presentCases : List RowCase
+presentCases =
+    -- signal: [12] [8] 1 9 [14] [12]; the prefix makes target figure 1 read 0; AY 14 and AZ 14 give no information; BY 14 is preset
+    present (f 1 8 5 ∷ f 9 2 4 ∷ []) Kind.Signal 1000 8 5 (ofSignal 4000 false (kmh 130) (kmh 80))
+    ∷ present (N ∷ f 8 7 1 ∷ f 1 8 1 ∷ f 9 2 0 ∷ f 14 4 0 ∷ []) Kind.Signal 1060 8 1 (ofSignal 4000 false (kmh 130) (kmh 0))
+    ∷ present (f 8 7 0 ∷ f 1 8 1 ∷ f 9 2 0 ∷ f 14 4 0 ∷ N ∷ []) Kind.Signal 1030 8 1 (ofSignal 4000 false (kmh 130) (kmh 40))
+    ∷ present (f 1 14 14 ∷ f 9 14 1 ∷ []) Kind.Signal 1000 14 14 (ofSignal 7000 true noInformation noInformation)
+    -- and the same with 4 for 1
+    ∷ present (f 4 8 5 ∷ f 9 13 14 ∷ []) Kind.Signal 1000 8 5 (ofSignal 119000 false (kmh 130) (kmh 80))
+    ∷ present (N ∷ f 8 14 14 ∷ f 4 14 1 ∷ f 9 0 0 ∷ f 14 1 0 ∷ []) Kind.Signal 1060 14 1 (ofSignal 125 false noInformation (kmh 0))
+    ∷ present (f 8 6 1 ∷ f 4 13 1 ∷ f 9 0 0 ∷ f 14 14 0 ∷ N ∷ []) Kind.Signal 1030 13 1 (ofSignal 1750 false (kmh 0) (kmh 40))
     -- warning board: [8] 2 9 [14] [12], AZ 0 to 13 and BY 0 to 13
-    ∷ present (f 2 0 0 ∷ f 9 0 1 ∷ []) Kind.Warning 1000
-    ∷ present (f 8 0 0 ∷ f 2 14 13 ∷ f 9 13 0 ∷ f 14 14 0 ∷ N ∷ []) Kind.Warning 1030
-    -- annulled: [12] [8] 10 9 [14] [12]
-    ∷ present (f 10 0 0 ∷ f 9 0 0 ∷ []) Kind.Annulled 1000
-    ∷ present (N ∷ f 8 0 0 ∷ f 10 14 14 ∷ f 9 14 14 ∷ f 14 0 0 ∷ []) Kind.Annulled 1060
+    ∷ present (f 2 0 0 ∷ f 9 0 1 ∷ []) Kind.Warning 1000 0 0 (ofWarning 125 false)
+    ∷ present (f 8 0 0 ∷ f 2 14 13 ∷ f 9 13 0 ∷ f 14 14 0 ∷ N ∷ []) Kind.Warning 1030 14 13 (ofWarning 119000 false)
+    -- annulled: [12] [8] 10 9 [14] [12]; no distance is judged
+    ∷ present (f 10 0 0 ∷ f 9 0 0 ∷ []) Kind.Annulled 1000 0 0 nothing
+    ∷ present (N ∷ f 8 0 0 ∷ f 10 14 14 ∷ f 9 14 14 ∷ f 14 0 0 ∷ []) Kind.Annulled 1060 14 14 nothing
+    ∷ present (f 8 0 0 ∷ f 10 14 14 ∷ f 9 14 14 ∷ f 14 0 0 ∷ N ∷ []) Kind.Annulled 1030 14 14 nothing
     -- line speed board: 3 5 if AY is 0 to 8; 3 M if AY is 9 to 14; AZ 0 to 13
-    ∷ present (f 3 0 0 ∷ f 5 0 0 ∷ []) Kind.Line 1000
-    ∷ present (f 3 8 13 ∷ f 5 14 14 ∷ []) Kind.Line 1000
-    ∷ present (f 3 9 0 ∷ M ∷ []) Kind.Line 1000
-    ∷ present (f 3 14 13 ∷ M ∷ []) Kind.Line 1000
-    -- route board: 5 followed by 3, 5 or 7, with AY 2 and AZ 0 to 13, or AY 4 and AZ 10
-    ∷ present (f 5 2 0 ∷ f 3 0 0 ∷ []) Kind.Route 1000
-    ∷ present (f 5 2 13 ∷ f 5 2 13 ∷ []) Kind.Route 1000
-    ∷ present (f 5 4 10 ∷ f 7 0 0 ∷ []) Kind.Route 1000
-    -- [12] [14] 9, then 1, 4 or 10, then [8] [12]
-    ∷ opposite (f 9 0 0 ∷ f 1 0 0 ∷ []) Kind.Signal 1030
-    ∷ opposite (N ∷ f 14 0 0 ∷ f 9 0 0 ∷ f 4 14 14 ∷ f 8 0 0 ∷ []) Kind.Signal 1090
-    ∷ opposite (f 14 0 0 ∷ f 9 0 0 ∷ f 10 14 14 ∷ f 8 0 0 ∷ N ∷ []) Kind.Annulled 1060
-    -- [12] [14] 9 2, or [12] M 2
-    ∷ opposite (f 9 14 0 ∷ f 2 0 14 ∷ []) Kind.Warning 1030
-    ∷ opposite (N ∷ f 14 0 0 ∷ f 9 0 0 ∷ f 2 0 0 ∷ []) Kind.Warning 1090
-    ∷ opposite (M ∷ f 2 0 0 ∷ []) Kind.Warning 1030
-    ∷ opposite (N ∷ M ∷ f 2 0 0 ∷ []) Kind.Warning 1060
-    -- M 3 if AY is 9 to 14
-    ∷ opposite (M ∷ f 3 9 0 ∷ []) Kind.Line 1030
-    ∷ opposite (M ∷ f 3 14 14 ∷ []) Kind.Line 1030
-    -- just outside: 12 twice, AZ 14 and BY 14 of a warning board, AY 9 with a 5, AY 8 with a marker, AZ 14 of a line board, AY 4
-    -- with AZ 9, AY 8 the other way; and a distance that is not allowed: BZ 0 without a 14, BZ 5 with one
-    ∷ record { balises = N ∷ f 1 8 5 ∷ f 9 2 4 ∷ N ∷ []; judged = refusedAs 13 }
-    ∷ record { balises = f 2 0 14 ∷ f 9 0 1 ∷ []; judged = refusedAs 13 }
-    ∷ record { balises = f 2 0 0 ∷ f 9 14 1 ∷ []; judged = refusedAs 13 }
-    ∷ record { balises = f 3 9 0 ∷ f 5 0 0 ∷ []; judged = refusedAs 13 }
-    ∷ record { balises = f 3 8 0 ∷ M ∷ []; judged = refusedAs 13 }
-    ∷ record { balises = f 3 0 14 ∷ f 5 0 0 ∷ []; judged = refusedAs 13 }
-    ∷ record { balises = f 5 4 9 ∷ f 7 0 0 ∷ []; judged = refusedAs 13 }
-    ∷ record { balises = M ∷ f 3 8 0 ∷ []; judged = refusedAs 13 }
-    ∷ record { balises = f 1 8 5 ∷ f 9 2 0 ∷ []; judged = refusedAs 15 }
-    ∷ record { balises = f 1 8 5 ∷ f 9 2 5 ∷ f 14 4 0 ∷ []; judged = refusedAs 15 }
+    ∷ present (f 3 0 0 ∷ f 5 0 0 ∷ []) Kind.Line 1000 0 0 nothing
+    ∷ present (f 3 8 13 ∷ f 5 14 14 ∷ []) Kind.Line 1000 8 13 nothing
+    ∷ present (f 3 9 0 ∷ M ∷ []) Kind.Line 1000 9 0 nothing
+    ∷ present (f 3 14 13 ∷ M ∷ []) Kind.Line 1000 14 13 nothing
+    -- route board: 5 followed by 3, 5 or 7, with AY 2 and AZ 0 to 13 (10 x AZ km/h), or AY 4 and AZ 10 (140 km/h)
+    ∷ present (f 5 2 0 ∷ f 3 0 0 ∷ []) Kind.Route 1000 2 0 (ofRoute 0)
+    ∷ present (f 5 2 13 ∷ f 5 2 12 ∷ []) Kind.Route 1000 2 13 (ofRoute 130)
+    ∷ present (f 5 2 9 ∷ f 7 0 0 ∷ []) Kind.Route 1000 2 9 (ofRoute 90)
+    ∷ present (f 5 4 10 ∷ f 3 0 0 ∷ []) Kind.Route 1000 4 10 (ofRoute 140)
+    ∷ present (f 5 4 10 ∷ f 5 4 10 ∷ []) Kind.Route 1000 4 10 (ofRoute 140)
+    ∷ present (f 5 4 10 ∷ f 7 0 0 ∷ []) Kind.Route 1000 4 10 (ofRoute 140)
     ∷ []
 
--- Every case of a list is judged so.
+-- "Opposite direction, in the order passed"
+abbrev pub oppositeCases : List RowCase
+oppositeCases =
+    -- [12] [14] 9, then 1, 4 or 10, then [8] [12]
+    opposite (f 9 0 0 ∷ f 1 0 0 ∷ []) Kind.Signal 1030 0 0
+    ∷ opposite (N ∷ f 14 0 0 ∷ f 9 0 0 ∷ f 1 14 14 ∷ f 8 0 0 ∷ []) Kind.Signal 1090 14 14
+    ∷ opposite (f 14 0 0 ∷ f 9 0 0 ∷ f 1 14 14 ∷ f 8 0 0 ∷ N ∷ []) Kind.Signal 1060 14 14
+    ∷ opposite (f 9 0 0 ∷ f 4 0 0 ∷ []) Kind.Signal 1030 0 0
+    ∷ opposite (N ∷ f 14 0 0 ∷ f 9 0 0 ∷ f 4 14 14 ∷ f 8 0 0 ∷ []) Kind.Signal 1090 14 14
+    ∷ opposite (f 14 0 0 ∷ f 9 0 0 ∷ f 4 14 14 ∷ f 8 0 0 ∷ N ∷ []) Kind.Signal 1060 14 14
+    ∷ opposite (f 9 0 0 ∷ f 10 0 0 ∷ []) Kind.Annulled 1030 0 0
+    ∷ opposite (N ∷ f 14 0 0 ∷ f 9 0 0 ∷ f 10 14 14 ∷ f 8 0 0 ∷ []) Kind.Annulled 1090 14 14
+    ∷ opposite (f 14 0 0 ∷ f 9 0 0 ∷ f 10 14 14 ∷ f 8 0 0 ∷ N ∷ []) Kind.Annulled 1060 14 14
+    -- [12] [14] 9 2, or [12] M 2
+    ∷ opposite (f 9 14 0 ∷ f 2 0 14 ∷ []) Kind.Warning 1030 0 14
+    ∷ opposite (N ∷ f 14 0 0 ∷ f 9 0 0 ∷ f 2 0 0 ∷ []) Kind.Warning 1090 0 0
+    ∷ opposite (M ∷ f 2 0 14 ∷ []) Kind.Warning 1030 0 14
+    ∷ opposite (N ∷ M ∷ f 2 0 0 ∷ []) Kind.Warning 1060 0 0
+    -- M 3 if AY is 9 to 14
+    ∷ opposite (M ∷ f 3 9 0 ∷ []) Kind.Line 1030 9 0
+    ∷ opposite (M ∷ f 3 14 14 ∷ []) Kind.Line 1030 14 14
+    ∷ []
+
+-- Just outside.
+abbrev pub outsideCases : List RowCase
+outsideCases =
+    -- one balise; six; one unreadable; one with a word that is not a code word; one with a 15
+    refusedAs 10 (f 1 8 5 ∷ [])
+    ∷ refusedAs 11 (N ∷ f 8 7 1 ∷ f 1 8 5 ∷ f 9 2 0 ∷ f 14 4 0 ∷ N ∷ [])
+    ∷ refusedAs 12 (f 1 8 5 ∷ Heard.Unreadable ∷ [])
+    ∷ refusedAs 12 (f 1 8 5 ∷ Heard.Words 0x18 0x00 0x00 ∷ [])
+    ∷ refusedAs 12 (f 1 8 15 ∷ f 9 2 4 ∷ [])
+    -- 12 twice; AZ 14 and BY 14 of a warning board
+    ∷ refusedAs 13 (N ∷ f 1 8 5 ∷ f 9 2 4 ∷ N ∷ [])
+    ∷ refusedAs 13 (f 2 0 14 ∷ f 9 0 1 ∷ [])
+    ∷ refusedAs 13 (f 2 0 0 ∷ f 9 14 1 ∷ [])
+    -- a line board: AY 9 with a 5, AY 8 with a marker, AZ 14 of either form
+    ∷ refusedAs 13 (f 3 9 0 ∷ f 5 0 0 ∷ [])
+    ∷ refusedAs 13 (f 3 8 0 ∷ M ∷ [])
+    ∷ refusedAs 13 (f 3 0 14 ∷ f 5 0 0 ∷ [])
+    ∷ refusedAs 13 (f 3 9 14 ∷ M ∷ [])
+    -- a route board: AZ 14, AY 3, AY 4 with AZ 9 or 11; AY 8 of M 3
+    ∷ refusedAs 13 (f 5 2 14 ∷ f 3 0 0 ∷ [])
+    ∷ refusedAs 13 (f 5 3 0 ∷ f 3 0 0 ∷ [])
+    ∷ refusedAs 13 (f 5 4 9 ∷ f 7 0 0 ∷ [])
+    ∷ refusedAs 13 (f 5 4 11 ∷ f 7 0 0 ∷ [])
+    ∷ refusedAs 13 (M ∷ f 3 8 0 ∷ [])
+    -- a distance that is not allowed: BZ 0 without a 14; BZ 5 or CY 0 with one
+    ∷ refusedAs 15 (f 1 8 5 ∷ f 9 2 0 ∷ [])
+    ∷ refusedAs 15 (f 1 8 5 ∷ f 9 2 5 ∷ f 14 4 0 ∷ [])
+    ∷ refusedAs 15 (f 1 8 5 ∷ f 9 2 0 ∷ f 14 0 0 ∷ [])
+    ∷ []
+
+-- Every case of a list is judged so, by every answer that the contract of `group::judge` allows.
 abbrev pub AllJudged : List RowCase → Type 0
 AllJudged [] = Unit {0}
-AllJudged (c ∷ cs) = (shapeOf (judgeRead (from 1000 (c .balises))) ≡ c .judged) × AllJudged cs
+AllJudged (c ∷ cs) = ((r : Judged) → JudgeGroup (groupOf (c .balises)) r → saysJudged r ≡ c .judged) × AllJudged cs

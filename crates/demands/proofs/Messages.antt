@@ -1,0 +1,77 @@
+-- What an accepted group says is what document 01's rules give for its balises: the judgement, taken apart.
+-- Assumes nothing.
+use mathlib.Core.Path.{_≡_, refl, sym, ap, _∙_, subst}
+use mathlib.Core.Bool.{Bool, true, false}
+use mathlib.Core.List.{List}
+use Prim.Native.Nat.{ℕ}
+use native.Mathlib.Omega.{arith}
+use lib.Dec.{eqb, ltb}
+use Rattle.words.specs.Answer.{Outcome, gives, refuses, pick}
+use Rattle.group.specs.Balise.{balises, then, readAll}
+use Rattle.group.specs.Row.{Y, Z, Fit, misfit, fit}
+use Rattle.group.specs.Rows.{present, opposite, fitIn}
+use Rattle.group.specs.Distance.{isPreset}
+use Rattle.group.specs.Speed.{signalSpeed, targetFigure, routeSpeed}
+use Rattle.group.specs.Message.{Content, ofSignal, ofWarning, ofRoute, nothing, Message}
+use Rattle.group.specs.Judge.{yOf, zOf, B, P, distanceOf, contentOf, messageOf, decide, judgeRead, judge}
+use Rattle.group.specs.declared.Direction.{Direction}
+use Rattle.group.specs.declared.Group.{Group}
+use Rattle.group.specs.declared.Kind.{Kind}
+use Rattle.group.specs.declared.Placed.{Placed}
+use Rattle.demands.specs.Table.{listOf, partsOf}
+
+-- The content of a message of these balises, by its direction and kind.
+pub data View (bs : List Placed) (m : Message) : Type 0 where
+  signal : m .direction ≡ Direction.Present → m .kind ≡ Kind.Signal → (d : ℕ) → distanceOf bs ≡ gives d
+      → m .content ≡ ofSignal d (isPreset (yOf (B bs))) (signalSpeed (m .ay)) (signalSpeed (targetFigure (m .ay) (m .az) (yOf (P bs)) (zOf (P bs))))
+      → View bs m
+  warning : m .kind ≡ Kind.Warning → (d : ℕ) → distanceOf bs ≡ gives d → m .content ≡ ofWarning d (isPreset (yOf (B bs))) → View bs m
+  route : m .kind ≡ Kind.Route → m .content ≡ ofRoute (routeSpeed (m .ay) (m .az)) → View bs m
+  plain : (m .direction ≡ Direction.Present → m .kind ≡ Kind.Signal → ⊥) → m .content ≡ nothing → View bs m
+
+never : {A : Type 0} {m : A} (n : ℕ) → refuses n ≡ gives m → ⊥
+never n e = let z : _≡_ {A = ℕ} 0 1 = cc in omega arith
+
+-- what goes on from a distance
+on-distance : (o : Outcome ℕ) (f : ℕ → Content) (g : Content → Message) (m : Message)
+    → then (then o (λ d. gives (f d))) (λ c. gives (g c)) ≡ gives m → (d : ℕ) × (o ≡ gives d) × (g (f d) ≡ m)
+on-distance (gives d) f g m e = (d, refl, cc)
+on-distance (refuses n) f g m e = absurd (never n e)
+
+present-view : (kind : Kind) (a : Placed) (bs : List Placed) (m : Message) → decide (fit kind a) misfit bs ≡ gives m → View bs m
+present-view Kind.Signal a bs m e =
+    let r = on-distance (distanceOf bs)
+    (λ d. ofSignal d (isPreset (yOf (B bs))) (signalSpeed (Y (a .part))) (signalSpeed (targetFigure (Y (a .part)) (Z (a .part)) (yOf (P bs)) (zOf (P bs)))))
+    (messageOf Direction.Present Kind.Signal a) m e in
+    subst (View bs) (r .2) (signal refl refl (r .0) (r .1) refl)
+present-view Kind.Warning a bs m e =
+    let r = on-distance (distanceOf bs) (λ d. ofWarning d (isPreset (yOf (B bs)))) (messageOf Direction.Present Kind.Warning a) m e in
+    subst (View bs) (r .2) (warning refl (r .0) (r .1) refl)
+present-view Kind.Annulled a bs m e =
+    let is : messageOf Direction.Present Kind.Annulled a nothing ≡ m = cc in
+    subst (View bs) is (plain (λ d k. let z : _≡_ {A = ℕ} 0 1 = cc in omega arith) refl)
+present-view Kind.Line a bs m e =
+    let is : messageOf Direction.Present Kind.Line a nothing ≡ m = cc in
+    subst (View bs) is (plain (λ d k. let z : _≡_ {A = ℕ} 0 1 = cc in omega arith) refl)
+present-view Kind.Route a bs m e =
+    let is : messageOf Direction.Present Kind.Route a (ofRoute (routeSpeed (Y (a .part)) (Z (a .part)))) ≡ m = cc in
+    subst (View bs) is (route refl refl)
+
+decided-view : (p o : Fit) (bs : List Placed) (m : Message) → decide p o bs ≡ gives m → View bs m
+decided-view misfit misfit bs m e = absurd (never 13 e)
+decided-view (fit k a) (fit k′ a′) bs m e = absurd (never 14 e)
+decided-view misfit (fit k a) bs m e =
+    let is : messageOf Direction.Opposite k a nothing ≡ m = cc in
+    subst (View bs) is (plain (λ d k. let z : _≡_ {A = ℕ} 0 1 = cc in omega arith) refl)
+decided-view (fit k a) misfit bs m e = present-view k a bs m e
+
+-- The message of an accepted group.
+pub view : (g : Group) (m : Message) → judge g ≡ gives m → View (partsOf g) m
+unfolding judge judgeRead partsOf
+view g m e = go (eqb (g .count) 1) (ltb 5 (g .count)) (readAll (balises g)) e
+  where
+    go : (t u : Bool) (o : Outcome (List Placed)) → pick t (refuses 10) (pick u (refuses 11) (then o judgeRead)) ≡ gives m → View (listOf o) m
+    go true u o q = absurd (never 10 q)
+    go false true o q = absurd (never 11 q)
+    go false false (refuses n) q = absurd (never n q)
+    go false false (gives bs) q = decided-view (fitIn present bs) (fitIn opposite bs) bs m q
