@@ -21,6 +21,7 @@ use Rattle.telegram.proofs.Law.{Comes as Listed, further as listed-further, end
 use Rattle.demands.specs.Line.{OneBalise, Proper, sentAt, flipsAt}
 use Rattle.demands.specs.Contracts.{Find}
 use Rattle.demands.specs.Calls.{HandedOut, first, later, Comes, further, ends}
+use Rattle.demands.specs.Demand2.{placeOf}
 use Rattle.demands.specs.Demand3.{TheSent, ComesOf, placesOf}
 use Rattle.demands.proofs.Places.{or-left, or-right, or-parts}
 use Rattle.demands.proofs.Sent.{Sent, AllSent, read-as-sent}
@@ -47,13 +48,17 @@ handed-place {b} {s} {t} {start} {len} (later {q = q} p m k on) =
 abbrev pub answerOf : Single → Found
 answerOf s = foundOf (gives s)
 
+-- Its place.
+abbrev pub singlePlace : Single → ℕ
+singlePlace (at p m) = p
+
 -- What comes is what the specification lists.
-comes-listed : {b : List ℕ} {s t start len : ℕ} {w : List Found} → Comes b s t start len w
-    → (v : List Single) × Listed (Specified b s t) start len v × (w ≡ map answerOf v)
+pub comes-listed : {b : List ℕ} {s t start len : ℕ} {w : List Found} → Comes b s t start len w
+    → (v : List Single) × Listed (Specified b s t) start len v × (w ≡ map answerOf v) × (map placeOf w ≡ map singlePlace v)
 comes-listed {b} {s} {t} {start} {len} (further {p = p} {m = m} k c) =
     let r = comes-listed c in
-    (at p (reads (saysTelegram m)) ∷ r .0, listed-further (specified b start len s t (Found.At p m) k) (r .1), ap₂ _∷_ (sym (found-back (Found.At p m))) (r .2))
-comes-listed {b} {s} {t} {start} {len} (ends k) = ([], listed-ends (specified b start len s t Found.NoPlace k), refl)
+    (at p (reads (saysTelegram m)) ∷ r .0, listed-further (specified b start len s t (Found.At p m) k) (r .1), ap₂ _∷_ (sym (found-back (Found.At p m))) (r .2), ap (λ (ps : List ℕ). p ∷ ps) (r .3))
+comes-listed {b} {s} {t} {start} {len} (ends k) = ([], listed-ends (specified b start len s t Found.NoPlace k), refl, refl)
 
 -- And what the specification lists comes, to one who is answered at every call.
 listed-comes : {b : List ℕ} {s t start len : ℕ} {v : List Single} → ((start len : ℕ) → (r : Found) × Find b start len s t r)

@@ -12,7 +12,8 @@ pub mod Bare
 pub mod Demand1
 pub mod Cases
 pub mod RowCases
-pub mod Demand2
+pub mod Codes
+pub mod Saying
 pub mod Sums
 pub mod Bits
 pub mod Telegrams
@@ -25,6 +26,10 @@ pub mod Unflipped
 pub mod Wrong
 pub mod Stretch
 pub mod Handed
+pub mod Reading
+pub mod Output
+pub mod InFull
+pub mod Demand2
 pub mod Together
 pub mod Clean
 pub mod Noise

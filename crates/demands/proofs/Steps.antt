@@ -30,7 +30,7 @@ use Rattle.demands.specs.Steps.{OneStep, Accepts, LeavesBehind, NoneOpen
 abbrev pub entry : OneStep → Entry
 entry o = record { odometer = o .odometer; passed = o .passed }
 
-not-false : (t : Bool) → not t ≡ false → t ≡ true
+pub not-false : (t : Bool) → not t ≡ false → t ≡ true
 not-false true e = refl
 not-false false e = sym e
 

@@ -1,99 +1,173 @@
 -- Demand 2: "Words, telegrams, groups, speeds, distances and linking marks are exactly those of document 01. Written and
 -- read back, a figure is itself; an accepted word read and written is itself."
--- That the contracts are equations with document 01's definitions is in each crate; here the definitions are held against
--- document 01's own numbers, and the contracts against each other. That all of this holds: proofs/Demand2.antt.
+-- That each contract is an equation with document 01's definitions is in each crate; here every answer that the contracts allow
+-- is held against document 01's own sentences and numbers, and the contracts against each other. What the contracts allow:
+-- specs/Contracts.antt. The rows: specs/RowCases.antt. Marks and missed signals: specs/Linking.antt. The table of proved cases:
+-- specs/Cases.antt. The ride in full, and what the program writes: specs/Output.antt. That all of this holds: proofs/Demand2.antt.
+-- It does not say that the rows, tables and speeds of document 01 are those of the railway's own papers: source 000's tables are
+-- compared by running programs (crates vectors and rows).
 -- Assumes nothing.
 use Prim.Native.Nat.{ℕ, _+_, _*_, _≤_, _<_}
 use mathlib.Core.Path.{_≡_}
-use mathlib.Core.Bool.{true, false}
-use mathlib.Core.List.{List, [], _∷_, map}
+use mathlib.Core.Logic.{_⊎_}
+use mathlib.Core.Bool.{Bool, false}
+use mathlib.Core.List.{List, map, List·Memᴰ}
+use lib.Dec.{eqb}
 use lib.ListN.{getD}
-use Rattle.words.specs.Answer.{Outcome, gives, refuses}
-use Rattle.words.specs.Code.{readShort, readLong}
+use Rattle.words.specs.Answer.{gives}
 use Rattle.words.specs.Says.{saysShortWritten}
 use Rattle.words.specs.declared.ShortRead.{ShortRead}
 use Rattle.words.specs.declared.ShortWritten.{ShortWritten}
 use Rattle.words.specs.declared.LongRead.{LongRead}
 use Rattle.words.specs.declared.LongWritten.{LongWritten}
-use Rattle.telegram.specs.Telegram.{shortWord, longWord}
+use Rattle.telegram.specs.Telegram.{X, Y, Z, YZ, reads, refused}
+use Rattle.telegram.specs.Place.{wordsAt, places}
+use Rattle.telegram.specs.Says.{saysTelegram, saysTelegramRead}
+use Rattle.telegram.specs.declared.Found.{Found}
 use Rattle.telegram.specs.declared.Telegram.{Telegram}
 use Rattle.telegram.specs.declared.TelegramRead.{TelegramRead}
-use Rattle.telegram.specs.declared.Word.{Word}
+use Rattle.group.specs.Row.{Found as Sought, none, found, Y as YOf}
 use Rattle.group.specs.Distance.{columns, Column, column, plus, inColumn}
-use Rattle.group.specs.Speed.{speeds, kmh, noInformation, targetFigure, routeSpeed}
-use Rattle.group.specs.Judge.{judgeRead}
+use Rattle.group.specs.Speed.{speeds, kmh, noInformation}
+use Rattle.group.specs.Judge.{yOf, zOf, B, C, P, judgeRead}
 use Rattle.group.specs.Says.{saysMeasured, saysTold, saysJudged}
+use Rattle.group.specs.declared.Content.{Content}
 use Rattle.group.specs.declared.Group.{Group}
 use Rattle.group.specs.declared.Judged.{Judged}
 use Rattle.group.specs.declared.Measured.{Measured}
+use Rattle.group.specs.declared.Message.{Message}
+use Rattle.group.specs.declared.Placed.{Placed}
 use Rattle.group.specs.declared.Told.{Told}
-use Rattle.ride.specs.Linking.{markAt, markOf}
-use Rattle.ride.specs.declared.Linking.{Linking}
-use Rattle.ride.specs.declared.Mark.{Mark}
-use Rattle.demands.specs.Table.{oneBalise, moreThanFive, unread, partsOf}
-use Rattle.demands.specs.RowCases.{presentCases, oppositeCases, outsideCases, AllJudged}
-use Rattle.demands.specs.Cases.{M8, Cases}
+use Rattle.demands.specs.Table.{notSeven, beyond, oneBalise, moreThanFive, unread, partsOf}
 use Rattle.demands.specs.Contracts.{ReadShort, WriteShort, ReadLong, WriteLong, ReadTelegram, Distance, Speed, JudgeGroup}
+use Rattle.demands.specs.Calls.{Comes}
+use Rattle.demands.specs.Cases.{M8, AllHold, cases}
+use Rattle.demands.specs.RowCases.{presentCases, oppositeCases, outsideCases, AllJudged}
+use Rattle.demands.specs.Linking.{Marks, Sets, Missed}
+use Rattle.demands.specs.Output.{Written, OneRide}
 
--- The two codes and the telegram.
+-- ---- the two codes
+
+-- "Written and read back, a figure is itself", of a code with this largest figure: it is written as a word, and every reading of
+-- that word is the figure.
+abbrev pub WrittenBack : {A R : Type 0} → ℕ → (ℕ → A → Type 0) → (ℕ → A) → (ℕ → R → Type 0) → (ℕ → R) → Type 0
+WrittenBack {A} {R} largest Writes word Reads figure =
+    (x : ℕ) (a : A) → x ≤ largest → Writes x a → (w : ℕ) × (a ≡ word w) × ((r : R) → Reads w r → r ≡ figure x)
+
+-- "an accepted word read and written is itself", of a code with so many words.
+abbrev pub ReadBack : {A R : Type 0} → ℕ → (ℕ → A → Type 0) → (ℕ → A) → (ℕ → R → Type 0) → (ℕ → R) → Type 0
+ReadBack {A} {R} many Writes word Reads figure = (w x : ℕ) (a : A) → w < many → Reads w (figure x) → Writes x a → a ≡ word w
+
 pub record Words : Type 0 where
-  -- "Written and read back, a figure is itself"
-  pub short-back : (x w : ℕ) (a : ShortWritten) (r : ShortRead) → WriteShort x a → a ≡ ShortWritten.Word w → ReadShort w r → r ≡ ShortRead.Figure x
-  pub long-back : (x w : ℕ) (a : LongWritten) (r : LongRead) → WriteLong x a → a ≡ LongWritten.Word w → ReadLong w r → r ≡ LongRead.Figure x
-  -- "an accepted word read and written is itself"
-  pub short-itself : (w x : ℕ) (r : ShortRead) (a : ShortWritten) → w < 256 → ReadShort w r → r ≡ ShortRead.Figure x → WriteShort x a → a ≡ ShortWritten.Word w
-  pub long-itself : (w x : ℕ) (r : LongRead) (a : LongWritten) → w < 65536 → ReadLong w r → r ≡ LongRead.Figure x → WriteLong x a → a ≡ LongWritten.Word w
+  pub short-back : WrittenBack 15 WriteShort ShortWritten.Word ReadShort ShortRead.Figure
+  pub long-back : WrittenBack 2047 WriteLong LongWritten.Word ReadLong LongRead.Figure
+  pub short-itself : ReadBack 256 WriteShort ShortWritten.Word ReadShort ShortRead.Figure
+  pub long-itself : ReadBack 65536 WriteLong LongWritten.Word ReadLong LongRead.Figure
   -- the table of M(8,4)
   pub m8 : (x : ℕ) (a : ShortWritten) → x < 16 → WriteShort x a → saysShortWritten a ≡ gives (getD M8 x 0)
+
+-- ---- telegrams
+
+-- A short word of a telegram reads this figure, and not 15.
+abbrev pub Good : ℕ → ℕ → Type 0
+Good w a = ReadShort w (ShortRead.Figure a) × (a ≡ 15 → ⊥)
+
+-- A short word of a telegram is bad with this number: "not a code word" is 1, "a short word of a telegram reads 15" is 3.
+pub data Bad (w : ℕ) : ℕ → Type 0 where
+  no-code : ReadShort w ShortRead.NotCode → Bad w 1
+  is-15 : ReadShort w (ShortRead.Figure 15) → Bad w 3
+
+-- The place of an answer of `find` that hands one out.
+abbrev pub placeOf : Found → ℕ
+placeOf (Found.At p m) = p
+placeOf Found.NotSeven = 0
+placeOf Found.Beyond = 0
+placeOf Found.NoPlace = 0
+
+pub record Telegrams : Type 0 where
   -- "If X reads 12, Y and Z are one M(16,11) word"
-  pub number : (x y z m : ℕ) (r : TelegramRead) → ReadTelegram x y z r → shortWord x ≡ gives 12 → longWord y z ≡ gives m
+  pub number : (x y z m : ℕ) (r : TelegramRead) → ReadTelegram x y z r → ReadShort x (ShortRead.Figure 12) → ReadLong (y * 256 + z) (LongRead.Figure m)
       → r ≡ TelegramRead.Is (Telegram.Number m)
   -- "otherwise each is M(8,4)"
-  pub figures : (x y z a b c : ℕ) (r : TelegramRead) → ReadTelegram x y z r → shortWord x ≡ gives a → (a ≡ 12 → ⊥) → shortWord y ≡ gives b
-      → shortWord z ≡ gives c → r ≡ TelegramRead.Is (Telegram.Figures a b c)
-  -- "a short word that reads 15 is refused in a telegram"
-  pub fifteen : (x y z : ℕ) (r : TelegramRead) → ReadTelegram x y z r → readShort x ≡ gives 15 → r ≡ TelegramRead.Fifteen Word.X
+  pub figures : (x y z a b c : ℕ) (r : TelegramRead) → ReadTelegram x y z r → Good x a → (a ≡ 12 → ⊥) → Good y b → Good z c
+      → r ≡ TelegramRead.Is (Telegram.Figures a b c)
+  -- "X is judged before Y, Y before Z, and the first bad word decides whatever the numbers."
+  pub x-decides : (x y z n : ℕ) (r : TelegramRead) → ReadTelegram x y z r → Bad x n → saysTelegramRead r ≡ refused n X
+  pub y-decides : (x y z a n : ℕ) (r : TelegramRead) → ReadTelegram x y z r → Good x a → (a ≡ 12 → ⊥) → Bad y n → saysTelegramRead r ≡ refused n Y
+  pub z-decides : (x y z a b n : ℕ) (r : TelegramRead) → ReadTelegram x y z r → Good x a → (a ≡ 12 → ⊥) → Good y b → Bad z n
+      → saysTelegramRead r ≡ refused n Z
+  pub yz-decides : (x y z : ℕ) (r : TelegramRead) → ReadTelegram x y z r → ReadShort x (ShortRead.Figure 12) → ReadLong (y * 256 + z) LongRead.NotCode
+      → saysTelegramRead r ≡ refused 1 YZ
+  -- "asked again from the bit after that place, it goes on, and so every place is handed out once", with what its words read
+  pub handed-once : (b : List ℕ) (start len s t : ℕ) (w : List Found) → notSeven s t ≡ false → beyond b start len ≡ false
+      → Comes b s t start len w → map placeOf w ≡ places b start len s t
+  pub with-words : (b : List ℕ) (start len s t p : ℕ) (m : Telegram) (w : List Found) → Comes b s t start len w → List·Memᴰ (Found.At p m) w
+      → reads (saysTelegram m) ≡ wordsAt b p
+
+-- ---- groups, distances and speeds
 
 -- A column that is none, for a table that is asked past its end.
 abbrev pub noColumn : Column
 noColumn = column 0 (plus 0)
 
--- Groups, distances and speeds.
+-- "CY is used for BZ", with a 14.
+abbrev pub used : ℕ → Sought → ℕ
+used bz none = bz
+used bz (found c) = YOf (c .part)
+
+-- The distance that a group of these balises announces, and whether it is a preset point: by column BY, with BZ or CY.
+pub record Announces (bs : List Placed) (d : ℕ) (preset : Bool) : Type 0 where
+  pub distance : (q : Measured) → Distance (yOf (B bs)) (used (zOf (B bs)) (C bs)) q → q ≡ Measured.Dm d
+  pub preset-is : preset ≡ eqb (yOf (B bs)) 14
+
+-- "A prefix 8 with PY 7 to 14 and PZ not 0 makes target figure 1 read 0, if AY is 1 to 12 or 14."
+pub record Prefixed (ay az py pz : ℕ) : Type 0 where
+  pub py-least : 7 ≤ py
+  pub py-most : py ≤ 14
+  pub pz-not-0 : pz ≡ 0 → ⊥
+  pub figure-1 : az ≡ 1
+  pub ay-is : ((1 ≤ ay) × (ay ≤ 12)) ⊎ (ay ≡ 14)
+
+-- The speeds that a present signal of these balises gives: AY's, and AZ's or, where the prefix makes it so, 0.
+pub record Speeds (bs : List Placed) (m : Message) (main target : Told) : Type 0 where
+  pub main-is : (v : Told) → Speed (m .ay) v → main ≡ v
+  pub target-0 : Prefixed (m .ay) (m .az) (yOf (P bs)) (zOf (P bs)) → target ≡ Told.Kmh 0
+  -- "A prefix changes nothing else here."
+  pub target-is : (Prefixed (m .ay) (m .az) (yOf (P bs)) (zOf (P bs)) → ⊥) → (v : Told) → Speed (m .az) v → target ≡ v
+
 pub record Groups : Type 0 where
   -- two to five balises that were all read are judged by the rows
   pub by-rows : (g : Group) (r : Judged) → JudgeGroup g r → oneBalise g ≡ false → moreThanFive g ≡ false → unread g ≡ false
       → saysJudged r ≡ judgeRead (partsOf g)
-  -- every entry of table DF
+  -- what present signals, present warning boards and route boards say: "10 x AZ km/h, or AY 4 and AZ 10 (140 km/h)"
+  pub signal : (g : Group) (m : Message) (d : ℕ) (preset : Bool) (main target : Told) → JudgeGroup g (Judged.Accepted m)
+      → m .content ≡ Content.Signal d preset main target → Announces (partsOf g) d preset × Speeds (partsOf g) m main target
+  pub warning : (g : Group) (m : Message) (d : ℕ) (preset : Bool) → JudgeGroup g (Judged.Accepted m)
+      → m .content ≡ Content.Warning d preset → Announces (partsOf g) d preset
+  pub route : (g : Group) (m : Message) (v : ℕ) → JudgeGroup g (Judged.Accepted m) → m .content ≡ Content.Route v
+      → (m .ay ≡ 2 → v ≡ 10 * m .az) × (m .ay ≡ 4 → v ≡ 140)
+  -- every entry of table DF; "column 14 ... between 500 and 7000"
   pub distances : (by figure : ℕ) (r : Measured) → Distance by figure r → by < 15 → 1 ≤ figure → figure ≤ 14
       → saysMeasured r ≡ gives (inColumn (getD columns by noColumn) figure)
-  -- "column 14 ... between 500 and 7000"
-  pub preset : (figure d : ℕ) (r : Measured) → Distance 14 figure r → r ≡ Measured.Dm d → (500 ≤ d) × (d ≤ 7000)
+  pub preset : (figure d : ℕ) → Distance 14 figure (Measured.Dm d) → (500 ≤ d) × (d ≤ 7000)
   -- every signal speed, and "14 means no information"
   pub speed : (figure : ℕ) (r : Told) → Speed figure r → figure < 14 → saysTold r ≡ kmh (getD speeds figure 0)
   pub no-speed : (figure : ℕ) (r : Told) → Speed figure r → 14 ≤ figure → saysTold r ≡ noInformation
-  -- "A prefix 8 with PY 7 to 14 and PZ not 0 makes target figure 1 read 0, if AY is 1 to 12 or 14."
-  pub prefix : (ay py pz : ℕ) → 7 ≤ py → py ≤ 14 → 1 ≤ pz → 1 ≤ ay → ay ≤ 14 → (ay ≡ 13 → ⊥) → targetFigure ay 1 py pz ≡ 0
-  -- "A prefix changes nothing else here."
-  pub other-target : (ay az py pz : ℕ) → (az ≡ 1 → ⊥) → targetFigure ay az py pz ≡ az
-  pub thirteen : (az py pz : ℕ) → targetFigure 13 az py pz ≡ az
-  -- "(speed 10 x AZ km/h), or AY 4 and AZ 10 (140 km/h)"
-  pub route : (az : ℕ) → (routeSpeed 2 az ≡ 10 * az) × (routeSpeed 4 10 ≡ 140)
-
--- Linking marks.
-pub record Marks : Type 0 where
-  pub first : (place : ℕ) → markOf Linking.Unset place ≡ Mark.First
-  pub early : (D t : ℕ) → 5 * t < 4 * D → markAt D t ≡ Mark.Early
-  pub good : (D t : ℕ) → 4 * D ≤ 5 * t → 5 * t ≤ 6 * D → markAt D t ≡ Mark.Good
-  pub late : (D t : ℕ) → 6 * D < 5 * t → markAt D t ≡ Mark.Late
 
 -- Demand 2.
 pub record Demand2 : Type 0 where
   pub words : Words
+  pub telegrams : Telegrams
   pub groups : Groups
-  pub marks : Marks
   -- the rows of the groups, in short and in long forms, and just outside
   pub present : AllJudged presentCases
   pub opposite : AllJudged oppositeCases
   pub outside : AllJudged outsideCases
-  -- document 01's table of proved cases under a single claim, and its ride in full
-  pub cases : Cases
+  -- linking marks, what a present signal sets, and missed signals
+  pub marks : Marks
+  pub sets : Sets
+  pub missed : Missed
+  -- document 01's table of proved cases under a single claim; what the program writes; the ride in full
+  pub proved : AllHold cases
+  pub written : Written
+  pub one-ride : OneRide

@@ -6,7 +6,8 @@ pub mod Demand1
 pub mod Cases
 pub mod RowCases
 pub mod Linking
+pub mod Output
+pub mod Calls
 pub mod Demand2
 pub mod Line
-pub mod Calls
 pub mod Demand3

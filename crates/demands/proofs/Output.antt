@@ -1,0 +1,199 @@
+-- A listing of all records, and then the end, is what the program writes.
+-- Assumes nothing.
+use Prim.Native.Nat.{ℕ, zero, suc, _+_, _-_, _*_, _/_, _%_, _≤_, _<_}
+use native.Mathlib.Nat.{zero-add}
+use native.Mathlib.Omega.{arith}
+use mathlib.Core.Path.{_≡_, refl, sym, ap, ap₂, _∙_, subst}
+use mathlib.Core.Bool.{Bool, true, false, not, _&&_}
+use mathlib.Core.List.{List, [], _∷_, _++_}
+use lib.Dec.{eqb, leb, ltb}
+use lib.ListN.{length, take, drop, length-append}
+use lib.Seq.{take-all, take-at, drop-at}
+use borrow.Author.Tests.{le-leb, lt-ltb}
+use Rattle.words.specs.Answer.{Outcome, gives, refuses, pick}
+use Rattle.words.proofs.Told.{told}
+use Rattle.ride.specs.Record.{Entry, check}
+use Rattle.ride.specs.State.{freshRide}
+use Rattle.ride.specs.Joining.{isBehind}
+use Rattle.group.specs.Judge.{judge}
+use Rattle.group.specs.declared.Group.{Group}
+use Rattle.ride.specs.Linking.{missedPlace}
+use Rattle.ride.specs.Closing.{Closing, lineOf, close, leave}
+use Rattle.ride.specs.Step.{Step, isMissed, missedLines, closeBehind, goOn, refuseOr, treat, End, end}
+use Rattle.ride.specs.Over.{firstRecords, records, linesFor, Ridden, rideOver}
+use Rattle.ride.specs.Says.{saysLines}
+use Rattle.ride.specs.declared.Known.{Known}
+use Rattle.ride.specs.declared.Line.{Line}
+use Rattle.ride.specs.declared.Ride.{Ride}
+use Rattle.listing.specs.Text.{text}
+use Rattle.listing.specs.Put.{next, noRoom, Filled, filled, placed, put}
+use Rattle.listing.specs.List.{textOf, taken, Listing, listOf, listTaken, list, unlisted}
+use Rattle.listing.specs.Says.{saysDone}
+use Rattle.listing.specs.declared.Done.{Done}
+use Rattle.listing.specs.declared.Listed.{Listed}
+use Rattle.listing.proofs.Longest.{longest}
+use Rattle.listing.proofs.Texts.{text-one, text-join}
+use Rattle.listing.proofs.Determined as listing-is
+use Rattle.demands.specs.Table.{badLength}
+use Rattle.demands.specs.Contracts.{Fresh, ListInto}
+use Rattle.demands.specs.Output.{ridden, output, recordsIn, Written}
+use Rattle.demands.proofs.Steps.{not-false}
+
+-- ---- room
+
+-- a line at most
+atMostOne : List Line → Type 0
+atMostOne ls = length (textOf ls) ≤ 64
+
+none-short : atMostOne []
+unfolding atMostOne textOf
+none-short = omega arith
+
+one-short : (l : Line) → atMostOne (l ∷ [])
+unfolding atMostOne
+one-short l = omega (arith, longest l, ap length (text-one l))
+
+two-short : (xs ys : List Line) → atMostOne xs → atMostOne ys → length (textOf (xs ++ ys)) ≤ 128
+unfolding atMostOne
+two-short xs ys a b = omega (arith, ap length (text-join xs ys), length-append (textOf xs) (textOf ys))
+
+closing-short : (g : Group) (known : Known) (t : Bool) → atMostOne (pick t (close g known) (leave g known) .lines)
+unfolding close leave
+closing-short g known true = one-short (lineOf g (known .linking) (judge g))
+closing-short g known false = none-short
+
+missed-short : (t : Bool) (l : Line) → atMostOne (pick t (l ∷ []) [])
+missed-short true l = one-short l
+missed-short false l = none-short
+
+-- The lines of a record have at most 128 bytes.
+record-short : (ride : Ride) (gap number : ℕ) (r : List ℕ) → length (textOf (linesFor number (treat ride gap r .lines))) ≤ 128
+unfolding treat goOn closeBehind missedLines atMostOne
+record-short ride gap number r = go (check (ride .odometer) r)
+  where
+    go : (o : Outcome Entry) → length (textOf (linesFor number (refuseOr ride gap o .lines))) ≤ 128
+    go (refuses n) = omega (arith, one-short (Line.Record number n))
+    go (gives e) =
+        let c : Closing = pick (isBehind gap (e .odometer) (ride .group)) (close (ride .group) (ride .known)) (leave (ride .group) (ride .known)) in
+        two-short (c .lines) (missedLines (e .odometer) (c .group) (c .known)) (closing-short (ride .group) (ride .known) (isBehind gap (e .odometer) (ride .group)))
+        (missed-short (isMissed (e .odometer) (c .group) (c .known)) (Line.Missed (missedPlace (c .known .linking))))
+
+-- With room for 128 bytes a record, all are taken.
+all-taken : (rs : List (List ℕ)) (gap : ℕ) (ride : Ride) (number room : ℕ) → 128 * length rs ≤ room → number + length rs ≤ 18446744073709551615
+    → taken gap ride number room rs ≡ length rs
+unfolding taken
+all-taken [] gap ride number room enough small = refl
+all-taken (r ∷ rs) gap ride number room enough small =
+    let s : Step = treat ride gap r in
+    let written : length (textOf (linesFor number (s .lines))) ≤ 128 = record-short ride gap number r in
+    let left : ℕ = room - length (textOf (linesFor number (s .lines))) in
+    let here : 128 ≤ room = omega arith in
+    let next : number < 18446744073709551615 = omega arith in
+    let more : 128 * length rs ≤ left = omega arith in
+    let on : suc number + length rs ≤ 18446744073709551615 = omega arith in
+    ap₂ (λ (t u : Bool). pick (t && u) (suc (taken gap (s .ride) (suc number) left rs)) 0) (le-leb 128 room here) (lt-ltb number 18446744073709551615 next)
+    ∙ ap suc (all-taken rs gap (s .ride) (suc number) left more on)
+
+records-many : (n : ℕ) (trace : List ℕ) → length (firstRecords n trace) ≡ n
+unfolding firstRecords
+records-many zero trace = refl
+records-many (suc n) trace = ap suc (records-many n (drop 8 trace))
+
+-- ---- the listing
+
+-- the text of all records' lines
+abbrev pub allText : List ℕ → List ℕ
+allText trace = textOf (ridden trace .lines)
+
+abbrev listing : List ℕ → List ℕ → Listing
+listing trace before =
+    record {
+      answer = gives (record { records = recordsIn trace; bytes = length (allText trace) });
+      ride = ridden trace .ride;
+      number = 1 + recordsIn trace;
+      out = placed (allText trace) before 0;
+    }
+
+all-listed : (trace before : List ℕ) → badLength trace ≡ false → recordsIn trace < 18446744073709551615 → 128 * recordsIn trace ≤ length before
+    → list freshRide 40 1 trace before ≡ listing trace before
+unfolding list listOf badLength
+all-listed trace before good small enough =
+    let many : length (records trace) ≡ recordsIn trace = records-many (recordsIn trace) trace in
+    let fit : 128 * length (records trace) ≤ length before = subst (λ (k : ℕ). 128 * k ≤ length before) (sym many) enough in
+    let few : 1 + length (records trace) ≤ 18446744073709551615 = subst (λ (k : ℕ). 1 + k ≤ 18446744073709551615) (sym many) (omega arith) in
+    ap (λ (t : Bool). pick t (listTaken 40 freshRide 1 (records trace) before) (unlisted freshRide 1 before 16)) (not-false (eqb (length trace % 8) 0) good)
+    ∙ ap (λ (k : ℕ). listOf 40 freshRide 1 k (records trace) before) (all-taken (records trace) 40 freshRide 1 (length before) fit few ∙ many)
+    ∙ ap (λ (rs : List (List ℕ)). whole rs) (take-all (recordsIn trace) (records trace) (subst (λ (k : ℕ). k ≤ recordsIn trace) (sym many) (omega arith)))
+  where
+    whole : List (List ℕ) → Listing
+    whole rs =
+        record {
+          answer = gives (record { records = recordsIn trace; bytes = length (textOf (rideOver (λ odometer. 40) freshRide 1 rs .lines)) });
+          ride = rideOver (λ odometer. 40) freshRide 1 rs .ride;
+          number = 1 + recordsIn trace;
+          out = placed (textOf (rideOver (λ odometer. 40) freshRide 1 rs .lines)) before 0;
+        }
+
+-- A text put at the beginning.
+at-first : (t before : List ℕ) → placed t before 0 ≡ t ++ drop (length t) before
+unfolding placed
+at-first t before = ap (λ (k : ℕ). t ++ drop k before) (zero-add (length t))
+
+-- What `list` answers, where all records have room.
+pub listed-so : (f : Ride) (l : Listed) (trace before after : List ℕ) → badLength trace ≡ false → recordsIn trace < 18446744073709551615
+    → 128 * recordsIn trace ≤ length before → Fresh f → ListInto f 40 1 trace before l after
+    → (l .done ≡ Done.Took (recordsIn trace) (length (allText trace))) × (l .ride ≡ ridden trace .ride)
+    × (after ≡ allText trace ++ drop (length (allText trace)) before)
+listed-so f l trace before after good small enough fresh c =
+    let is = c .7 ∙ ap₂ (λ (v w : List ℕ). list f 40 1 v w) (c .4) (c .5) ∙ ap (λ (g : Ride). list g 40 1 trace before) (fresh .1)
+    ∙ all-listed trace before good small enough in (
+      told saysDone listing-is.doneOf listing-is.done-back (l .done) (Done.Took (recordsIn trace) (length (allText trace))) (ap (λ (v : Listing). v .answer) is) refl,
+      ap (λ (v : Listing). v .ride) is,
+      sym (c .6) ∙ ap (λ (v : Listing). v .out) is ∙ at-first (allText trace) before,
+    )
+
+-- ---- the output
+
+pub output-whole : (trace : List ℕ) → badLength trace ≡ false → output trace ≡ allText trace ++ textOf (end (ridden trace .ride) .lines)
+unfolding output
+output-whole trace good =
+    ap (λ (t : Bool). pick t (textOf (Line.Trace 16 ∷ [])) (textOf (ridden trace .lines ++ end (ridden trace .ride) .lines))) good
+    ∙ text-join (ridden trace .lines) (end (ridden trace .ride) .lines)
+
+output-refused : (trace : List ℕ) → badLength trace ≡ true → output trace ≡ text (Line.Trace 16)
+unfolding output
+output-refused trace bad =
+    ap (λ (t : Bool). pick t (textOf (Line.Trace 16 ∷ [])) (textOf (ridden trace .lines ++ end (ridden trace .ride) .lines))) bad
+    ∙ sym (text-one (Line.Trace 16))
+
+-- A text that has been put at the beginning stands there.
+put-first : (t before after : List ℕ) (n : ℕ) → filled (next n) after ≡ put t before 0 → take n after ≡ t
+unfolding put
+put-first t before after n e = go (leb (0 + length t) (length before)) e
+  where
+    go : (u : Bool) → filled (next n) after ≡ pick u (filled (next (0 + length t)) (placed t before 0)) (filled noRoom before) → take n after ≡ t
+    go true q =
+        let ends : next n ≡ next (0 + length t) = ap (λ (f : Filled). f .ends) q in
+        let long : n ≡ 0 + length t = cc in
+        let is : after ≡ placed t before 0 = ap (λ (f : Filled). f .buffer) q in
+        ap₂ take (long ∙ zero-add (length t)) (is ∙ at-first t before) ∙ take-at t (drop (length t) before) (length t) refl
+    go false q = absurd (let ends : next n ≡ noRoom = ap (λ (f : Filled). f .ends) q in let z : _≡_ {A = ℕ} 0 1 = cc in omega arith)
+
+pub written : Written
+written = record {
+  whole = λ f l e trace before after good small enough fresh c ended.
+      let r = listed-so f l trace before after good small enough fresh c in
+      let w = allText trace in
+      let lines : saysLines (e .lines) ≡ end (ridden trace .ride) .lines =
+      ap (λ (v : End). v .lines) (ended .1) ∙ ap (λ (g : Ride). end g .lines) (r .1) in (
+        length w,
+        r .0,
+        ap₂ (λ (u v : List ℕ). u ++ v) (ap (take (length w)) (r .2) ∙ take-at w (drop (length w) before) (length w) refl) (ap textOf lines)
+        ∙ sym (output-whole trace good),
+        ap (drop (length w)) (r .2) ∙ drop-at w (drop (length w) before) (length w) refl,
+      );
+  refused = λ trace before after n bad c.
+      put-first (text (Line.Trace 16)) before after n
+      (ap (filled (next n)) (sym (c .4)) ∙ c .5 ∙ ap (λ (v : List ℕ). put (text (Line.Trace 16)) v 0) (c .3))
+      ∙ sym (output-refused trace bad);
+}

@@ -1,0 +1,212 @@
+-- What accepted groups say is what document 01's tables and sentences give for their balises.
+-- Assumes nothing.
+use Prim.Native.Nat.{ℕ, zero, suc, _-_, _*_, _≤_, _<_}
+use mathlib.Core.Path.{_≡_, refl, sym, ap, _∙_, subst}
+use mathlib.Core.Logic.{_⊎_, inl, inr}
+use mathlib.Core.Bool.{Bool, true, false, _&&_, _||_, not}
+use mathlib.Core.List.{List, [], _∷_}
+use native.Mathlib.Nat.{not-suc-le-zero, le-of-suc-le-suc}
+use native.Mathlib.Omega.{arith}
+use lib.Dec.{eqb, leb, ltb}
+use lib.ListN.{length, getD}
+use borrow.Author.Tests.{le-leb, eq-eqb, ne-eqb, leb-true, eqb-true, eqb-false}
+use Rattle.words.specs.Answer.{Outcome, gives, refuses, pick}
+use Rattle.words.proofs.Told.{told}
+use Rattle.group.specs.Balise.{balises, then, readAll}
+use Rattle.group.specs.Row.{Found, none, found, Y}
+use Rattle.group.specs.Distance.{columns, inColumn, inTable, distance, linkDistance, isPreset}
+use Rattle.group.specs.Speed.{signalSpeed, targetFigure, routeSpeed}
+use Rattle.group.specs.Message.{Message as Said, ofSignal, ofWarning, ofRoute, nothing}
+use Rattle.group.specs.Judge.{yOf, zOf, B, C, P, distanceOf, judgeRead, judge}
+use Rattle.group.specs.Says.{saysMeasured, saysTold, saysContent, saysMessage}
+use Rattle.group.specs.declared.Content.{Content}
+use Rattle.group.specs.declared.Group.{Group}
+use Rattle.group.specs.declared.Measured.{Measured}
+use Rattle.group.specs.declared.Message.{Message}
+use Rattle.group.specs.declared.Placed.{Placed}
+use Rattle.group.specs.declared.Told.{Told}
+use Rattle.group.proofs.Determined as group-is
+use Rattle.group.proofs.Entries.{speed-in, speed-out}
+use Rattle.demands.specs.Table.{someUnread, unread, listOf, partsOf}
+use Rattle.demands.specs.Demand2.{noColumn, used, Announces, Prefixed, Speeds, Groups}
+use Rattle.demands.proofs.Rules.{true-not-false}
+use Rattle.demands.proofs.Places.{and-parts, and-true, or-parts, or-left, or-right}
+use Rattle.demands.proofs.Groups.{Read, bad, all, read-is}
+use Rattle.demands.proofs.Messages.{View, signal, warning, route, plain, view}
+
+-- Two to five balises that were all read are judged by the rows.
+rows-judge : (g : Group) → eqb (g .count) 1 ≡ false → ltb 5 (g .count) ≡ false → unread g ≡ false → judge g ≡ judgeRead (partsOf g)
+unfolding judge unread partsOf
+rows-judge g one five u =
+    ap (λ (t : Bool). pick t (refuses 10) (pick (ltb 5 (g .count)) (refuses 11) (then (readAll (balises g)) judgeRead))) one
+    ∙ ap (λ (t : Bool). pick t (refuses 11) (then (readAll (balises g)) judgeRead)) five ∙ go (someUnread (balises g)) (readAll (balises g)) (read-is (balises g)) u
+  where
+    go : (t : Bool) (o : Outcome (List _)) → Read t o → t ≡ false → then o judgeRead ≡ judgeRead (listOf o)
+    go t o bad e = absurd (true-not-false e)
+    go t o (all ps) e = refl
+
+-- ---- distances
+
+in-table : (cs : List _) (by f : ℕ) → by < length cs → inTable cs by f ≡ gives (inColumn (getD cs by noColumn) f)
+in-table [] by f l = absurd (not-suc-le-zero l)
+in-table (c ∷ cs) zero f l = refl
+in-table (c ∷ cs) (suc by) f l = in-table cs by f (le-of-suc-le-suc l)
+
+entry : (by f : ℕ) → by < 15 → 1 ≤ f → f ≤ 14 → distance by f ≡ gives (inColumn (getD columns by noColumn) f)
+unfolding distance
+entry by f l a b = simp (le-leb 1 f a, le-leb f 14 b) (in-table columns by f l)
+
+never : {A : Type 0} {m : A} (n : ℕ) → refuses n ≡ gives m → ⊥
+never n e = let z : _≡_ {A = ℕ} 0 1 = cc in omega arith
+
+preset-range : (f d : ℕ) → distance 14 f ≡ gives d → (500 ≤ d) × (d ≤ 7000)
+unfolding distance
+preset-range f d e = go (leb 1 f) refl (leb f 14) refl e
+  where
+    go : (t : Bool) → leb 1 f ≡ t → (u : Bool) → leb f 14 ≡ u → pick (t && u) (gives (7500 - 500 * f)) (refuses 15) ≡ gives d → (500 ≤ d) × (d ≤ 7000)
+    go false h u k q = absurd (never 15 q)
+    go true h false k q = absurd (never 15 q)
+    go true h true k q =
+        let low : 1 ≤ f = leb-true 1 f h in
+        let high : f ≤ 14 = leb-true f 14 k in
+        let same : 7500 - 500 * f ≡ d = cc in
+        (omega arith, omega arith)
+
+-- an allowed distance is table DF's, with the figure that is used
+linked : (by bz d : ℕ) (c : Found) → linkDistance by bz c ≡ gives d → distance by (used bz c) ≡ gives d
+linked by bz d none e = e
+linked by bz d (found c) e = go (eqb bz 0) e
+  where
+    go : (t : Bool) → pick t (distance by (Y (c .part))) (refuses 15) ≡ gives d → distance by (Y (c .part)) ≡ gives d
+    go true q = q
+    go false q = absurd (never 15 q)
+
+announces : (bs : List Placed) (d : ℕ) (preset : Bool) → distanceOf bs ≡ gives d → preset ≡ isPreset (yOf (B bs)) → Announces bs d preset
+unfolding distanceOf
+announces bs d preset e p =
+    record {
+      distance = λ q c. told saysMeasured group-is.measured group-is.measured-back q (Measured.Dm d) (c .1) (sym (linked (yOf (B bs)) (zOf (B bs)) d (C bs) e));
+      preset-is = p;
+    }
+
+-- ---- speeds
+
+same-told : (v w : Told) → saysTold v ≡ saysTold w → v ≡ w
+same-told v w e = told saysTold group-is.speed group-is.speed-back v w e refl
+
+-- whether the prefix rule applies, as the definition asks it
+abbrev applies : ℕ → ℕ → ℕ → ℕ → Bool
+applies ay az py pz = (leb 7 py && leb py 14) && not (eqb pz 0) && eqb az 1 && ((leb 1 ay && leb ay 12) || eqb ay 14)
+
+not-zero : (n : ℕ) → (n ≡ 0 → ⊥) → not (eqb n 0) ≡ true
+not-zero n e = ap not (ne-eqb n 0 e)
+
+is-zero : (n : ℕ) → not (eqb n 0) ≡ true → n ≡ 0 → ⊥
+is-zero n e z = true-not-false (sym e ∙ ap not (eq-eqb n 0 z))
+
+prefixed-applies : (ay az py pz : ℕ) → Prefixed ay az py pz → applies ay az py pz ≡ true
+prefixed-applies ay az py pz p =
+    and-true (and-true (and-true (and-true (le-leb 7 py (p .py-least)) (le-leb py 14 (p .py-most))) (not-zero pz (p .pz-not-0))) (eq-eqb az 1 (p .figure-1)))
+    (ay-of (p .ay-is))
+  where
+    ay-of : ((1 ≤ ay) × (ay ≤ 12)) ⊎ (ay ≡ 14) → ((leb 1 ay && leb ay 12) || eqb ay 14) ≡ true
+    ay-of (inl r) = or-left (eqb ay 14) (and-true (le-leb 1 ay (r .0)) (le-leb ay 12 (r .1)))
+    ay-of (inr e) = or-right (leb 1 ay && leb ay 12) (eq-eqb ay 14 e)
+
+applies-prefixed : (ay az py pz : ℕ) → applies ay az py pz ≡ true → Prefixed ay az py pz
+applies-prefixed ay az py pz e =
+    let a = and-parts (((leb 7 py && leb py 14) && not (eqb pz 0)) && eqb az 1) ((leb 1 ay && leb ay 12) || eqb ay 14) e in
+    let b = and-parts ((leb 7 py && leb py 14) && not (eqb pz 0)) (eqb az 1) (a .0) in
+    let c = and-parts (leb 7 py && leb py 14) (not (eqb pz 0)) (b .0) in
+    let d = and-parts (leb 7 py) (leb py 14) (c .0) in
+    record {
+      py-least = leb-true 7 py (d .0);
+      py-most = leb-true py 14 (d .1);
+      pz-not-0 = is-zero pz (c .1);
+      figure-1 = eqb-true az 1 (b .1);
+      ay-is = ay-of (or-parts (leb 1 ay && leb ay 12) (eqb ay 14) (a .1));
+    }
+  where
+    ay-of : ((leb 1 ay && leb ay 12) ≡ true) ⊎ (eqb ay 14 ≡ true) → ((1 ≤ ay) × (ay ≤ 12)) ⊎ (ay ≡ 14)
+    ay-of (inl r) = let h = and-parts (leb 1 ay) (leb ay 12) r in inl (leb-true 1 ay (h .0), leb-true ay 12 (h .1))
+    ay-of (inr q) = inr (eqb-true ay 14 q)
+
+target-prefixed : (ay az py pz : ℕ) → Prefixed ay az py pz → targetFigure ay az py pz ≡ 0
+unfolding targetFigure
+target-prefixed ay az py pz p = ap (λ (t : Bool). pick t 0 az) (prefixed-applies ay az py pz p)
+
+target-not : (ay az py pz : ℕ) → (Prefixed ay az py pz → ⊥) → targetFigure ay az py pz ≡ az
+unfolding targetFigure
+target-not ay az py pz other = go (applies ay az py pz) refl
+  where
+    go : (t : Bool) → applies ay az py pz ≡ t → pick t 0 az ≡ az
+    go true e = absurd (other (applies-prefixed ay az py pz e))
+    go false e = refl
+
+nought : signalSpeed 0 ≡ saysTold (Told.Kmh 0)
+unfolding signalSpeed
+nought = refl
+
+speeds-so : (bs : List Placed) (m : Message) (main target : Told) → saysTold main ≡ signalSpeed (m .ay)
+    → saysTold target ≡ signalSpeed (targetFigure (m .ay) (m .az) (yOf (P bs)) (zOf (P bs))) → Speeds bs m main target
+speeds-so bs m main target a z =
+    record {
+      main-is = λ v c. same-told main v (a ∙ sym (c .1));
+      target-0 = λ p. same-told target (Told.Kmh 0) (z ∙ ap signalSpeed (target-prefixed (m .ay) (m .az) (yOf (P bs)) (zOf (P bs)) p) ∙ nought);
+      target-is = λ other v c. same-told target v (z ∙ ap signalSpeed (target-not (m .ay) (m .az) (yOf (P bs)) (zOf (P bs)) other) ∙ sym (c .1));
+    }
+
+-- ---- what groups say
+
+signal-so : (bs : List Placed) (m : Message) (d : ℕ) (preset : Bool) (main target : Told) → m .content ≡ Content.Signal d preset main target
+    → View bs (saysMessage m) → Announces bs d preset × Speeds bs m main target
+signal-so bs m d preset main target e (signal _ _ k far is) =
+    let both = sym (ap saysContent e) ∙ is in
+    let same-d : k ≡ d = cc in
+    let same-p : preset ≡ isPreset (yOf (B bs)) = cc in
+    let same-m : saysTold main ≡ signalSpeed (m .ay) = cc in
+    let same-t : saysTold target ≡ signalSpeed (targetFigure (m .ay) (m .az) (yOf (P bs)) (zOf (P bs))) = cc in
+    (announces bs d preset (far ∙ ap gives same-d) same-p, speeds-so bs m main target same-m same-t)
+signal-so bs m d preset main target e (warning _ k far is) =
+    absurd (let both = sym (ap saysContent e) ∙ is in let z : _≡_ {A = ℕ} 0 1 = cc in omega arith)
+signal-so bs m d preset main target e (route _ is) =
+    absurd (let both = sym (ap saysContent e) ∙ is in let z : _≡_ {A = ℕ} 0 1 = cc in omega arith)
+signal-so bs m d preset main target e (plain _ is) =
+    absurd (let both = sym (ap saysContent e) ∙ is in let z : _≡_ {A = ℕ} 0 1 = cc in omega arith)
+
+warning-so : (bs : List Placed) (m : Message) (d : ℕ) (preset : Bool) → m .content ≡ Content.Warning d preset → View bs (saysMessage m) → Announces bs d preset
+warning-so bs m d preset e (warning _ k far is) =
+    let both = sym (ap saysContent e) ∙ is in
+    let same-d : k ≡ d = cc in
+    let same-p : preset ≡ isPreset (yOf (B bs)) = cc in
+    announces bs d preset (far ∙ ap gives same-d) same-p
+warning-so bs m d preset e (signal _ _ k far is) =
+    absurd (let both = sym (ap saysContent e) ∙ is in let z : _≡_ {A = ℕ} 0 1 = cc in omega arith)
+warning-so bs m d preset e (route _ is) =
+    absurd (let both = sym (ap saysContent e) ∙ is in let z : _≡_ {A = ℕ} 0 1 = cc in omega arith)
+warning-so bs m d preset e (plain _ is) =
+    absurd (let both = sym (ap saysContent e) ∙ is in let z : _≡_ {A = ℕ} 0 1 = cc in omega arith)
+
+route-so : (bs : List Placed) (m : Message) (v : ℕ) → m .content ≡ Content.Route v → View bs (saysMessage m) → v ≡ routeSpeed (m .ay) (m .az)
+route-so bs m v e (route _ is) = let both = sym (ap saysContent e) ∙ is in cc
+route-so bs m v e (signal _ _ k far is) =
+    absurd (let both = sym (ap saysContent e) ∙ is in let z : _≡_ {A = ℕ} 0 1 = cc in omega arith)
+route-so bs m v e (warning _ k far is) =
+    absurd (let both = sym (ap saysContent e) ∙ is in let z : _≡_ {A = ℕ} 0 1 = cc in omega arith)
+route-so bs m v e (plain _ is) =
+    absurd (let both = sym (ap saysContent e) ∙ is in let z : _≡_ {A = ℕ} 0 1 = cc in omega arith)
+
+pub groups : Groups
+unfolding routeSpeed
+groups = record {
+  by-rows = λ g r c one five u. c .1 ∙ rows-judge g one five u;
+  signal = λ g m d preset main target c e. signal-so (partsOf g) m d preset main target e (view g (saysMessage m) (sym (c .1)));
+  warning = λ g m d preset c e. warning-so (partsOf g) m d preset e (view g (saysMessage m) (sym (c .1)));
+  route = λ g m v c e.
+      let is = route-so (partsOf g) m v e (view g (saysMessage m) (sym (c .1))) in
+      (λ two. is ∙ ap (λ (y : ℕ). routeSpeed y (m .az)) two, λ four. is ∙ ap (λ (y : ℕ). routeSpeed y (m .az)) four);
+  distances = λ by f r c l a b. c .1 ∙ entry by f l a b;
+  preset = λ f d c. preset-range f d (sym (c .1));
+  speed = λ f r c l. c .1 ∙ speed-in f l;
+  no-speed = λ f r c l. c .1 ∙ speed-out f l;
+}
