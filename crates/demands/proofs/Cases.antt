@@ -1,12 +1,8 @@
 -- Document 01's proved cases hold: each is computed against the definitions.
 -- Assumes nothing.
-use Prim.Native.Nat.{ℕ}
-use mathlib.Core.Path.{_≡_, refl, sym, ap, _∙_}
-use mathlib.Core.List.{List, [], _∷_}
-use Rattle.words.specs.Answer.{Outcome, gives, refuses}
 use Rattle.words.specs.Bits.{word}
 use Rattle.words.specs.Plain.{isCheck, covers, count, even, isCode, onwards, figure, carriers, carried, madeEven, plainWord}
-use Rattle.words.specs.Code.{other, exchanged, sent, readWord, writeWord, readShort, writeShort, readLong, writeLong}
+use Rattle.words.specs.Code.{other, exchanged, sent, readWord, writeWord}
 use Rattle.group.specs.Distance.{distance}
 use Rattle.demands.specs.Cases.{cases, AllHold}
 

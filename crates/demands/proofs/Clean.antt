@@ -9,7 +9,7 @@ use lib.Dec.{eqb}
 use borrow.Author.Tests.{eq-eqb}
 use Rattle.words.specs.Plain.{among}
 use Rattle.telegram.specs.Telegram.{Message, reads}
-use Rattle.telegram.specs.Place.{wordsAt, isPlace, places, from, those, Single, at}
+use Rattle.telegram.specs.Place.{wordsAt, isPlace, places, from, those, at}
 use Rattle.telegram.specs.Says.{saysTelegram}
 use Rattle.telegram.specs.declared.Telegram.{Telegram}
 use Rattle.telegram.specs.declared.Found.{Found}

@@ -1,4 +1,4 @@
--- The hypothesis on the flips can be computed: beyond the stretch nothing flips, so it is a test of the telegrams up to its end.
+-- The hypotheses on the flips can be computed: beyond the stretch nothing flips, so each is a test up to its end.
 -- Assumes nothing.
 use mathlib.Core.Path.{_≡_, refl, ap, _∙_}
 use mathlib.Core.Bool.{Bool, true, false, _&&_}
@@ -8,7 +8,7 @@ use lib.Dec.{T, eqb, leb, ltb, eqb→eq, leb→le}
 use borrow.Author.Tests.{ltb-true, ltb-false, le-ltb}
 use Rattle.words.specs.Answer.{pick}
 use Rattle.words.proofs.Ranges.{both, both-left, both-right, upto, below}
-use Rattle.demands.specs.Line.{OneBalise, FewFlips, sentBit, receivedBit, inStretch, unequal, flip, flips, syncFlips, dataFlips}
+use Rattle.demands.specs.Line.{OneBalise, FewFlips, Clean, sentBit, receivedBit, inStretch, unequal, flip, flips, syncFlips, dataFlips}
 use Rattle.demands.proofs.Sums.{none-sum}
 
 -- what is asked of telegram k
@@ -49,3 +49,15 @@ module _ (o : OneBalise) where
           let a : dataFlips o k ≡ 0 = none-beyond (32 * k + 8) 24 (omega arith) in
           let c : dataFlips o (k + 1) ≡ 0 = none-beyond (32 * (k + 1) + 8) 24 (omega arith) in
           omega arith
+
+  -- Whether bit j is not flipped.
+  unfoldable pub unflipped : ℕ → Bool
+  unflipped j = eqb (flip o j) 0
+
+  pub clean : (n : ℕ) → o .phase + o .len ≤ n → T (upto unflipped n) → Clean o
+  unfolding unflipped
+  clean n l ok j = go (ltb j n) refl
+    where
+      go : (t : Bool) → ltb j n ≡ t → flip o j ≡ 0
+      go true is = eqb→eq (flip o j) 0 (below unflipped n ok j (ltb-true j n is))
+      go false is = let h : n ≤ j = ltb-false j n is in beyond j (omega arith)

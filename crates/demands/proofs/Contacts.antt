@@ -1,20 +1,20 @@
 -- The detector and the judging of a contact refuse as document 01's table says.
 -- Assumes nothing.
-use mathlib.Core.Path.{_≡_, refl, sym, ap, _∙_, subst}
+use mathlib.Core.Path.{_≡_, refl, sym, ap, subst}
 use mathlib.Core.Bool.{Bool, true, false, not, _&&_}
 use mathlib.Core.List.{List, [], _∷_}
 use Prim.Native.Nat.{ℕ, zero, suc, _+_, _-_}
 use lib.Dec.{leb}
 use lib.ListN.{length}
-use Rattle.words.specs.Answer.{Outcome, gives, refuses, pick}
+use Rattle.words.specs.Answer.{gives, refuses, pick}
 use Rattle.telegram.specs.Stretch.{bitAt, inside}
 use Rattle.telegram.specs.Place.{places, wordsAt}
 use Rattle.contact.specs.History.{opens, closes, after}
-use Rattle.contact.specs.Contacts.{Mode, outside, since, Contacts, contact, quiet, refused, contacts, contactsFrom, Handed, handed, noFurther, first, nextContact, fromStart, begun}
+use Rattle.contact.specs.Contacts.{Mode, outside, since, Contacts, contact, quiet, refused, contacts, contactsFrom, handed, noFurther, first, nextContact, fromStart, begun}
 use Rattle.contact.specs.Judge.{allAlike, firstPlace, isMarker, Contact, read, marker, judgement, judged}
 use Rattle.contact.specs.declared.Search.{Search}
-use Rattle.demands.specs.Rules.{Rule, row, Decided, Given}
-use Rattle.demands.specs.Table.{notSeven, beyond, placesDiffer, isRead, neither, cut}
+use Rattle.demands.specs.Rules.{row, Decided, Given}
+use Rattle.demands.specs.Table.{beyond, placesDiffer, isRead, neither, cut}
 use Rattle.demands.specs.Demand1.{nextRules, judgeRules}
 use Rattle.demands.proofs.Rules.{true-not-false, if-not, given}
 use Rattle.demands.proofs.Refusals.{beyond-is, stretch-then}

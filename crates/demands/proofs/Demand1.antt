@@ -1,9 +1,8 @@
 -- Demand 1 holds: each contract hands over its specification, and each specification refuses as the table says.
 -- Assumes nothing.
 use mathlib.Core.Path.{ap, ap₂, _∙_}
-use mathlib.Core.List.{List, [], _∷_}
+use mathlib.Core.List.{List}
 use Prim.Native.Nat.{ℕ}
-use Rattle.words.specs.Answer.{Outcome}
 use Rattle.telegram.specs.Place.{found}
 use Rattle.telegram.specs.Survey.{surveyed}
 use Rattle.contact.specs.Contacts.{begun, nextContact}
@@ -11,11 +10,11 @@ use Rattle.contact.specs.Judge.{judged}
 use Rattle.ride.specs.Step.{Step}
 use Rattle.ride.specs.Over.{Run, run}
 use Rattle.listing.specs.List.{Listing, list}
-use Rattle.demands.specs.Rules.{Rule, Decided, Given}
-use Rattle.demands.specs.Demand1.{IsTelegram, Demand1}
+use Rattle.demands.specs.Demand1.{Demand1}
 use Rattle.demands.proofs.Refusals.{reading, writing, pairing, wording, finding, surveying}
 use Rattle.demands.proofs.Contacts.{beginning, nexting, judging}
-use Rattle.demands.proofs.Groups.{measuring, grouping}
+use Rattle.demands.proofs.Distances.{measuring}
+use Rattle.demands.proofs.Groups.{grouping}
 use Rattle.demands.proofs.Rides.{checking, stepping, running}
 use Rattle.demands.proofs.Listings.{listing}
 

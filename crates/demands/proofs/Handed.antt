@@ -8,9 +8,9 @@ use Prim.Native.Nat.{ℕ, _+_, _-_}
 use native.Mathlib.Omega.{arith}
 use lib.Dec.{T, eqb}
 use borrow.Author.Tests.{eqb-true, eq-eqb}
-use Rattle.words.specs.Answer.{Outcome, gives, refuses}
+use Rattle.words.specs.Answer.{gives, refuses}
 use Rattle.words.specs.Plain.{among}
-use Rattle.telegram.specs.Telegram.{Message, Reading, reads}
+use Rattle.telegram.specs.Telegram.{Reading, reads}
 use Rattle.telegram.specs.Place.{wordsAt, places, Single, at, found}
 use Rattle.telegram.specs.Says.{saysTelegram, saysFound}
 use Rattle.telegram.specs.declared.Telegram.{Telegram}

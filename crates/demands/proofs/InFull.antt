@@ -2,7 +2,7 @@
 -- Assumes nothing.
 use Prim.Native.Nat.{ℕ}
 use native.Mathlib.Omega.{arith}
-use mathlib.Core.Path.{_≡_, refl, sym, ap, _∙_}
+use mathlib.Core.Path.{_≡_, refl, ap, _∙_}
 use mathlib.Core.List.{List, [], _∷_, _++_}
 use lib.ListN.{length, drop}
 use Rattle.words.specs.Bits.{word}
@@ -24,7 +24,7 @@ use Rattle.ride.specs.Joining.{join, takeUp}
 use Rattle.ride.specs.Linking.{markAt}
 use Rattle.ride.specs.Closing.{close, leave}
 use Rattle.ride.specs.Step.{closeBehind, missedLines, afterMissed, goOn, treat, End, end}
-use Rattle.ride.specs.Over.{firstRecords, records, Ridden, rideOver, Run, run}
+use Rattle.ride.specs.Over.{firstRecords, Ridden, rideOver, Run, run}
 use Rattle.ride.specs.declared.Known.{Known}
 use Rattle.ride.specs.declared.Line.{Line}
 use Rattle.ride.specs.declared.Linking.{Linking}
@@ -35,7 +35,7 @@ use Rattle.listing.specs.Text.{digits, decimal, seen, text}
 use Rattle.listing.specs.List.{textOf}
 use Rattle.demands.specs.Table.{badLength}
 use Rattle.demands.specs.Contracts.{Fresh, RunOver}
-use Rattle.demands.specs.Output.{ridden, output, oneRide, itsLines, OneRide}
+use Rattle.demands.specs.Output.{ridden, oneRide, itsLines, OneRide}
 use Rattle.demands.proofs.Output.{allText, listed-so, output-whole}
 
 -- "1000 present signal first", "5800 missed"; "Main speed 130, target 80"

@@ -2,10 +2,14 @@ pub mod Rules
 pub mod Refusals
 pub mod Cut
 pub mod Contacts
+pub mod Answers
+pub mod Distances
+pub mod Balises
 pub mod Groups
 pub mod Rides
 pub mod Messages
 pub mod Steps
+pub mod Accepted
 pub mod Linking
 pub mod Listings
 pub mod Bare
@@ -13,6 +17,7 @@ pub mod Demand1
 pub mod Cases
 pub mod RowCases
 pub mod Codes
+pub mod Prefix
 pub mod Saying
 pub mod Sums
 pub mod Bits
@@ -37,3 +42,4 @@ pub mod Demand3
 pub mod Computed
 pub mod Witnesses
 pub mod Needed
+pub mod Inhabited

@@ -1,18 +1,18 @@
 -- A listing refuses as document 01's table says, and then leaves everything as it was.
 -- Assumes nothing.
-use mathlib.Core.Path.{_≡_, refl, sym, ap, ap₂, _∙_, subst}
+use mathlib.Core.Path.{_≡_, refl, sym}
 use mathlib.Core.Bool.{Bool, true, false, not}
 use mathlib.Core.List.{List, [], _∷_}
 use Prim.Native.Nat.{ℕ, _+_, _%_}
 use native.Mathlib.Omega.{arith}
 use lib.Dec.{eqb, leb}
 use lib.ListN.{length}
-use Rattle.words.specs.Answer.{Outcome, gives, refuses, pick}
+use Rattle.words.specs.Answer.{refuses, pick}
 use Rattle.ride.specs.Joining.{allowed}
 use Rattle.ride.specs.Over.{records}
 use Rattle.ride.specs.declared.Ride.{Ride}
-use Rattle.listing.specs.Put.{Ends, next, noRoom, Filled, filled, placed, put}
-use Rattle.listing.specs.List.{Taken, Listing, listOf, listTaken, unlisted, list}
+use Rattle.listing.specs.Put.{next, noRoom, filled, placed, put}
+use Rattle.listing.specs.List.{Listing, listOf, listTaken, unlisted, list}
 use Rattle.demands.specs.Rules.{row, Decided, Given}
 use Rattle.demands.specs.Table.{badLength, badGap}
 use Rattle.demands.specs.Demand1.{runRules}

@@ -1,6 +1,6 @@
 -- What an accepted group says is what document 01's rules give for its balises: the judgement, taken apart.
 -- Assumes nothing.
-use mathlib.Core.Path.{_≡_, refl, sym, ap, _∙_, subst}
+use mathlib.Core.Path.{_≡_, refl, subst}
 use mathlib.Core.Bool.{Bool, true, false}
 use mathlib.Core.List.{List}
 use Prim.Native.Nat.{ℕ}
@@ -13,7 +13,7 @@ use Rattle.group.specs.Rows.{present, opposite, fitIn}
 use Rattle.group.specs.Distance.{isPreset}
 use Rattle.group.specs.Speed.{signalSpeed, targetFigure, routeSpeed}
 use Rattle.group.specs.Message.{Content, ofSignal, ofWarning, ofRoute, nothing, Message}
-use Rattle.group.specs.Judge.{yOf, zOf, B, P, distanceOf, contentOf, messageOf, decide, judgeRead, judge}
+use Rattle.group.specs.Judge.{yOf, zOf, B, P, distanceOf, messageOf, decide, judgeRead, judge}
 use Rattle.group.specs.declared.Direction.{Direction}
 use Rattle.group.specs.declared.Group.{Group}
 use Rattle.group.specs.declared.Kind.{Kind}

@@ -5,14 +5,14 @@ use mathlib.Core.Path.{_≡_, refl, sym}
 use mathlib.Core.Bool.{false}
 use mathlib.Core.List.{List, [], _∷_}
 use Prim.Native.Nat.{ℕ}
-use Rattle.words.specs.Answer.{Outcome, gives}
+use Rattle.words.specs.Answer.{gives}
 use Rattle.words.specs.Bits.{word}
 use Rattle.words.specs.Plain.{isCheck, covers, count, even, isCode, onwards, figure}
 use Rattle.words.specs.Code.{other, exchanged, readWord}
 use Rattle.telegram.specs.Stretch.{bitsAt, inside}
 use Rattle.telegram.specs.Sync.{differing, isGood}
-use Rattle.telegram.specs.Telegram.{Message, figures, reads, shortWord, longWord, telegram}
-use Rattle.telegram.specs.Place.{areSyncs, wordsAt, isPlace, from, those, places, Single, at, found}
+use Rattle.telegram.specs.Telegram.{figures, reads, shortWord, longWord, telegram}
+use Rattle.telegram.specs.Place.{areSyncs, wordsAt, isPlace, from, those, places, at, found}
 use Rattle.telegram.specs.Says.{saysTelegram, saysFound}
 use Rattle.telegram.specs.declared.Telegram.{Telegram}
 use Rattle.telegram.specs.declared.Found.{Found}

@@ -2,8 +2,8 @@
 -- Assumes nothing.
 use Prim.Native.Nat.{ℕ, _+_, _*_}
 use native.Mathlib.Omega.{arith}
-use mathlib.Core.Path.{_≡_, refl, sym, ap, ap₂, _∙_}
-use mathlib.Core.Bool.{Bool, true, false, not}
+use mathlib.Core.Path.{_≡_, refl, sym, ap, _∙_}
+use mathlib.Core.Bool.{Bool, true}
 use mathlib.Core.List.{List, [], _∷_, map, List·Memᴰ, List·Memᴰ·head, List·Memᴰ·tail}
 use lib.Dec.{eqb}
 use borrow.Author.Tests.{ne-eqb}
@@ -14,8 +14,8 @@ use Rattle.words.specs.declared.LongRead.{LongRead}
 use Rattle.words.proofs.Told.{told}
 use Rattle.telegram.specs.Stretch.{inside}
 use Rattle.telegram.specs.Sync.{isGood}
-use Rattle.telegram.specs.Telegram.{Letter, X, Y, Z, YZ, Reading, then, notFifteen, shortWord, longWord, reads, refused, figures, number, telegram}
-use Rattle.telegram.specs.Place.{wordsAt, places, Single, at}
+use Rattle.telegram.specs.Telegram.{X, Y, Z, YZ, Reading, then, notFifteen, shortWord, longWord, reads, figures, number, telegram}
+use Rattle.telegram.specs.Place.{wordsAt, places}
 use Rattle.telegram.specs.Says.{saysTelegram, saysTelegramRead}
 use Rattle.telegram.specs.declared.Found.{Found}
 use Rattle.telegram.specs.declared.Telegram.{Telegram}
@@ -23,9 +23,9 @@ use Rattle.telegram.specs.declared.TelegramRead.{TelegramRead}
 use Rattle.telegram.proofs.Determined as telegram-is
 use Rattle.telegram.proofs.Handed.{handed}
 use Rattle.telegram.proofs.Law.{withTelegrams, law, only}
-use Rattle.demands.specs.Table.{notSeven, beyond}
+use Rattle.demands.specs.Table.{notSeven}
 use Rattle.demands.specs.Contracts.{ReadShort, ReadLong}
-use Rattle.demands.specs.Calls.{Comes, further, ends}
+use Rattle.demands.specs.Calls.{Comes, further}
 use Rattle.demands.specs.Demand2.{Good, Bad, no-code, is-15, placeOf, Telegrams}
 use Rattle.demands.proofs.Refusals.{beyond-is}
 use Rattle.demands.proofs.Steps.{not-false}

@@ -1,25 +1,25 @@
 -- The specification of each function refuses as document 01's table says.
 -- Assumes nothing.
-use mathlib.Core.Path.{_≡_, refl, sym, ap, ap₂, _∙_, subst}
+use mathlib.Core.Path.{_≡_, refl, sym, ap₂, _∙_, subst}
 use mathlib.Core.Bool.{Bool, true, false, not, _&&_, _||_}
 use mathlib.Core.List.{List, [], _∷_}
-use Prim.Native.Nat.{ℕ, _+_, _*_, _^_, _≤_, _<_}
+use Prim.Native.Nat.{ℕ, _+_, _*_, _^_}
 use lib.Dec.{eqb, leb, ltb}
 use lib.ListN.{length}
 use borrow.Author.Tests.{le-ltb, lt-ltb, le-leb, lt-leb, leb-true, leb-false, ltb-true, ltb-false}
 use Rattle.words.specs.Answer.{Outcome, gives, refuses, pick}
 use Rattle.words.specs.Plain.{isCode, figure}
 use Rattle.words.specs.Code.{exchanged, readWord, sent, writeWord}
-use Rattle.telegram.specs.Sync.{Good, good, isGood, pairOf}
-use Rattle.telegram.specs.Telegram.{Message, figures, number, Letter, X, Y, Z, YZ, Reading, reads, refused, then, notFifteen, shortWord, longWord, telegram}
+use Rattle.telegram.specs.Sync.{good, isGood, pairOf}
+use Rattle.telegram.specs.Telegram.{figures, number, Letter, X, Y, Z, YZ, Reading, reads, then, notFifteen, shortWord, longWord, telegram}
 use Rattle.telegram.specs.Stretch.{inside}
-use Rattle.telegram.specs.Place.{Single, at, firstOf, wordsAt, places, found}
-use Rattle.telegram.specs.Survey.{Alike, alike, allAs, together, surveyed}
+use Rattle.telegram.specs.Place.{at, firstOf, wordsAt, places, found}
+use Rattle.telegram.specs.Survey.{alike, allAs, together, surveyed}
 use Rattle.contact.specs.Judge.{allAlike}
 use Rattle.demands.specs.Rules.{Rule, row, Decided, Given}
 use Rattle.demands.specs.Table.{notCode, above, fifteen, notSeven, beyond, isEmpty, noPlace, placesDiffer, isNumber}
 use Rattle.demands.specs.Demand1.{rowAt, IsTelegram, rulesAfterX, telegramRules, findRules, surveyRules}
-use Rattle.demands.proofs.Rules.{true-not-false, if-so, if-not, given}
+use Rattle.demands.proofs.Rules.{true-not-false, if-not, given}
 
 -- A received word of n bits: 1.
 pub reading : (n w : ℕ) → Decided Given (row 1 (notCode n w) ∷ []) (readWord n w)

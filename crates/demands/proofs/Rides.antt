@@ -1,6 +1,6 @@
 -- The check of a record, the step and the run refuse as document 01's table says, and leave the ride as it was.
 -- Assumes nothing.
-use mathlib.Core.Path.{_≡_, refl, sym, ap, _∙_, subst}
+use mathlib.Core.Path.{_≡_, refl, sym}
 use mathlib.Core.Bool.{Bool, true, false, not}
 use mathlib.Core.List.{List, [], _∷_}
 use Prim.Native.Nat.{ℕ, _%_}
@@ -11,13 +11,13 @@ use Rattle.words.specs.Answer.{Outcome, gives, refuses, pick}
 use Rattle.ride.specs.Record.{Entry, odometerOf, passedOf, inOrder, check}
 use Rattle.ride.specs.State.{noGroup}
 use Rattle.ride.specs.Joining.{allowed}
-use Rattle.ride.specs.Step.{Step, goOn, refuseOr, refused, treat, step}
-use Rattle.ride.specs.Over.{records, rideOver, Through, through, Run, run}
+use Rattle.ride.specs.Step.{goOn, refuseOr, refused, treat, step}
+use Rattle.ride.specs.Over.{records, rideOver, through, Run, run}
 use Rattle.ride.specs.declared.Ride.{Ride}
-use Rattle.demands.specs.Rules.{Rule, row, Decided, Given}
+use Rattle.demands.specs.Rules.{row, Decided, Given}
 use Rattle.demands.specs.Table.{badLength, badRecord, wentBack, tooFar, badGap}
 use Rattle.demands.specs.Demand1.{recordRules, stepRules, runRules}
-use Rattle.demands.proofs.Rules.{true-not-false, if-so, if-not, given}
+use Rattle.demands.proofs.Rules.{true-not-false, if-so, given}
 
 -- The check of a record: 16, 18, 17.
 pub checking : (ride : Ride) (r : List ℕ) → Decided Given (recordRules ride r) (check (ride .odometer) r)

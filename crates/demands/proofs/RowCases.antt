@@ -1,7 +1,6 @@
 -- The rows in short and in long forms, and groups just outside, are judged as document 01 says: all of them computed at once.
 -- Assumes nothing.
-use Prim.Native.Nat.{ℕ}
-use mathlib.Core.Path.{_≡_, refl, ap, _∙_}
+use mathlib.Core.Path.{_≡_, refl, _∙_}
 use mathlib.Core.List.{List, [], _∷_, map}
 use Rattle.words.specs.Answer.{Outcome}
 use Rattle.words.specs.Bits.{word}

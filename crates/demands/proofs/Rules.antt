@@ -2,10 +2,10 @@
 -- Assumes nothing.
 use mathlib.Core.Path.{_≡_, refl, sym, subst}
 use mathlib.Core.Bool.{Bool, true, false, not}
-use mathlib.Core.List.{List, [], _∷_}
+use mathlib.Core.List.{List, _∷_}
 use lib.Dec.{T}
-use Rattle.words.specs.Answer.{Outcome, gives, refuses, pick}
-use Rattle.demands.specs.Rules.{Rule, row, Decided, Given}
+use Rattle.words.specs.Answer.{gives, pick}
+use Rattle.demands.specs.Rules.{Rule, Decided, Given}
 
 pub true-not-false : true ≡ false → ⊥
 true-not-false e = subst T e tt

@@ -1,9 +1,9 @@
 -- A step of an accepted record is steps 2 to 4 of document 01, as far as each hypothesis of specs/Steps.antt takes it.
 -- Assumes nothing.
-use mathlib.Core.Path.{_≡_, refl, sym, ap, _∙_, subst}
+use mathlib.Core.Path.{_≡_, refl, sym, ap, _∙_}
 use mathlib.Core.Bool.{Bool, true, false, not, _&&_}
-use mathlib.Core.List.{List, [], _∷_, _++_}
-use Prim.Native.Nat.{ℕ, _+_, _-_, _*_, _≤_, _<_}
+use mathlib.Core.List.{[], _∷_}
+use Prim.Native.Nat.{ℕ, _+_, _-_, _≤_}
 use lib.Dec.{ltb}
 use borrow.Author.Tests.{lt-ltb, le-ltb}
 use Rattle.words.specs.Answer.{Outcome, gives, refuses, pick}
@@ -11,14 +11,12 @@ use Rattle.group.specs.Judge.{judge}
 use Rattle.group.specs.Message.{Message}
 use Rattle.group.specs.Says.{saysJudged}
 use Rattle.group.specs.declared.Judged.{Judged}
-use Rattle.ride.specs.Record.{Entry, check}
+use Rattle.ride.specs.Record.{Entry}
 use Rattle.ride.specs.State.{noGroup, isOpen, nothingKnown}
-use Rattle.ride.specs.Joining.{allowed, isBehind, takeUp}
-use Rattle.ride.specs.Linking.{isOverdue, missedPlace}
-use Rattle.ride.specs.Closing.{Closing, firstPlace, closeAs, close, leave}
-use Rattle.ride.specs.Step.{Step, closeBehind, missedLines, unlinked, afterMissed, afterClosing, goOn, refuseOr, refused, treat, step, End, ended, end}
+use Rattle.ride.specs.Joining.{allowed, takeUp}
+use Rattle.ride.specs.Closing.{firstPlace, closeAs, close, leave}
+use Rattle.ride.specs.Step.{Step, closeBehind, missedLines, afterMissed, afterClosing, goOn, refuseOr, refused, treat, step, ended, end}
 use Rattle.ride.specs.Says.{saysStepped, saysEnded}
-use Rattle.ride.specs.declared.Known.{Known}
 use Rattle.ride.specs.declared.Line.{Line}
 use Rattle.ride.specs.declared.Ride.{Ride}
 use Rattle.ride.specs.declared.Ended.{Ended}

@@ -18,7 +18,7 @@ use Rattle.telegram.specs.Survey.{sameWords, allAs, Alike, alike, together, sur
 use Rattle.telegram.specs.Says.{saysTelegram, saysSurveyed}
 use Rattle.telegram.specs.declared.Telegram.{Telegram}
 use Rattle.telegram.specs.declared.Surveyed.{Surveyed}
-use Rattle.contact.specs.Judge.{Contact, read, marker, isMarker, judged}
+use Rattle.contact.specs.Judge.{read, marker, isMarker, judged}
 use Rattle.contact.specs.Says.{saysJudged}
 use Rattle.contact.specs.declared.Judged.{Judged}
 use Rattle.contact.proofs.Judging.{markerOr, fromSurvey, by-survey}

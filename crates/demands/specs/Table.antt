@@ -11,7 +11,6 @@ use Rattle.words.specs.Code.{exchanged}
 use Rattle.telegram.specs.Stretch.{bitAt}
 use Rattle.telegram.specs.Sync.{differing}
 use Rattle.telegram.specs.Place.{places}
-use Rattle.telegram.specs.Survey.{allAs}
 use Rattle.contact.specs.History.{after, zeroes}
 use Rattle.contact.specs.Judge.{allAlike, isMarker}
 use Rattle.contact.specs.declared.Search.{Search}
@@ -43,8 +42,7 @@ fifteen w = isCode 8 (exchanged 8 w) && eqb (figure 8 (exchanged 8 w)) 15
 unfoldable pub notSeven : ℕ → ℕ → Bool
 notSeven s t = not (eqb (differing s t 8) 7)
 
--- 5: "stretch beyond the buffer, or above 16,777,216 bits": it ends behind the buffer's last bit, or where bits have no number
--- of 64 bits, or it is too long
+-- 5: "stretch beyond the buffer, or above 16,777,216 bits" (where bits have no number of 64 bits is beyond every buffer)
 unfoldable pub beyond : List ℕ → ℕ → ℕ → Bool
 beyond b start len = ltb (8 * length b) (start + len) || leb (2 ^ 64) (start + len) || ltb 16777216 len
 

@@ -1,0 +1,195 @@
+-- The hypotheses of the theorems on steps are met: by the last record of document 01's ride, with no linking and with linking that
+-- makes it early, good or late by one decimetre; by a group of one balise; and by a record that finds no group open.
+-- Assumes nothing.
+use Prim.Native.Nat.{ℕ}
+use native.Mathlib.Omega.{arith}
+use mathlib.Core.Path.{refl}
+use mathlib.Core.Bool.{false}
+use mathlib.Core.List.{List, [], _∷_}
+use Rattle.words.specs.Bits.{word}
+use Rattle.words.specs.Plain.{isCheck, covers, count, even, isCode, onwards, figure}
+use Rattle.words.specs.Code.{other, exchanged, readWord}
+use Rattle.telegram.specs.Telegram.{shortWord, longWord, telegram}
+use Rattle.group.specs.Balise.{balises, readAll}
+use Rattle.group.specs.Row.{fits, first, fitRow, fitRows}
+use Rattle.group.specs.Rows.{howMany, fitIn}
+use Rattle.group.specs.Distance.{distance}
+use Rattle.group.specs.Speed.{signalSpeed, targetFigure, routeSpeed}
+use Rattle.group.specs.Judge.{distanceOf, judgeRead, judge}
+use Rattle.group.specs.declared.Content.{Content}
+use Rattle.group.specs.declared.Direction.{Direction}
+use Rattle.group.specs.declared.Group.{Group}
+use Rattle.group.specs.declared.Heard.{Heard}
+use Rattle.group.specs.declared.Judged.{Judged}
+use Rattle.group.specs.declared.Kind.{Kind}
+use Rattle.group.specs.declared.Message.{Message}
+use Rattle.group.specs.declared.Told.{Told}
+use Rattle.ride.specs.Record.{odometerOf, passedOf, inOrder, check}
+use Rattle.ride.specs.State.{noBalise, noGroup, nothingKnown, freshRide}
+use Rattle.ride.specs.Joining.{join, takeUp}
+use Rattle.ride.specs.Linking.{markAt}
+use Rattle.ride.specs.Closing.{close, leave}
+use Rattle.ride.specs.Step.{closeBehind, missedLines, afterMissed, goOn, treat, step}
+use Rattle.ride.specs.declared.Line.{Line}
+use Rattle.ride.specs.declared.Lines.{Lines}
+use Rattle.ride.specs.declared.Linking.{Linking}
+use Rattle.ride.specs.declared.Mark.{Mark}
+use Rattle.ride.specs.declared.Passed.{Passed}
+use Rattle.ride.specs.declared.Report.{Report}
+use Rattle.ride.specs.declared.Ride.{Ride}
+use Rattle.demands.specs.Table.{badGap}
+use Rattle.demands.specs.Contracts.{StepOf, JudgeGroup}
+use Rattle.demands.specs.Steps.{OneStep, LeavesBehind, NoneOpen, ClosesSignal}
+
+-- The signal of document 01's ride as it stands open after two records.
+abbrev itsGroup : Group
+itsGroup =
+    record {
+      kept =
+          record { place = 1000; heard = Heard.Words 0x17 0x8E 0x5A }
+          ∷ record { place = 1030; heard = Heard.Words 0x99 0x2B 0x4D }
+          ∷ noBalise ∷ noBalise ∷ noBalise ∷ [];
+      count = 2;
+      last = 1030;
+    }
+
+-- "00001770 03 00 00 00"
+abbrev last : List ℕ
+last = 0x00 ∷ 0x00 ∷ 0x17 ∷ 0x70 ∷ 0x03 ∷ 0x00 ∷ 0x00 ∷ 0x00 ∷ []
+
+-- The record's step, from this linking on, with this mark: the signal's line, and that the next one is missed.
+abbrev lastStep : Linking → Mark → OneStep
+lastStep linking mark =
+    record {
+      ride = record { odometer = 1030; group = itsGroup; known = record { linking = linking; main = Told.Unknown; target = Told.Unknown } };
+      gap = 40;
+      bytes = last;
+      odometer = 6000;
+      passed = Passed.Position;
+      answer =
+          record {
+            ride = record { odometer = 6000; group = noGroup; known = record { linking = Linking.Unset; main = Told.Kmh 130; target = Told.Kmh 80 } };
+            closed = itsGroup;
+            report =
+                Report.Lines
+                (Lines.Two (Line.Group (record { place = 1000; direction = Direction.Present; kind = Kind.Signal; mark = mark })) (Line.Missed 5800));
+          };
+    }
+
+abbrev itsMessage : Message
+itsMessage =
+    record {
+      direction = Direction.Present; kind = Kind.Signal; place = 1000; ay = 8; az = 5;
+      content = Content.Signal 4000 false (Told.Kmh 130) (Told.Kmh 80);
+    }
+
+-- The contract of `step` allows that answer.
+abbrev Answered : Linking → Mark → Type 0
+Answered linking mark = StepOf (lastStep linking mark .ride) 40 last (lastStep linking mark .answer)
+
+-- It closes the signal where the contract of `step` allows this answer.
+closes-it : (linking : Linking) (mark : Mark) → JudgeGroup itsGroup (Judged.Accepted itsMessage) → Answered linking mark → ClosesSignal (lastStep linking mark) itsMessage
+unfolding odometerOf passedOf inOrder check badGap
+closes-it linking mark judged called =
+    record {
+      behind = record {
+        accepts = record { called = called; good-gap = refl; accepted = ((lastStep linking mark .ride, (last, tt)), refl) };
+        is-open = refl;
+        exceeds = omega arith;
+      };
+      judged = judged;
+      direction = refl;
+      kind = refl;
+    }
+
+-- what the step was lent
+abbrev lent : Linking → Ride × (ℕ × (List ℕ × Unit {0}))
+lent linking = (lastStep linking Mark.First .ride, (40, (last, tt)))
+
+-- D = 500: 4D is 5 x 400, 6D is 5 x 600. At 399 early, at 400 and 600 good, at 601 late; with no linking first.
+its-answers : JudgeGroup itsGroup (Judged.Accepted itsMessage) × Answered Linking.Unset Mark.First × Answered (Linking.Set 500 601) Mark.Early
+    × Answered (Linking.Set 500 600) Mark.Good × Answered (Linking.Set 500 400) Mark.Good × Answered (Linking.Set 500 399) Mark.Late
+unfolding readWord isCode even count covers figure onwards isCheck exchanged other word shortWord longWord telegram balises readAll fits first fitRow fitRows howMany fitIn distance signalSpeed targetFigure routeSpeed distanceOf judgeRead judge odometerOf passedOf inOrder check noGroup nothingKnown freshRide join takeUp markAt close leave closeBehind missedLines afterMissed goOn treat step badGap
+its-answers = (
+  ((itsGroup, tt), refl),
+  (lent Linking.Unset, refl),
+  (lent (Linking.Set 500 601), refl),
+  (lent (Linking.Set 500 600), refl),
+  (lent (Linking.Set 500 400), refl),
+  (lent (Linking.Set 500 399), refl),
+)
+
+first-met : ClosesSignal (lastStep Linking.Unset Mark.First) itsMessage
+first-met = closes-it Linking.Unset Mark.First (its-answers .0) (its-answers .1)
+
+early-met : ClosesSignal (lastStep (Linking.Set 500 601) Mark.Early) itsMessage
+early-met = closes-it (Linking.Set 500 601) Mark.Early (its-answers .0) (its-answers .2)
+
+good-met : ClosesSignal (lastStep (Linking.Set 500 600) Mark.Good) itsMessage × ClosesSignal (lastStep (Linking.Set 500 400) Mark.Good) itsMessage
+good-met = (closes-it (Linking.Set 500 600) Mark.Good (its-answers .0) (its-answers .3), closes-it (Linking.Set 500 400) Mark.Good (its-answers .0) (its-answers .4))
+
+late-met : ClosesSignal (lastStep (Linking.Set 500 399) Mark.Late) itsMessage
+late-met = closes-it (Linking.Set 500 399) Mark.Late (its-answers .0) (its-answers .5)
+
+-- ---- no group is open, and the signal announced 4000 dm from 1000 on is missed at 5801 dm
+
+-- the record at 5801 dm
+abbrev far : List ℕ
+far = 0x00 ∷ 0x00 ∷ 0x16 ∷ 0xA9 ∷ 0x03 ∷ 0x00 ∷ 0x00 ∷ 0x00 ∷ []
+
+abbrev missedStep : OneStep
+missedStep =
+    record {
+      ride = record { odometer = 5800; group = noGroup; known = record { linking = Linking.Set 4000 1000; main = Told.Kmh 130; target = Told.Kmh 80 } };
+      gap = 40;
+      bytes = far;
+      odometer = 5801;
+      passed = Passed.Position;
+      answer =
+          record {
+            ride = record { odometer = 5801; group = noGroup; known = record { linking = Linking.Unset; main = Told.Kmh 130; target = Told.Kmh 80 } };
+            closed = noGroup;
+            report = Report.Lines (Lines.One (Line.Missed 5800));
+          };
+    }
+
+missed-met : NoneOpen missedStep
+unfolding odometerOf passedOf inOrder check noGroup leave closeBehind missedLines afterMissed goOn treat step takeUp badGap
+missed-met =
+    record {
+      accepts = record { called = ((missedStep .ride, (40, (far, tt))), refl); good-gap = refl; accepted = ((missedStep .ride, (far, tt)), refl) };
+      none = refl;
+    }
+
+-- ---- a group of one balise is left behind and refused
+
+-- the group
+abbrev alone : Group
+alone = record { kept = record { place = 1000; heard = Heard.Marker } ∷ noBalise ∷ noBalise ∷ noBalise ∷ noBalise ∷ []; count = 1; last = 1000 }
+
+abbrev aloneStep : OneStep
+aloneStep =
+    record {
+      ride = record { odometer = 1000; group = alone; known = nothingKnown };
+      gap = 40;
+      bytes = far;
+      odometer = 5801;
+      passed = Passed.Position;
+      answer =
+          record {
+            ride = record { odometer = 5801; group = noGroup; known = nothingKnown };
+            closed = alone;
+            report = Report.Lines (Lines.One (Line.Fault 1000 10));
+          };
+    }
+
+alone-met : LeavesBehind aloneStep × JudgeGroup alone Judged.One
+unfolding odometerOf passedOf inOrder check noGroup nothingKnown close closeBehind missedLines afterMissed goOn treat step takeUp judge badGap
+alone-met = (
+  record {
+    accepts = record { called = ((aloneStep .ride, (40, (far, tt))), refl); good-gap = refl; accepted = ((aloneStep .ride, (far, tt)), refl) };
+    is-open = refl;
+    exceeds = omega arith;
+  },
+  ((alone, tt), refl),
+)
