@@ -2,7 +2,10 @@ pub mod Words
 pub mod Pairs
 pub mod Taken
 pub mod Window
+pub mod Bytes
 pub mod Places
+pub mod Outer
+pub mod Eight
 pub mod Rest
 pub mod SoFar
 pub mod Handed

@@ -70,14 +70,20 @@ module _ (b : List ℕ) (p q : ℕ) where
 
 -- One offset more: p, whose forty bits are v, against `first`, whose forty bits are `kept`.
 module _ (b : List ℕ) (s t stop first p n v kept : ℕ) (v-is : v ≡ bitsAt b p 40) (kept-is : kept ≡ bitsAt b first 40) (on : p < stop) where
-  pub turn-not-here : fits s t v ≡ false → soFar b first n (ahead b s t stop p) ≡ soFar b first n (ahead b s t stop (p + 1))
-  turn-not-here e = ap (soFar b first n) (ahead-not-here b s t stop p on (ap (fits s t) (sym v-is) ∙ e))
+  -- as many counted as m says
+  counted : (m k : ℕ) → m ≡ k → soFar b first k (ahead b s t stop (p + 1)) ≡ soFar b first m (ahead b s t stop (p + 1))
+  counted m k e = ap (λ (x : ℕ). soFar b first x (ahead b s t stop (p + 1))) (sym e)
 
-  pub turn-alike : fits s t v ≡ true → ((k : ℕ) → k < 3 → wordIn v k ≡ wordIn kept k)
-      → soFar b first n (ahead b s t stop p) ≡ soFar b first (n + 1) (ahead b s t stop (p + 1))
-  turn-alike e same =
+  pub turn-not-here : (m : ℕ) → m ≡ n → fits s t v ≡ false → soFar b first n (ahead b s t stop p) ≡ soFar b first m (ahead b s t stop (p + 1))
+  turn-not-here m as-before e =
+      ap (soFar b first n) (ahead-not-here b s t stop p on (ap (fits s t) (sym v-is) ∙ e)) ∙ counted m n as-before
+
+  pub turn-alike : (m : ℕ) → m ≡ n + 1 → fits s t v ≡ true → ((k : ℕ) → k < 3 → wordIn v k ≡ wordIn kept k)
+      → soFar b first n (ahead b s t stop p) ≡ soFar b first m (ahead b s t stop (p + 1))
+  turn-alike m more e same =
       let words = all-same b first p (λ k h. ap (λ (u : ℕ). wordIn u k) (sym kept-is) ∙ sym (same k h) ∙ ap (λ (u : ℕ). wordIn u k) v-is) in
       ap (soFar b first n) (ahead-here b s t stop p on (ap (fits s t) (sym v-is) ∙ e)) ∙ one-alike b first n p (ahead b s t stop (p + 1)) words
+      ∙ counted m (n + 1) more
 
   pub turn-differs : fits s t v ≡ true → (k : ℕ) → k < 3 → (wordIn v k ≡ wordIn kept k → ⊥)
       → soFar b first n (ahead b s t stop p) ≡ refuses 7

@@ -1,6 +1,6 @@
 -- The bits of a buffer as a number: how large it is, where it can be cut, and how the window of forty bits rolls on.
 -- Assumes nothing.
-use mathlib.Core.Path.{_≡_, sym, ap, ap₂, _∙_, subst}
+use mathlib.Core.Path.{_≡_, sym, ap, _∙_, subst}
 use mathlib.Core.List.{List}
 use Prim.Native.Nat.{ℕ, zero, suc, _+_, _-_, _*_, _/_, _%_, _^_, _≤_, _<_}
 use native.Mathlib.Nat.{add-zero, add-suc, pow-suc, mod-lt, zero-lt-suc, mul-assoc, add-assoc, le-trans}
@@ -50,9 +50,6 @@ cut b p m (suc n) =
 module _ (b : List ℕ) (p : ℕ) where
   pub rolls : bitsAt b p 40 % 2 ^ 39 ≡ bitsAt b (p + 1) 39
   rolls = omega (arith, cut b p 1 39, bits-lt b (p + 1) 39)
-
-  pub grown : (w x : ℕ) → w ≡ bitsAt b p 39 → x ≡ bitAt b (p + 39) → w * 2 + x ≡ bitsAt b p 40
-  grown w x hw hx = ap₂ (λ (y z : ℕ). y * 2 + z) hw hx ∙ one-more b p 39
 
   pub first-word : bitsAt b p 40 / 2 ^ 32 ≡ bitsAt b p 8
   first-word = omega (arith, cut b p 8 32, bits-lt b (p + 8) 32)

@@ -9,20 +9,15 @@ ghost use Rattle.telegram.specs.Survey.{together};
 ghost use Rattle.telegram.specs.Says.{saysTelegram, saysSurveyed};
 use crate::Surveyed;
 use crate::Telegram;
-use crate::bits::bit;
+use crate::ahead::eight_on;
+use crate::ahead::quiet;
 use crate::bits::bits;
+use crate::bits::with_bit;
 use crate::forty::is_place;
 use crate::forty::word;
 
 // The place `first`, which says `telegram`, with the places after it and before bit `stop`: all alike, or two differ.
-pub fn from_first(
-    buf: &[u8],
-    first: usize,
-    stop: usize,
-    s: u8,
-    t: u8,
-    telegram: Telegram,
-) -> Surveyed
+pub fn to_first(buf: &[u8], first: usize, stop: usize, s: u8, t: u8, telegram: Telegram) -> Surveyed
     requires { ⌜ (first < stop) × (stop + 39 ≤ 8 * length (now buf)) × (stop + 39 < 2 ^ 64) × (reads (saysTelegram telegram) ≡ wordsAt (now buf) first) ⌝ }
     ensures { λ r. ⌜ saysSurveyed r ≡ together (now (buf .entry)) (first ∷ places (now (buf .entry)) (first + 1) (stop - (first + 1) + 39) s t) ⌝ }
 {
@@ -31,19 +26,24 @@ pub fn from_first(
     let mut p = first + 1;
     let mut count: usize = 1;
     'scan: while p < stop {
-        let v = w * 2 + bit(buf, p + 39);
-        if is_place(v, s, t) {
-            let mut k = 0;
-            while k < 3 {
-                if word(v, k) != word(kept, k) {
-                    break 'scan;
+        if quiet(buf, w, p, stop, s, t) {
+            w = eight_on(buf, w, p);
+            p += 8;
+        } else {
+            let v = with_bit(buf, w, p, 39);
+            if is_place(v, s, t) {
+                let mut k = 0;
+                while k < 3 {
+                    if word(v, k) != word(kept, k) {
+                        break 'scan;
+                    }
+                    k += 1;
                 }
-                k += 1;
+                count += 1;
             }
-            count += 1;
+            w = v % 549755813888;
+            p += 1;
         }
-        w = v % 549755813888;
-        p += 1;
     }
     if p < stop {
         return Surveyed::Differ;

@@ -9,6 +9,7 @@ ghost use Rattle.telegram.specs.Survey.{surveyed};
 ghost use Rattle.telegram.specs.Says.{saysPair, saysTelegramRead, saysFound, saysSurveyed};
 
 mod after_x;
+mod ahead;
 mod alike;
 mod bits;
 mod forty;
@@ -118,7 +119,7 @@ pub fn survey(buf: &[u8], start: usize, len: usize, s: u8, t: u8) -> Surveyed
     let found = find(buf, start, len, s, t);
     match found {
         Found::At { place, telegram } => {
-            alike::from_first(buf, place, start + (len - 39), s, t, telegram)
+            alike::to_first(buf, place, start + (len - 39), s, t, telegram)
         }
         Found::NotSeven => Surveyed::NotSeven,
         Found::Beyond => Surveyed::Beyond,

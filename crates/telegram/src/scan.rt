@@ -1,4 +1,4 @@
-// The walk over the offsets of a stretch, with a window of forty bits that rolls on by one bit a turn.
+// The walk over the offsets of a stretch, with a window of forty bits that rolls on by one bit a turn, or by eight where none of eight offsets is a place.
 ghost use mathlib.Core.Path.{_≡_};
 ghost use mathlib.Core.Bool.{true};
 ghost use Prim.Native.Nat.{_+_, _-_, _*_, _/_, _%_, _<_, _≤_, _^_};
@@ -9,8 +9,10 @@ ghost use Rattle.telegram.specs.Place.{accepted, at, firstOf, places};
 ghost use Rattle.telegram.specs.Says.{saysFound};
 use crate::Found;
 use crate::TelegramRead;
-use crate::bits::bit;
+use crate::ahead::eight_on;
+use crate::ahead::quiet;
 use crate::bits::bits;
+use crate::bits::with_bit;
 use crate::forty::is_place;
 use crate::forty::words_of;
 
@@ -22,12 +24,17 @@ pub fn first_place(buf: &[u8], start: usize, stop: usize, s: u8, t: u8) -> Found
     let mut w = bits(buf, start, 39);
     let mut p = start;
     while p < stop {
-        let v = w * 2 + bit(buf, p + 39);
-        if is_place(v, s, t) {
-            return found_at(p, v);
+        if quiet(buf, w, p, stop, s, t) {
+            w = eight_on(buf, w, p);
+            p += 8;
+        } else {
+            let v = with_bit(buf, w, p, 39);
+            if is_place(v, s, t) {
+                return found_at(p, v);
+            }
+            w = v % 549755813888;
+            p += 1;
         }
-        w = v % 549755813888;
-        p += 1;
     }
     Found::NoPlace
 }

@@ -35,17 +35,17 @@ refused : (b : List ℕ) (start len s t : ℕ) (r : Found) → saysFound r ≡ f
     → refuses n ≡ surveyed b start len s t
 refused b start len s t r says n e = sym (as-refused b start len s t n (sym says ∙ e))
 
-sub-from-first : tie.Need-sub-from-first
-sub-from-first c = let f = at-first c .first in omega arith
+sub-to-first : tie.Need-sub-to-first
+sub-to-first c = let f = at-first c .first in omega arith
 
-add-from-first : tie.Need-add-from-first
-add-from-first c =
+add-to-first : tie.Need-add-to-first
+add-to-first c =
     let a = c .before .before .before .before .before .args in
     let h = at-first c in
     omega (arith, h .first, taken (a .buf .now) (a .start) (a .len) (h .taken))
 
-from-first-requires : tie.Need-from-first-requires
-from-first-requires c κs =
+to-first-requires : tie.Need-to-first-requires
+to-first-requires c κs =
     let a = c .before .before .before .before .before .args in
     let h = at-first c in
     let f = h .first in
@@ -71,7 +71,7 @@ returns c =
     let e : a .start + (a .len - 39) - (p + 1) + 39 ≡ a .start + a .len - (p + 1) = omega arith in
     let ps : places (a .buf .now) (p + 1) (a .start + (a .len - 39) - (p + 1) + 39) (a .s) (a .t) ≡ h .rest =
     ap (λ (l : ℕ). places (a .buf .now) (p + 1) l (a .s) (a .t)) e ∙ sym (f .others) in
-    c .from-first .ensures ∙ ap (λ (qs : List ℕ). together (a .buf .now) (p ∷ qs)) ps ∙ ap (together (a .buf .now)) (sym (h .list))
+    c .to-first .ensures ∙ ap (λ (qs : List ℕ). together (a .buf .now) (p ∷ qs)) ps ∙ ap (together (a .buf .now)) (sym (h .list))
     ∙ simp (h .good, h .taken)
 
 returns-2 : tie.Need-returns-2
@@ -89,9 +89,9 @@ survey-spec =
     (tie.spec
     find-requires
     enum-known-found
-    sub-from-first
-    add-from-first
-    from-first-requires
+    sub-to-first
+    add-to-first
+    to-first-requires
     enum-told
     enum-told-2
     enum-told-3

@@ -1,10 +1,10 @@
--- After k turns w holds the first k bits; each turn brings one more.
+-- w holds the first k bits; each turn brings one more, or the eight of a whole byte.
 -- Assumes nothing.
-use mathlib.Core.Path.{_≡_, ap, ap₂, _∙_, refl}
-use Prim.Native.Nat.{ℕ, _+_, _-_, _*_, _≤_}
+use mathlib.Core.Path.{_≡_, ap, _∙_, refl}
+use Prim.Native.Nat.{_-_, _≤_}
 use native.Mathlib.Omega.{arith}
+use borrow.Author.Tests.{leb-true}
 use Rattle.telegram.specs.Stretch.{bitsAt}
-use Rattle.telegram.proofs.Window.{bit-lt, bits-small, one-more}
 use Rattle.telegram.proofs.bits.bits.Statement.{statement}
 use Rattle.telegram.proofs.bits.bits.Tie as tie
 
@@ -18,22 +18,14 @@ loop-holds : tie.Need-loop-holds Inv-loop μ-loop
 unfolding bitsAt
 loop-holds c = (omega arith, refl)
 
-mul-w : tie.Need-mul-w Inv-loop μ-loop
-mul-w c =
-    let a = c .before .before .before .args in
-    omega (arith, bits-small (a .buf .now) (a .p) (c .before .loop .k) (omega arith))
+add-if1 : tie.Need-add-if1 Inv-loop μ-loop
+add-if1 c = omega arith
 
-add-bit : tie.Need-add-bit Inv-loop μ-loop
-add-bit c = omega arith
+sub-if2 : tie.Need-sub-if2 Inv-loop μ-loop
+sub-if2 c = omega arith
 
-bit-requires : tie.Need-bit-requires Inv-loop μ-loop
-bit-requires c κs = omega arith
-
-add-w : tie.Need-add-w Inv-loop μ-loop
-add-w c =
-    let a = c .before .before .before .before .args in
-    let k = c .before .before .loop .k in
-    omega (arith, bits-small (a .buf .now) (a .p) k (omega arith), bit-lt (a .buf .now) (a .p + k))
+with-byte-requires : tie.Need-with-byte-requires Inv-loop μ-loop
+with-byte-requires c κs = (c .before .before .before .loop .inv .1, omega arith, c .before .if1 .taken, omega arith, omega arith)
 
 add-k : tie.Need-add-k Inv-loop μ-loop
 add-k c = omega arith
@@ -43,9 +35,21 @@ loop-less c = omega arith
 
 loop-again : tie.Need-loop-again Inv-loop μ-loop
 loop-again c =
-    let a = c .before .before .before .before .args in
-    let k = c .before .before .loop .k in
-    (omega arith, ap₂ (λ (w x : ℕ). w * 2 + x) (c .before .before .loop .inv .1) (c .bit .ensures) ∙ one-more (a .buf .now) (a .p) k)
+    let a = c .before .before .before .before .before .before .args in
+    let l = c .before .before .before .before .loop in
+    (omega (arith, leb-true 8 (a .n - l .k) (c .before .if2 .taken)), c .with-byte .ensures)
+
+with-bit-requires : tie.Need-with-bit-requires Inv-loop μ-loop
+with-bit-requires c κs = (c .before .before .loop .inv .1, omega arith, omega arith, omega arith)
+
+add-k-2 : tie.Need-add-k-2 Inv-loop μ-loop
+add-k-2 c = omega arith
+
+loop-less-2 : tie.Need-loop-less-2 Inv-loop μ-loop
+loop-less-2 c = omega arith
+
+loop-again-2 : tie.Need-loop-again-2 Inv-loop μ-loop
+loop-again-2 c = (omega arith, c .with-bit .ensures)
 
 returns : tie.Need-returns Inv-loop μ-loop
 returns c =
@@ -60,11 +64,14 @@ bits-spec =
     Inv-loop
     μ-loop
     loop-holds
-    mul-w
-    add-bit
-    bit-requires
-    add-w
+    add-if1
+    sub-if2
+    with-byte-requires
     add-k
     loop-less
     loop-again
+    with-bit-requires
+    add-k-2
+    loop-less-2
+    loop-again-2
     returns)
