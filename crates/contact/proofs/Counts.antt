@@ -24,7 +24,7 @@ ones-more w n =
     ∙ ap (λ (k : ℕ). k + ones (w % 2 ^ n)) (ones-bit (w / 2 ^ n % 2) (omega arith))
 
 -- Of the n lowest bits, those that are zeroes and those that are ones make n.
-zeroes-and-ones : (w n : ℕ) → zeroesOf w n + ones (w % 2 ^ n) ≡ n
+pub zeroes-and-ones : (w n : ℕ) → zeroesOf w n + ones (w % 2 ^ n) ≡ n
 unfolding zeroesOf ones onesIn
 zeroes-and-ones w zero =
     let e : w % 1 ≡ 0 = omega arith in

@@ -1,9 +1,11 @@
 pub mod Counts
 pub mod Steps
+pub mod Latest
+pub mod Stays
+pub mod Four
 pub mod Follows
 pub mod Law
 pub mod Calls
-pub mod Latest
 pub mod RunsOn
 pub mod Markers
 pub mod Judging

@@ -5,6 +5,7 @@ use mathlib.Core.Path.{_≡_, refl, sym, ap, _∙_}
 use native.Mathlib.Omega.{arith}
 use Rattle.contact.specs.Contacts.{since, contacts, first}
 use Rattle.contact.proofs.Steps.{ends-inside, goes-out, stays-in}
+use Rattle.contact.proofs.Stays.{none-closes}
 use Rattle.contact.proofs.detector.within.Statement.{statement}
 use Rattle.contact.proofs.detector.within.Tie as tie
 
@@ -24,6 +25,27 @@ add-i c = omega arith
 loop-holds : tie.Need-loop-holds Inv-loop μ-loop
 loop-holds c = (omega arith, omega arith, omega arith, refl)
 
+four-close-none-requires : tie.Need-four-close-none-requires Inv-loop μ-loop
+four-close-none-requires c κs = omega arith
+
+after-four-requires : tie.Need-after-four-requires Inv-loop μ-loop
+after-four-requires c κs = omega (arith, c .before .four-close-none .ensures (c .if1 .taken))
+
+add-i-2 : tie.Need-add-i-2 Inv-loop μ-loop
+add-i-2 c = omega (arith, c .before .before .four-close-none .ensures (c .before .if1 .taken))
+
+loop-less : tie.Need-loop-less Inv-loop μ-loop
+loop-less c = omega (arith, c .before .before .four-close-none .ensures (c .before .if1 .taken))
+
+loop-again : tie.Need-loop-again Inv-loop μ-loop
+loop-again c =
+    let a = c .before .before .before .before .before .before .args in
+    let l = c .before .before .before .before .loop in
+    let t = c .before .before .four-close-none .ensures (c .before .if1 .taken) in
+    let f = c .after-four in
+    let same = none-closes (a .buf .now) (l .h) (l .i) (a .end) (f .result) (a .opened) (t .1) (f .ensures .0) (t .2) in
+    (omega arith, omega arith, omega arith, l .inv .3 ∙ same)
+
 after-requires : tie.Need-after-requires Inv-loop μ-loop
 after-requires c κs = omega arith
 
@@ -33,30 +55,30 @@ add-behind c = omega arith
 zeroes-requires : tie.Need-zeroes-requires Inv-loop μ-loop
 zeroes-requires c κs = omega arith
 
-sub-t10 : tie.Need-sub-t10 Inv-loop μ-loop
-sub-t10 c = omega arith
+sub-t12 : tie.Need-sub-t12 Inv-loop μ-loop
+sub-t12 c = omega arith
 
-sub-t11 : tie.Need-sub-t11 Inv-loop μ-loop
-sub-t11 c = omega arith
+sub-t13 : tie.Need-sub-t13 Inv-loop μ-loop
+sub-t13 c = omega arith
 
-cast-t12 : tie.Need-cast-t12 Inv-loop μ-loop
-cast-t12 c = omega arith
+cast-t14 : tie.Need-cast-t14 Inv-loop μ-loop
+cast-t14 c = omega arith
 
 returns : tie.Need-returns Inv-loop μ-loop
 returns c =
-    let a = c .before .before .before .before .before .before .args in
-    let l = c .before .before .before .before .loop in
+    let a = c .before .before .before .before .before .before .before .before .args in
+    let l = c .before .before .before .before .before .before .loop in
     let n = c .before .before .after in
     let z = c .before .zeroes in
     sym (ap first (l .inv .3 ∙ goes-out (a .buf .now) (l .h) (l .i) (a .end) (n .result) (z .result) (omega arith) (n .ensures .0) (z .ensures) (a .opened) (omega arith)))
 
-loop-less : tie.Need-loop-less Inv-loop μ-loop
-loop-less c = omega arith
+loop-less-2 : tie.Need-loop-less-2 Inv-loop μ-loop
+loop-less-2 c = omega arith
 
-loop-again : tie.Need-loop-again Inv-loop μ-loop
-loop-again c =
-    let a = c .before .before .before .before .before .before .args in
-    let l = c .before .before .before .before .loop in
+loop-again-2 : tie.Need-loop-again-2 Inv-loop μ-loop
+loop-again-2 c =
+    let a = c .before .before .before .before .before .before .before .before .args in
+    let l = c .before .before .before .before .before .before .loop in
     let n = c .before .before .after in
     let z = c .before .zeroes in
     let same = stays-in (a .buf .now) (l .h) (l .i) (a .end) (n .result) (z .result) (omega arith) (n .ensures .0) (z .ensures) (a .opened) (omega arith) in
@@ -76,13 +98,18 @@ within-spec =
     μ-loop
     add-i
     loop-holds
+    four-close-none-requires
+    after-four-requires
+    add-i-2
+    loop-less
+    loop-again
     after-requires
     add-behind
     zeroes-requires
-    sub-t10
-    sub-t11
-    cast-t12
+    sub-t12
+    sub-t13
+    cast-t14
     returns
-    loop-less
-    loop-again
+    loop-less-2
+    loop-again-2
     returns-2)
