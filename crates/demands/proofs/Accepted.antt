@@ -56,9 +56,10 @@ module _ (o : OneStep) (m : Message) (b : LeavesBehind o) (j : JudgeGroup (o .ri
   known-so = ap (λ (s : Step). s .ride .known) closed-so ∙ step3-known (o .odometer) told
 
   pub begins-so : (mark : Mark) → markFrom (saysContent (m .content)) (m .place) (before o .linking) ≡ mark → Begins o (lineOf m mark)
-  begins-so mark e =
-      (pick (isOverdue (told .linking) (o .odometer)) (missedLine told) [],
-      lines-so ∙ ap (λ (v : Mark). gives (lineOf m v ∷ pick (isOverdue (told .linking) (o .odometer)) (missedLine told) [])) e)
+  begins-so mark e = (
+    pick (isOverdue (told .linking) (o .odometer)) (missedLine told) [],
+    lines-so ∙ ap (λ (v : Mark). gives (lineOf m v ∷ pick (isOverdue (told .linking) (o .odometer)) (missedLine told) [])) e,
+  )
 
   -- step 3 leaves the speeds
   speeds : (t : Bool) → (pick t (unlinked told) told .main ≡ told .main) × (pick t (unlinked told) told .target ≡ told .target)

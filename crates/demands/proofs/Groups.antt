@@ -88,8 +88,11 @@ from-twelve : (u : Bool) (o : Outcome (List Placed)) → Read u o
     → Decided Given (row 12 u ∷ row 13 (noRow (listOf o)) ∷ row 14 (bothWays (listOf o)) ∷ row 15 (notAllowed (listOf o)) ∷ []) (then o judgeRead)
 unfolding judgeRead noRow bothWays notAllowed
 from-twelve u o bad = (λ q. refl, λ q. absurd (true-not-false q))
-from-twelve u o (all ps) = (λ q. absurd (true-not-false (sym q)), λ q. subst (λ (t : Bool). Decided Given (row 13 (noRow ps) ∷ row 14 (bothWays ps) ∷ row 15 (isJudged (fitIn present ps) && t) ∷ []) (judgeRead ps))
-    (distanceOf-refused ps) (decided (fitIn present ps) (fitIn opposite ps) ps))
+from-twelve u o (all ps) = (
+  λ q. absurd (true-not-false (sym q)),
+  λ q. subst (λ (t : Bool). Decided Given (row 13 (noRow ps) ∷ row 14 (bothWays ps) ∷ row 15 (isJudged (fitIn present ps) && t) ∷ []) (judgeRead ps))
+      (distanceOf-refused ps) (decided (fitIn present ps) (fitIn opposite ps) ps),
+)
 
 -- The judgement of a group: 10, 11, 12, 13, 14, 15.
 pub grouping : (g : Group) → Decided Given (groupRules g) (judge g)

@@ -79,7 +79,11 @@ lastStep linking mark =
 abbrev itsMessage : Message
 itsMessage =
     record {
-      direction = Direction.Present; kind = Kind.Signal; place = 1000; ay = 8; az = 5;
+      direction = Direction.Present;
+      kind = Kind.Signal;
+      place = 1000;
+      ay = 8;
+      az = 5;
       content = Content.Signal 4000 false (Told.Kmh 130) (Told.Kmh 80);
     }
 

@@ -189,7 +189,7 @@ written = record {
         length w,
         r .0,
         ap₂ (λ (u v : List ℕ). u ++ v) (ap (take (length w)) (r .2) ∙ take-at w (drop (length w) before) (length w) refl) (ap textOf lines)
-        ∙ sym (output-whole trace good),
+            ∙ sym (output-whole trace good),
         ap (drop (length w)) (r .2) ∙ drop-at w (drop (length w) before) (length w) refl,
       );
   refused = λ trace before after n bad c.
