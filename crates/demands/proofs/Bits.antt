@@ -12,12 +12,13 @@ use lib.ListN.{getD}
 use lib.Bits.{bitXor, differ}
 use lib.Pow.{shr-shr}
 use Rattle.words.specs.Answer.{pick}
-use Rattle.words.specs.Bits.{bit, onesOf}
+use Rattle.words.specs.Bits.{bit}
 use Rattle.words.proofs.Digits.{bit-lt, bit-xor, two-bits}
 use Rattle.telegram.specs.Stretch.{bitAt, bitsAt}
 use Rattle.telegram.specs.Sync.{differing}
 use Rattle.demands.specs.Line.{sum, unequal}
 use Rattle.demands.proofs.Sums.{sooner}
+use Rattle.words.proofs.HowMany.{onesOf}
 
 pub bitAt-lt : (b : List ℕ) (i : ℕ) → bitAt b i < 2
 bitAt-lt b i = mod-lt (getD b (i / 8) 0 / 2 ^ (7 - i % 8)) (zero-lt-suc 1)

@@ -7,7 +7,6 @@ use native.Mathlib.Omega.{arith}
 use lib.Dec.{eqb}
 use lib.Bits.{bitXor, xor-lt, xor-comm}
 use Rattle.words.specs.Answer.{Outcome, gives, refuses, pick}
-use Rattle.words.specs.Bits.{onesOf}
 use Rattle.words.specs.Code.{readWord, readShort}
 use Rattle.words.proofs.Digits.{xor-twice, xor-none}
 use Rattle.words.proofs.Weight.{no-ones-zero}
@@ -17,6 +16,7 @@ use Rattle.telegram.specs.Sync.{differing}
 use Rattle.telegram.specs.Telegram.{Message, figures, number, Letter, X, Y, Z, YZ, Reading, reads, refused, then, notFifteen, shortWord, longWord, telegram}
 use Rattle.telegram.specs.Place.{accepted}
 use Rattle.demands.proofs.Bits.{ones-differing}
+use Rattle.words.proofs.HowMany.{onesOf}
 
 -- Of either code: a word that is accepted and differs from a code word in at most three bits is that code word.
 pub still : {n : ℕ} → Width n → (c w x y : ℕ) → c < 2 ^ n → w < 2 ^ n → readWord n c ≡ gives x → readWord n w ≡ gives y → differing w c n ≤ 3 → w ≡ c

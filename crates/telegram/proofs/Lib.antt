@@ -10,6 +10,5 @@ pub mod Rest
 pub mod SoFar
 pub mod Handed
 pub mod Law
-pub mod Calls
 pub mod Determined
 pub mod Examples

@@ -6,10 +6,11 @@ use lib.Dec.{eqb}
 use lib.Bits.{bitXor, differ, xor-lt}
 use lib.Count.{ones}
 use Rattle.words.specs.Answer.{pick}
-use Rattle.words.specs.Bits.{bit, onesOf}
+use Rattle.words.specs.Bits.{bit}
 use Rattle.words.proofs.Digits.{bit-lt, two-bits, bit-xor}
 use Rattle.words.proofs.Ones.{ones-is}
 use Rattle.telegram.specs.Sync.{differing}
+use Rattle.words.proofs.HowMany.{onesOf}
 
 -- two bits differ, or they do not
 differ-pick : (x y : ℕ) → x < 2 → y < 2 → differ x y ≡ pick (eqb x y) 0 1

@@ -8,11 +8,11 @@ use lib.Dec.{leb}
 use lib.Bits.{bitXor}
 use borrow.Author.Tests.{le-leb, leb-true}
 use Rattle.words.specs.Answer.{Outcome, gives, refuses, pick}
-use Rattle.words.specs.Bits.{onesOf}
 use Rattle.words.specs.Plain.{isCheck, carriers}
 use Rattle.words.specs.Code.{readWord, writeWord, sent, readShort, writeShort, readLong, writeLong}
 use Rattle.words.proofs.Widths.{Width, short, long}
 use Rattle.words.proofs.Laws.{heard, noise, even-number, four-ones, three-flips, reads-back, writes-back, figure-small}
+use Rattle.words.proofs.HowMany.{onesOf}
 
 -- The largest figure that each code carries.
 abbrev pub largest : {n : ℕ} → Width n → ℕ

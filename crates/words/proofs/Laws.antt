@@ -9,7 +9,6 @@ use native.Mathlib.Omega.{arith}
 use lib.Bits.{bitXor, xor-lt, xor-self}
 use lib.Pow.{pow-pos}
 use Rattle.words.specs.Answer.{Outcome, gives, refuses, pick}
-use Rattle.words.specs.Bits.{onesOf}
 use Rattle.words.specs.Plain.{isCode, figure, carriers, plainWord}
 use Rattle.words.specs.Code.{other, exchanged, readWord, sent}
 use Rattle.words.proofs.Digits.{bits-ext, xor-twice, xor-none}
@@ -21,6 +20,7 @@ use Rattle.words.proofs.Written.{plain-made, plain-code, plain-figure}
 use Rattle.words.proofs.Zero.{zero-word, bit-zero}
 use Rattle.words.proofs.Weight.{even-ones, no-ones, no-ones-zero, ones-zero}
 use Rattle.words.proofs.Widths.{Width, width-le, width-pos, exchanged-twice, ones-exchanged}
+use Rattle.words.proofs.HowMany.{onesOf}
 
 -- What an accepted word shows: every check is even, and the figure is the word's.
 given : (t : Bool) (v x : ℕ) → pick t (gives v) (refuses 1) ≡ gives x → (t ≡ true) × (v ≡ x)

@@ -1,3 +1,4 @@
+pub mod HowMany
 pub mod Digits
 pub mod Ranges
 pub mod Ones

@@ -7,8 +7,9 @@ use native.Mathlib.Numerals.{add-one, one-add}
 use native.Mathlib.Omega.{arith}
 use lib.Count.{ones, onesIn, ones-cat}
 use lib.Pow.{mod-pow-add, pow-pos}
-use Rattle.words.specs.Bits.{bit, onesOf}
+use Rattle.words.specs.Bits.{bit}
 use Rattle.words.proofs.Digits.{bit-lt}
+use Rattle.words.proofs.HowMany.{onesOf}
 
 ones-bit : (b : ℕ) → b < 2 → ones b ≡ b
 unfolding ones onesIn

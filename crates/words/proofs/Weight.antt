@@ -10,11 +10,12 @@ use native.Mathlib.Omega.{arith}
 use lib.Dec.{T, eqb}
 use lib.Pow.{pow-pos}
 use borrow.Author.Tests.{eqb-true, eq-eqb}
-use Rattle.words.specs.Bits.{bit, onesOf}
+use Rattle.words.specs.Bits.{bit}
 use Rattle.words.specs.Plain.{checks, among, isCheck, covers, count, even, isCode}
 use Rattle.words.proofs.Digits.{bit-lt, bits-ext}
 use Rattle.words.proofs.Ranges.{both, upto, below}
 use Rattle.words.proofs.Zero.{even-at, bit-zero}
+use Rattle.words.proofs.HowMany.{onesOf}
 
 bit-cases : (b : ℕ) → b < 2 → (b ≡ 0) ⊎ (b ≡ 1)
 bit-cases zero l = inl refl

@@ -6,12 +6,13 @@ use Prim.Native.Nat.{ℕ, zero, suc, _+_, _^_, _≤_, _<_}
 use native.Mathlib.Nat.{lt-suc-self, lt-of-lt-of-le, le-refl, le-of-suc-le}
 use native.Mathlib.Omega.{arith}
 use lib.Dec.{T, eqb, ltb, eqb→eq, ltb→lt, lit<, lit≤}
-use Rattle.words.specs.Bits.{bit, onesOf}
+use Rattle.words.specs.Bits.{bit}
 use Rattle.words.specs.Code.{other, exchanged}
 use Rattle.words.proofs.Digits.{bits-ext}
 use Rattle.words.proofs.Counting.{bit-exchanged}
 use Rattle.words.proofs.Ranges.{upto, below}
 use Rattle.words.proofs.Linear.{exchanged-lt}
+use Rattle.words.proofs.HowMany.{onesOf}
 
 -- The number of bits of a short word, or of a long one.
 pub data Width : ℕ → Type 0 where
