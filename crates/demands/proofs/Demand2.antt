@@ -5,7 +5,7 @@ use Rattle.demands.proofs.Codes.{words}
 use Rattle.demands.proofs.Reading.{telegrams}
 use Rattle.demands.proofs.Saying.{groups}
 use Rattle.demands.proofs.RowCases.{present-judged, opposite-judged, outside-judged}
-use Rattle.demands.proofs.Linking.{marks, sets, missed}
+use Rattle.demands.proofs.Riding.{riding}
 use Rattle.demands.proofs.Cases.{cases-hold}
 use Rattle.demands.proofs.Output.{written}
 use Rattle.demands.proofs.InFull.{one-ride}
@@ -18,9 +18,7 @@ demand2 = record {
   present = present-judged;
   opposite = opposite-judged;
   outside = outside-judged;
-  marks = marks;
-  sets = sets;
-  missed = missed;
+  riding = riding;
   proved = cases-hold;
   written = written;
   one-ride = one-ride;

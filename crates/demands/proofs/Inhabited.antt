@@ -39,7 +39,8 @@ use Rattle.ride.specs.declared.Report.{Report}
 use Rattle.ride.specs.declared.Ride.{Ride}
 use Rattle.demands.specs.Table.{badGap}
 use Rattle.demands.specs.Contracts.{StepOf, JudgeGroup}
-use Rattle.demands.specs.Steps.{OneStep, LeavesBehind, NoneOpen, ClosesSignal}
+use Rattle.demands.specs.Steps.{OneStep, LeavesBehind, NoneOpen}
+use Rattle.demands.specs.Ride.{IsMarked, first as marked-first, early, good, late}
 
 -- The signal of document 01's ride as it stands open after two records.
 abbrev itsGroup : Group
@@ -91,20 +92,19 @@ itsMessage =
 abbrev Answered : Linking → Mark → Type 0
 Answered linking mark = StepOf (lastStep linking mark .ride) 40 last (lastStep linking mark .answer)
 
--- It closes the signal where the contract of `step` allows this answer.
-closes-it : (linking : Linking) (mark : Mark) → JudgeGroup itsGroup (Judged.Accepted itsMessage) → Answered linking mark → ClosesSignal (lastStep linking mark) itsMessage
+-- Where the contract allows it, the record leaves the group behind.
+behind : (linking : Linking) (mark : Mark) → Answered linking mark → LeavesBehind (lastStep linking mark)
 unfolding odometerOf passedOf inOrder check badGap
-closes-it linking mark judged called =
+behind linking mark called =
     record {
-      behind = record {
-        accepts = record { called = called; good-gap = refl; accepted = ((lastStep linking mark .ride, (last, tt)), refl) };
-        is-open = refl;
-        exceeds = omega arith;
-      };
-      judged = judged;
-      direction = refl;
-      kind = refl;
+      accepts = record { called = called; good-gap = refl; accepted = ((lastStep linking mark .ride, (last, tt)), refl) };
+      is-open = refl;
+      exceeds = omega arith;
     }
+
+-- What the theorem `closes` asks.
+abbrev Met : Linking → Mark → Type 0
+Met linking mark = LeavesBehind (lastStep linking mark) × JudgeGroup itsGroup (Judged.Accepted itsMessage) × IsMarked linking itsMessage mark
 
 -- what the step was lent
 abbrev lent : Linking → Ride × (ℕ × (List ℕ × Unit {0}))
@@ -123,17 +123,20 @@ its-answers = (
   (lent (Linking.Set 500 399), refl),
 )
 
-first-met : ClosesSignal (lastStep Linking.Unset Mark.First) itsMessage
-first-met = closes-it Linking.Unset Mark.First (its-answers .0) (its-answers .1)
+first-met : Met Linking.Unset Mark.First
+first-met = (behind Linking.Unset Mark.First (its-answers .1), its-answers .0, marked-first (refl, refl) refl)
 
-early-met : ClosesSignal (lastStep (Linking.Set 500 601) Mark.Early) itsMessage
-early-met = closes-it (Linking.Set 500 601) Mark.Early (its-answers .0) (its-answers .2)
+early-met : Met (Linking.Set 500 601) Mark.Early
+early-met = (behind (Linking.Set 500 601) Mark.Early (its-answers .2), its-answers .0, early 500 601 (refl, refl) refl (omega arith))
 
-good-met : ClosesSignal (lastStep (Linking.Set 500 600) Mark.Good) itsMessage × ClosesSignal (lastStep (Linking.Set 500 400) Mark.Good) itsMessage
-good-met = (closes-it (Linking.Set 500 600) Mark.Good (its-answers .0) (its-answers .3), closes-it (Linking.Set 500 400) Mark.Good (its-answers .0) (its-answers .4))
+good-met : Met (Linking.Set 500 600) Mark.Good × Met (Linking.Set 500 400) Mark.Good
+good-met = (
+  (behind (Linking.Set 500 600) Mark.Good (its-answers .3), its-answers .0, good 500 600 (refl, refl) refl (omega arith) (omega arith)),
+  (behind (Linking.Set 500 400) Mark.Good (its-answers .4), its-answers .0, good 500 400 (refl, refl) refl (omega arith) (omega arith)),
+)
 
-late-met : ClosesSignal (lastStep (Linking.Set 500 399) Mark.Late) itsMessage
-late-met = closes-it (Linking.Set 500 399) Mark.Late (its-answers .0) (its-answers .5)
+late-met : Met (Linking.Set 500 399) Mark.Late
+late-met = (behind (Linking.Set 500 399) Mark.Late (its-answers .5), its-answers .0, late 500 399 (refl, refl) refl (omega arith))
 
 -- ---- no group is open, and the signal announced 4000 dm from 1000 on is missed at 5801 dm
 

@@ -9,8 +9,9 @@ pub mod Groups
 pub mod Rides
 pub mod Messages
 pub mod Steps
-pub mod Accepted
-pub mod Linking
+pub mod Marking
+pub mod Runs
+pub mod Riding
 pub mod Listings
 pub mod Bare
 pub mod Demand1

@@ -2,7 +2,7 @@
 -- read back, a figure is itself; an accepted word read and written is itself."
 -- That each contract is an equation with document 01's definitions is in each crate; here every answer that the contracts allow
 -- is held against document 01's own sentences and numbers, and the contracts against each other. What the contracts allow:
--- specs/Contracts.antt. The rows: specs/RowCases.antt. Marks and missed signals: specs/Linking.antt. The table of proved cases:
+-- specs/Contracts.antt. The rows: specs/RowCases.antt. The ride, its marks and missed signals: specs/Ride.antt. The table of proved cases:
 -- specs/Cases.antt. The ride in full, and what the program writes: specs/Output.antt. That all of this holds: proofs/Demand2.antt.
 -- It does not say that the rows, tables and speeds of document 01 are those of the railway's own papers: source 000's tables are
 -- compared by running programs (crates vectors and rows).
@@ -43,7 +43,7 @@ use Rattle.demands.specs.Contracts.{ReadShort, WriteShort, ReadLong, Wri
 use Rattle.demands.specs.Calls.{Comes}
 use Rattle.demands.specs.Cases.{M8, AllHold, cases}
 use Rattle.demands.specs.RowCases.{presentCases, oppositeCases, outsideCases, AllJudged}
-use Rattle.demands.specs.Linking.{Marks, Sets, Missed}
+use Rattle.demands.specs.Ride.{Riding}
 use Rattle.demands.specs.Output.{Written, OneRide}
 
 -- ---- the two codes
@@ -163,10 +163,8 @@ pub record Demand2 : Type 0 where
   pub present : AllJudged presentCases
   pub opposite : AllJudged oppositeCases
   pub outside : AllJudged outsideCases
-  -- linking marks, what a present signal sets, and missed signals
-  pub marks : Marks
-  pub sets : Sets
-  pub missed : Missed
+  -- linking marks, what a present signal sets, missed signals, and the steps around them
+  pub riding : Riding
   -- document 01's table of proved cases under a single claim; what the program writes; the ride in full
   pub proved : AllHold cases
   pub written : Written

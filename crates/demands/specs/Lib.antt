@@ -5,7 +5,7 @@ pub mod Steps
 pub mod Demand1
 pub mod Cases
 pub mod RowCases
-pub mod Linking
+pub mod Ride
 pub mod Output
 pub mod Calls
 pub mod Demand2

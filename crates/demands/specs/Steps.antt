@@ -1,23 +1,20 @@
--- What the theorems on steps take as given: a record that is accepted, a group that it leaves behind, a line that comes first.
+-- What the theorems on steps take as given: a record that is accepted, and whether a group is open, stays open or is left behind.
 -- Assumes nothing.
-use Prim.Native.Nat.{ℕ, _+_, _<_}
+use Prim.Native.Nat.{ℕ, _+_, _≤_, _<_}
 use mathlib.Core.Path.{_≡_}
 use mathlib.Core.Bool.{true, false}
-use mathlib.Core.List.{List, _∷_}
+use mathlib.Core.List.{List}
 use Rattle.words.specs.Answer.{gives}
-use Rattle.group.specs.declared.Direction.{Direction}
-use Rattle.group.specs.declared.Judged.{Judged}
-use Rattle.group.specs.declared.Kind.{Kind}
-use Rattle.group.specs.declared.Message.{Message}
 use Rattle.ride.specs.State.{isOpen}
 use Rattle.ride.specs.Says.{saysStepped}
 use Rattle.ride.specs.declared.Checked.{Checked}
+use Rattle.ride.specs.declared.Known.{Known}
 use Rattle.ride.specs.declared.Line.{Line}
 use Rattle.ride.specs.declared.Passed.{Passed}
 use Rattle.ride.specs.declared.Ride.{Ride}
 use Rattle.ride.specs.declared.Stepped.{Stepped}
 use Rattle.demands.specs.Table.{badGap}
-use Rattle.demands.specs.Contracts.{CheckRecord, StepOf, JudgeGroup}
+use Rattle.demands.specs.Contracts.{CheckRecord, StepOf}
 
 -- One call of `step`: the ride and the gap before it, the record's bytes, what the record says, and what is answered.
 pub record OneStep : Type 0 where
@@ -40,18 +37,25 @@ pub record LeavesBehind (o : OneStep) : Type 0 where
   pub is-open : isOpen (o .ride .group) ≡ true
   pub exceeds : o .ride .group .last + o .gap < o .odometer
 
+-- A group is open and stays so: the odometer exceeds its last balise by the gap at most.
+pub record StaysOpen (o : OneStep) : Type 0 where
+  pub accepts : Accepts o
+  pub is-open : isOpen (o .ride .group) ≡ true
+  pub within : o .odometer ≤ o .ride .group .last + o .gap
+
 -- No group is open.
 pub record NoneOpen (o : OneStep) : Type 0 where
   pub accepts : Accepts o
   pub none : isOpen (o .ride .group) ≡ false
 
--- The step closes a group that is judged a present signal with this message.
-pub record ClosesSignal (o : OneStep) (m : Message) : Type 0 where
-  pub behind : LeavesBehind o
-  pub judged : JudgeGroup (o .ride .group) (Judged.Accepted m)
-  pub direction : m .direction ≡ Direction.Present
-  pub kind : m .kind ≡ Kind.Signal
+-- What is known before the step.
+abbrev pub before : OneStep → Known
+before o = o .ride .known
 
--- The lines of the step begin with this one.
-abbrev pub Begins : OneStep → Line → Type 0
-Begins o line = (rest : List Line) × (saysStepped (o .answer) .lines ≡ gives (line ∷ rest))
+-- What is known after it.
+abbrev pub after : OneStep → Known
+after o = o .answer .ride .known
+
+-- The step gives these lines.
+abbrev pub Gives : OneStep → List Line → Type 0
+Gives o lines = saysStepped (o .answer) .lines ≡ gives lines
