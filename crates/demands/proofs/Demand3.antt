@@ -7,6 +7,7 @@ use Rattle.demands.specs.Demand3.{OnlyTheSent, Demand3}
 use Rattle.demands.proofs.Noise.{noise-law}
 use Rattle.demands.proofs.Sent.{AllSent}
 use Rattle.demands.proofs.Stretch.{all-sent}
+use Rattle.demands.proofs.Unflipped.{unflipped-among}
 use Rattle.demands.proofs.Handed.{asking-ends, every-sent, all-places-sent, unflipped-comes}
 use Rattle.demands.proofs.Together.{judge-sent, survey-sent}
 use Rattle.demands.proofs.Clean.{comes-all-sent}
@@ -18,6 +19,7 @@ only-the-sent o proper every-place =
       every = every-sent o proper every-place;
       unflipped = unflipped-comes o proper;
       all-places = all-places-sent o proper every-place;
+      unflipped-places = unflipped-among o proper;
       judge = judge-sent o proper every-place;
       survey = survey-sent o proper every-place;
     }

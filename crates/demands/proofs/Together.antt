@@ -4,11 +4,11 @@ use mathlib.Core.Path.{_≡_, refl, sym, ap, ap₂, _∙_, subst}
 use mathlib.Core.Logic.{_⊎_, inl, inr}
 use mathlib.Core.Bool.{Bool, true, false}
 use mathlib.Core.List.{List, [], _∷_}
-use Prim.Native.Nat.{ℕ, _+_}
+use Prim.Native.Nat.{ℕ, _+_, _≤_}
 use native.Mathlib.Omega.{arith}
 use lib.Dec.{eqb, leb}
 use lib.ListN.{length}
-use borrow.Author.Tests.{eq-eqb}
+use borrow.Author.Tests.{eq-eqb, le-leb}
 use Rattle.words.specs.Answer.{Outcome, gives, refuses, pick}
 use Rattle.words.specs.Plain.{among}
 use Rattle.telegram.specs.Stretch.{bitsAt}
@@ -63,10 +63,10 @@ module _ (o : OneBalise) (proper : Proper o) (every-place : AllSent o) where
 
   -- The survey of the stretch finds no place, or all places alike.
   abbrev Survey : Outcome Alike → Type 0
-  Survey a = (a ≡ refuses 6) ⊎ AllAlike a
+  Survey a = ((a ≡ refuses 6) × (placesOf o ≡ [])) ⊎ AllAlike a
 
   survey-of : (ps : List ℕ) → placesOf o ≡ ps → Survey (together b ps)
-  survey-of [] list = inl refl
+  survey-of [] list = inl (refl, list)
   survey-of (p ∷ ps) list =
       inr record {
         message = wordsAt b p;
@@ -110,20 +110,33 @@ module _ (o : OneBalise) (proper : Proper o) (every-place : AllSent o) where
   same-known {m} {n} {p} {q} {k} {l} e f g known =
       subst (λ (v : ℕ). Known n q v) g (subst (λ (v : ℕ). Known n v k) f (subst (λ (v : Reading). Known v p k) e known))
 
-  pub survey-sent : TogetherTheSent o (SurveyAllows b (o .start) (o .len) (o .s) (o .t)) Surveyed.Differ Surveyed.Alike
+  pub survey-sent : TogetherTheSent o (SurveyAllows b (o .start) (o .len) (o .s) (o .t)) 1 Surveyed.Differ Surveyed.Alike
   survey-sent =
       record {
         never-7 = λ k. never the-survey (survey-says Surveyed.Differ k);
         first-sent = λ m first count k. known-sent m first count (of m first count k);
         counted = λ m first count k. of m first count k .as-many;
+        enough = λ many r k. reads-so r (alike-so the-survey many) (survey-says r k);
       }
     where
+      -- where there is a place, they are alike
+      alike-so : {a : Outcome Alike} → Survey a → 1 ≤ length (placesOf o) → AllAlike a
+      alike-so (inl none) many = absurd (let e = ap length (none .1) in omega arith)
+      alike-so (inr r) many = r
+
+      reads-so : (r : Surveyed) {a : Outcome Alike} → AllAlike a → a ≡ saysSurveyed r → (m : Telegram) × (first : ℕ) × (count : ℕ) × (r ≡ Surveyed.Alike m first count)
+      reads-so (Surveyed.Alike m first count) all e = (m, first, count, refl)
+      reads-so Surveyed.NotSeven all e = absurd (let f = all .is in let z : _≡_ {A = ℕ} 0 1 = cc in omega arith)
+      reads-so Surveyed.Beyond all e = absurd (let f = all .is in let z : _≡_ {A = ℕ} 0 1 = cc in omega arith)
+      reads-so Surveyed.NoPlace all e = absurd (let f = all .is in let z : _≡_ {A = ℕ} 0 1 = cc in omega arith)
+      reads-so Surveyed.Differ all e = absurd (let f = all .is in let z : _≡_ {A = ℕ} 0 1 = cc in omega arith)
+
       never : {a : Outcome Alike} → Survey a → a ≡ refuses 7 → ⊥
-      never (inl none) e = let z : _≡_ {A = ℕ} 6 7 = cc in omega arith
+      never (inl none) e = let f = none .0 in let z : _≡_ {A = ℕ} 6 7 = cc in omega arith
       never (inr r) e = let f = r .is in let z : _≡_ {A = ℕ} 0 1 = cc in omega arith
 
       known : {a : Outcome Alike} → Survey a → (m : Reading) (first count : ℕ) → a ≡ gives (alike m first count) → Known m first count
-      known (inl none) m first count e = absurd (let z : _≡_ {A = ℕ} 0 1 = cc in omega arith)
+      known (inl none) m first count e = absurd (let f = none .0 in let z : _≡_ {A = ℕ} 0 1 = cc in omega arith)
       known (inr r) m first count e =
           let f = r .is in
           let same-m : r .message ≡ m = cc in
@@ -134,12 +147,13 @@ module _ (o : OneBalise) (proper : Proper o) (every-place : AllSent o) where
       of : (m : Telegram) (first count : ℕ) → SurveyAllows b (o .start) (o .len) (o .s) (o .t) (Surveyed.Alike m first count) → Known (reads (saysTelegram m)) first count
       of m first count k = known the-survey (reads (saysTelegram m)) first count (survey-says (Surveyed.Alike m first count) k)
 
-  pub judge-sent : TogetherTheSent o (JudgeContact b (o .start) (o .len) (o .s) (o .t)) Judged.Differ Judged.Read
+  pub judge-sent : TogetherTheSent o (JudgeContact b (o .start) (o .len) (o .s) (o .t)) 2 Judged.Differ Judged.Read
   judge-sent =
       record {
         never-7 = λ k. never the-survey (by Judged.Differ k);
         first-sent = λ m first count k. known-sent m first count (of m first count k);
         counted = λ m first count k. of m first count k .as-many;
+        enough = λ many r k. reads-so many the-survey r (by r k);
       }
     where
       by : (r : Judged) → JudgeContact b (o .start) (o .len) (o .s) (o .t) r
@@ -155,7 +169,7 @@ module _ (o : OneBalise) (proper : Proper o) (every-place : AllSent o) where
       never-several false u m first count e = never-left u e
 
       never : {a : Outcome Alike} → Survey a → fromSurvey (markerOr b (o .start) (o .len)) a ≡ refuses 7 → ⊥
-      never (inl none) e = never-left (isMarker b (o .start) (o .len)) (sym (ap (fromSurvey (markerOr b (o .start) (o .len))) none) ∙ e)
+      never (inl none) e = never-left (isMarker b (o .start) (o .len)) (sym (ap (fromSurvey (markerOr b (o .start) (o .len))) (none .0)) ∙ e)
       never (inr r) e =
           never-several (leb 2 (r .count)) (isMarker b (o .start) (o .len)) (r .message) (r .first) (r .count)
           (sym (ap (fromSurvey (markerOr b (o .start) (o .len))) (r .is)) ∙ e)
@@ -176,10 +190,28 @@ module _ (o : OneBalise) (proper : Proper o) (every-place : AllSent o) where
       known : {a : Outcome Alike} → Survey a → (m : Reading) (first count : ℕ)
           → fromSurvey (markerOr b (o .start) (o .len)) a ≡ gives (read m first count) → Known m first count
       known (inl none) m first count e =
-          known-left (isMarker b (o .start) (o .len)) m first count (sym (ap (fromSurvey (markerOr b (o .start) (o .len))) none) ∙ e)
+          known-left (isMarker b (o .start) (o .len)) m first count (sym (ap (fromSurvey (markerOr b (o .start) (o .len))) (none .0)) ∙ e)
       known (inr r) m first count e =
           known-several (leb 2 (r .count)) (isMarker b (o .start) (o .len)) (r .message) m (r .first) first (r .count) count (r .known)
           (sym (ap (fromSurvey (markerOr b (o .start) (o .len))) (r .is)) ∙ e)
 
       of : (m : Telegram) (first count : ℕ) → JudgeContact b (o .start) (o .len) (o .s) (o .t) (Judged.Read m first count) → Known (reads (saysTelegram m)) first count
       of m first count k = known the-survey (reads (saysTelegram m)) first count (by (Judged.Read m first count) k)
+
+      is-read : (r : Judged) {m : Reading} {first count : ℕ} → gives (read m first count) ≡ saysJudged r → (m : Telegram) × (first : ℕ) × (count : ℕ) × (r ≡ Judged.Read m first count)
+      is-read (Judged.Read m first count) e = (m, first, count, refl)
+      is-read Judged.Marker e = absurd (let z : _≡_ {A = ℕ} 0 1 = cc in omega arith)
+      is-read Judged.NotSeven e = absurd (let z : _≡_ {A = ℕ} 0 1 = cc in omega arith)
+      is-read Judged.Beyond e = absurd (let z : _≡_ {A = ℕ} 0 1 = cc in omega arith)
+      is-read Judged.Differ e = absurd (let z : _≡_ {A = ℕ} 0 1 = cc in omega arith)
+      is-read Judged.Neither e = absurd (let z : _≡_ {A = ℕ} 0 1 = cc in omega arith)
+
+      -- where there are two places, they are read
+      reads-so : 2 ≤ length (placesOf o) → {a : Outcome Alike} → Survey a → (r : Judged) → fromSurvey (markerOr b (o .start) (o .len)) a ≡ saysJudged r
+          → (m : Telegram) × (first : ℕ) × (count : ℕ) × (r ≡ Judged.Read m first count)
+      reads-so many (inl none) r e = absurd (let f = ap length (none .1) in omega arith)
+      reads-so many (inr all) r e =
+          let two : leb 2 (all .count) ≡ true = le-leb 2 (all .count) (subst (λ (k : ℕ). 2 ≤ k) (sym (all .known .as-many)) many) in
+          is-read r
+          (sym (ap (λ (t : Bool). pick t (gives (read (all .message) (all .first) (all .count))) (markerOr b (o .start) (o .len))) two)
+          ∙ sym (ap (fromSurvey (markerOr b (o .start) (o .len))) (all .is)) ∙ e)

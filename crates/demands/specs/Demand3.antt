@@ -8,15 +8,16 @@
 -- specs/Contracts.antt; calls of `find` one after the other: specs/Calls.antt.
 -- That all of this holds: proofs/Demand3.antt.
 -- Assumes nothing.
-use Prim.Native.Nat.{ℕ}
+use Prim.Native.Nat.{ℕ, _≤_}
 use mathlib.Core.Path.{_≡_}
 use mathlib.Core.Logic.{_↔_}
-use mathlib.Core.Bool.{true}
+use mathlib.Core.Bool.{true, false}
 use mathlib.Core.List.{List, List·Memᴰ, map}
 use lib.Bits.{bitXor}
 use lib.ListN.{length}
 use Rattle.words.specs.Answer.{Outcome, gives}
-use Rattle.words.specs.Plain.{among}
+use Rattle.words.specs.Plain.{among, figure}
+use Rattle.words.specs.Code.{exchanged}
 use Rattle.words.specs.Says.{saysShortRead, saysLongRead}
 use Rattle.telegram.specs.Telegram.{reads}
 use Rattle.telegram.specs.Place.{wordsAt, places, from, those}
@@ -25,6 +26,7 @@ use Rattle.telegram.specs.declared.Telegram.{Telegram}
 use Rattle.telegram.specs.declared.Found.{Found}
 use Rattle.telegram.specs.declared.Surveyed.{Surveyed}
 use Rattle.contact.specs.declared.Judged.{Judged}
+use Rattle.demands.specs.Table.{notCode}
 use Rattle.demands.specs.Line.{OneBalise, Proper, FewFlips, Clean, sentAt, flipsAt}
 use Rattle.demands.specs.Contracts.{ReadShort, ReadLong, Find, Survey, JudgeContact}
 use Rattle.demands.specs.Calls.{HandedOut, Comes}
@@ -33,18 +35,17 @@ use Rattle.demands.specs.Calls.{HandedOut, Comes}
 abbrev pub Accepted : Outcome ℕ → Type 0
 Accepted a = (x : ℕ) × (a ≡ gives x)
 
--- What the flips alone decide, where a word that reads x was sent: the received word is accepted exactly if the flips are, and
--- then reads x with the flips' figure added bit by bit without carry.
-pub record ByFlipsAlone (x : ℕ) (flipped received : Outcome ℕ) : Type 0 where
-  pub exactly-if : Accepted received ↔ Accepted flipped
-  pub added : (y : ℕ) → flipped ≡ gives y → received ≡ gives (bitXor x y)
+-- What the flips alone decide, where a word of n bits that reads x was sent, and the bits f flipped: the received word is accepted
+-- exactly if f is itself a code word, and then reads x with f's figure added bit by bit without carry.
+pub record ByFlipsAlone (n x f : ℕ) (received : Outcome ℕ) : Type 0 where
+  pub exactly-if : Accepted received ↔ (notCode n f ≡ false)
+  pub added : notCode n f ≡ false → received ≡ gives (bitXor x (figure n (exchanged n f)))
 
--- The noise law of a code: `Reads w r` is that its reader is called with w and answers r, which says `says r`. Whichever
--- code word c was sent, and whichever bits f flipped, so that bitXor c f is received, the flips alone decide.
-abbrev pub NoiseLaw : {A : Type 0} → (A → Outcome ℕ) → (ℕ → A → Type 0) → Type 0
-NoiseLaw {A} says Reads =
-    (c f x : ℕ) (sent flipped received : A) → Reads c sent → Reads f flipped → Reads (bitXor c f) received
-    → says sent ≡ gives x → ByFlipsAlone x (says flipped) (says received)
+-- The noise law of the code of n bits: `Reads w r` is that the contract of its reader allows the answer r for the word w, and r says
+-- `says r`. Whichever code word c was sent, and whichever bits f flipped, so that bitXor c f is received, the flips alone decide.
+abbrev pub NoiseLaw : {A : Type 0} → ℕ → (A → Outcome ℕ) → (ℕ → A → Type 0) → Type 0
+NoiseLaw {A} n says Reads =
+    (c f x : ℕ) (sent received : A) → Reads c sent → Reads (bitXor c f) received → says sent ≡ gives x → ByFlipsAlone n x f (says received)
 
 -- The telegram m at bit p is the one sent, at its true place.
 pub record TheSent (o : OneBalise) (p : ℕ) (m : Telegram) : Type 0 where
@@ -60,34 +61,37 @@ abbrev pub placesOf : OneBalise → List ℕ
 placesOf o = places (o .buffer) (o .start) (o .len) (o .s) (o .t)
 
 -- The places taken together, by `judge` or `survey`: `Answers a` is that its contract allows the answer a; `differ` is its answer
--- that they differ (7), and `alike m first count` that they all read m, with the first of them and their number. It never
--- answers that they differ; what it reads is what was sent, at a true place; and what it counts are the places.
-pub record TogetherTheSent (o : OneBalise) {A : Type 0} (Answers : A → Type 0) (differ : A) (alike : Telegram → ℕ → ℕ → A) : Type 0 where
+-- that they differ (7), and `alike m first count` that they all read m, with the first of them and their number, for which there
+-- must be so many at least. It never answers that they differ; what it reads is what was sent, at a true place; what it counts are
+-- the places; and where there are enough of them, it reads.
+pub record TogetherTheSent (o : OneBalise) {A : Type 0} (Answers : A → Type 0) (least : ℕ) (differ : A) (alike : Telegram → ℕ → ℕ → A) : Type 0 where
   pub never-7 : Answers differ → ⊥
   pub first-sent : (m : Telegram) (first count : ℕ) → Answers (alike m first count) → TheSent o first m
   pub counted : (m : Telegram) (first count : ℕ) → Answers (alike m first count) → count ≡ length (placesOf o)
+  pub enough : least ≤ length (placesOf o) → (a : A) → Answers a → (m : Telegram) × (first : ℕ) × (count : ℕ) × (a ≡ alike m first count)
 
 -- "Every telegram handed out is the one sent, at its true place, and every unflipped telegram lying with both its sync words in
 -- the stretch is handed out": by `find`, asked as often as one likes (`every`) and until 6 (`unflipped`), and by those that take
--- all places together. All places are true, and have the words sent.
+-- all places together. All places are true and have the words sent, and the unflipped ones are among them.
 pub record OnlyTheSent (o : OneBalise) : Type 0 where
   pub every : (p : ℕ) (m : Telegram) → HandedOut (o .buffer) (o .s) (o .t) (o .start) (o .len) p m → TheSent o p m
   pub unflipped : (w : List Found) → ComesOf o w → (p : ℕ) → sentAt o p ≡ true → flipsAt o p ≡ 0
       → List·Memᴰ (Found.At p (o .telegram)) w
   pub all-places : (p : ℕ) → among p (placesOf o) ≡ true → (sentAt o p ≡ true) × (wordsAt (o .buffer) p ≡ reads (saysTelegram (o .telegram)))
-  pub judge : TogetherTheSent o (JudgeContact (o .buffer) (o .start) (o .len) (o .s) (o .t)) Judged.Differ Judged.Read
-  pub survey : TogetherTheSent o (Survey (o .buffer) (o .start) (o .len) (o .s) (o .t)) Surveyed.Differ Surveyed.Alike
+  pub unflipped-places : (p : ℕ) → sentAt o p ≡ true → flipsAt o p ≡ 0 → among p (placesOf o) ≡ true
+  pub judge : TogetherTheSent o (JudgeContact (o .buffer) (o .start) (o .len) (o .s) (o .t)) 2 Judged.Differ Judged.Read
+  pub survey : TogetherTheSent o (Survey (o .buffer) (o .start) (o .len) (o .s) (o .t)) 1 Surveyed.Differ Surveyed.Alike
 
 -- What comes of a clean stretch: the telegram sent, at each true place, in order.
 abbrev pub allSent : OneBalise → List Found
 allSent o = map (λ p. Found.At p (o .telegram)) (those (sentAt o) (from (o .start) (o .len)))
 
--- Demand 3. Of a telegram that has flips, up to three, it says only that it is handed out as it was sent or not at all. It says
--- nothing of a stretch from two balises, or of where the detector cuts a stretch.
+-- Demand 3. Of a telegram that has flips, up to three, it says that it is handed out as it was sent or not at all. It says nothing
+-- of a stretch from two balises, or of where the detector cuts a stretch.
 pub record Demand3 : Type 0 where
   -- "For both codes a received word is accepted exactly if its set of flipped bits is itself a code word ..": one law, twice
-  pub short-code : NoiseLaw saysShortRead ReadShort
-  pub long-code : NoiseLaw saysLongRead ReadLong
+  pub short-code : NoiseLaw 8 saysShortRead ReadShort
+  pub long-code : NoiseLaw 16 saysLongRead ReadLong
   -- "Over any stretch (not refused with 4 or 5) .. if no sync bit flips and no telegram .. has more than three flipped data bits .."
   pub stretch : (o : OneBalise) → Proper o → FewFlips o → OnlyTheSent o
   -- asking ends: one who is answered at every call of `find` comes to 6
