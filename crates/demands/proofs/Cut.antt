@@ -4,74 +4,20 @@ use mathlib.Core.Path.{_≡_, refl, sym, ap, ap₂, _∙_}
 use mathlib.Core.Bool.{Bool, true, false, not, _&&_, _||_}
 use mathlib.Core.List.{List}
 use Prim.Native.Nat.{ℕ, zero, suc, _+_, _-_}
-use native.Mathlib.Omega.{arith}
-use lib.Dec.{leb, leb·zero, leb·suc-zero, leb·suc-suc}
+use lib.Dec.{leb}
 use Rattle.words.specs.Answer.{pick}
 use Rattle.telegram.specs.Stretch.{bitAt}
-use Rattle.contact.specs.History.{after, zeroes, opens, closes}
+use Rattle.contact.specs.History.{after, opens, closes}
 use Rattle.contact.specs.Contacts.{outside, since, Contacts, contact, quiet, refused, contacts}
 use Rattle.contact.specs.declared.Search.{Search}
-use Rattle.demands.specs.Table.{some, historyAfter, zeroesWith, toEight, laterToFour, cut}
+use Rattle.demands.specs.Table.{some, toEight, laterToFour, cut}
+use Rattle.demands.proofs.Shifted.{some-alike, none-some, or-none, some-first, here, further, zeroes-on, zeroes-first, toFour, later-on, later-first, eight-on, eights-on}
 
 -- Whether what comes first is a refusal.
 abbrev pub cutFirst : Contacts → Bool
 cutFirst (contact start len then rest) = false
 cutFirst quiet = false
 cutFirst (refused n) = true
-
--- ---- one of some numbers
-
-some-alike : (f g : ℕ → Bool) → ((k : ℕ) → f k ≡ g k) → (n : ℕ) → some f n ≡ some g n
-unfolding some
-some-alike f g same zero = refl
-some-alike f g same (suc n) = ap₂ (λ (x y : Bool). x || y) (some-alike f g same n) (same n)
-
-none-some : (f : ℕ → Bool) → ((k : ℕ) → f k ≡ false) → (n : ℕ) → some f n ≡ false
-unfolding some
-none-some f none zero = refl
-none-some f none (suc n) = ap₂ (λ (x y : Bool). x || y) (none-some f none n) (none n)
-
-or-assoc : (a b c : Bool) → ((a || b) || c) ≡ (a || (b || c))
-or-assoc true b c = refl
-or-assoc false b c = refl
-
-or-none : (a : Bool) → (a || false) ≡ a
-or-none true = refl
-or-none false = refl
-
--- the lowest of them first
-some-first : (f : ℕ → Bool) (n : ℕ) → some f (suc n) ≡ (f 0 || some (λ k. f (suc k)) n)
-unfolding some
-some-first f zero = sym (or-none (f 0))
-some-first f (suc n) = ap (λ (x : Bool). x || f (suc n)) (some-first f n) ∙ or-assoc (f 0) (some (λ k. f (suc k)) n) (f (suc n))
-
--- ---- a search, and the one a bit further on
-
-module _ (b : List ℕ) (h i n : ℕ) where
-  abbrev here : Search
-  here = record { next = i; left = suc n; history = h }
-
-  abbrev further : Search
-  further = record { next = i + 1; left = n; history = after h (bitAt b i) }
-
-  history-on : (k : ℕ) → historyAfter b here (suc k) ≡ historyAfter b further k
-  unfolding historyAfter
-  history-on zero = let e : i + 0 ≡ i = omega arith in ap (λ (j : ℕ). after h (bitAt b j)) e
-  history-on (suc k) =
-      let e : i + suc k ≡ i + 1 + k = omega arith in
-      ap₂ (λ (v j : ℕ). after v (bitAt b j)) (history-on k) e
-
-  zeroes-on : (k : ℕ) → zeroesWith b here (suc k) ≡ zeroesWith b further k
-  unfolding zeroesWith
-  zeroes-on k = ap zeroes (history-on (suc k))
-
-  zeroes-first : zeroesWith b here 0 ≡ zeroes (after h (bitAt b i))
-  unfolding zeroesWith historyAfter
-  zeroes-first = ap zeroes (history-on 0)
-
--- Whether bit j brings the zeroes to 4 or fewer.
-abbrev toFour : List ℕ → Search → ℕ → Bool
-toFour b search j = leb (zeroesWith b search j) 4
 
 -- Inside a contact: cut if none of the bits closes it.
 inside-cut : (n : ℕ) (b : List ℕ) (start h i : ℕ)
@@ -108,27 +54,6 @@ module _ (b : List ℕ) (h i n : ℕ) where
   abbrev next : Search
   next = further b h i n
 
-  -- a bit after the first two: counted from the next one
-  later-on : (k : ℕ) → some (laterToFour b now (suc k)) (suc n) ≡ some (laterToFour b next k) n
-  later-on k =
-      some-first (laterToFour b now (suc k)) n
-      ∙ ap (λ (t : Bool). (t && toFour b now 0) || some (λ j. laterToFour b now (suc k) (suc j)) n) (leb·suc-zero (suc k))
-      ∙ some-alike (λ j. laterToFour b now (suc k) (suc j)) (laterToFour b next k) (λ j. ap₂ (λ (t : Bool) (z : ℕ). t && leb z 4) (leb·suc-suc (suc k) j) (zeroes-on b h i n j)) n
-
-  later-first : some (laterToFour b now 0) (suc n) ≡ some (toFour b next) n
-  later-first =
-      some-first (laterToFour b now 0) n
-      ∙ some-alike (λ j. laterToFour b now 0 (suc j)) (toFour b next)
-      (λ j. ap₂ (λ (t : Bool) (z : ℕ). t && leb z 4) (leb·suc-suc 0 j ∙ leb·zero j) (zeroes-on b h i n j)) n
-
-  eight-on : (k : ℕ) → toEight b now (suc k) ≡ toEight b next k
-  eight-on k = ap (leb 8) (zeroes-on b h i n k)
-
-  eights-on : (k : ℕ) → some (toEight b now) (suc k) ≡ (toEight b now 0 || some (toEight b next) k)
-  eights-on k =
-      some-first (toEight b now) k
-      ∙ ap (λ (x : Bool). toEight b now 0 || x) (some-alike (λ j. toEight b now (suc j)) (toEight b next) eight-on k)
-
   not-first : (a c : Bool) → ((a && false) && c) ≡ false
   not-first true c = refl
   not-first false c = refl
@@ -137,18 +62,18 @@ module _ (b : List ℕ) (h i n : ℕ) where
   opened : toEight b now 0 ≡ true → (k : ℕ) → opensCut b now (suc n) (suc k) ≡ false
   opened e k =
       ap (λ (x : Bool). (toEight b now (suc k) && not x) && not (some (laterToFour b now (suc k)) (suc n)))
-      (eights-on k ∙ ap (λ (x : Bool). x || some (toEight b next) k) e)
+      (eights-on b h i n k ∙ ap (λ (x : Bool). x || some (toEight b next) k) e)
       ∙ not-first (toEight b now (suc k)) (not (some (laterToFour b now (suc k)) (suc n)))
 
   -- where it does not, the others are as counted from the next one
   unopened : toEight b now 0 ≡ false → (k : ℕ) → opensCut b now (suc n) (suc k) ≡ opensCut b next n k
   unopened e k =
-      ap₂ (λ (x y : Bool). (toEight b now (suc k) && not x) && not y) (eights-on k ∙ ap (λ (x : Bool). x || some (toEight b next) k) e) (later-on k)
-      ∙ ap (λ (x : Bool). (x && not (some (toEight b next) k)) && not (some (laterToFour b next k) n)) (eight-on k)
+      ap₂ (λ (x y : Bool). (toEight b now (suc k) && not x) && not y) (eights-on b h i n k ∙ ap (λ (x : Bool). x || some (toEight b next) k) e) (later-on b h i n k n)
+      ∙ ap (λ (x : Bool). (x && not (some (toEight b next) k)) && not (some (laterToFour b next k) n)) (eight-on b h i n k)
 
   first-cut : opensCut b now (suc n) 0 ≡ (toEight b now 0 && not (some (toFour b next) n))
   unfolding some
-  first-cut = ap (λ (y : Bool). (toEight b now 0 && true) && not y) later-first ∙ and-true (toEight b now 0) (not (some (toFour b next) n))
+  first-cut = ap (λ (y : Bool). (toEight b now 0 && true) && not y) (later-first b h i n n) ∙ and-true (toEight b now 0) (not (some (toFour b next) n))
     where
       and-true : (a c : Bool) → ((a && true) && c) ≡ (a && c)
       and-true true c = refl

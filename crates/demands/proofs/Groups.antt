@@ -19,7 +19,7 @@ use Rattle.group.specs.declared.Kind.{Kind}
 use Rattle.group.specs.declared.Placed.{Placed}
 use Rattle.demands.specs.Rules.{row, Decided, Given}
 use Rattle.demands.specs.Table.{oneBalise, moreThanFive, unread, listOf, partsOf, isMisfit, noRow, bothWays, judgedKind, isJudged, notAllowed, noLink}
-use Rattle.demands.specs.Demand1.{groupRules}
+use Rattle.demands.specs.Lists.{groupRules}
 use Rattle.demands.proofs.Rules.{true-not-false, if-so}
 use Rattle.demands.proofs.Answers.{isRefusal, Only, lone}
 use Rattle.demands.proofs.Distances.{link-fifteen, link-refused}

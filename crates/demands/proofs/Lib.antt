@@ -1,6 +1,8 @@
 pub mod Rules
 pub mod Refusals
+pub mod Shifted
 pub mod Cut
+pub mod NextOne
 pub mod Contacts
 pub mod Answers
 pub mod Distances

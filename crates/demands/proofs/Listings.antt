@@ -15,7 +15,7 @@ use Rattle.listing.specs.Put.{next, noRoom, filled, placed, put}
 use Rattle.listing.specs.List.{Listing, listOf, listTaken, unlisted, list}
 use Rattle.demands.specs.Rules.{row, Decided, Given}
 use Rattle.demands.specs.Table.{badLength, badGap}
-use Rattle.demands.specs.Demand1.{runRules}
+use Rattle.demands.specs.Lists.{runRules}
 use Rattle.demands.proofs.Rules.{true-not-false}
 use Rattle.demands.proofs.Rides.{gives-not}
 

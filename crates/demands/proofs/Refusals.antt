@@ -15,16 +15,16 @@ use Rattle.telegram.specs.Telegram.{figures, number, Letter, X, Y, Z, YZ, Readi
 use Rattle.telegram.specs.Stretch.{inside}
 use Rattle.telegram.specs.Place.{at, firstOf, wordsAt, places, found}
 use Rattle.telegram.specs.Survey.{alike, allAs, together, surveyed}
-use Rattle.contact.specs.Judge.{allAlike}
-use Rattle.demands.specs.Rules.{Rule, row, Decided, Given}
+use Rattle.contact.specs.Judge.{allAlike, firstPlace}
+use Rattle.demands.specs.Rules.{Rule, row, Decided, Is}
 use Rattle.demands.specs.Table.{notCode, above, fifteen, notSeven, beyond, isEmpty, noPlace, placesDiffer, isNumber}
-use Rattle.demands.specs.Demand1.{rowAt, IsTelegram, rulesAfterX, telegramRules, findRules, surveyRules}
-use Rattle.demands.proofs.Rules.{true-not-false, if-not, given}
+use Rattle.demands.specs.Lists.{rowAt, IsTelegram, rulesAfterX, telegramRules, findRules, surveyRules, findReads, surveyReads}
+use Rattle.demands.proofs.Rules.{true-not-false, if-not}
 
 -- A received word of n bits: 1.
-pub reading : (n w : ℕ) → Decided Given (row 1 (notCode n w) ∷ []) (readWord n w)
+pub reading : (n w : ℕ) → Decided (Is (figure n (exchanged n w))) (row 1 (notCode n w) ∷ []) (readWord n w)
 unfolding notCode readWord
-reading n w = if-not Given [] (refuses 1) (gives (figure n (exchanged n w))) (given (figure n (exchanged n w))) (isCode n (exchanged n w))
+reading n w = if-not (Is (figure n (exchanged n w))) [] (refuses 1) (gives (figure n (exchanged n w))) refl (isCode n (exchanged n w))
 
 -- no more is not above
 above-leb : (x largest : ℕ) → ltb largest x ≡ not (leb x largest)
@@ -43,16 +43,16 @@ below-ltb x bound = go (ltb x bound) refl
     go false e = le-leb bound x (ltb-false x bound e)
 
 -- A figure to write: 2.
-pub writing : (n largest x : ℕ) → Decided Given (row 2 (above largest x) ∷ []) (writeWord n largest x)
+pub writing : (n largest x : ℕ) → Decided (Is (sent n x)) (row 2 (above largest x) ∷ []) (writeWord n largest x)
 unfolding above writeWord
 writing n largest x =
-    subst (λ (t : Bool). Decided Given (row 2 t ∷ []) (writeWord n largest x)) (sym (above-leb x largest))
-    (if-not Given [] (refuses 2) (gives (sent n x)) (given (sent n x)) (leb x largest))
+    subst (λ (t : Bool). Decided (Is (sent n x)) (row 2 t ∷ []) (writeWord n largest x)) (sym (above-leb x largest))
+    (if-not (Is (sent n x)) [] (refuses 2) (gives (sent n x)) refl (leb x largest))
 
 -- A sync pair: 4.
-pub pairing : (s t : ℕ) → Decided Given (row 4 (notSeven s t) ∷ []) (pairOf s t)
+pub pairing : (s t : ℕ) → Decided (Is good) (row 4 (notSeven s t) ∷ []) (pairOf s t)
 unfolding notSeven pairOf isGood
-pairing s t = if-not Given [] (refuses 4) (gives good) (given good) (isGood s t)
+pairing s t = if-not (Is good) [] (refuses 4) (gives good) refl (isGood s t)
 
 -- A short word of a telegram, 1 and then 3, before what follows it.
 short-then : (letter : Letter) (w : ℕ) (rules : List (Rule Reading)) (next : ℕ → Reading)
@@ -119,34 +119,33 @@ beyond-is b start len =
     any-not false y z = refl
 
 -- The sync pair, 4, and the stretch, 5, before what follows them.
-pub stretch-then : {A : Type 0} (b : List ℕ) (start len s t : ℕ) (rules : List (Rule (Outcome A))) (o : Outcome A) → Decided Given rules o
-    → Decided Given (row 4 (notSeven s t) ∷ row 5 (beyond b start len) ∷ rules) (pick (isGood s t) (pick (inside b start len) o (refuses 5)) (refuses 4))
+pub stretch-then : {A : Type 0} (Reads : Outcome A → Type 0) (b : List ℕ) (start len s t : ℕ) (rules : List (Rule (Outcome A))) (o : Outcome A) → Decided Reads rules o
+    → Decided Reads (row 4 (notSeven s t) ∷ row 5 (beyond b start len) ∷ rules) (pick (isGood s t) (pick (inside b start len) o (refuses 5)) (refuses 4))
 unfolding notSeven isGood
-stretch-then b start len s t rules o rest =
-    if-not Given (row 5 (beyond b start len) ∷ rules) (refuses 4) (pick (inside b start len) o (refuses 5))
-    (subst (λ (t : Bool). Decided Given (row 5 t ∷ rules) (pick (inside b start len) o (refuses 5))) (sym (beyond-is b start len))
-    (if-not Given rules (refuses 5) o rest (inside b start len))) (isGood s t)
+stretch-then Reads b start len s t rules o rest =
+    if-not Reads (row 5 (beyond b start len) ∷ rules) (refuses 4) (pick (inside b start len) o (refuses 5))
+    (subst (λ (t : Bool). Decided Reads (row 5 t ∷ rules) (pick (inside b start len) o (refuses 5))) (sym (beyond-is b start len))
+    (if-not Reads rules (refuses 5) o rest (inside b start len))) (isGood s t)
 
 -- The search for single telegrams: 4, 5, 6.
-pub finding : (b : List ℕ) (start len s t : ℕ)
-    → Decided Given (findRules b start len s t) (found b start len s t)
+pub finding : (b : List ℕ) (start len s t : ℕ) → Decided (Is (findReads b start len s t)) (findRules b start len s t) (found b start len s t)
 unfolding found noPlace
-finding b start len s t = stretch-then b start len s t (row 6 (isEmpty (places b start len s t)) ∷ []) (firstOf b (places b start len s t)) (go (places b start len s t))
+finding b start len s t =
+    stretch-then (Is (findReads b start len s t)) b start len s t (row 6 (isEmpty (places b start len s t)) ∷ []) (firstOf b (places b start len s t)) (go (places b start len s t))
   where
-    go : (ps : List ℕ) → Decided Given (row 6 (isEmpty ps) ∷ []) (firstOf b ps)
+    go : (ps : List ℕ) → Decided (Is (at (firstPlace ps) (wordsAt b (firstPlace ps)))) (row 6 (isEmpty ps) ∷ []) (firstOf b ps)
     go [] = (λ q. refl, λ q. absurd (true-not-false q))
-    go (p ∷ ps) = (λ q. absurd (true-not-false (sym q)), λ q. (at p (wordsAt b p), refl))
+    go (p ∷ ps) = (λ q. absurd (true-not-false (sym q)), λ q. refl)
 
 -- All places of a stretch: 4, 5, 6, 7.
-pub surveying : (b : List ℕ) (start len s t : ℕ)
-    → Decided Given (surveyRules b start len s t) (surveyed b start len s t)
+pub surveying : (b : List ℕ) (start len s t : ℕ) → Decided (Is (surveyReads b start len s t)) (surveyRules b start len s t) (surveyed b start len s t)
 unfolding surveyed noPlace placesDiffer
 surveying b start len s t =
-    stretch-then b start len s t (row 6 (isEmpty (places b start len s t)) ∷ row 7 (not (allAlike b (places b start len s t))) ∷ [])
+    stretch-then (Is (surveyReads b start len s t)) b start len s t (row 6 (isEmpty (places b start len s t)) ∷ row 7 (not (allAlike b (places b start len s t))) ∷ [])
     (together b (places b start len s t)) (go (places b start len s t))
   where
-    go : (ps : List ℕ) → Decided Given (row 6 (isEmpty ps) ∷ row 7 (not (allAlike b ps)) ∷ []) (together b ps)
+    go : (ps : List ℕ) → Decided (Is (alike (wordsAt b (firstPlace ps)) (firstPlace ps) (length ps))) (row 6 (isEmpty ps) ∷ row 7 (not (allAlike b ps)) ∷ []) (together b ps)
     go [] = (λ q. refl, λ q. absurd (true-not-false q))
     go (p ∷ ps) =
         let a = alike (wordsAt b p) p (length (p ∷ ps)) in
-        (λ q. absurd (true-not-false (sym q)), λ q. if-not Given [] (refuses 7) (gives a) (given a) (allAs b p ps))
+        (λ q. absurd (true-not-false (sym q)), λ q. if-not (Is a) [] (refuses 7) (gives a) refl (allAs b p ps))

@@ -14,20 +14,21 @@ use Rattle.ride.specs.Joining.{allowed}
 use Rattle.ride.specs.Step.{goOn, refuseOr, refused, treat, step}
 use Rattle.ride.specs.Over.{records, rideOver, through, Run, run}
 use Rattle.ride.specs.declared.Ride.{Ride}
-use Rattle.demands.specs.Rules.{row, Decided, Given}
+use Rattle.demands.specs.Rules.{row, Decided, Given, Is}
 use Rattle.demands.specs.Table.{badLength, badRecord, wentBack, tooFar, badGap}
-use Rattle.demands.specs.Demand1.{recordRules, stepRules, runRules}
-use Rattle.demands.proofs.Rules.{true-not-false, if-so, given}
+use Rattle.demands.specs.Lists.{recordRules, stepRules, runRules}
+use Rattle.demands.proofs.Rules.{true-not-false, if-so}
 
 -- The check of a record: 16, 18, 17.
-pub checking : (ride : Ride) (r : List ℕ) → Decided Given (recordRules ride r) (check (ride .odometer) r)
+pub checking : (ride : Ride) (r : List ℕ)
+    → Decided (Is (record { odometer = odometerOf r; passed = passedOf r })) (recordRules ride r) (check (ride .odometer) r)
 unfolding check badRecord tooFar wentBack
 checking ride r =
     let e : Entry = record { odometer = odometerOf r; passed = passedOf r } in
     let back : Outcome Entry = pick (ltb (odometerOf r) (ride .odometer)) (refuses 17) (gives e) in
-    if-so Given (row 18 (tooFar r) ∷ row 17 (wentBack (ride .odometer) r) ∷ []) (refuses 16) (pick (ltb 4000000000 (odometerOf r)) (refuses 18) back)
-    (if-so Given (row 17 (wentBack (ride .odometer) r) ∷ []) (refuses 18) back
-    (if-so Given [] (refuses 17) (gives e) (given e) (ltb (odometerOf r) (ride .odometer))) (ltb 4000000000 (odometerOf r)))
+    if-so (Is e) (row 18 (tooFar r) ∷ row 17 (wentBack (ride .odometer) r) ∷ []) (refuses 16) (pick (ltb 4000000000 (odometerOf r)) (refuses 18) back)
+    (if-so (Is e) (row 17 (wentBack (ride .odometer) r) ∷ []) (refuses 18) back
+    (if-so (Is e) [] (refuses 17) (gives e) refl (ltb (odometerOf r) (ride .odometer))) (ltb 4000000000 (odometerOf r)))
     (not (inOrder r))
 
 -- what goes on from the check is refused as the check is
@@ -61,14 +62,14 @@ abbrev left : Ride → ℕ → Run
 left ride k = record { answer = refuses k; ride = ride }
 
 -- A run: 19, 16.
-pub running : (ride : Ride) (gap : ℕ) (trace : List ℕ) → Decided Given (runRules gap trace) (run ride gap trace .answer)
+pub running : (ride : Ride) (gap : ℕ) (trace : List ℕ) → Decided (Is through) (runRules gap trace) (run ride gap trace .answer)
 unfolding run badGap badLength
 running ride gap trace = go (allowed gap) (eqb (length trace % 8) 0)
   where
-    go : (t u : Bool) → Decided Given (row 19 (not t) ∷ row 16 (not u) ∷ []) (pick t (pick u (over ride gap trace) (left ride 16)) (left ride 19) .answer)
+    go : (t u : Bool) → Decided (Is through) (row 19 (not t) ∷ row 16 (not u) ∷ []) (pick t (pick u (over ride gap trace) (left ride 16)) (left ride 19) .answer)
     go false u = (λ q. refl, λ q. absurd (true-not-false q))
     go true false = (λ q. absurd (true-not-false (sym q)), λ q. (λ p. refl, λ p. absurd (true-not-false p)))
-    go true true = (λ q. absurd (true-not-false (sym q)), λ q. (λ p. absurd (true-not-false (sym p)), λ p. (through, refl)))
+    go true true = (λ q. absurd (true-not-false (sym q)), λ q. (λ p. absurd (true-not-false (sym p)), λ p. refl))
 
 pub gives-not : {A : Type 0} {x : A} {n : ℕ} → gives x ≡ refuses n → ⊥
 gives-not e = let z : _≡_ {A = ℕ} 0 1 = cc in omega arith

@@ -1,4 +1,7 @@
--- What the contracts of the public functions allow: the theorems take these as their hypotheses.
+-- What the contracts of the public functions allow: the theorems take these as their hypotheses. `Post` of a function is its `ensures`
+-- line, made into a statement by the kit: of what it was given, its answer r, and what is lent to it as it is at the end, e. A lent
+-- buffer is a reference (`RefT`) whose bytes are `now` of it, and `Lfts` says how long it is lent. In `put_line` and `list` the bytes of
+-- the second and of the fifth parameter at the end are taken out of e.
 -- Assumes nothing.
 use Prim.Native.Nat.{ℕ}
 use mathlib.Core.Path.{_≡_}

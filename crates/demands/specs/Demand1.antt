@@ -1,28 +1,32 @@
 -- Demand 1: "Any bits, any trace, any settings: every call ends with a named reading or a numbered refusal of document 01,
 -- given exactly under the condition written there. A refusal hands out no figure, and lent memory and state stay untouched
 -- unless the table says otherwise."
--- The first sentence is the record `Demand1`, the second the record `Untouched`. The conditions are specs/Table.antt, what the
--- contracts allow is specs/Contracts.antt. That every call ends is the kit's own check of each function, and no theorem here. The
--- functions that cannot refuse (`fresh`, `speed`, `end`, `put_line`) have no list. Those of the face for C (crates/abi) have
--- contracts of their own over the same definitions.
+-- The first sentence is the record `Demand1`, the second the record `Untouched`. The conditions are specs/Table.antt, the
+-- lists specs/Lists.antt, what the contracts allow is specs/Contracts.antt. That every call ends is the kit's own check of each function, and no theorem here. The
+-- functions without a list give no number: `fresh`, `speed` and `end` always answer; `put_line` says that a line has no room, for which
+-- document 01 has no number; `telegram::inside`, which serves `contact`, says whether row 5's condition does not hold. Those of the
+-- face for C (crates/abi) have contracts of their own over the same definitions.
 -- Assumes nothing.
-use Prim.Native.Nat.{ℕ, _+_, _*_}
-use mathlib.Core.Bool.{Bool, true}
+use Prim.Native.Nat.{ℕ}
+use mathlib.Core.Bool.{true}
 use mathlib.Core.Path.{_≡_}
 use mathlib.Core.List.{List, [], _∷_}
-use Rattle.words.specs.Answer.{Outcome, gives, refuses, pick}
+use Rattle.words.specs.Answer.{Outcome, gives, refuses}
 use Rattle.words.specs.Plain.{figure}
+use Rattle.words.specs.Code.{exchanged, sent}
 use Rattle.words.specs.Says.{saysShortRead, saysShortWritten, saysLongRead, saysLongWritten}
 use Rattle.words.specs.declared.ShortRead.{ShortRead}
 use Rattle.words.specs.declared.ShortWritten.{ShortWritten}
 use Rattle.words.specs.declared.LongRead.{LongRead}
 use Rattle.words.specs.declared.LongWritten.{LongWritten}
-use Rattle.telegram.specs.Telegram.{Message, Letter, X, Y, Z, YZ, Reading, reads, refused}
+use Rattle.telegram.specs.Sync.{good}
+use Rattle.telegram.specs.Telegram.{Letter, Reading, refused}
 use Rattle.telegram.specs.Says.{saysPair, saysTelegramRead, saysFound, saysSurveyed}
 use Rattle.telegram.specs.declared.Pair.{Pair}
 use Rattle.telegram.specs.declared.TelegramRead.{TelegramRead}
 use Rattle.telegram.specs.declared.Found.{Found}
 use Rattle.telegram.specs.declared.Surveyed.{Surveyed}
+use Rattle.contact.specs.Contacts.{fromStart}
 use Rattle.contact.specs.Says.{saysBegun, saysNext, saysJudged}
 use Rattle.contact.specs.declared.Search.{Search}
 use Rattle.contact.specs.declared.Begun.{Begun}
@@ -32,6 +36,8 @@ use Rattle.group.specs.Says.{saysMeasured, saysJudged as saysGroup}
 use Rattle.group.specs.declared.Group.{Group}
 use Rattle.group.specs.declared.Measured.{Measured}
 use Rattle.group.specs.declared.Judged.{Judged as GroupJudged}
+use Rattle.ride.specs.Record.{odometerOf, passedOf}
+use Rattle.ride.specs.Over.{through}
 use Rattle.ride.specs.State.{noGroup, isOpen, nothingKnown}
 use Rattle.ride.specs.Joining.{takeUp}
 use Rattle.ride.specs.Closing.{firstPlace}
@@ -46,65 +52,11 @@ use Rattle.listing.specs.Put.{noRoom}
 use Rattle.listing.specs.Says.{saysPut, saysDone}
 use Rattle.listing.specs.declared.Put.{Put}
 use Rattle.listing.specs.declared.Listed.{Listed}
-use Rattle.demands.specs.Rules.{Rule, row, Decided, Given}
-use Rattle.demands.specs.Table.{notCode, above, fifteen, notSeven, beyond, noPlace, placesDiffer, neither, cut, oneBalise, moreThanFive, isNumber, unread, partsOf, noRow, bothWays, notAllowed, noDistance, badLength, badRecord, wentBack, tooFar, badGap}
+use Rattle.demands.specs.Rules.{row, Decided, Given, Is}
+use Rattle.demands.specs.Table.{notCode, above, notSeven, beyond, noDistance}
 use Rattle.demands.specs.Contracts.{ReadShort, WriteShort, ReadLong, WriteLong, GoodPair, ReadTelegram, Find, Survey, Begin, NextContact, JudgeContact, Distance, JudgeGroup, CheckRecord, StepOf, EndOf, RunOver, PutLine, ListInto}
+use Rattle.demands.specs.Lists.{IsTelegram, telegramRules, findRules, surveyRules, nextRules, judgeRules, groupRules, recordRules, stepRules, runRules, findReads, surveyReads, JudgeReads, NextReads}
 use Rattle.demands.specs.Steps.{OneStep, LeavesBehind}
-
--- A row of the table at the word of a telegram that this letter names.
-abbrev pub rowAt : Letter → ℕ → Bool → Rule Reading
-rowAt letter n condition = record { holds = condition; answer = refused n letter }
-
--- A telegram was read.
-abbrev pub IsTelegram : Reading → Type 0
-IsTelegram o = (m : Message) × (o ≡ reads m)
-
--- After X: if it reads 12, Y and Z as one long word, 1; else Y, then Z, each 1, then 3.
-abbrev pub rulesAfterX : ℕ → ℕ → ℕ → List (Rule Reading)
-rulesAfterX x y z =
-    pick (isNumber x)
-    (rowAt YZ 1 (notCode 16 (y * 256 + z)) ∷ [])
-    (rowAt Y 1 (notCode 8 y) ∷ rowAt Y 3 (fifteen y) ∷ rowAt Z 1 (notCode 8 z) ∷ rowAt Z 3 (fifteen z) ∷ [])
-
--- "X is judged before Y, Y before Z, and the first bad word decides whatever the numbers."
-abbrev pub telegramRules : ℕ → ℕ → ℕ → List (Rule Reading)
-telegramRules x y z = rowAt X 1 (notCode 8 x) ∷ rowAt X 3 (fifteen x) ∷ rulesAfterX x y z
-
--- `find`: 4, 5, 6.
-abbrev pub findRules : {A : Type 0} → List ℕ → ℕ → ℕ → ℕ → ℕ → List (Rule (Outcome A))
-findRules b start len s t = row 4 (notSeven s t) ∷ row 5 (beyond b start len) ∷ row 6 (noPlace b start len s t) ∷ []
-
--- `survey`: 4, 5, 6, 7.
-abbrev pub surveyRules : {A : Type 0} → List ℕ → ℕ → ℕ → ℕ → ℕ → List (Rule (Outcome A))
-surveyRules b start len s t =
-    row 4 (notSeven s t) ∷ row 5 (beyond b start len) ∷ row 6 (noPlace b start len s t) ∷ row 7 (placesDiffer b start len s t) ∷ []
-
--- `next_contact`: 5, 9, for the search's own stretch.
-abbrev pub nextRules : {A : Type 0} → List ℕ → Search → List (Rule (Outcome A))
-nextRules b search = row 5 (beyond b (search .next) (search .left)) ∷ row 9 (cut b search) ∷ []
-
--- `contact::judge`: 4, 5, 7, 8.
-abbrev pub judgeRules : {A : Type 0} → List ℕ → ℕ → ℕ → ℕ → ℕ → List (Rule (Outcome A))
-judgeRules b start len s t =
-    row 4 (notSeven s t) ∷ row 5 (beyond b start len) ∷ row 7 (placesDiffer b start len s t) ∷ row 8 (neither b start len s t) ∷ []
-
--- `group::judge`: 10, 11, 12, 13, 14, 15.
-abbrev pub groupRules : {A : Type 0} → Group → List (Rule (Outcome A))
-groupRules g =
-    row 10 (oneBalise g) ∷ row 11 (moreThanFive g) ∷ row 12 (unread g)
-    ∷ row 13 (noRow (partsOf g)) ∷ row 14 (bothWays (partsOf g)) ∷ row 15 (notAllowed (partsOf g)) ∷ []
-
--- `check_record`: "16, 18, 17 in this order".
-abbrev pub recordRules : {A : Type 0} → Ride → List ℕ → List (Rule (Outcome A))
-recordRules ride bytes = row 16 (badRecord bytes) ∷ row 18 (tooFar bytes) ∷ row 17 (wentBack (ride .odometer) bytes) ∷ []
-
--- `step`: 19, then as the record is checked.
-abbrev pub stepRules : {A : Type 0} → Ride → ℕ → List ℕ → List (Rule (Outcome A))
-stepRules ride gap bytes = row 19 (badGap gap) ∷ recordRules ride bytes
-
--- `run`: 19, 16.
-abbrev pub runRules : {A : Type 0} → ℕ → List ℕ → List (Rule (Outcome A))
-runRules gap trace = row 19 (badGap gap) ∷ row 16 (badLength trace) ∷ []
 
 -- A refusal carries no figure: two answers that refuse with the same number are the same answer, whatever was asked.
 abbrev pub Bare : {A B : Type 0} → (A → Outcome B) → Type 0
@@ -114,30 +66,32 @@ Bare {A} says = (n : ℕ) (r r′ : A) → says r ≡ refuses n → says r′ �
 abbrev pub BareWords : (TelegramRead → Reading) → Type 0
 BareWords says = (n : ℕ) (at : Letter) (r r′ : TelegramRead) → says r ≡ refused n at → says r′ ≡ refused n at → r ≡ r′
 
--- Each public function refuses with the first number of its list whose condition holds, and reads exactly if none does.
+-- Each public function refuses with the first number of its list whose condition holds, and reads exactly if none does. What the others
+-- (`Given`) read is demand 2's.
 pub record Demand1 : Type 0 where
-  pub read-short : (w : ℕ) (r : ShortRead) → ReadShort w r → Decided Given (row 1 (notCode 8 w) ∷ []) (saysShortRead r)
-  pub write-short : (x : ℕ) (r : ShortWritten) → WriteShort x r → Decided Given (row 2 (above 15 x) ∷ []) (saysShortWritten r)
-  pub read-long : (w : ℕ) (r : LongRead) → ReadLong w r → Decided Given (row 1 (notCode 16 w) ∷ []) (saysLongRead r)
-  pub write-long : (x : ℕ) (r : LongWritten) → WriteLong x r → Decided Given (row 2 (above 2047 x) ∷ []) (saysLongWritten r)
-  pub good-pair : (s t : ℕ) (r : Pair) → GoodPair s t r → Decided Given (row 4 (notSeven s t) ∷ []) (saysPair r)
+  pub read-short : (w : ℕ) (r : ShortRead) → ReadShort w r → Decided (Is (figure 8 (exchanged 8 w))) (row 1 (notCode 8 w) ∷ []) (saysShortRead r)
+  pub write-short : (x : ℕ) (r : ShortWritten) → WriteShort x r → Decided (Is (sent 8 x)) (row 2 (above 15 x) ∷ []) (saysShortWritten r)
+  pub read-long : (w : ℕ) (r : LongRead) → ReadLong w r → Decided (Is (figure 16 (exchanged 16 w))) (row 1 (notCode 16 w) ∷ []) (saysLongRead r)
+  pub write-long : (x : ℕ) (r : LongWritten) → WriteLong x r → Decided (Is (sent 16 x)) (row 2 (above 2047 x) ∷ []) (saysLongWritten r)
+  pub good-pair : (s t : ℕ) (r : Pair) → GoodPair s t r → Decided (Is good) (row 4 (notSeven s t) ∷ []) (saysPair r)
   pub read-telegram : (x y z : ℕ) (r : TelegramRead) → ReadTelegram x y z r → Decided IsTelegram (telegramRules x y z) (saysTelegramRead r)
   pub find : (b : List ℕ) (start len s t : ℕ) (r : Found) → Find b start len s t r
-      → Decided Given (findRules b start len s t) (saysFound r)
+      → Decided (Is (findReads b start len s t)) (findRules b start len s t) (saysFound r)
   pub survey : (b : List ℕ) (start len s t : ℕ) (r : Surveyed) → Survey b start len s t r
-      → Decided Given (surveyRules b start len s t) (saysSurveyed r)
+      → Decided (Is (surveyReads b start len s t)) (surveyRules b start len s t) (saysSurveyed r)
   pub begin : (b : List ℕ) (start len : ℕ) (r : Begun) → Begin b start len r
-      → Decided Given (row 5 (beyond b start len) ∷ []) (saysBegun r)
-  pub next-contact : (b : List ℕ) (search : Search) (r : Next) → NextContact b search r → Decided Given (nextRules b search) (saysNext r)
+      → Decided (Is (fromStart start len)) (row 5 (beyond b start len) ∷ []) (saysBegun r)
+  pub next-contact : (b : List ℕ) (search : Search) (r : Next) → NextContact b search r → Decided (NextReads b search) (nextRules b search) (saysNext r)
   pub judge-contact : (b : List ℕ) (start len s t : ℕ) (r : Judged) → JudgeContact b start len s t r
-      → Decided Given (judgeRules b start len s t) (saysJudged r)
+      → Decided (JudgeReads b start len s t) (judgeRules b start len s t) (saysJudged r)
   pub distance : (by figure : ℕ) (r : Measured) → Distance by figure r
       → Decided Given (row 15 (noDistance by figure) ∷ []) (saysMeasured r)
   pub judge-group : (g : Group) (r : GroupJudged) → JudgeGroup g r → Decided Given (groupRules g) (saysGroup r)
-  pub check-record : (ride : Ride) (bytes : List ℕ) (r : Checked) → CheckRecord ride bytes r → Decided Given (recordRules ride bytes) (saysChecked r)
+  pub check-record : (ride : Ride) (bytes : List ℕ) (r : Checked) → CheckRecord ride bytes r
+      → Decided (Is (record { odometer = odometerOf bytes; passed = passedOf bytes })) (recordRules ride bytes) (saysChecked r)
   pub step : (ride : Ride) (gap : ℕ) (bytes : List ℕ) (r : Stepped) → StepOf ride gap bytes r
       → Decided Given (stepRules ride gap bytes) (saysStepped r .lines)
-  pub run : (ride : Ride) (gap : ℕ) (trace : List ℕ) (r : Ran) → RunOver ride gap trace r → Decided Given (runRules gap trace) (saysRan r .answer)
+  pub run : (ride : Ride) (gap : ℕ) (trace : List ℕ) (r : Ran) → RunOver ride gap trace r → Decided (Is through) (runRules gap trace) (saysRan r .answer)
   pub list : (ride : Ride) (gap number : ℕ) (trace before : List ℕ) (r : Listed) (after : List ℕ) → ListInto ride gap number trace before r after
       → Decided Given (runRules gap trace) (saysDone (r .done))
 

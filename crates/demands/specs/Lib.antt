@@ -2,6 +2,7 @@ pub mod Rules
 pub mod Table
 pub mod Contracts
 pub mod Steps
+pub mod Lists
 pub mod Demand1
 pub mod Cases
 pub mod RowCases

@@ -23,3 +23,7 @@ Decided Reading (rule ∷ rules) o = (rule .holds ≡ true → o ≡ rule .answe
 -- The answer gives something.
 abbrev pub Given : {A : Type 0} → Outcome A → Type 0
 Given {A} o = (x : A) × (o ≡ gives x)
+
+-- The answer gives just this.
+abbrev pub Is : {A : Type 0} → A → Outcome A → Type 0
+Is x o = o ≡ gives x
