@@ -26,6 +26,7 @@ use Rattle.demands.specs.Demand3.{TheSent, ComesOf, placesOf}
 use Rattle.demands.proofs.Places.{or-left, or-right, or-parts}
 use Rattle.demands.proofs.Sent.{Sent, AllSent, read-as-sent}
 use Rattle.demands.proofs.Unflipped.{unflipped-words, unflipped-among}
+use Rattle.demands.proofs.Proper.{good-pair, is-taken}
 
 -- A call answers as the specification says.
 pub specified : (b : List ℕ) (start len s t : ℕ) (r : Found) → Find b start len s t r → found b start len s t ≡ saysFound r
@@ -108,11 +109,11 @@ module _ (o : OneBalise) (proper : Proper o) where
   pub comes-is : (w : List Found) → ComesOf o w → w ≡ map answerOf (withTelegrams (o .buffer) (placesOf o))
   comes-is w c =
       let r = comes-listed c in
-      r .2 ∙ ap (map answerOf) (only (o .buffer) (o .s) (o .t) (r .1) (law (o .buffer) (o .s) (o .t) (proper .pair) (o .start) (o .len) (proper .taken)))
+      r .2 ∙ ap (map answerOf) (only (o .buffer) (o .s) (o .t) (r .1) (law (o .buffer) (o .s) (o .t) (good-pair o proper) (o .start) (o .len) (is-taken o proper)))
 
   -- And there is one, for one who is answered at every call.
   pub asking-ends : ((start len : ℕ) → (r : Found) × Find (o .buffer) start len (o .s) (o .t) r) → (w : List Found) × ComesOf o w
-  asking-ends ask = listed-comes ask (law (o .buffer) (o .s) (o .t) (proper .pair) (o .start) (o .len) (proper .taken))
+  asking-ends ask = listed-comes ask (law (o .buffer) (o .s) (o .t) (good-pair o proper) (o .start) (o .len) (is-taken o proper))
 
   pub the-sent : (p : ℕ) (m : Telegram) → Sent o p → reads (saysTelegram m) ≡ wordsAt (o .buffer) p → TheSent o p m
   the-sent p m there says = record { true-place = there .at-true; as-sent = same-telegram m (o .telegram) (says ∙ read-as-sent o proper p there) }

@@ -25,6 +25,7 @@ pub mod Saying
 pub mod Sums
 pub mod Bits
 pub mod Telegrams
+pub mod Proper
 pub mod Round
 pub mod Offsets
 pub mod Window

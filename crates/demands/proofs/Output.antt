@@ -5,7 +5,7 @@ use native.Mathlib.Nat.{zero-add}
 use native.Mathlib.Omega.{arith}
 use mathlib.Core.Path.{_≡_, refl, sym, ap, ap₂, _∙_, subst}
 use mathlib.Core.Bool.{Bool, true, false, _&&_}
-use mathlib.Core.List.{List, [], _∷_, _++_}
+use mathlib.Core.List.{List, [], _∷_, _++_, map}
 use lib.Dec.{eqb, leb}
 use lib.ListN.{length, take, drop, length-append}
 use lib.Seq.{take-all, take-at, drop-at}
@@ -25,19 +25,20 @@ use Rattle.ride.specs.Says.{saysLines}
 use Rattle.ride.specs.declared.Known.{Known}
 use Rattle.ride.specs.declared.Line.{Line}
 use Rattle.ride.specs.declared.Ride.{Ride}
-use Rattle.listing.specs.Text.{text}
+use Rattle.listing.specs.Text.{text, seen, decimal, digits}
 use Rattle.listing.specs.Put.{next, noRoom, Filled, filled, placed, put}
 use Rattle.listing.specs.List.{textOf, taken, Listing, listOf, listTaken, list, unlisted}
 use Rattle.listing.specs.Says.{saysDone}
 use Rattle.listing.specs.declared.Done.{Done}
 use Rattle.listing.specs.declared.Listed.{Listed}
+use Rattle.listing.specs.declared.Put.{Put}
 use Rattle.listing.proofs.Longest.{longest}
 use Rattle.listing.proofs.Texts.{text-one, text-join}
 use Rattle.listing.proofs.Determined as listing-is
 use Rattle.demands.specs.Table.{badLength}
-use Rattle.demands.specs.Contracts.{Fresh, ListInto}
-use Rattle.demands.specs.Output.{ridden, output, recordsIn, Written}
-use Rattle.demands.proofs.Steps.{not-false}
+use Rattle.demands.specs.Contracts.{Fresh, PutLine, ListInto}
+use Rattle.demands.specs.Output.{ridden, output, recordsIn, Quoted, quoted, AllPut, Written}
+use Rattle.demands.proofs.Rules.{not-false}
 
 -- ---- room
 
@@ -179,8 +180,25 @@ put-first t before after n e = go (leb (0 + length t) (length before)) e
         ap₂ take (long ∙ zero-add (length t)) (is ∙ at-first t before) ∙ take-at t (drop (length t) before) (length t) refl
     go false q = absurd (let ends : next n ≡ noRoom = ap (λ (f : Filled). f .ends) q in let z : _≡_ {A = ℕ} 0 1 = cc in omega arith)
 
+-- `put_line` puts a line's text.
+put-text : (line : Line) (before after : List ℕ) (n : ℕ) → PutLine line before 0 (Put.Next n) after → take n after ≡ text line
+put-text line before after n c = put-first (text line) before after n (ap (filled (next n)) (sym (c .4)) ∙ c .5 ∙ ap (λ (v : List ℕ). put (text line) v 0) (c .3))
+
+-- The lines that document 01 quotes, computed at once.
+each : (qs : List Quoted) → map (λ q. text (q .line)) qs ≡ map (λ q. q .text) qs → AllPut qs
+each [] e = tt
+each (q ∷ qs) e =
+    let here : text (q .line) ≡ q .text = cc in
+    let rest : map (λ q. text (q .line)) qs ≡ map (λ q. q .text) qs = cc in
+    (λ before after n c. put-text (q .line) before after n c ∙ here, each qs rest)
+
+all-quoted : AllPut quoted
+unfolding text seen decimal digits
+all-quoted = each quoted refl
+
 pub written : Written
 written = record {
+  quotes = all-quoted;
   whole = λ f l e trace before after good small enough fresh c ended.
       let r = listed-so f l trace before after good small enough fresh c in
       let w = allText trace in
@@ -192,8 +210,5 @@ written = record {
             ∙ sym (output-whole trace good),
         ap (drop (length w)) (r .2) ∙ drop-at w (drop (length w) before) (length w) refl,
       );
-  refused = λ trace before after n bad c.
-      put-first (text (Line.Trace 16)) before after n
-      (ap (filled (next n)) (sym (c .4)) ∙ c .5 ∙ ap (λ (v : List ℕ). put (text (Line.Trace 16)) v 0) (c .3))
-      ∙ sym (output-refused trace bad);
+  refused = λ trace before after n bad c. put-text (Line.Trace 16) before after n c ∙ sym (output-refused trace bad);
 }

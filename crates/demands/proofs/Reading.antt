@@ -28,8 +28,8 @@ use Rattle.demands.specs.Contracts.{ReadShort, ReadLong}
 use Rattle.demands.specs.Calls.{Comes, further}
 use Rattle.demands.specs.Demand2.{Good, Bad, no-code, is-15, placeOf, Telegrams}
 use Rattle.demands.proofs.Refusals.{beyond-is}
-use Rattle.demands.proofs.Steps.{not-false}
 use Rattle.demands.proofs.Handed.{specified, singlePlace, comes-listed}
+use Rattle.demands.proofs.Rules.{not-false}
 
 -- ---- the words
 

@@ -12,6 +12,7 @@ use Rattle.telegram.specs.Sync.{differing, isGood}
 use Rattle.demands.specs.Line.{OneBalise, Proper, repeated, sentBit, sum, unequal}
 use Rattle.demands.proofs.Sums.{unequal-sym}
 use Rattle.demands.proofs.Bits.{byte-spelt, differing-bits, spelt-on}
+use Rattle.demands.proofs.Proper.{good-pair}
 
 module _ (o : OneBalise) where
   -- the words after the second sync word are those after the first
@@ -112,4 +113,4 @@ module _ (o : OneBalise) where
     unfolding pattern isGood
     seven =
         sym (differing-bits (repeated o) (repeated o) 0 32 8)
-        ∙ ap₂ (λ (u v : ℕ). differing u v 8) first-sync second-sync ∙ eqb-true (differing (o .s) (o .t) 8) 7 (proper .pair)
+        ∙ ap₂ (λ (u v : ℕ). differing u v 8) first-sync second-sync ∙ eqb-true (differing (o .s) (o .t) 8) 7 (good-pair o proper)

@@ -10,6 +10,10 @@ use Rattle.demands.specs.Rules.{Rule, Decided, Given}
 pub true-not-false : true ≡ false → ⊥
 true-not-false e = subst T e tt
 
+pub not-false : (t : Bool) → not t ≡ false → t ≡ true
+not-false true e = refl
+not-false false e = sym e
+
 module _ {A : Type 0} (Reading : A → Type 0) (rules : List (Rule A)) (answer o : A) (rest : Decided Reading rules o) where
   -- the test asks for the refusal
   pub if-so : (t : Bool) → Decided Reading (record { holds = t; answer = answer } ∷ rules) (pick t answer o)

@@ -21,7 +21,7 @@ use Rattle.ride.specs.declared.Ride.{Ride}
 use Rattle.ride.specs.declared.Stepped.{Stepped}
 use Rattle.demands.specs.Table.{badLength, badGap}
 use Rattle.demands.specs.Contracts.{StepOf, RunOver}
-use Rattle.demands.proofs.Steps.{not-false}
+use Rattle.demands.proofs.Rules.{not-false}
 
 -- The state after some records, whatever the first one's number.
 unnumbered : (gaps : ℕ → ℕ) (rs : List (List ℕ)) (ride : Ride) (n k : ℕ) → rideOver gaps ride n rs .ride ≡ rideOver gaps ride k rs .ride

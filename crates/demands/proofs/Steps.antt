@@ -1,7 +1,7 @@
 -- A step of an accepted record is steps 2 to 4 of document 01, as far as each hypothesis of specs/Steps.antt takes it.
 -- Assumes nothing.
-use mathlib.Core.Path.{_≡_, refl, sym, ap, _∙_}
-use mathlib.Core.Bool.{Bool, true, false, not, _&&_}
+use mathlib.Core.Path.{_≡_, sym, ap, _∙_}
+use mathlib.Core.Bool.{Bool, true, _&&_}
 use mathlib.Core.List.{[], _∷_}
 use Prim.Native.Nat.{ℕ, _+_, _-_, _≤_}
 use lib.Dec.{ltb}
@@ -23,14 +23,11 @@ use Rattle.ride.specs.declared.Ended.{Ended}
 use Rattle.demands.specs.Table.{badGap}
 use Rattle.demands.specs.Contracts.{JudgeGroup, EndOf}
 use Rattle.demands.specs.Steps.{OneStep, Accepts, LeavesBehind, NoneOpen}
+use Rattle.demands.proofs.Rules.{not-false}
 
 -- what the record says
 abbrev pub entry : OneStep → Entry
 entry o = record { odometer = o .odometer; passed = o .passed }
-
-pub not-false : (t : Bool) → not t ≡ false → t ≡ true
-not-false true e = refl
-not-false false e = sym e
 
 -- An accepted record goes on.
 pub goes-on : (o : OneStep) → Accepts o → saysStepped (o .answer) ≡ goOn (o .ride) (o .gap) (entry o)

@@ -28,6 +28,7 @@ use Rattle.demands.specs.Demand3.{TheSent, placesOf, TogetherTheSent}
 use Rattle.demands.proofs.Places.{and-true, or-left, or-right}
 use Rattle.demands.proofs.Sent.{Sent, AllSent}
 use Rattle.demands.proofs.Handed.{the-sent}
+use Rattle.demands.proofs.Proper.{good-pair, is-taken}
 
 -- Places that have the words sent are alike.
 all-alike : (o : OneBalise) (p : ℕ) → Sent o p → (ps : List ℕ) → ((q : ℕ) → among q ps ≡ true → Sent o q) → allAs (o .buffer) p ps ≡ true
@@ -93,7 +94,7 @@ module _ (o : OneBalise) (proper : Proper o) (every-place : AllSent o) where
   unfolding surveyed
   the-survey =
       subst Survey
-      (sym (ap₂ (λ (g i : Bool). pick g (pick i (together b (placesOf o)) (refuses 5)) (refuses 4)) (proper .pair) (proper .taken)))
+      (sym (ap₂ (λ (g i : Bool). pick g (pick i (together b (placesOf o)) (refuses 5)) (refuses 4)) (good-pair o proper) (is-taken o proper)))
       (survey-of (placesOf o) refl)
 
   -- What a call of `survey` answers, and what a call of `judge`.

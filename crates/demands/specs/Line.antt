@@ -5,15 +5,15 @@
 -- Assumes nothing.
 use Prim.Native.Nat.{ℕ, zero, suc, _+_, _-_, _*_, _%_, _≤_, _<_}
 use mathlib.Core.Path.{_≡_}
-use mathlib.Core.Bool.{Bool, true, _&&_}
+use mathlib.Core.Bool.{Bool, false, _&&_}
 use mathlib.Core.List.{List, [], _∷_}
 use lib.Dec.{eqb, leb, ltb}
 use Rattle.words.specs.Answer.{pick}
-use Rattle.telegram.specs.Stretch.{bitAt, inside}
-use Rattle.telegram.specs.Sync.{isGood}
+use Rattle.telegram.specs.Stretch.{bitAt}
 use Rattle.telegram.specs.Telegram.{reads, telegram}
 use Rattle.telegram.specs.Says.{saysTelegram}
 use Rattle.telegram.specs.declared.Telegram.{Telegram}
+use Rattle.demands.specs.Table.{notSeven, beyond}
 
 -- One balise, heard over one stretch of a lent buffer.
 pub record OneBalise : Type 0 where
@@ -35,9 +35,9 @@ pub record OneBalise : Type 0 where
 -- The sync words and the telegram are good, and the stretch is taken: what is not refused with 4 or 5.
 pub record Proper (o : OneBalise) : Type 0 where
   pub bytes : (o .s < 256) × (o .t < 256) × (o .x < 256) × (o .y < 256) × (o .z < 256)
-  pub pair : isGood (o .s) (o .t) ≡ true
+  pub pair : notSeven (o .s) (o .t) ≡ false
   pub valid : telegram (o .x) (o .y) (o .z) ≡ reads (saysTelegram (o .telegram))
-  pub taken : inside (o .buffer) (o .start) (o .len) ≡ true
+  pub taken : beyond (o .buffer) (o .start) (o .len) ≡ false
 
 -- The eight bytes that the balise repeats.
 abbrev pub repeated : OneBalise → List ℕ

@@ -7,6 +7,8 @@ use mathlib.Core.Bool.{true, false}
 use mathlib.Core.List.{List, [], _∷_, _++_}
 use lib.ListN.{length, take, drop}
 use Rattle.words.specs.Answer.{pick}
+use Rattle.group.specs.declared.Direction.{Direction}
+use Rattle.group.specs.declared.Kind.{Kind}
 use Rattle.group.specs.declared.Told.{Told}
 use Rattle.ride.specs.State.{freshRide}
 use Rattle.ride.specs.Step.{end}
@@ -15,6 +17,7 @@ use Rattle.ride.specs.Says.{saysLines}
 use Rattle.ride.specs.declared.Ended.{Ended}
 use Rattle.ride.specs.declared.Line.{Line}
 use Rattle.ride.specs.declared.Linking.{Linking}
+use Rattle.ride.specs.declared.Mark.{Mark}
 use Rattle.ride.specs.declared.Ran.{Ran}
 use Rattle.ride.specs.declared.Ride.{Ride}
 use Rattle.listing.specs.Text.{codes}
@@ -37,6 +40,26 @@ output trace = pick (badLength trace) (textOf (Line.Trace 16 ∷ [])) (textOf (r
 abbrev pub recordsIn : List ℕ → ℕ
 recordsIn trace = length trace / 8
 
+-- A line, and how document 01 writes it.
+pub record Quoted : Type 0 where
+  pub line : Line
+  pub text : List ℕ
+
+-- "Other lines read"
+abbrev pub quoted : List Quoted
+quoted =
+    record { line = Line.Group (record { place = 1000; direction = Direction.Opposite; kind = Kind.Signal; mark = Mark.Unmarked }); text = codes "1000 opposite signal\n" }
+    ∷ record { line = Line.Group (record { place = 1000; direction = Direction.Present; kind = Kind.Route; mark = Mark.Unmarked }); text = codes "1000 present route\n" }
+    ∷ record { line = Line.Trace 16; text = codes "trace refused 16\n" }
+    ∷ record { line = Line.Fault 1000 13; text = codes "1000 fault 13\n" }
+    ∷ record { line = Line.Record 3 17; text = codes "record 3 refused 17\n" }
+    ∷ []
+
+-- Each line of a list is put so by `put_line`.
+abbrev pub AllPut : List Quoted → Type 0
+AllPut [] = Unit {0}
+AllPut (q ∷ qs) = ((before after : List ℕ) (n : ℕ) → PutLine (q .line) before 0 (Put.Next n) after → take n after ≡ q .text) × AllPut qs
+
 -- The library's functions come to that. `list` into a buffer with room for 128 bytes a record takes all records; the bytes
 -- that it says it wrote, and then the text of the lines of `end`, are the output; the buffer's other bytes stay. (The program
 -- lists block after block; that its blocks join to one listing, and its reads and writes, are not proved here: docs/EXCEPTIONS.md.)
@@ -45,6 +68,8 @@ pub record Written : Type 0 where
       → 128 * recordsIn trace ≤ length before → Fresh f → ListInto f 40 1 trace before l after → EndOf (l .ride) e
       → (bytes : ℕ) × (l .done ≡ Done.Took (recordsIn trace) bytes) × (take bytes after ++ textOf (saysLines (e .lines)) ≡ output trace)
       × (drop bytes after ≡ drop bytes before)
+  -- every other line that document 01 quotes
+  pub quotes : AllPut quoted
   -- a bad trace length: the line that `put_line` puts
   pub refused : (trace before after : List ℕ) (n : ℕ) → badLength trace ≡ true → PutLine (Line.Trace 16) before 0 (Put.Next n) after
       → take n after ≡ output trace

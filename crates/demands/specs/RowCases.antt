@@ -1,5 +1,6 @@
 -- The rows of document 01's groups, each in its shortest form and with all its optional members, and just outside: what is
--- judged of each. The balises lie 3 metres apart, the first at 1000 dm, and are given as they are received.
+-- judged of each. The balises lie 30 dm apart, the first at 1000 dm, and are given as they are received. (There is no case of
+-- 14: none was found that fits rows of both directions.)
 -- Assumes nothing.
 use Prim.Native.Nat.{ℕ, _+_, _*_}
 use mathlib.Core.Path.{_≡_}
@@ -31,7 +32,7 @@ N = Heard.Words 0xC3 0xD1 0xC6
 abbrev pub M : Heard
 M = Heard.Marker
 
--- Balises 3 metres apart, from this place on.
+-- Balises 30 dm apart, from this place on.
 abbrev pub from : ℕ → List Heard → List Balise
 from place [] = []
 from place (h ∷ hs) = record { place = place; heard = h } ∷ from (place + 30) hs
@@ -139,6 +140,10 @@ outsideCases =
     ∷ refusedAs 13 (N ∷ f 1 8 5 ∷ f 9 2 4 ∷ N ∷ [])
     ∷ refusedAs 13 (f 2 0 14 ∷ f 9 0 1 ∷ [])
     ∷ refusedAs 13 (f 2 0 0 ∷ f 9 14 1 ∷ [])
+    -- a member where the row has none: 12 before a warning board; 8 or 12 after 9 2
+    ∷ refusedAs 13 (N ∷ f 2 0 0 ∷ f 9 0 1 ∷ [])
+    ∷ refusedAs 13 (f 9 0 0 ∷ f 2 0 0 ∷ f 8 0 0 ∷ [])
+    ∷ refusedAs 13 (f 9 0 0 ∷ f 2 0 0 ∷ N ∷ [])
     -- a line board: AY 9 with a 5, AY 8 with a marker, AZ 14 of either form
     ∷ refusedAs 13 (f 3 9 0 ∷ f 5 0 0 ∷ [])
     ∷ refusedAs 13 (f 3 8 0 ∷ M ∷ [])
@@ -154,6 +159,7 @@ outsideCases =
     ∷ refusedAs 15 (f 1 8 5 ∷ f 9 2 0 ∷ [])
     ∷ refusedAs 15 (f 1 8 5 ∷ f 9 2 5 ∷ f 14 4 0 ∷ [])
     ∷ refusedAs 15 (f 1 8 5 ∷ f 9 2 0 ∷ f 14 0 0 ∷ [])
+    ∷ refusedAs 15 (f 2 0 0 ∷ f 9 2 0 ∷ [])
     ∷ []
 
 -- Every case of a list is judged so, by every answer that the contract of `group::judge` allows.
