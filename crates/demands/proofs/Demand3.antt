@@ -9,7 +9,8 @@ use Rattle.demands.proofs.Sent.{AllSent}
 use Rattle.demands.proofs.Stretch.{all-sent}
 use Rattle.demands.proofs.Unflipped.{unflipped-among}
 use Rattle.demands.proofs.Handed.{asking-ends, every-sent, all-places-sent, unflipped-comes}
-use Rattle.demands.proofs.Together.{judge-sent, survey-sent}
+use Rattle.demands.proofs.Together.{survey-sent}
+use Rattle.demands.proofs.JudgedAlike.{judge-sent}
 use Rattle.demands.proofs.Clean.{comes-all-sent}
 
 -- Where every place has the words sent, only the sent is handed out. This is all that is asked of a hypothesis on the flips.

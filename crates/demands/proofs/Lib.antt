@@ -21,6 +21,8 @@ pub mod Cases
 pub mod RowCases
 pub mod Codes
 pub mod Prefix
+pub mod CalledA
+pub mod Contents
 pub mod Saying
 pub mod Sums
 pub mod Bits
@@ -36,10 +38,12 @@ pub mod Wrong
 pub mod Stretch
 pub mod Handed
 pub mod Reading
+pub mod Room
 pub mod Output
 pub mod InFull
 pub mod Demand2
 pub mod Together
+pub mod JudgedAlike
 pub mod Clean
 pub mod Noise
 pub mod Demand3

@@ -25,7 +25,7 @@ use Rattle.ride.specs.declared.Linking.{Linking}
 use Rattle.ride.specs.declared.Mark.{Mark}
 use Rattle.demands.specs.Table.{partsOf}
 use Rattle.demands.specs.Ride.{IsSignal, IsMarked, first, early, good, late, unmarked, Becomes}
-use Rattle.demands.proofs.Messages.{View, signal, warning, route, plain, view}
+use Rattle.demands.proofs.Messages.{not-signal, View, signal, warning, route, plain, view}
 
 -- Whether a message is a present signal's.
 pub data Signal? (m : Message) : Type 0 where
@@ -67,9 +67,9 @@ Leaves m =
 
 other-leaves : (bs : List Placed) (m : Message) → (IsSignal m → ⊥) → View bs (saysMessage m) → Leaves m
 other-leaves bs m other (signal d k distance _ e) = absurd (other (d, k))
-other-leaves bs m other (warning k d distance e) =
+other-leaves bs m other (warning _ k d distance e) =
     (λ l. ap (λ (v : Content). markFrom v (m .place) l) e, λ k. ap (λ (v : Content). knownFrom v (m .place) k) e)
-other-leaves bs m other (route k e) =
+other-leaves bs m other (route _ k e) =
     (λ l. ap (λ (v : Content). markFrom v (m .place) l) e, λ k. ap (λ (v : Content). knownFrom v (m .place) k) e)
 other-leaves bs m other (plain p e) =
     (λ l. ap (λ (v : Content). markFrom v (m .place) l) e, λ k. ap (λ (v : Content). knownFrom v (m .place) k) e)
@@ -78,9 +78,9 @@ other-leaves bs m other (plain p e) =
 signal-marks : (bs : List Placed) (m : Message) (linking : Linking) → IsSignal m → View bs (saysMessage m)
     → markFrom (saysContent (m .content)) (m .place) linking ≡ markOf linking (m .place)
 signal-marks bs m linking s (signal d k distance _ e) = ap (λ (v : Content). markFrom v (m .place) linking) e
-signal-marks bs m linking s (warning k d distance e) = absurd (let f = s .1 in let z : _≡_ {A = ℕ} 0 1 = cc in omega arith)
-signal-marks bs m linking s (route k e) = absurd (let f = s .1 in let z : _≡_ {A = ℕ} 0 1 = cc in omega arith)
-signal-marks bs m linking s (plain other e) = absurd (other (s .0) (s .1))
+signal-marks bs m linking s (warning _ k d distance e) = absurd (let f = s .1 in let z : _≡_ {A = ℕ} 0 1 = cc in omega arith)
+signal-marks bs m linking s (route _ k e) = absurd (let f = s .1 in let z : _≡_ {A = ℕ} 0 1 = cc in omega arith)
+signal-marks bs m linking s (plain other e) = absurd (not-signal (saysMessage m) other (s .0) (s .1))
 
 module _ (g : Group) (m : Message) (judged : judge g ≡ gives (saysMessage m)) where
   abbrev seen : View (partsOf g) (saysMessage m)

@@ -1,6 +1,7 @@
 -- What an accepted group says is what document 01's rules give for its balises: the judgement, taken apart.
 -- Assumes nothing.
 use mathlib.Core.Path.{_≡_, refl, subst}
+use mathlib.Core.Logic.{_⊎_, inl, inr}
 use mathlib.Core.Bool.{Bool, true, false}
 use mathlib.Core.List.{List}
 use Prim.Native.Nat.{ℕ}
@@ -20,14 +21,24 @@ use Rattle.group.specs.declared.Kind.{Kind}
 use Rattle.group.specs.declared.Placed.{Placed}
 use Rattle.demands.specs.Table.{listOf, partsOf}
 
+-- A message that says no more than its kind.
+abbrev pub Other : Message → Type 0
+Other m = (m .direction ≡ Direction.Opposite) ⊎ ((m .kind ≡ Kind.Annulled) ⊎ (m .kind ≡ Kind.Line))
+
+-- It is no present signal.
+pub not-signal : (m : Message) → Other m → m .direction ≡ Direction.Present → m .kind ≡ Kind.Signal → ⊥
+not-signal m (inl o) d k = let z : _≡_ {A = ℕ} 0 1 = cc in omega arith
+not-signal m (inr (inl o)) d k = let z : _≡_ {A = ℕ} 0 1 = cc in omega arith
+not-signal m (inr (inr o)) d k = let z : _≡_ {A = ℕ} 0 1 = cc in omega arith
+
 -- The content of a message of these balises, by its direction and kind.
 pub data View (bs : List Placed) (m : Message) : Type 0 where
   signal : m .direction ≡ Direction.Present → m .kind ≡ Kind.Signal → (d : ℕ) → distanceOf bs ≡ gives d
       → m .content ≡ ofSignal d (isPreset (yOf (B bs))) (signalSpeed (m .ay)) (signalSpeed (targetFigure (m .ay) (m .az) (yOf (P bs)) (zOf (P bs))))
       → View bs m
-  warning : m .kind ≡ Kind.Warning → (d : ℕ) → distanceOf bs ≡ gives d → m .content ≡ ofWarning d (isPreset (yOf (B bs))) → View bs m
-  route : m .kind ≡ Kind.Route → m .content ≡ ofRoute (routeSpeed (m .ay) (m .az)) → View bs m
-  plain : (m .direction ≡ Direction.Present → m .kind ≡ Kind.Signal → ⊥) → m .content ≡ nothing → View bs m
+  warning : m .direction ≡ Direction.Present → m .kind ≡ Kind.Warning → (d : ℕ) → distanceOf bs ≡ gives d → m .content ≡ ofWarning d (isPreset (yOf (B bs))) → View bs m
+  route : m .direction ≡ Direction.Present → m .kind ≡ Kind.Route → m .content ≡ ofRoute (routeSpeed (m .ay) (m .az)) → View bs m
+  plain : Other m → m .content ≡ nothing → View bs m
 
 never : {A : Type 0} {m : A} (n : ℕ) → refuses n ≡ gives m → ⊥
 never n e = let z : _≡_ {A = ℕ} 0 1 = cc in omega arith
@@ -46,23 +57,23 @@ present-view Kind.Signal a bs m e =
     subst (View bs) (r .2) (signal refl refl (r .0) (r .1) refl)
 present-view Kind.Warning a bs m e =
     let r = on-distance (distanceOf bs) (λ d. ofWarning d (isPreset (yOf (B bs)))) (messageOf Direction.Present Kind.Warning a) m e in
-    subst (View bs) (r .2) (warning refl (r .0) (r .1) refl)
+    subst (View bs) (r .2) (warning refl refl (r .0) (r .1) refl)
 present-view Kind.Annulled a bs m e =
     let is : messageOf Direction.Present Kind.Annulled a nothing ≡ m = cc in
-    subst (View bs) is (plain (λ d k. let z : _≡_ {A = ℕ} 0 1 = cc in omega arith) refl)
+    subst (View bs) is (plain (inr (inl refl)) refl)
 present-view Kind.Line a bs m e =
     let is : messageOf Direction.Present Kind.Line a nothing ≡ m = cc in
-    subst (View bs) is (plain (λ d k. let z : _≡_ {A = ℕ} 0 1 = cc in omega arith) refl)
+    subst (View bs) is (plain (inr (inr refl)) refl)
 present-view Kind.Route a bs m e =
     let is : messageOf Direction.Present Kind.Route a (ofRoute (routeSpeed (Y (a .part)) (Z (a .part)))) ≡ m = cc in
-    subst (View bs) is (route refl refl)
+    subst (View bs) is (route refl refl refl)
 
 decided-view : (p o : Fit) (bs : List Placed) (m : Message) → decide p o bs ≡ gives m → View bs m
 decided-view misfit misfit bs m e = absurd (never 13 e)
 decided-view (fit k a) (fit k′ a′) bs m e = absurd (never 14 e)
 decided-view misfit (fit k a) bs m e =
     let is : messageOf Direction.Opposite k a nothing ≡ m = cc in
-    subst (View bs) is (plain (λ d k. let z : _≡_ {A = ℕ} 0 1 = cc in omega arith) refl)
+    subst (View bs) is (plain (inl refl) refl)
 decided-view (fit k a) misfit bs m e = present-view k a bs m e
 
 -- The message of an accepted group.

@@ -1,4 +1,5 @@
--- No condition of demand 3 can be spared: for each a line that breaks it alone, of which what was not sent is handed out.
+-- No condition of demand 3 can be spared: for each a line that breaks it alone, of which what was not sent is handed out, or would be
+-- if refusal 4 did not come first.
 -- (That a telegram of four flips can be another telegram is in Witnesses.)
 -- Assumes nothing.
 use mathlib.Core.Path.{_≡_, refl, sym}
@@ -46,7 +47,7 @@ apart-false : sentAt apart 0 ≡ false
 unfolding sentAt lineBit
 apart-false = refl
 
--- "No sync bit flips": one flip in a sync word and one in X. The balise sends noughts between 00 and 7F hex; a telegram is handed
+-- "No sync bit flips": one flip in a sync word and one in X. The balise sends zeroes between 00 and 7F hex; a telegram is handed
 -- out one bit late, where none was sent.
 abbrev sync-flip : OneBalise
 sync-flip = forty (0 ∷ 0 ∷ 0 ∷ 0 ∷ 0x7f ∷ []) 0x00 0x7f 0 0 0 (Telegram.Figures 0 0 0) 1

@@ -109,20 +109,27 @@ outside-reads (suc n) b h i e =
         let at : i ≡ i + 0 = omega arith in
         let far : i + 1 + r .j - i ≡ suc (r .j) - 0 = omega arith in
         let answer : first opened ≡ gives (handed (i + 0) (suc (r .j) - 0) (searchAfter b now (suc (r .j)))) =
-        r .answer ∙ ap₂ (λ (a l : ℕ). gives (handed a l (searchAfter b next (r .j)))) at far ∙ ap (λ (s : Search). gives (handed (i + 0) (suc (r .j) - 0) s)) (search-on b h i n (r .j)) in
-        (λ none. absurd (true-not-false (sym (eights-on b h i n n ∙ ap (λ (x : Bool). x || some (toEight b next) n) is) ∙ none)),
-        λ p. (0, suc (r .j), record {
-          opens = is;
-          none-before = refl;
-          later = omega arith;
-          in-record = omega arith;
-          closes = ap (λ (z : ℕ). leb z 4) (zeroes-on b h i n (r .j)) ∙ r .closes-it;
-          none-between = later-first b h i n (r .j) ∙ r .none-before;
-        }, answer))
+        r .answer ∙ ap₂ (λ (a l : ℕ). gives (handed a l (searchAfter b next (r .j)))) at far ∙ ap (λ (s : Search). gives (handed (i + 0) (suc (r .j) - 0) s)) (search-on b h i n (r .j)) in (
+          λ none. absurd (true-not-false (sym (eights-on b h i n n ∙ ap (λ (x : Bool). x || some (toEight b next) n) is) ∙ none)),
+          λ p. (
+            0,
+            suc (r .j),
+            record {
+              opens = is;
+              none-before = refl;
+              later = omega arith;
+              in-record = omega arith;
+              closes = ap (λ (z : ℕ). leb z 4) (zeroes-on b h i n (r .j)) ∙ r .closes-it;
+              none-between = later-first b h i n (r .j) ∙ r .none-before;
+            },
+            answer,
+          ),
+        )
     go false is q later =
-        let ih = later q in
-        (λ none. ih .0 (sym (eights-on b h i n n ∙ ap (λ (x : Bool). x || some (toEight b next) n) is) ∙ none),
-        λ p. shifted (ih .1 (sym (eights-on b h i n n ∙ ap (λ (x : Bool). x || some (toEight b next) n) is) ∙ p)))
+        let ih = later q in (
+          λ none. ih .0 (sym (eights-on b h i n n ∙ ap (λ (x : Bool). x || some (toEight b next) n) is) ∙ none),
+          λ p. shifted (ih .1 (sym (eights-on b h i n n ∙ ap (λ (x : Bool). x || some (toEight b next) n) is) ∙ p)),
+        )
       where
         shifted : (k : ℕ) × (j : ℕ) × NextAt b next k j × (first on ≡ gives (handed (i + 1 + k) (j - k) (searchAfter b next j)))
             → (k : ℕ) × (j : ℕ) × NextAt b now k j × (first on ≡ gives (handed (i + k) (j - k) (searchAfter b now j)))
@@ -133,15 +140,19 @@ outside-reads (suc n) b h i e =
             let before : k < j = w .later in
             let within : j < n = w .in-record in
             let at : i + 1 + k ≡ i + suc k = omega arith in
-            let far : j - k ≡ suc j - suc k = omega arith in
-            (suc k, suc j, record {
-              opens = eight-on b h i n k ∙ w .opens;
-              none-before = eights-on b h i n k ∙ ap₂ (λ (x y : Bool). x || y) is (w .none-before);
-              later = omega arith;
-              in-record = omega arith;
-              closes = ap (λ (z : ℕ). leb z 4) (zeroes-on b h i n j) ∙ w .closes;
-              none-between = later-on b h i n k j ∙ w .none-between;
-            }, r .3 ∙ ap₂ (λ (a l : ℕ). gives (handed a l (searchAfter b next j))) at far ∙ ap (λ (s : Search). gives (handed (i + suc k) (suc j - suc k) s)) (search-on b h i n j))
+            let far : j - k ≡ suc j - suc k = omega arith in (
+              suc k,
+              suc j,
+              record {
+                opens = eight-on b h i n k ∙ w .opens;
+                none-before = eights-on b h i n k ∙ ap₂ (λ (x y : Bool). x || y) is (w .none-before);
+                later = omega arith;
+                in-record = omega arith;
+                closes = ap (λ (z : ℕ). leb z 4) (zeroes-on b h i n j) ∙ w .closes;
+                none-between = later-on b h i n k j ∙ w .none-between;
+              },
+              r .3 ∙ ap₂ (λ (a l : ℕ). gives (handed a l (searchAfter b next j))) at far ∙ ap (λ (s : Search). gives (handed (i + suc k) (suc j - suc k) s)) (search-on b h i n j),
+            )
 
 pub next-reads : (b : List ℕ) (search : Search) → cutFirst (contacts b outside (search .history) (search .next) (search .left)) ≡ false
     → NextReads b search (first (contacts b outside (search .history) (search .next) (search .left)))

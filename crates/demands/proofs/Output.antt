@@ -1,104 +1,36 @@
 -- A listing of all records, and then the end, is what the program writes.
 -- Assumes nothing.
-use Prim.Native.Nat.{ℕ, zero, suc, _+_, _-_, _*_, _%_, _≤_, _<_}
+use Prim.Native.Nat.{ℕ, _+_, _-_, _*_, _%_, _≤_, _<_}
 use native.Mathlib.Nat.{zero-add}
 use native.Mathlib.Omega.{arith}
 use mathlib.Core.Path.{_≡_, refl, sym, ap, ap₂, _∙_, subst}
-use mathlib.Core.Bool.{Bool, true, false, _&&_}
+use mathlib.Core.Bool.{Bool, true, false}
 use mathlib.Core.List.{List, [], _∷_, _++_, map}
 use lib.Dec.{eqb, leb}
-use lib.ListN.{length, take, drop, length-append}
+use lib.ListN.{length, take, drop}
 use lib.Seq.{take-all, take-at, drop-at}
-use borrow.Author.Tests.{le-leb, lt-ltb}
-use Rattle.words.specs.Answer.{Outcome, gives, refuses, pick}
+use Rattle.words.specs.Answer.{gives, pick}
 use Rattle.words.proofs.Told.{told}
-use Rattle.ride.specs.Record.{Entry, check}
 use Rattle.ride.specs.State.{freshRide}
-use Rattle.ride.specs.Joining.{isBehind}
-use Rattle.group.specs.Judge.{judge}
-use Rattle.group.specs.declared.Group.{Group}
-use Rattle.ride.specs.Linking.{missedPlace}
-use Rattle.ride.specs.Closing.{Closing, lineOf, close, leave}
-use Rattle.ride.specs.Step.{Step, isMissed, missedLines, closeBehind, goOn, refuseOr, treat, End, end}
-use Rattle.ride.specs.Over.{firstRecords, records, linesFor, rideOver}
+use Rattle.ride.specs.Step.{End, end}
+use Rattle.ride.specs.Over.{records, rideOver}
 use Rattle.ride.specs.Says.{saysLines}
-use Rattle.ride.specs.declared.Known.{Known}
 use Rattle.ride.specs.declared.Line.{Line}
 use Rattle.ride.specs.declared.Ride.{Ride}
 use Rattle.listing.specs.Text.{text, seen, decimal, digits}
 use Rattle.listing.specs.Put.{next, noRoom, Filled, filled, placed, put}
-use Rattle.listing.specs.List.{textOf, taken, Listing, listOf, listTaken, list, unlisted}
+use Rattle.listing.specs.List.{textOf, Listing, listOf, listTaken, list, unlisted}
 use Rattle.listing.specs.Says.{saysDone}
 use Rattle.listing.specs.declared.Done.{Done}
 use Rattle.listing.specs.declared.Listed.{Listed}
 use Rattle.listing.specs.declared.Put.{Put}
-use Rattle.listing.proofs.Longest.{longest}
 use Rattle.listing.proofs.Texts.{text-one, text-join}
 use Rattle.listing.proofs.Determined as listing-is
 use Rattle.demands.specs.Table.{badLength}
 use Rattle.demands.specs.Contracts.{Fresh, PutLine, ListInto}
 use Rattle.demands.specs.Output.{ridden, output, recordsIn, Quoted, quoted, AllPut, Written}
 use Rattle.demands.proofs.Rules.{not-false}
-
--- ---- room
-
--- a line at most
-atMostOne : List Line → Type 0
-atMostOne ls = length (textOf ls) ≤ 64
-
-none-short : atMostOne []
-unfolding atMostOne textOf
-none-short = omega arith
-
-one-short : (l : Line) → atMostOne (l ∷ [])
-unfolding atMostOne
-one-short l = omega (arith, longest l, ap length (text-one l))
-
-two-short : (xs ys : List Line) → atMostOne xs → atMostOne ys → length (textOf (xs ++ ys)) ≤ 128
-unfolding atMostOne
-two-short xs ys a b = omega (arith, ap length (text-join xs ys), length-append (textOf xs) (textOf ys))
-
-closing-short : (g : Group) (known : Known) (t : Bool) → atMostOne (pick t (close g known) (leave g known) .lines)
-unfolding close leave
-closing-short g known true = one-short (lineOf g (known .linking) (judge g))
-closing-short g known false = none-short
-
-missed-short : (t : Bool) (l : Line) → atMostOne (pick t (l ∷ []) [])
-missed-short true l = one-short l
-missed-short false l = none-short
-
--- The lines of a record have at most 128 bytes.
-record-short : (ride : Ride) (gap number : ℕ) (r : List ℕ) → length (textOf (linesFor number (treat ride gap r .lines))) ≤ 128
-unfolding treat goOn closeBehind missedLines atMostOne
-record-short ride gap number r = go (check (ride .odometer) r)
-  where
-    go : (o : Outcome Entry) → length (textOf (linesFor number (refuseOr ride gap o .lines))) ≤ 128
-    go (refuses n) = omega (arith, one-short (Line.Record number n))
-    go (gives e) =
-        let c : Closing = pick (isBehind gap (e .odometer) (ride .group)) (close (ride .group) (ride .known)) (leave (ride .group) (ride .known)) in
-        two-short (c .lines) (missedLines (e .odometer) (c .group) (c .known)) (closing-short (ride .group) (ride .known) (isBehind gap (e .odometer) (ride .group)))
-        (missed-short (isMissed (e .odometer) (c .group) (c .known)) (Line.Missed (missedPlace (c .known .linking))))
-
--- With room for 128 bytes a record, all are taken.
-all-taken : (rs : List (List ℕ)) (gap : ℕ) (ride : Ride) (number room : ℕ) → 128 * length rs ≤ room → number + length rs ≤ 18446744073709551615
-    → taken gap ride number room rs ≡ length rs
-unfolding taken
-all-taken [] gap ride number room enough small = refl
-all-taken (r ∷ rs) gap ride number room enough small =
-    let s : Step = treat ride gap r in
-    let written : length (textOf (linesFor number (s .lines))) ≤ 128 = record-short ride gap number r in
-    let left : ℕ = room - length (textOf (linesFor number (s .lines))) in
-    let here : 128 ≤ room = omega arith in
-    let next : number < 18446744073709551615 = omega arith in
-    let more : 128 * length rs ≤ left = omega arith in
-    let on : suc number + length rs ≤ 18446744073709551615 = omega arith in
-    ap₂ (λ (t u : Bool). pick (t && u) (suc (taken gap (s .ride) (suc number) left rs)) 0) (le-leb 128 room here) (lt-ltb number 18446744073709551615 next)
-    ∙ ap suc (all-taken rs gap (s .ride) (suc number) left more on)
-
-records-many : (n : ℕ) (trace : List ℕ) → length (firstRecords n trace) ≡ n
-unfolding firstRecords
-records-many zero trace = refl
-records-many (suc n) trace = ap suc (records-many n (drop 8 trace))
+use Rattle.demands.proofs.Room.{all-taken, records-many}
 
 -- ---- the listing
 

@@ -31,6 +31,8 @@ use Rattle.demands.proofs.Rules.{true-not-false}
 use Rattle.demands.proofs.Balises.{Read, bad, all, read-is}
 use Rattle.demands.proofs.Prefix.{target-prefixed, target-not}
 use Rattle.demands.proofs.Messages.{View, signal, warning, route, plain, view}
+use Rattle.demands.proofs.CalledA.{has-a}
+use Rattle.demands.proofs.Contents.{content-so}
 
 -- Two to five balises that were all read are judged by the rows.
 rows-judge : (g : Group) → eqb (g .count) 1 ≡ false → ltb 5 (g .count) ≡ false → unread g ≡ false → judge g ≡ judgeRead (partsOf g)
@@ -116,31 +118,31 @@ signal-so bs m d preset main target e (signal _ _ k far is) =
     let same-m : saysTold main ≡ signalSpeed (m .ay) = cc in
     let same-t : saysTold target ≡ signalSpeed (targetFigure (m .ay) (m .az) (yOf (P bs)) (zOf (P bs))) = cc in
     (announces bs d preset (far ∙ ap gives same-d) same-p, speeds-so bs m main target same-m same-t)
-signal-so bs m d preset main target e (warning _ k far is) =
+signal-so bs m d preset main target e (warning _ _ k far is) =
     absurd (let both = sym (ap saysContent e) ∙ is in let z : _≡_ {A = ℕ} 0 1 = cc in omega arith)
-signal-so bs m d preset main target e (route _ is) =
+signal-so bs m d preset main target e (route _ _ is) =
     absurd (let both = sym (ap saysContent e) ∙ is in let z : _≡_ {A = ℕ} 0 1 = cc in omega arith)
 signal-so bs m d preset main target e (plain _ is) =
     absurd (let both = sym (ap saysContent e) ∙ is in let z : _≡_ {A = ℕ} 0 1 = cc in omega arith)
 
 warning-so : (bs : List Placed) (m : Message) (d : ℕ) (preset : Bool) → m .content ≡ Content.Warning d preset → View bs (saysMessage m) → Announces bs d preset
-warning-so bs m d preset e (warning _ k far is) =
+warning-so bs m d preset e (warning _ _ k far is) =
     let both = sym (ap saysContent e) ∙ is in
     let same-d : k ≡ d = cc in
     let same-p : preset ≡ isPreset (yOf (B bs)) = cc in
     announces bs d preset (far ∙ ap gives same-d) same-p
 warning-so bs m d preset e (signal _ _ k far is) =
     absurd (let both = sym (ap saysContent e) ∙ is in let z : _≡_ {A = ℕ} 0 1 = cc in omega arith)
-warning-so bs m d preset e (route _ is) =
+warning-so bs m d preset e (route _ _ is) =
     absurd (let both = sym (ap saysContent e) ∙ is in let z : _≡_ {A = ℕ} 0 1 = cc in omega arith)
 warning-so bs m d preset e (plain _ is) =
     absurd (let both = sym (ap saysContent e) ∙ is in let z : _≡_ {A = ℕ} 0 1 = cc in omega arith)
 
 route-so : (bs : List Placed) (m : Message) (v : ℕ) → m .content ≡ Content.Route v → View bs (saysMessage m) → v ≡ routeSpeed (m .ay) (m .az)
-route-so bs m v e (route _ is) = let both = sym (ap saysContent e) ∙ is in cc
+route-so bs m v e (route _ _ is) = let both = sym (ap saysContent e) ∙ is in cc
 route-so bs m v e (signal _ _ k far is) =
     absurd (let both = sym (ap saysContent e) ∙ is in let z : _≡_ {A = ℕ} 0 1 = cc in omega arith)
-route-so bs m v e (warning _ k far is) =
+route-so bs m v e (warning _ _ k far is) =
     absurd (let both = sym (ap saysContent e) ∙ is in let z : _≡_ {A = ℕ} 0 1 = cc in omega arith)
 route-so bs m v e (plain _ is) =
     absurd (let both = sym (ap saysContent e) ∙ is in let z : _≡_ {A = ℕ} 0 1 = cc in omega arith)
@@ -149,6 +151,8 @@ pub groups : Groups
 unfolding routeSpeed
 groups = record {
   by-rows = λ g r c one five u. c .1 ∙ rows-judge g one five u;
+  its-a = λ g m c. has-a g m (sym (c .1));
+  content = λ g m c. content-so (partsOf g) m (m .content) refl (view g (saysMessage m) (sym (c .1)));
   signal = λ g m d preset main target c e. signal-so (partsOf g) m d preset main target e (view g (saysMessage m) (sym (c .1)));
   warning = λ g m d preset c e. warning-so (partsOf g) m d preset e (view g (saysMessage m) (sym (c .1)));
   route = λ g m v c e.

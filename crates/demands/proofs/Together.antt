@@ -2,13 +2,13 @@
 -- Assumes nothing.
 use mathlib.Core.Path.{_≡_, refl, sym, ap, ap₂, _∙_, subst}
 use mathlib.Core.Logic.{_⊎_, inl, inr}
-use mathlib.Core.Bool.{Bool, true, false}
+use mathlib.Core.Bool.{Bool, true}
 use mathlib.Core.List.{List, [], _∷_}
 use Prim.Native.Nat.{ℕ, _+_, _≤_}
 use native.Mathlib.Omega.{arith}
-use lib.Dec.{eqb, leb}
+use lib.Dec.{eqb}
 use lib.ListN.{length}
-use borrow.Author.Tests.{eq-eqb, le-leb}
+use borrow.Author.Tests.{eq-eqb}
 use Rattle.words.specs.Answer.{Outcome, gives, refuses, pick}
 use Rattle.words.specs.Plain.{among}
 use Rattle.telegram.specs.Stretch.{bitsAt}
@@ -18,12 +18,8 @@ use Rattle.telegram.specs.Survey.{sameWords, allAs, Alike, alike, together, sur
 use Rattle.telegram.specs.Says.{saysTelegram, saysSurveyed}
 use Rattle.telegram.specs.declared.Telegram.{Telegram}
 use Rattle.telegram.specs.declared.Surveyed.{Surveyed}
-use Rattle.contact.specs.Judge.{read, marker, isMarker, judged}
-use Rattle.contact.specs.Says.{saysJudged}
-use Rattle.contact.specs.declared.Judged.{Judged}
-use Rattle.contact.proofs.Judging.{markerOr, fromSurvey, by-survey}
 use Rattle.demands.specs.Line.{OneBalise, Proper}
-use Rattle.demands.specs.Contracts.{Survey as SurveyAllows, JudgeContact}
+use Rattle.demands.specs.Contracts.{Survey as SurveyAllows}
 use Rattle.demands.specs.Demand3.{TheSent, placesOf, TogetherTheSent}
 use Rattle.demands.proofs.Places.{and-true, or-left, or-right}
 use Rattle.demands.proofs.Sent.{Sent, AllSent}
@@ -45,7 +41,7 @@ all-alike o p here (q ∷ ps) all =
     (all-alike o p here ps (λ r within. all r (or-right (eqb r q) within)))
 
 module _ (o : OneBalise) (proper : Proper o) (every-place : AllSent o) where
-  abbrev b : List ℕ
+  abbrev pub b : List ℕ
   b = o .buffer
 
   -- What is known of a reading with its first place and their number.
@@ -63,7 +59,7 @@ module _ (o : OneBalise) (proper : Proper o) (every-place : AllSent o) where
     pub known : Known message first count
 
   -- The survey of the stretch finds no place, or all places alike.
-  abbrev Survey : Outcome Alike → Type 0
+  abbrev pub Survey : Outcome Alike → Type 0
   Survey a = ((a ≡ refuses 6) × (placesOf o ≡ [])) ⊎ AllAlike a
 
   survey-of : (ps : List ℕ) → placesOf o ≡ ps → Survey (together b ps)
@@ -90,24 +86,21 @@ module _ (o : OneBalise) (proper : Proper o) (every-place : AllSent o) where
       alike-all : allAs b p ps ≡ true
       alike-all = all-alike o p here ps (λ q there. sent q (or-right (eqb q p) there))
 
-  the-survey : Survey (surveyed b (o .start) (o .len) (o .s) (o .t))
+  pub the-survey : Survey (surveyed b (o .start) (o .len) (o .s) (o .t))
   unfolding surveyed
   the-survey =
       subst Survey
       (sym (ap₂ (λ (g i : Bool). pick g (pick i (together b (placesOf o)) (refuses 5)) (refuses 4)) (good-pair o proper) (is-taken o proper)))
       (survey-of (placesOf o) refl)
 
-  -- What a call of `survey` answers, and what a call of `judge`.
+  -- What a call of `survey` answers.
   survey-says : (r : Surveyed) → SurveyAllows b (o .start) (o .len) (o .s) (o .t) r → surveyed b (o .start) (o .len) (o .s) (o .t) ≡ saysSurveyed r
   survey-says r c = sym (c .4 ∙ ap (λ (v : List ℕ). surveyed v (o .start) (o .len) (o .s) (o .t)) (c .3))
 
-  judge-says : (r : Judged) → JudgeContact b (o .start) (o .len) (o .s) (o .t) r → judged b (o .start) (o .len) (o .s) (o .t) ≡ saysJudged r
-  judge-says r c = sym (c .4 ∙ ap (λ (v : List ℕ). judged v (o .start) (o .len) (o .s) (o .t)) (c .3))
-
-  known-sent : (m : Telegram) (first count : ℕ) → Known (reads (saysTelegram m)) first count → TheSent o first m
+  pub known-sent : (m : Telegram) (first count : ℕ) → Known (reads (saysTelegram m)) first count → TheSent o first m
   known-sent m first count known = the-sent o proper first m (known .first-is) (known .read-there)
 
-  same-known : {m n : Reading} {p q k l : ℕ} → m ≡ n → p ≡ q → k ≡ l → Known m p k → Known n q l
+  pub same-known : {m n : Reading} {p q k l : ℕ} → m ≡ n → p ≡ q → k ≡ l → Known m p k → Known n q l
   same-known {m} {n} {p} {q} {k} {l} e f g known =
       subst (λ (v : ℕ). Known n q v) g (subst (λ (v : ℕ). Known n v k) f (subst (λ (v : Reading). Known v p k) e known))
 
@@ -147,72 +140,3 @@ module _ (o : OneBalise) (proper : Proper o) (every-place : AllSent o) where
 
       of : (m : Telegram) (first count : ℕ) → SurveyAllows b (o .start) (o .len) (o .s) (o .t) (Surveyed.Alike m first count) → Known (reads (saysTelegram m)) first count
       of m first count k = known the-survey (reads (saysTelegram m)) first count (survey-says (Surveyed.Alike m first count) k)
-
-  pub judge-sent : TogetherTheSent o (JudgeContact b (o .start) (o .len) (o .s) (o .t)) 2 Judged.Differ Judged.Read
-  judge-sent =
-      record {
-        never-7 = λ k. never the-survey (by Judged.Differ k);
-        first-sent = λ m first count k. known-sent m first count (of m first count k);
-        counted = λ m first count k. of m first count k .as-many;
-        enough = λ many r k. reads-so many the-survey r (by r k);
-      }
-    where
-      by : (r : Judged) → JudgeContact b (o .start) (o .len) (o .s) (o .t) r
-          → fromSurvey (markerOr b (o .start) (o .len)) (surveyed b (o .start) (o .len) (o .s) (o .t)) ≡ saysJudged r
-      by r k = sym (by-survey b (o .start) (o .len) (o .s) (o .t)) ∙ judge-says r k
-
-      never-left : (t : Bool) → pick t (gives marker) (refuses 8) ≡ refuses 7 → ⊥
-      never-left true e = let z : _≡_ {A = ℕ} 0 1 = cc in omega arith
-      never-left false e = let z : _≡_ {A = ℕ} 8 7 = cc in omega arith
-
-      never-several : (t u : Bool) (m : Reading) (first count : ℕ) → pick t (gives (read m first count)) (pick u (gives marker) (refuses 8)) ≡ refuses 7 → ⊥
-      never-several true u m first count e = let z : _≡_ {A = ℕ} 0 1 = cc in omega arith
-      never-several false u m first count e = never-left u e
-
-      never : {a : Outcome Alike} → Survey a → fromSurvey (markerOr b (o .start) (o .len)) a ≡ refuses 7 → ⊥
-      never (inl none) e = never-left (isMarker b (o .start) (o .len)) (sym (ap (fromSurvey (markerOr b (o .start) (o .len))) (none .0)) ∙ e)
-      never (inr r) e =
-          never-several (leb 2 (r .count)) (isMarker b (o .start) (o .len)) (r .message) (r .first) (r .count)
-          (sym (ap (fromSurvey (markerOr b (o .start) (o .len))) (r .is)) ∙ e)
-
-      known-left : (t : Bool) (m : Reading) (first count : ℕ) → pick t (gives marker) (refuses 8) ≡ gives (read m first count) → Known m first count
-      known-left true m first count e = absurd (let z : _≡_ {A = ℕ} 0 1 = cc in omega arith)
-      known-left false m first count e = absurd (let z : _≡_ {A = ℕ} 0 1 = cc in omega arith)
-
-      known-several : (t u : Bool) (n m : Reading) (p q k l : ℕ) → Known n p k
-          → pick t (gives (read n p k)) (pick u (gives marker) (refuses 8)) ≡ gives (read m q l) → Known m q l
-      known-several true u n m p q k l it e =
-          let same-m : n ≡ m = cc in
-          let same-p : p ≡ q = cc in
-          let same-k : k ≡ l = cc in
-          same-known same-m same-p same-k it
-      known-several false u n m p q k l it e = known-left u m q l e
-
-      known : {a : Outcome Alike} → Survey a → (m : Reading) (first count : ℕ)
-          → fromSurvey (markerOr b (o .start) (o .len)) a ≡ gives (read m first count) → Known m first count
-      known (inl none) m first count e =
-          known-left (isMarker b (o .start) (o .len)) m first count (sym (ap (fromSurvey (markerOr b (o .start) (o .len))) (none .0)) ∙ e)
-      known (inr r) m first count e =
-          known-several (leb 2 (r .count)) (isMarker b (o .start) (o .len)) (r .message) m (r .first) first (r .count) count (r .known)
-          (sym (ap (fromSurvey (markerOr b (o .start) (o .len))) (r .is)) ∙ e)
-
-      of : (m : Telegram) (first count : ℕ) → JudgeContact b (o .start) (o .len) (o .s) (o .t) (Judged.Read m first count) → Known (reads (saysTelegram m)) first count
-      of m first count k = known the-survey (reads (saysTelegram m)) first count (by (Judged.Read m first count) k)
-
-      is-read : (r : Judged) {m : Reading} {first count : ℕ} → gives (read m first count) ≡ saysJudged r → (m : Telegram) × (first : ℕ) × (count : ℕ) × (r ≡ Judged.Read m first count)
-      is-read (Judged.Read m first count) e = (m, first, count, refl)
-      is-read Judged.Marker e = absurd (let z : _≡_ {A = ℕ} 0 1 = cc in omega arith)
-      is-read Judged.NotSeven e = absurd (let z : _≡_ {A = ℕ} 0 1 = cc in omega arith)
-      is-read Judged.Beyond e = absurd (let z : _≡_ {A = ℕ} 0 1 = cc in omega arith)
-      is-read Judged.Differ e = absurd (let z : _≡_ {A = ℕ} 0 1 = cc in omega arith)
-      is-read Judged.Neither e = absurd (let z : _≡_ {A = ℕ} 0 1 = cc in omega arith)
-
-      -- where there are two places, they are read
-      reads-so : 2 ≤ length (placesOf o) → {a : Outcome Alike} → Survey a → (r : Judged) → fromSurvey (markerOr b (o .start) (o .len)) a ≡ saysJudged r
-          → (m : Telegram) × (first : ℕ) × (count : ℕ) × (r ≡ Judged.Read m first count)
-      reads-so many (inl none) r e = absurd (let f = ap length (none .1) in omega arith)
-      reads-so many (inr all) r e =
-          let two : leb 2 (all .count) ≡ true = le-leb 2 (all .count) (subst (λ (k : ℕ). 2 ≤ k) (sym (all .known .as-many)) many) in
-          is-read r
-          (sym (ap (λ (t : Bool). pick t (gives (read (all .message) (all .first) (all .count))) (markerOr b (o .start) (o .len))) two)
-          ∙ sym (ap (fromSurvey (markerOr b (o .start) (o .len))) (all .is)) ∙ e)

@@ -20,7 +20,8 @@ abbrev pub M8 : List ℕ
 M8 =
     0x00 ∷ 0x17 ∷ 0x2B ∷ 0x3C ∷ 0x4D ∷ 0x5A ∷ 0x66 ∷ 0x71 ∷ 0x8E ∷ 0x99 ∷ 0xA5 ∷ 0xB2 ∷ 0xC3 ∷ 0xD4 ∷ 0xE8 ∷ 0xFF ∷ []
 
--- A case: what is asked of a function, and what document 01 says must come.
+-- A case: a figure and its short word, a short word that is none, a figure and its long word, a long word that is none, a column and a
+-- figure with their distance, and a column and a figure that have none.
 pub data Case : Type 0 where
   short : ℕ → ℕ → Case
   notShort : ℕ → Case

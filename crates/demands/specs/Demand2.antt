@@ -2,7 +2,8 @@
 -- read back, a figure is itself; an accepted word read and written is itself."
 -- That each contract is an equation with document 01's definitions is in each crate; here every answer that the contracts allow
 -- is held against document 01's own sentences and numbers, and the contracts against each other. What the contracts allow:
--- specs/Contracts.antt. The rows: specs/RowCases.antt. The ride, its marks and missed signals: specs/Ride.antt. The table of proved cases:
+-- specs/Contracts.antt. The rows, to be held beside document 01: crates/group/specs/Rows.antt, and what a row is: Row.antt there; cases of
+-- all of them: specs/RowCases.antt. The ride, its marks and missed signals: specs/Ride.antt. The table of proved cases:
 -- specs/Cases.antt. The ride in full, and what the program writes: specs/Output.antt. That all of this holds: proofs/Demand2.antt.
 -- It does not say that the rows, tables and speeds of document 01 are those of the railway's own papers: source 000's tables are
 -- compared by running programs (crates vectors and rows).
@@ -10,8 +11,8 @@
 use Prim.Native.Nat.{ℕ, _+_, _*_, _≤_, _<_}
 use mathlib.Core.Path.{_≡_}
 use mathlib.Core.Logic.{_⊎_}
-use mathlib.Core.Bool.{Bool, false}
-use mathlib.Core.List.{List, map, List·Memᴰ}
+use mathlib.Core.Bool.{Bool, true, false}
+use mathlib.Core.List.{List, [], _∷_, map, List·Memᴰ}
 use lib.Dec.{eqb}
 use lib.ListN.{getD}
 use Rattle.words.specs.Answer.{gives}
@@ -26,14 +27,16 @@ use Rattle.telegram.specs.Says.{saysTelegram, saysTelegramRead}
 use Rattle.telegram.specs.declared.Found.{Found}
 use Rattle.telegram.specs.declared.Telegram.{Telegram}
 use Rattle.telegram.specs.declared.TelegramRead.{TelegramRead}
-use Rattle.group.specs.Row.{Found as Sought, none, found, Y as YOf}
+use Rattle.group.specs.Row.{Found as Sought, none, found, isOneOf, Y as YOf, Z as ZOf}
 use Rattle.group.specs.Distance.{columns, Column, column, plus, inColumn}
 use Rattle.group.specs.Speed.{speeds, kmh, noInformation}
 use Rattle.group.specs.Judge.{yOf, zOf, B, C, P, judgeRead}
 use Rattle.group.specs.Says.{saysMeasured, saysTold, saysJudged}
 use Rattle.group.specs.declared.Content.{Content}
+use Rattle.group.specs.declared.Direction.{Direction}
 use Rattle.group.specs.declared.Group.{Group}
 use Rattle.group.specs.declared.Judged.{Judged}
+use Rattle.group.specs.declared.Kind.{Kind}
 use Rattle.group.specs.declared.Measured.{Measured}
 use Rattle.group.specs.declared.Message.{Message}
 use Rattle.group.specs.declared.Placed.{Placed}
@@ -43,7 +46,7 @@ use Rattle.demands.specs.Contracts.{ReadShort, WriteShort, ReadLong, Wri
 use Rattle.demands.specs.Calls.{Comes}
 use Rattle.demands.specs.Cases.{M8, AllHold, cases}
 use Rattle.demands.specs.RowCases.{presentCases, oppositeCases, outsideCases, AllJudged}
-use Rattle.demands.specs.Ride.{Riding}
+use Rattle.demands.specs.Ride.{IsSignal, Riding}
 use Rattle.demands.specs.Output.{Written, OneRide}
 
 -- ---- the two codes
@@ -58,6 +61,7 @@ WrittenBack {A} {R} largest Writes word Reads figure =
 abbrev pub ReadBack : {A R : Type 0} → ℕ → (ℕ → A → Type 0) → (ℕ → A) → (ℕ → R → Type 0) → (ℕ → R) → Type 0
 ReadBack {A} {R} many Writes word Reads figure = (w x : ℕ) (a : A) → w < many → Reads w (figure x) → Writes x a → a ≡ word w
 
+-- Both codes.
 pub record Words : Type 0 where
   pub short-back : WrittenBack 15 WriteShort ShortWritten.Word ReadShort ShortRead.Figure
   pub long-back : WrittenBack 2047 WriteLong LongWritten.Word ReadLong LongRead.Figure
@@ -84,6 +88,7 @@ placeOf Found.NotSeven = 0
 placeOf Found.Beyond = 0
 placeOf Found.NoPlace = 0
 
+-- The three words of a telegram, and the search for telegrams.
 pub record Telegrams : Type 0 where
   -- "If X reads 12, Y and Z are one M(16,11) word"
   pub number : (x y z m : ℕ) (r : TelegramRead) → ReadTelegram x y z r → ReadShort x (ShortRead.Figure 12) → ReadLong (y * 256 + z) (LongRead.Figure m)
@@ -135,10 +140,38 @@ pub record Speeds (bs : List Placed) (m : Message) (main target : Told) : Type 0
   -- "A prefix changes nothing else here."
   pub target-is : (Prefixed (m .ay) (m .az) (yOf (P bs)) (zOf (P bs)) → ⊥) → (v : Told) → Speed (m .az) v → target ≡ v
 
+-- What a message says beyond its kind: a present signal, a present warning board and a route board each its own, all others nothing.
+pub data Content-of (m : Message) : Type 0 where
+  of-signal : IsSignal m → (d : ℕ) (preset : Bool) (main target : Told) → m .content ≡ Content.Signal d preset main target → Content-of m
+  of-warning : m .direction ≡ Direction.Present → m .kind ≡ Kind.Warning → (d : ℕ) (preset : Bool) → m .content ≡ Content.Warning d preset → Content-of m
+  of-route : m .direction ≡ Direction.Present → m .kind ≡ Kind.Route → (v : ℕ) → m .content ≡ Content.Route v → Content-of m
+  of-other : (m .direction ≡ Direction.Opposite) ⊎ ((m .kind ≡ Kind.Annulled) ⊎ (m .kind ≡ Kind.Line)) → m .content ≡ Content.Nothing → Content-of m
+
+-- "the balise with category 1, 2, 3, 4, 5 or 10 that a row calls A": the categories of A in the rows of a kind.
+abbrev pub asA : Kind → List ℕ
+asA Kind.Signal = 1 ∷ 4 ∷ []
+asA Kind.Warning = 2 ∷ []
+asA Kind.Annulled = 10 ∷ []
+asA Kind.Line = 3 ∷ []
+asA Kind.Route = 5 ∷ []
+
+-- The message's place, AY and AZ are those of a balise of the group with such a category.
+pub record Its-A (bs : List Placed) (m : Message) : Type 0 where
+  pub a : Placed
+  pub of-group : List·Memᴰ a bs
+  pub category : isOneOf (asA (m .kind)) (a .part) ≡ true
+  pub place-is : m .place ≡ a .place
+  pub ay-is : m .ay ≡ YOf (a .part)
+  pub az-is : m .az ≡ ZOf (a .part)
+
+-- Groups: the rows, distances and speeds.
 pub record Groups : Type 0 where
-  -- two to five balises that were all read are judged by the rows
+  -- two to five balises that were all read are judged by the rows (a group of none, which no ride makes, gets 13 by them)
   pub by-rows : (g : Group) (r : Judged) → JudgeGroup g r → oneBalise g ≡ false → moreThanFive g ≡ false → unread g ≡ false
       → saysJudged r ≡ judgeRead (partsOf g)
+  -- every accepted group has an A, and says what its kind says
+  pub its-a : (g : Group) (m : Message) → JudgeGroup g (Judged.Accepted m) → Its-A (partsOf g) m
+  pub content : (g : Group) (m : Message) → JudgeGroup g (Judged.Accepted m) → Content-of m
   -- what present signals, present warning boards and route boards say: "10 x AZ km/h, or AY 4 and AZ 10 (140 km/h)"
   pub signal : (g : Group) (m : Message) (d : ℕ) (preset : Bool) (main target : Told) → JudgeGroup g (Judged.Accepted m)
       → m .content ≡ Content.Signal d preset main target → Announces (partsOf g) d preset × Speeds (partsOf g) m main target
@@ -150,7 +183,7 @@ pub record Groups : Type 0 where
   pub distances : (by figure : ℕ) (r : Measured) → Distance by figure r → by < 15 → 1 ≤ figure → figure ≤ 14
       → saysMeasured r ≡ gives (inColumn (getD columns by noColumn) figure)
   pub preset : (figure d : ℕ) → Distance 14 figure (Measured.Dm d) → (500 ≤ d) × (d ≤ 7000)
-  -- every signal speed, and "14 means no information"
+  -- every signal speed, and "14 means no information"; so does what is above 14, which no telegram carries
   pub speed : (figure : ℕ) (r : Told) → Speed figure r → figure < 14 → saysTold r ≡ kmh (getD speeds figure 0)
   pub no-speed : (figure : ℕ) (r : Told) → Speed figure r → 14 ≤ figure → saysTold r ≡ noInformation
 

@@ -42,7 +42,7 @@ fifteen w = isCode 8 (exchanged 8 w) && eqb (figure 8 (exchanged 8 w)) 15
 unfoldable pub notSeven : ℕ → ℕ → Bool
 notSeven s t = not (eqb (differing s t 8) 7)
 
--- 5: "stretch beyond the buffer, or above 16,777,216 bits" (where bits have no number of 64 bits is beyond every buffer)
+-- 5: "stretch beyond the buffer, or above 16,777,216 bits"; an end at bit 2^64 or past it counts as beyond: no machine has such a buffer
 unfoldable pub beyond : List ℕ → ℕ → ℕ → Bool
 beyond b start len = ltb (8 * length b) (start + len) || leb (2 ^ 64) (start + len) || ltb 16777216 len
 
@@ -103,7 +103,7 @@ oneBalise g = eqb (g .count) 1
 abbrev pub moreThanFive : Group → Bool
 moreThanFive g = ltb 5 (g .count)
 
--- Whether the word x reads 12, a number balise's.
+-- Whether the word x, if it is a code word, reads 12, a number balise's.
 abbrev pub isNumber : ℕ → Bool
 isNumber x = eqb (figure 8 (exchanged 8 x)) 12
 
@@ -148,7 +148,7 @@ isMisfit (fit kind a) = false
 unfoldable pub noRow : List Placed → Bool
 noRow bs = isMisfit (fitIn present bs) && isMisfit (fitIn opposite bs)
 
--- 14: "rows of both directions fit"
+-- 14: "rows of both directions fit" (whether a group can do so is not said here)
 unfoldable pub bothWays : List Placed → Bool
 bothWays bs = not (isMisfit (fitIn present bs)) && not (isMisfit (fitIn opposite bs))
 
