@@ -20,7 +20,7 @@ use Rattle.group.specs.declared.Message.{Message as Said}
 use Rattle.group.specs.declared.Part.{Part}
 use Rattle.group.specs.declared.Placed.{Placed}
 use Rattle.demands.specs.Table.{listOf, partsOf}
-use Rattle.demands.specs.Demand2.{asA, Its-A}
+use Rattle.demands.specs.Said.{asA, Its-A}
 use Rattle.demands.proofs.Places.{and-parts, or-left, or-right}
 
 -- What is sought is among the balises, and is what was asked.

@@ -9,7 +9,7 @@ use Rattle.group.specs.Says.{saysContent, saysMessage}
 use Rattle.group.specs.declared.Content.{Content}
 use Rattle.group.specs.declared.Message.{Message}
 use Rattle.group.specs.declared.Placed.{Placed}
-use Rattle.demands.specs.Demand2.{Content-of, of-signal, of-warning, of-route, of-other}
+use Rattle.demands.specs.Said.{Content-of, of-signal, of-warning, of-route, of-other}
 use Rattle.demands.proofs.Messages.{View, signal, warning, route, plain}
 
 -- the four things that a message can say, told apart by a number

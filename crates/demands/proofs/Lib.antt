@@ -49,5 +49,7 @@ pub mod Noise
 pub mod Demand3
 pub mod Computed
 pub mod Witnesses
+pub mod CallsMet
 pub mod Needed
-pub mod Inhabited
+pub mod MarksMet
+pub mod RidesMet

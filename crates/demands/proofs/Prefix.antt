@@ -8,7 +8,7 @@ use lib.Dec.{eqb, leb}
 use borrow.Author.Tests.{le-leb, eq-eqb, ne-eqb, leb-true, eqb-true}
 use Rattle.words.specs.Answer.{pick}
 use Rattle.group.specs.Speed.{targetFigure}
-use Rattle.demands.specs.Demand2.{Prefixed}
+use Rattle.demands.specs.Said.{Prefixed}
 use Rattle.demands.proofs.Rules.{true-not-false}
 use Rattle.demands.proofs.Places.{and-parts, and-true, or-parts, or-left, or-right}
 

@@ -26,7 +26,8 @@ use Rattle.group.specs.declared.Told.{Told}
 use Rattle.group.proofs.Determined as group-is
 use Rattle.group.proofs.Entries.{speed-in, speed-out}
 use Rattle.demands.specs.Table.{someUnread, unread, listOf, partsOf}
-use Rattle.demands.specs.Demand2.{noColumn, used, Announces, Speeds, Groups}
+use Rattle.demands.specs.Said.{used, Announces, Speeds}
+use Rattle.demands.specs.Demand2.{noColumn, Groups}
 use Rattle.demands.proofs.Rules.{true-not-false}
 use Rattle.demands.proofs.Balises.{Read, bad, all, read-is}
 use Rattle.demands.proofs.Prefix.{target-prefixed, target-not}

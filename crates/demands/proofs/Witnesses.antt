@@ -32,7 +32,7 @@ use Rattle.demands.specs.Table.{notSeven, beyond}
 
 -- Figures 1, 8 and 5 are sent between 72 and 0D hex. The stretch of sixteen bytes begins with Y of a telegram and ends with X of
 -- another; of the three whole telegrams between, the first has this word as its X.
-abbrev line : ℕ → OneBalise
+abbrev pub line : ℕ → OneBalise
 line x =
     record {
       buffer = 0x8e ∷ 0x5a ∷ 0x0d ∷ x ∷ 0x8e ∷ 0x5a ∷ 0x72 ∷ 0x17 ∷ 0x8e ∷ 0x5a ∷ 0x0d ∷ 0x17 ∷ 0x8e ∷ 0x5a ∷ 0x72 ∷ 0x17 ∷ [];
@@ -53,7 +53,7 @@ unfolding notSeven differing beyond telegram shortWord readWord isCode even coun
 line-proper x = record { bytes = (omega arith, omega arith, omega arith, omega arith, omega arith); pair = refl; valid = refl; taken = refl }
 
 -- The telegram sent, at a place.
-abbrev one : ℕ → Found
+abbrev pub one : ℕ → Found
 one p = Found.At p (Telegram.Figures 1 8 5)
 
 -- ---- nothing flips

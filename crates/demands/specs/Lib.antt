@@ -9,6 +9,7 @@ pub mod RowCases
 pub mod Ride
 pub mod Output
 pub mod Calls
+pub mod Said
 pub mod Demand2
 pub mod Line
 pub mod Demand3

@@ -1,5 +1,5 @@
--- The hypotheses of the theorems on steps are met: by the last record of document 01's ride, with no linking and with linking that
--- makes it early, good or late by one decimetre; by a group of one balise; and by a record that finds no group open.
+-- The hypotheses of the theorem on marks are met by the last record of document 01's ride, with no linking and with linking that
+-- makes it early, good or late by one decimetre.
 -- Assumes nothing.
 use Prim.Native.Nat.{ℕ}
 use native.Mathlib.Omega.{arith}
@@ -39,11 +39,11 @@ use Rattle.ride.specs.declared.Report.{Report}
 use Rattle.ride.specs.declared.Ride.{Ride}
 use Rattle.demands.specs.Table.{badGap}
 use Rattle.demands.specs.Contracts.{StepOf, JudgeGroup}
-use Rattle.demands.specs.Steps.{OneStep, LeavesBehind, NoneOpen}
+use Rattle.demands.specs.Steps.{OneStep, LeavesBehind}
 use Rattle.demands.specs.Ride.{IsMarked, first as marked-first, early, good, late}
 
 -- The signal of document 01's ride as it stands open after two records.
-abbrev itsGroup : Group
+abbrev pub itsGroup : Group
 itsGroup =
     record {
       kept =
@@ -77,7 +77,7 @@ lastStep linking mark =
           };
     }
 
-abbrev itsMessage : Message
+abbrev pub itsMessage : Message
 itsMessage =
     record {
       direction = Direction.Present;
@@ -111,7 +111,7 @@ abbrev lent : Linking → Ride × (ℕ × (List ℕ × Unit {0}))
 lent linking = (lastStep linking Mark.First .ride, (40, (last, tt)))
 
 -- D = 500: 4D is 5 x 400, 6D is 5 x 600. At 399 early, at 400 and 600 good, at 601 late; with no linking first.
-its-answers : JudgeGroup itsGroup (Judged.Accepted itsMessage) × Answered Linking.Unset Mark.First × Answered (Linking.Set 500 601) Mark.Early
+pub its-answers : JudgeGroup itsGroup (Judged.Accepted itsMessage) × Answered Linking.Unset Mark.First × Answered (Linking.Set 500 601) Mark.Early
     × Answered (Linking.Set 500 600) Mark.Good × Answered (Linking.Set 500 400) Mark.Good × Answered (Linking.Set 500 399) Mark.Late
 unfolding readWord isCode even count covers figure onwards isCheck exchanged other word shortWord longWord telegram balises readAll fits first fitRow fitRows howMany fitIn distance signalSpeed targetFigure routeSpeed distanceOf judgeRead judge odometerOf passedOf inOrder check noGroup nothingKnown freshRide join takeUp markAt close leave closeBehind missedLines afterMissed goOn treat step badGap
 its-answers = (
@@ -137,66 +137,3 @@ good-met = (
 
 late-met : Met (Linking.Set 500 399) Mark.Late
 late-met = (behind (Linking.Set 500 399) Mark.Late (its-answers .5), its-answers .0, late 500 399 (refl, refl) refl (omega arith))
-
--- ---- no group is open, and the signal announced 4000 dm from 1000 on is missed at 5801 dm
-
--- the record at 5801 dm
-abbrev far : List ℕ
-far = 0x00 ∷ 0x00 ∷ 0x16 ∷ 0xA9 ∷ 0x03 ∷ 0x00 ∷ 0x00 ∷ 0x00 ∷ []
-
-abbrev missedStep : OneStep
-missedStep =
-    record {
-      ride = record { odometer = 5800; group = noGroup; known = record { linking = Linking.Set 4000 1000; main = Told.Kmh 130; target = Told.Kmh 80 } };
-      gap = 40;
-      bytes = far;
-      odometer = 5801;
-      passed = Passed.Position;
-      answer =
-          record {
-            ride = record { odometer = 5801; group = noGroup; known = record { linking = Linking.Unset; main = Told.Kmh 130; target = Told.Kmh 80 } };
-            closed = noGroup;
-            report = Report.Lines (Lines.One (Line.Missed 5800));
-          };
-    }
-
-missed-met : NoneOpen missedStep
-unfolding odometerOf passedOf inOrder check noGroup leave closeBehind missedLines afterMissed goOn treat step takeUp badGap
-missed-met =
-    record {
-      accepts = record { called = ((missedStep .ride, (40, (far, tt))), refl); good-gap = refl; accepted = ((missedStep .ride, (far, tt)), refl) };
-      none = refl;
-    }
-
--- ---- a group of one balise is left behind and refused
-
--- the group
-abbrev alone : Group
-alone = record { kept = record { place = 1000; heard = Heard.Marker } ∷ noBalise ∷ noBalise ∷ noBalise ∷ noBalise ∷ []; count = 1; last = 1000 }
-
-abbrev aloneStep : OneStep
-aloneStep =
-    record {
-      ride = record { odometer = 1000; group = alone; known = nothingKnown };
-      gap = 40;
-      bytes = far;
-      odometer = 5801;
-      passed = Passed.Position;
-      answer =
-          record {
-            ride = record { odometer = 5801; group = noGroup; known = nothingKnown };
-            closed = alone;
-            report = Report.Lines (Lines.One (Line.Fault 1000 10));
-          };
-    }
-
-alone-met : LeavesBehind aloneStep × JudgeGroup alone Judged.One
-unfolding odometerOf passedOf inOrder check noGroup nothingKnown close closeBehind missedLines afterMissed goOn treat step takeUp judge badGap
-alone-met = (
-  record {
-    accepts = record { called = ((aloneStep .ride, (40, (far, tt))), refl); good-gap = refl; accepted = ((aloneStep .ride, (far, tt)), refl) };
-    is-open = refl;
-    exceeds = omega arith;
-  },
-  ((alone, tt), refl),
-)
