@@ -1,24 +1,26 @@
 -- The cases of the definitions, each from an equation of what they go by.
 -- Assumes nothing.
 use Prim.Native.Nat.{ℕ, _+_, _-_, _*_, _/_}
-use mathlib.Core.Path.{_≡_, refl, ap}
+use mathlib.Core.Path.{_≡_, refl, ap, _∙_}
 use mathlib.Core.Bool.{Bool, true, false}
 use mathlib.Core.List.{List, [], _∷_}
 use lib.Dec.{ltb}
 use lib.ListN.{getD}
+use Rattle.words.specs.Answer.{Outcome}
 use Rattle.group.specs.declared.Balise.{Balise}
 use Rattle.group.specs.declared.Group.{Group}
 use Rattle.group.specs.declared.Told.{Told as Speed}
 use Rattle.group.specs.declared.Content.{Content as More}
-use Rattle.group.specs.declared.Judged.{Judged}
-use Rattle.group.specs.Says.{saysTold, saysContent, saysJudged}
+use Rattle.group.specs.Says.{saysTold, saysContent}
+use Rattle.group.specs.Message.{Message}
 use Rattle.group.specs.Judge.{judge}
 use Rattle.ride.specs.declared.Linking.{Linking}
 use Rattle.ride.specs.declared.Known.{Known}
 use Rattle.ride.specs.declared.Ride.{Ride}
-use Rattle.ride.specs.State.{noBalise, isOpen}
+use Rattle.ride.specs.declared.closing.Verdict.{Verdict}
+use Rattle.ride.specs.State.{noBalise, noGroup, isOpen}
 use Rattle.ride.specs.Linking.{markAt, markOf, isOverdue, missedPlace}
-use Rattle.ride.specs.Closing.{Closing, linkingFrom, mainFrom, targetFrom, knownFrom, markFrom, closeAs, close, leave}
+use Rattle.ride.specs.Closing.{Closing, linkingFrom, mainFrom, targetFrom, knownFrom, knownAfter, markFrom, lineOf, close, leave}
 use Rattle.ride.specs.Step.{end, ended}
 
 -- ---- linking that is set
@@ -57,10 +59,15 @@ pub first-place : (bs : List Balise) (b : Balise) → b .place ≡ 0 → getD bs
 first-place [] b e = e
 first-place (x ∷ bs) b e = refl
 
--- closing with the judgement that was given
-pub closed-as : (g : Group) (known : Known) (j : Judged) → saysJudged j ≡ judge g → closeAs g known (saysJudged j) ≡ close g known
+-- the verdict on a group with this judgement
+abbrev pub verdictOn : Group → Known → Outcome Message → Verdict
+verdictOn g known judged = record { line = lineOf g (known .linking) judged; known = knownAfter judged known }
+
+-- a group closes with the verdict on it
+pub closed-with : (g : Group) (known : Known) (v : Verdict) (c : Closing) → v ≡ verdictOn g known (judge g)
+    → c ≡ record { lines = v .line ∷ []; closed = g; group = noGroup; known = v .known } → c ≡ close g known
 unfolding close
-closed-as g known j e = ap (closeAs g known) e
+closed-with g known v c e h = h ∙ ap (λ (w : Verdict). record { lines = w .line ∷ []; closed = g; group = noGroup; known = w .known }) e
 
 -- ---- the end
 

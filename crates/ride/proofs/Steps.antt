@@ -1,9 +1,9 @@
 -- The steps of the definitions, each from what its tests say.
 -- Assumes nothing.
-use Prim.Native.Nat.{ℕ, _≤_, _<_}
+use Prim.Native.Nat.{ℕ, _+_, _≤_, _<_}
 use native.Mathlib.Omega.{arith}
-use mathlib.Core.Path.{_≡_}
-use mathlib.Core.Bool.{Bool, true, false}
+use mathlib.Core.Path.{_≡_, refl}
+use mathlib.Core.Bool.{Bool, true, false, not, _&&_}
 use mathlib.Core.List.{List, [], _∷_, _++_, append-nil}
 use lib.Dec.{ltb}
 use lib.ListN.{length, set}
@@ -20,7 +20,7 @@ use Rattle.ride.specs.declared.Lines.{Lines}
 use Rattle.ride.specs.State.{noGroup, isOpen}
 use Rattle.ride.specs.Record.{Entry, check}
 use Rattle.ride.specs.Joining.{allowed, isBehind, counted, join, takeUp}
-use Rattle.ride.specs.Linking.{missedPlace}
+use Rattle.ride.specs.Linking.{isOverdue, missedPlace}
 use Rattle.ride.specs.Closing.{Closing, close, leave}
 use Rattle.ride.specs.Step.{closeBehind, isMissed, missedLines, unlinked, afterMissed, Step, refused, afterClosing, goOn, treat, step}
 use Rattle.ride.specs.Says.{saysLines}
@@ -100,6 +100,40 @@ pub after-none : (e : Entry) (c : Closing) (g : Group) → g ≡ takeUp (c .grou
     (afterClosing e c)
 unfolding missedLines afterMissed
 after-none e c g h m = rw (h, m, append-nil)
+
+-- ---- a quiet record: no group is left behind, and no signal is missed
+
+and-true : (b : Bool) → b ≡ (b && true)
+and-true true = refl
+and-true false = refl
+
+-- an open group can be left behind, but lets nothing be missed
+pub quiet-open : (gap o : ℕ) (g : Group) (known : Known) → isOpen g ≡ true
+    → not (isBehind gap o g) ≡ (not (isBehind gap o g) && not (isMissed o g known))
+quiet-open gap o g known e = rw e (and-true (not (ltb (g .last + gap) o)))
+
+-- where none is open none is left behind, but a signal can be missed
+pub quiet-none : (gap o : ℕ) (g : Group) (known : Known) → isOpen g ≡ false
+    → not (isOverdue (known .linking) o) ≡ (not (isBehind gap o g) && not (isMissed o g known))
+quiet-none gap o g known e = rw e
+
+pub neither : (a b : Bool) → (not a && not b) ≡ true → (a ≡ false) × (b ≡ false)
+neither true b e = absurd (let z : _≡_ {A = ℕ} 0 1 = cc in omega arith)
+neither false true e = absurd (let z : _≡_ {A = ℕ} 0 1 = cc in omega arith)
+neither false false e = (refl, refl)
+
+-- Where no group is left behind and no signal is missed, steps 2 and 3 do nothing: the odometer is set, a balise is taken up,
+-- and nothing else changes. A position record then sets the odometer alone.
+pub quiet : (ride : Ride) (gap : ℕ) (e : Entry) → isBehind gap (e .odometer) (ride .group) ≡ false → isMissed (e .odometer) (ride .group) (ride .known) ≡ false
+    → _≡_ {A = Step}
+    (record {
+      lines = gives [];
+      closed = noGroup;
+      ride = record { odometer = e .odometer; group = takeUp (ride .group) (e .odometer) (e .passed); known = ride .known };
+    })
+    (goOn ride gap e)
+unfolding goOn closeBehind leave missedLines afterMissed
+quiet ride gap e b m = rw (b, m)
 
 -- ---- the whole step
 

@@ -1,9 +1,11 @@
 // Closing and judging a group: what is known then, and its line.
 ghost use mathlib.Core.Path.{_≡_};
+ghost use mathlib.Core.List.{[], _∷_};
 ghost use Rattle.words.specs.Answer.{gives, refuses};
 ghost use Rattle.group.specs.Says.{saysTold, saysContent, saysMessage};
-ghost use Rattle.ride.specs.State.{nothingKnown};
-ghost use Rattle.ride.specs.Closing.{linkingFrom, mainFrom, knownFrom, markFrom, closeAs, close, leave};
+ghost use Rattle.group.specs.Judge.{judge};
+ghost use Rattle.ride.specs.State.{noGroup, nothingKnown};
+ghost use Rattle.ride.specs.Closing.{linkingFrom, mainFrom, knownFrom, knownAfter, markFrom, lineOf, leave};
 ghost use Rattle.ride.specs.Step.{ended};
 ghost use Rattle.ride.specs.Says.{saysClosed, saysEnded};
 use crate::Ended;
@@ -27,6 +29,12 @@ pub struct Closed {
     pub lines: Lines,
     pub closed: Group,
     pub group: Group,
+    pub known: Known,
+}
+
+// What judging a group says: its line, and what is known then.
+pub struct Verdict {
+    pub line: Line,
     pub known: Known,
 }
 
@@ -111,9 +119,9 @@ fn mark_from(content: Content, place: u32, linking: Linking) -> Mark
     }
 }
 
-// What closing leaves after an accepted group.
-fn accepted(group: Group, known: Known, message: Message) -> Closed
-    ensures { λ r. ⌜ saysClosed r ≡ closeAs group known (gives (saysMessage message)) ⌝ }
+// The verdict on an accepted group.
+fn accepted(group: Group, known: Known, message: Message) -> Verdict
+    ensures { λ r. ⌜ r ≡ record { line = lineOf group (known .linking) (gives (saysMessage message)); known = knownAfter (gives (saysMessage message)) known } ⌝ }
 {
     let content = message.content;
     let direction = message.direction;
@@ -126,33 +134,27 @@ fn accepted(group: Group, known: Known, message: Message) -> Closed
         mark: mark_from(content, message.place, linking),
     };
     let after = known_from(content, message.place, known);
-    let none = no_group();
-    Closed {
-        lines: Lines::One(Line::Group(seen)),
-        closed: group,
-        group: none,
+    Verdict {
+        line: Line::Group(seen),
         known: after,
     }
 }
 
-// What closing leaves after a group that is refused with this number.
-fn faulty(group: Group, known: Known, number: u8) -> Closed
-    ensures { λ r. ⌜ saysClosed r ≡ closeAs group known (refuses number) ⌝ }
+// The verdict on a group that is refused with this number.
+fn faulty(group: Group, known: Known, number: u8) -> Verdict
+    ensures { λ r. ⌜ r ≡ record { line = lineOf group (known .linking) (refuses number); known = knownAfter (refuses number) known } ⌝ }
 {
     let first = group.kept[0];
-    let none = no_group();
     let nothing = nothing_known();
-    Closed {
-        lines: Lines::One(Line::Fault(first.place as u64, number)),
-        closed: group,
-        group: none,
+    Verdict {
+        line: Line::Fault(first.place as u64, number),
         known: nothing,
     }
 }
 
-// Close and judge the group.
-pub fn close(group: Group, known: Known) -> Closed
-    ensures { λ r. ⌜ saysClosed r ≡ close group known ⌝ }
+// The verdict on a group.
+pub fn judge(group: Group, known: Known) -> Verdict
+    ensures { λ r. ⌜ r ≡ record { line = lineOf group (known .linking) (judge group); known = knownAfter (judge group) known } ⌝ }
 {
     match group::judge(group) {
         Judged::Accepted(message) => accepted(group, known, message),
@@ -162,6 +164,21 @@ pub fn close(group: Group, known: Known) -> Closed
         Judged::NoRow => faulty(group, known, 13),
         Judged::BothWays => faulty(group, known, 14),
         Judged::NoDistance => faulty(group, known, 15),
+    }
+}
+
+// The group closes with this verdict.
+pub fn close(group: Group, verdict: Verdict) -> Closed
+    ensures { λ r. ⌜ saysClosed r ≡ record { lines = verdict .line ∷ []; closed = group; group = noGroup; known = verdict .known } ⌝ }
+{
+    let line = verdict.line;
+    let known = verdict.known;
+    let none = no_group();
+    Closed {
+        lines: Lines::One(line),
+        closed: group,
+        group: none,
+        known,
     }
 }
 

@@ -163,11 +163,11 @@ pub fn step(ride: Ride, gap: u32, bytes: [u8; 8]) -> Stepped
     ensures { λ r. ⌜ saysStepped r ≡ step ride gap bytes ⌝ }
 {
     if !joining::allowed(gap) {
-        return stepping::unchanged(ride, Report::Gap);
+        return stepping::nothing_closed(ride, Report::Gap);
     }
     let checked = check_record(ride, bytes);
     let Checked::Accepted(odometer, passed) = checked else {
-        return stepping::unchanged(ride, Report::Refused(records::why(checked)));
+        return stepping::nothing_closed(ride, Report::Refused(records::why(checked)));
     };
     stepping::go_on(ride, gap, odometer, passed)
 }
@@ -180,7 +180,7 @@ pub fn end(ride: Ride) -> Ended
     let group = ride.group;
     let known = ride.known;
     if joining::is_open(group) {
-        return closing::at_end(odometer, closing::close(group, known));
+        return closing::at_end(odometer, closing::close(group, closing::judge(group, known)));
     }
     closing::at_end(odometer, closing::leave(group, known))
 }

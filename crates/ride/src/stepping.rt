@@ -1,10 +1,12 @@
 // Steps 2 to 4 of an accepted record, and what a refused one leaves.
 ghost use mathlib.Core.Path.{_≡_};
+ghost use mathlib.Core.Bool.{not, _&&_};
 ghost use mathlib.Core.List.{[], _∷_, _++_};
 ghost use Prim.Native.Nat.{_≤_};
 ghost use lib.ListN.{length};
 ghost use Rattle.ride.specs.declared.Line.{Line};
 ghost use Rattle.ride.specs.State.{noGroup};
+ghost use Rattle.ride.specs.Joining.{isBehind};
 ghost use Rattle.ride.specs.Step.{closeBehind, isMissed, unlinked, goOn};
 ghost use Rattle.ride.specs.Says.{saysLines, saysStepped, saysClosed, saysReport};
 use crate::Known;
@@ -17,6 +19,7 @@ use crate::Ride;
 use crate::Stepped;
 use crate::closing::Closed;
 use crate::closing::close;
+use crate::closing::judge;
 use crate::closing::leave;
 use crate::joining::exceeds;
 use crate::joining::is_open;
@@ -26,8 +29,8 @@ use crate::marks::is_overdue;
 use crate::marks::missed_place;
 use group::Group;
 
-// A step that leaves the state unchanged.
-pub fn unchanged(ride: Ride, report: Report) -> Stepped
+// A step in which no group closes.
+pub fn nothing_closed(ride: Ride, report: Report) -> Stepped
     ensures { λ r. ⌜ saysStepped r ≡ record { lines = saysReport report; closed = noGroup; ride = ride } ⌝ }
 {
     let none = no_group();
@@ -38,15 +41,23 @@ pub fn unchanged(ride: Ride, report: Report) -> Stepped
     }
 }
 
-// Step 2: an open group closes if the odometer exceeds its last balise by more than the gap.
+// Whether the group is left behind: it is open, and the odometer exceeds its last balise by more than the gap.
+fn is_behind(ride: Ride, gap: u32, odometer: u32) -> bool
+    ensures { λ r. ⌜ r ≡ isBehind gap odometer (ride .group) ⌝ }
+{
+    let group = ride.group;
+    let last = group.last;
+    is_open(group) & exceeds(odometer, last, gap)
+}
+
+// Step 2: a group that is left behind closes.
 fn close_behind(ride: Ride, gap: u32, odometer: u32) -> Closed
     ensures { λ r. ⌜ saysClosed r ≡ closeBehind gap odometer (ride .group) (ride .known) ⌝ }
 {
     let group = ride.group;
     let known = ride.known;
-    let last = group.last;
-    if is_open(group) & exceeds(odometer, last, gap) {
-        return close(group, known);
+    if is_behind(ride, gap, odometer) {
+        return close(group, judge(group, known));
     }
     leave(group, known)
 }
@@ -84,8 +95,8 @@ fn and_missed(lines: Lines, place: u64) -> Lines
     }
 }
 
-// Steps 2 to 4 for an accepted record.
-pub fn go_on(ride: Ride, gap: u32, odometer: u32, passed: Passed) -> Stepped
+// Steps 2 to 4, each in its turn.
+fn all_steps(ride: Ride, gap: u32, odometer: u32, passed: Passed) -> Stepped
     ensures { λ r. ⌜ saysStepped r ≡ goOn ride gap (record { odometer = odometer; passed = passed }) ⌝ }
 {
     let two = close_behind(ride, gap, odometer);
@@ -116,4 +127,35 @@ pub fn go_on(ride: Ride, gap: u32, odometer: u32, passed: Passed) -> Stepped
         closed,
         report: Report::Lines(lines),
     }
+}
+
+// Whether steps 2 and 3 do nothing: an open group is not left behind; where none is open, no signal is overdue.
+fn is_quiet(ride: Ride, gap: u32, odometer: u32) -> bool
+    ensures { λ r. ⌜ r ≡ (not (isBehind gap odometer (ride .group)) && not (isMissed odometer (ride .group) (ride .known))) ⌝ }
+{
+    let group = ride.group;
+    if is_open(group) {
+        return !is_behind(ride, gap, odometer);
+    }
+    let known = ride.known;
+    let linking = known.linking;
+    !is_overdue(linking, odometer)
+}
+
+// Steps 2 to 4 for an accepted record. Most are quiet: then the state is spared the way through steps 2 and 3.
+pub fn go_on(ride: Ride, gap: u32, odometer: u32, passed: Passed) -> Stepped
+    ensures { λ r. ⌜ saysStepped r ≡ goOn ride gap (record { odometer = odometer; passed = passed }) ⌝ }
+{
+    let left = ride.group;
+    let known = ride.known;
+    if is_quiet(ride, gap, odometer) {
+        let group = take_up(left, odometer, passed);
+        let after = Ride {
+            odometer,
+            group,
+            known,
+        };
+        return nothing_closed(after, Report::Lines(Lines::None));
+    }
+    all_steps(ride, gap, odometer, passed)
 }

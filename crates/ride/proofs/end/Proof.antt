@@ -1,12 +1,15 @@
 -- `end` closes the open group, and leaves one that is not open.
 use mathlib.Core.Path.{sym, _∙_}
-use Rattle.ride.proofs.Cases.{end-open, end-none}
+use Rattle.ride.proofs.Cases.{closed-with, end-open, end-none}
 use borrow.Author.Needs.{needs}
 use Rattle.ride.proofs.end.Statement.{statement}
 use Rattle.ride.proofs.end.Tie as tie
 
 is-open-requires : tie.Need-is-open-requires
 is-open-requires c κs = search needs
+
+judge-requires : tie.Need-judge-requires
+judge-requires c κs = search needs
 
 close-requires : tie.Need-close-requires
 close-requires c κs = search needs
@@ -15,7 +18,13 @@ at-end-requires : tie.Need-at-end-requires
 at-end-requires c κs = search needs
 
 returns : tie.Need-returns
-returns c = c .at-end .ensures ∙ end-open (c .before .before .before .before .before .before .args .ride) _ (sym (c .before .before .before .is-open .ensures) ∙ c .before .before .if1 .taken) (c .before .close .ensures)
+returns c =
+    let j = c .before .before in
+    let o = j .before .before in
+    let a = o .before .before .before .args in
+    c .at-end .ensures
+    ∙ end-open (a .ride) _ (sym (o .is-open .ensures) ∙ j .before .if1 .taken)
+    (closed-with (a .ride .group) (a .ride .known) _ _ (j .judge .ensures) (c .before .close .ensures))
 
 leave-requires : tie.Need-leave-requires
 leave-requires c κs = search needs
@@ -31,6 +40,7 @@ end-spec =
     tie.close
     (tie.spec
     is-open-requires
+    judge-requires
     close-requires
     at-end-requires
     returns

@@ -13,13 +13,13 @@ use Rattle.ride.proofs.step.Tie as tie
 allowed-requires : tie.Need-allowed-requires
 allowed-requires c κs = search needs
 
-unchanged-requires : tie.Need-unchanged-requires
-unchanged-requires c κs = search needs
+nothing-closed-requires : tie.Need-nothing-closed-requires
+nothing-closed-requires c κs = search needs
 
 returns : tie.Need-returns
 returns c =
     let a = c .before .before .before .args in
-    c .unchanged .ensures
+    c .nothing-closed .ensures
     ∙ step-gap (a .ride) (a .gap) (a .bytes) (sym (c .before .before .allowed .ensures) ∙ not-true (c .before .before .allowed .result) (c .before .if1 .taken))
 
 check-record-requires : tie.Need-check-record-requires
@@ -34,8 +34,8 @@ enum-told c = search needs
 why-requires : tie.Need-why-requires
 why-requires c κs = search needs
 
-unchanged-requires-2 : tie.Need-unchanged-requires-2
-unchanged-requires-2 c κs = search needs
+nothing-closed-requires-2 : tie.Need-nothing-closed-requires-2
+nothing-closed-requires-2 c κs = search needs
 
 returns-2 : tie.Need-returns-2
 returns-2 c =
@@ -43,7 +43,7 @@ returns-2 c =
     let g = s .before .before in
     let a = g .before .args in
     let e = c .before .before .enum-told .given .1 in
-    c .unchanged2 .ensures
+    c .nothing-closed2 .ensures
     ∙ step-refused (a .ride) (a .gap) (a .bytes) _ (sym (g .allowed .ensures) ∙ not-false (g .allowed .result) (s .before .if1 .left))
     (ap {B = Outcome Entry} (λ (w : Wrong). refuses (saysWrong w)) (c .before .why .ensures _ e) ∙ sym (ap saysChecked e) ∙ s .check-record .ensures)
 
@@ -64,13 +64,13 @@ step-spec =
     tie.close
     (tie.spec
     allowed-requires
-    unchanged-requires
+    nothing-closed-requires
     returns
     check-record-requires
     enum-known-checked
     enum-told
     why-requires
-    unchanged-requires-2
+    nothing-closed-requires-2
     returns-2
     go-on-requires
     returns-3)

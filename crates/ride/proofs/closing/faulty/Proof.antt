@@ -9,19 +9,16 @@ use Rattle.ride.proofs.closing.faulty.Tie as tie
 element-copy-out-first : tie.Need-element-copy-out-first
 element-copy-out-first c = search needs
 
-no-group-requires : tie.Need-no-group-requires
-no-group-requires c κs = search needs
-
 nothing-known-requires : tie.Need-nothing-known-requires
 nothing-known-requires c κs = search needs
 
-cast-t11 : tie.Need-cast-t11
-cast-t11 c = search needs
+cast-t10 : tie.Need-cast-t10
+cast-t10 c = search needs
 
 returns : tie.Need-returns
-returns c = rw (c .before .before .no-group .ensures, c .before .nothing-known .ensures, first-place (c .before .before .before .before .args .t1 .kept) (record { place = 0; heard = Heard.Words 0 0 0 }) refl)
+returns c = rw (c .before .nothing-known .ensures, first-place (c .before .before .before .args .t1 .kept) (record { place = 0; heard = Heard.Words 0 0 0 }) refl)
 
 pub faulty-spec : {M : Type 1} → statement M
 faulty-spec =
     tie.close
-    (tie.spec element-copy-out-first no-group-requires nothing-known-requires cast-t11 returns)
+    (tie.spec element-copy-out-first nothing-known-requires cast-t10 returns)

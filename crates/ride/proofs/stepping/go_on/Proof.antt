@@ -1,65 +1,50 @@
--- `go_on` does step 2, and steps 3 and 4 on what it leaves.
+-- `go_on` sets the odometer and takes the balise up where the record is quiet, and does all steps where it is not.
 use mathlib.Core.Path.{ap, sym, _∙_}
-use Rattle.ride.specs.Record.{Entry}
-use Rattle.ride.specs.Closing.{Closing}
-use Rattle.ride.specs.Step.{afterClosing, goOn}
-use Rattle.ride.specs.Says.{saysClosed}
-use Rattle.ride.proofs.Steps.{at-most-one, after-missed, after-none}
+use mathlib.Core.List.{[]}
+use Rattle.words.specs.Answer.{gives}
+use Rattle.group.specs.declared.Group.{Group}
+use Rattle.ride.specs.State.{noGroup}
+use Rattle.ride.specs.Step.{Step}
+use Rattle.ride.proofs.Steps.{neither, quiet}
 use borrow.Author.Needs.{needs}
 use Rattle.ride.proofs.stepping.go_on.Statement.{statement}
 use Rattle.ride.proofs.stepping.go_on.Tie as tie
 
-close-behind-requires : tie.Need-close-behind-requires
-close-behind-requires c κs = search needs
+is-quiet-requires : tie.Need-is-quiet-requires
+is-quiet-requires c κs = search needs
 
 take-up-requires : tie.Need-take-up-requires
 take-up-requires c κs = search needs
 
-is-missed-requires : tie.Need-is-missed-requires
-is-missed-requires c κs = search needs
-
-unlinked-requires : tie.Need-unlinked-requires
-unlinked-requires c κs = search needs
-
-missed-place-requires : tie.Need-missed-place-requires
-missed-place-requires c κs = search needs
-
-and-missed-requires : tie.Need-and-missed-requires
-and-missed-requires c κs =
-    let b = c .before .before .before .before .before .before .before .before in
-    let a = b .before .args in
-    rw (ap (λ (k : Closing). k .lines) (b .close-behind .ensures)) (at-most-one (a .gap) (a .odometer) (a .ride .group) (a .ride .known))
+nothing-closed-requires : tie.Need-nothing-closed-requires
+nothing-closed-requires c κs = search needs
 
 returns : tie.Need-returns
-unfolding goOn
 returns c =
-    let m = c .before .before .before .before in
-    let b = m .before .before .before .before .before in
-    let a = b .before .args in
-    let e : Entry = record { odometer = a .odometer; passed = a .passed } in
-    after-missed e (saysClosed (b .close-behind .result)) _ _ _ (m .before .take-up .ensures) (sym (m .is-missed .ensures) ∙ c .before .before .before .if1 .taken)
-    (c .before .before .unlinked .ensures) (rw (← c .before .missed-place .ensures) (c .and-missed .ensures))
-    ∙ ap (afterClosing e) (b .close-behind .ensures)
+    let t = c .before in
+    let q = t .before .before in
+    let a = q .before .before .before .args in
+    let none = neither _ _ (sym (q .is-quiet .ensures) ∙ t .before .if1 .taken) in
+    c .nothing-closed .ensures
+    ∙ ap {B = Step}
+    (λ (g : Group).
+    record { lines = gives []; closed = noGroup; ride = record { odometer = a .odometer; group = g; known = a .ride .known } })
+    (t .take-up .ensures)
+    ∙ quiet (a .ride) (a .gap) (record { odometer = a .odometer; passed = a .passed }) (none .0) (none .1)
+
+all-steps-requires : tie.Need-all-steps-requires
+all-steps-requires c κs = search needs
 
 returns-2 : tie.Need-returns-2
-unfolding goOn
-returns-2 c =
-    let m = c .before in
-    let b = m .before .before .before .before .before in
-    let a = b .before .args in
-    let e : Entry = record { odometer = a .odometer; passed = a .passed } in
-    after-none e (saysClosed (b .close-behind .result)) _ (m .before .take-up .ensures) (sym (m .is-missed .ensures) ∙ c .if1 .left)
-    ∙ ap (afterClosing e) (b .close-behind .ensures)
+returns-2 c = search needs
 
 pub go-on-spec : {M : Type 1} → statement M
 go-on-spec =
     tie.close
     (tie.spec
-    close-behind-requires
+    is-quiet-requires
     take-up-requires
-    is-missed-requires
-    unlinked-requires
-    missed-place-requires
-    and-missed-requires
+    nothing-closed-requires
     returns
+    all-steps-requires
     returns-2)

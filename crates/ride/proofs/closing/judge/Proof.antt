@@ -1,0 +1,121 @@
+-- `judge` goes by the judgement, as the definitions do.
+use mathlib.Core.Path.{ap, sym, _∙_}
+use Rattle.group.specs.Says.{saysJudged}
+use Rattle.ride.proofs.Cases.{verdictOn}
+use borrow.Author.Needs.{needs}
+use Rattle.ride.proofs.closing.judge.Statement.{statement}
+use Rattle.ride.proofs.closing.judge.Tie as tie
+
+judge-requires : tie.Need-judge-requires
+judge-requires c κs = search needs
+
+enum-known-message : tie.Need-enum-known-message
+enum-known-message c = search needs
+
+accepted-requires : tie.Need-accepted-requires
+accepted-requires c κs = search needs
+
+enum-told : tie.Need-enum-told
+enum-told c = search needs
+
+faulty-requires : tie.Need-faulty-requires
+faulty-requires c κs = search needs
+
+enum-told-2 : tie.Need-enum-told-2
+enum-told-2 c = search needs
+
+faulty-requires-2 : tie.Need-faulty-requires-2
+faulty-requires-2 c κs = search needs
+
+enum-told-3 : tie.Need-enum-told-3
+enum-told-3 c = search needs
+
+faulty-requires-3 : tie.Need-faulty-requires-3
+faulty-requires-3 c κs = search needs
+
+enum-told-4 : tie.Need-enum-told-4
+enum-told-4 c = search needs
+
+faulty-requires-4 : tie.Need-faulty-requires-4
+faulty-requires-4 c κs = search needs
+
+enum-told-5 : tie.Need-enum-told-5
+enum-told-5 c = search needs
+
+faulty-requires-5 : tie.Need-faulty-requires-5
+faulty-requires-5 c κs = search needs
+
+enum-told-6 : tie.Need-enum-told-6
+enum-told-6 c = search needs
+
+faulty-requires-6 : tie.Need-faulty-requires-6
+faulty-requires-6 c κs = search needs
+
+returns : tie.Need-returns
+returns c =
+    let s = c .before .before .before .before in
+    let a = s .before .args in
+    c .accepted .ensures ∙ ap (verdictOn (a .group) (a .known)) (sym (ap saysJudged (c .before .before .message .given .1)) ∙ s .judge .ensures)
+
+returns-2 : tie.Need-returns-2
+returns-2 c =
+    let s = c .before .before .before in
+    let a = s .before .args in
+    c .faulty .ensures ∙ ap (verdictOn (a .group) (a .known)) (sym (ap saysJudged (c .before .enum-told .given .1)) ∙ s .judge .ensures)
+
+returns-3 : tie.Need-returns-3
+returns-3 c =
+    let s = c .before .before .before in
+    let a = s .before .args in
+    c .faulty2 .ensures ∙ ap (verdictOn (a .group) (a .known)) (sym (ap saysJudged (c .before .enum-told2 .given .1)) ∙ s .judge .ensures)
+
+returns-4 : tie.Need-returns-4
+returns-4 c =
+    let s = c .before .before .before in
+    let a = s .before .args in
+    c .faulty3 .ensures ∙ ap (verdictOn (a .group) (a .known)) (sym (ap saysJudged (c .before .enum-told3 .given .1)) ∙ s .judge .ensures)
+
+returns-5 : tie.Need-returns-5
+returns-5 c =
+    let s = c .before .before .before in
+    let a = s .before .args in
+    c .faulty4 .ensures ∙ ap (verdictOn (a .group) (a .known)) (sym (ap saysJudged (c .before .enum-told4 .given .1)) ∙ s .judge .ensures)
+
+returns-6 : tie.Need-returns-6
+returns-6 c =
+    let s = c .before .before .before in
+    let a = s .before .args in
+    c .faulty5 .ensures ∙ ap (verdictOn (a .group) (a .known)) (sym (ap saysJudged (c .before .enum-told5 .given .1)) ∙ s .judge .ensures)
+
+returns-7 : tie.Need-returns-7
+returns-7 c =
+    let s = c .before .before .before in
+    let a = s .before .args in
+    c .faulty6 .ensures ∙ ap (verdictOn (a .group) (a .known)) (sym (ap saysJudged (c .before .enum-told6 .given .1)) ∙ s .judge .ensures)
+
+pub judge-spec : {M : Type 1} → statement M
+judge-spec =
+    tie.close
+    (tie.spec
+    judge-requires
+    enum-known-message
+    accepted-requires
+    enum-told
+    faulty-requires
+    enum-told-2
+    faulty-requires-2
+    enum-told-3
+    faulty-requires-3
+    enum-told-4
+    faulty-requires-4
+    enum-told-5
+    faulty-requires-5
+    enum-told-6
+    faulty-requires-6
+    returns
+    returns-2
+    returns-3
+    returns-4
+    returns-5
+    returns-6
+    returns-7)

@@ -1,0 +1,13 @@
+-- `nothing_closed` hands on the state and the report, and has no group.
+use borrow.Author.Needs.{needs}
+use Rattle.ride.proofs.stepping.nothing_closed.Statement.{statement}
+use Rattle.ride.proofs.stepping.nothing_closed.Tie as tie
+
+no-group-requires : tie.Need-no-group-requires
+no-group-requires c κs = search needs
+
+returns : tie.Need-returns
+returns c = rw (c .no-group .ensures)
+
+pub nothing-closed-spec : {M : Type 1} → statement M
+nothing-closed-spec = tie.close (tie.spec no-group-requires returns)
