@@ -18,10 +18,10 @@ pub enum PartRead {
     Refused,
 }
 
-// What reading the balises of a group answers: good and the balises, or refusal 12.
+// What reading the balises of a group answers: the balises and good, or refusal 12.
 pub struct AllRead {
-    pub good: bool,
     pub parts: [Placed; 5],
+    pub good: bool,
 }
 
 // A telegram as a part of a group.
@@ -49,15 +49,18 @@ pub fn part_heard(heard: Heard) -> PartRead
     }
 }
 
+// Five places for balises as read, before any is. As a constant it is copied whole.
+const NO_PARTS: [Placed; 5] = [Placed {
+    place: 0,
+    part: Part::Marker,
+}; 5];
+
 // The first n balises read, or refusal 12.
 pub fn read_all(kept: [Balise; 5], n: usize) -> AllRead
     requires { ⌜ n ≤ 5 ⌝ }
     ensures { λ r. ⌜ saysAllRead n r ≡ readAll (take n kept) ⌝ }
 {
-    let mut parts = [Placed {
-        place: 0,
-        part: Part::Marker,
-    }; 5];
+    let mut parts = NO_PARTS;
     let mut i = 0;
     while i < n {
         let b = kept[i];

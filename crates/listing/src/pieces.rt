@@ -19,15 +19,18 @@ pub fn put(bytes: &[u8], buf: &mut [u8], at: usize) -> usize
     at + i
 }
 
-// How many digits a number has.
+// How many digits a number has: two are taken off at a time.
 fn places(n: u64) -> usize
     ensures { λ r. ⌜ r ≡ length (decimal n) ⌝ }
 {
     let mut count = 1;
     let mut rest = n;
-    while rest >= 10 {
-        rest /= 10;
-        count += 1;
+    while rest >= 100 {
+        rest /= 100;
+        count += 2;
+    }
+    if rest >= 10 {
+        return count + 1;
     }
     count
 }
