@@ -40,12 +40,11 @@ pub fn write_line(line: Line) -> bool {
     io::write_all(STDOUT_FILENO, &out[..n])
 }
 
-// Lists as many of the records as surely have room in one block, and writes their lines.
-fn list_some(ride: Ride, number: u64, records: &[u8]) -> Part
+// Lists as many of the records as surely have room in out, and writes their lines.
+fn list_some(ride: Ride, number: u64, records: &[u8], out: &mut [u8]) -> Part
     ensures { λ r. ⌜ r .taken ≤ length (now (records .entry)) ⌝ }
 {
-    let mut out = io::large_buffer();
-    let listed = listing::list(ride, GAP, number, records, &mut out);
+    let listed = listing::list(ride, GAP, number, records, out);
     let done = listed.done;
     let after = listed.ride;
     let next = listed.number;
@@ -74,15 +73,15 @@ fn list_some(ride: Ride, number: u64, records: &[u8]) -> Part
     }
 }
 
-// Lists all of the records.
-fn list_block(ride: Ride, number: u64, records: &[u8]) -> Part
+// Lists all of the records, by way of out.
+fn list_block(ride: Ride, number: u64, records: &[u8], out: &mut [u8]) -> Part
     ensures { λ r. ⌜ r .taken ≤ length (now (records .entry)) ⌝ }
 {
     let mut now = ride;
     let mut next = number;
     let mut at: usize = 0;
     while at < records.len() {
-        let part = list_some(now, next, &records[at..]);
+        let part = list_some(now, next, &records[at..], out);
         let taken = part.taken;
         if taken == 0 {
             break;
@@ -98,15 +97,21 @@ fn list_block(ride: Ride, number: u64, records: &[u8]) -> Part
     }
 }
 
-// Reads the next bytes of the file, as many as `want`, and lists their records. A shorter file gives fewer.
-fn next_block(fd: i32, want: usize, ride: Ride, number: u64) -> Block
-    requires { ⌜ want ≤ 65536 ⌝ }
+// Reads the next bytes of the file into block, as many as `want`, and lists their records. A shorter file gives fewer.
+fn next_block(
+    fd: i32,
+    want: usize,
+    ride: Ride,
+    number: u64,
+    block: &mut [u8],
+    out: &mut [u8],
+) -> Block
+    requires { ⌜ want ≤ length (now block) ⌝ }
     ensures { λ r. ⌜ r .read ≤ want ⌝ }
 {
-    let mut block = io::large_buffer();
     let got = fill(fd, &mut block[..want]);
     let read = got.count - got.count % 8;
-    let part = list_block(ride, number, &block[..read]);
+    let part = list_block(ride, number, &block[..read], out);
     let after = part.ride;
     Block {
         ride: after,
@@ -135,19 +140,21 @@ fn write_end(ride: Ride) {
 
 // The lines of all records of the file, of which there are so many bytes, and of the end. A file that is shorter by now
 // ends the ride where it ends; after a read or a write that failed there is no further line.
-pub fn list_file(fd: i32, bytes: u64) {
+pub fn list_file(fd: i32, bytes: u64, block: &mut [u8], out: &mut [u8])
+    requires { ⌜ 65536 ≤ length (now block) ⌝ }
+{
     let mut ride = ride::fresh();
     let mut number: u64 = 1;
     let mut left = bytes;
     while left > 0 {
         let want = if left < BLOCK { left } else { BLOCK };
-        let block = next_block(fd, want as usize, ride, number);
-        if !block.is_good {
+        let listed = next_block(fd, want as usize, ride, number, block, out);
+        if !listed.is_good {
             return;
         }
-        ride = block.ride;
-        number = block.number;
-        let read = block.read as u64;
+        ride = listed.ride;
+        number = listed.number;
+        let read = listed.read as u64;
         if read < want {
             break;
         }

@@ -7,9 +7,12 @@ mod reading;
 use libc::SEEK_SET;
 use ride::Line;
 
-// Goes over the open file twice: once for the length, once for the records.
+// Goes over the open file twice: once for the length, once for the records. One block holds what is read, the other the
+// lines: a fresh one for each part of the file would have to be filled with zeroes first.
 fn check_file(fd: i32) {
-    let length = reading::length_of(fd);
+    let mut block = io::large_buffer();
+    let mut out = io::large_buffer();
+    let length = reading::length_of(fd, &mut block);
     if length.failed {
         return;
     }
@@ -20,7 +23,7 @@ fn check_file(fd: i32) {
     if libc::lseek(fd, 0, SEEK_SET) != 0 {
         return;
     }
-    blocks::list_file(fd, length.bytes);
+    blocks::list_file(fd, length.bytes, &mut block, &mut out);
 }
 
 // A file that cannot be opened, no name, or a name that is too long: nothing is written.

@@ -52,21 +52,15 @@ pub fn fill(fd: i32, buf: &mut [u8]) -> Got
     }
 }
 
-// One block more.
-fn count_block(fd: i32) -> Got {
-    let mut block = io::large_buffer();
-    fill(fd, &mut block)
-}
-
-// The length of the file from here on: block after block up to one that is empty. A proved loop has to end, and nothing
+// The length of the file from here on, by way of block: block after block up to one that is empty. A proved loop has to end, and nothing
 // says that a file does: so the loop counts its turns down from a number that no run uses up.
-pub fn length_of(fd: i32) -> Length {
+pub fn length_of(fd: i32, block: &mut [u8]) -> Length {
     let mut bytes: u64 = 0;
     let mut turns = u64::MAX;
     while turns > 0 {
-        let block = count_block(fd);
-        let count = block.count as u64;
-        if block.failed {
+        let got = fill(fd, block);
+        let count = got.count as u64;
+        if got.failed {
             break;
         }
         if count == 0 {

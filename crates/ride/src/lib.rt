@@ -180,7 +180,10 @@ pub fn end(ride: Ride) -> Ended
     let group = ride.group;
     let known = ride.known;
     if joining::is_open(group) {
-        return closing::at_end(odometer, closing::close(group, closing::judge(group, known)));
+        return closing::at_end(
+            odometer,
+            closing::close(group, closing::judge(group, known)),
+        );
     }
     closing::at_end(odometer, closing::leave(group, known))
 }

@@ -1,4 +1,4 @@
--- `list_some` writes what the listing wrote, which lies within the block, and takes no more than there is.
+-- `list_some` writes what the listing wrote, which lies within the buffer, and takes no more than there is.
 use Prim.Native.Nat.{ℕ, _*_, _≤_}
 use mathlib.Core.Path.{_≡_, sym}
 use native.Mathlib.Omega.{arith}
@@ -9,37 +9,34 @@ use borrow.Author.Needs.{needs}
 use Rattle.checker.proofs.blocks.list_some.Statement.{statement}
 use Rattle.checker.proofs.blocks.list_some.Tie as tie
 
-large-buffer-requires : tie.Need-large-buffer-requires
-large-buffer-requires c κs = search needs
-
-slice-aggregate-list : tie.Need-slice-aggregate-list
-slice-aggregate-list c = search needs
-
 list-requires : tie.Need-list-requires
 list-requires c κs = search needs
 
 enum-known-done : tie.Need-enum-known-done
 enum-known-done c = search needs
 
+same-length : tie.Need-same-length
+same-length c = search needs
+
 returns : tie.Need-returns
 returns c = search needs
 
 -- what was taken and what was written
 within : (c : tie.After-done) →
-    let l = c .before .before .before .before in
+    let l = c .before .before .before .before .before in
     (c .done .given .0 .0 * 8 ≤ length (l .before .before .before .before .args .records .now))
     × (c .done .given .0 .1 .0 ≤ length (l .list .last .1 .1 .1 .1 .0))
 within c =
-    let l = c .before .before .before .before in
+    let l = c .before .before .before .before .before in
     let s = l .before .before .before .before in
     let w =
-    list-within (s .args .ride) 40 (s .args .number) (s .args .records .now) (l .before .before .large-buffer .result)
+    list-within (s .args .ride) 40 (s .args .number) (s .args .records .now) (s .args .out .now)
     (l .list .last .1 .1 .1 .1 .0) (l .list .result) (c .done .given .0 .0) (c .done .given .0 .1 .0)
     (l .list .ensures) (c .done .given .1) (l .list .kept .1 .1 .1 .1 .0) in
     (w .0, omega (arith, w .1, l .list .kept .1 .1 .1 .1 .0))
 
-array-share-prefix-out : tie.Need-array-share-prefix-out
-array-share-prefix-out c = within (c .before) .1
+slice-reshare-prefix-write-all : tie.Need-slice-reshare-prefix-write-all
+slice-reshare-prefix-write-all c = within (c .before) .1
 
 slice-aggregate-write-all : tie.Need-slice-aggregate-write-all
 slice-aggregate-write-all c = sym (length-take-le _ _ (within (c .before .before) .1))
@@ -47,11 +44,17 @@ slice-aggregate-write-all c = sym (length-take-le _ _ (within (c .before .before
 write-all-requires : tie.Need-write-all-requires
 write-all-requires c κs = search needs
 
-mul-t17 : tie.Need-mul-t17
-mul-t17 c = omega (arith, within (c .before .before .before .before) .0)
+mul-t16 : tie.Need-mul-t16
+mul-t16 c = omega (arith, within (c .before .before .before .before) .0)
+
+same-length-2 : tie.Need-same-length-2
+same-length-2 c = search needs
 
 returns-2 : tie.Need-returns-2
 returns-2 c = within (c .before .before .before .before) .0
+
+same-length-3 : tie.Need-same-length-3
+same-length-3 c = search needs
 
 returns-3 : tie.Need-returns-3
 returns-3 c = search needs
@@ -60,14 +63,15 @@ pub list-some-spec : {M : Type 1} → statement M
 list-some-spec =
     tie.close
     (tie.spec
-    large-buffer-requires
-    slice-aggregate-list
     list-requires
     enum-known-done
+    same-length
     returns
-    array-share-prefix-out
+    slice-reshare-prefix-write-all
     slice-aggregate-write-all
     write-all-requires
-    mul-t17
+    mul-t16
+    same-length-2
     returns-2
+    same-length-3
     returns-3)
