@@ -76,12 +76,20 @@ fn join(group: Group, balise: Balise) -> Group
     }
 }
 
-// The group after a record: a balise joins the open group or opens one.
+// The group after a record: a balise joins the open group or opens one. A group that stays is written field by field, since
+// a copy of the whole would carry the bytes between its fields through every step.
 pub fn take_up(group: Group, odometer: u32, passed: Passed) -> Group
     ensures { λ r. ⌜ r ≡ takeUp group odometer passed ⌝ }
 {
     match passed {
-        Passed::Position => group,
+        Passed::Position => {
+            let kept = group.kept;
+            Group {
+                kept,
+                count: group.count,
+                last: group.last,
+            }
+        }
         Passed::Balise(heard) => {
             let balise = Balise {
                 place: odometer,

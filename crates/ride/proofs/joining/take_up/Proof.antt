@@ -26,8 +26,9 @@ join-requires-2 c κs = search needs
 
 returns : tie.Need-returns
 returns c =
-    let a = c .before .before .args in
-    take-position (a .group) (a .odometer) (a .passed) (c .enum-told .given .1)
+    let t = c .before in
+    let a = t .before .before .args in
+    take-position (a .group) (a .odometer) (a .passed) (t .enum-told .given .1)
 
 returns-2 : tie.Need-returns-2
 returns-2 c =
