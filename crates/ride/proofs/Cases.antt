@@ -6,7 +6,7 @@ use mathlib.Core.Bool.{Bool, true, false}
 use mathlib.Core.List.{List, [], _∷_}
 use lib.Dec.{ltb}
 use lib.ListN.{getD}
-use Rattle.words.specs.Answer.{Outcome}
+use Rattle.words.specs.Answer.{Outcome, refuses}
 use Rattle.group.specs.declared.Balise.{Balise}
 use Rattle.group.specs.declared.Group.{Group}
 use Rattle.group.specs.declared.Told.{Told as Speed}
@@ -16,11 +16,12 @@ use Rattle.group.specs.Message.{Message}
 use Rattle.group.specs.Judge.{judge}
 use Rattle.ride.specs.declared.Linking.{Linking}
 use Rattle.ride.specs.declared.Known.{Known}
+use Rattle.ride.specs.declared.Line.{Line}
 use Rattle.ride.specs.declared.Ride.{Ride}
 use Rattle.ride.specs.declared.closing.Verdict.{Verdict}
-use Rattle.ride.specs.State.{noBalise, noGroup, isOpen}
+use Rattle.ride.specs.State.{noBalise, noGroup, isOpen, nothingKnown}
 use Rattle.ride.specs.Linking.{markAt, markOf, isOverdue, missedPlace}
-use Rattle.ride.specs.Closing.{Closing, linkingFrom, mainFrom, targetFrom, knownFrom, knownAfter, markFrom, lineOf, close, leave}
+use Rattle.ride.specs.Closing.{Closing, linkingFrom, mainFrom, targetFrom, knownFrom, knownAfter, markFrom, firstPlace, lineOf, close, leave}
 use Rattle.ride.specs.Step.{end, ended}
 
 -- ---- linking that is set
@@ -62,6 +63,11 @@ first-place (x ∷ bs) b e = refl
 -- the verdict on a group with this judgement
 abbrev pub verdictOn : Group → Known → Outcome Message → Verdict
 verdictOn g known judged = record { line = lineOf g (known .linking) judged; known = knownAfter judged known }
+
+-- a refused group's line shows its first place, and nothing is known then
+pub faulted : (g : Group) (before after : Known) (place n : ℕ) → after ≡ nothingKnown → place ≡ firstPlace g
+    → _≡_ {A = Verdict} (record { line = Line.Fault place n; known = after }) (verdictOn g before (refuses n))
+faulted g before after place n e f = rw (e, f)
 
 -- a group closes with the verdict on it
 pub closed-with : (g : Group) (known : Known) (v : Verdict) (c : Closing) → v ≡ verdictOn g known (judge g)

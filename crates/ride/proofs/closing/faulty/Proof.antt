@@ -1,6 +1,6 @@
 -- `faulty` puts the fault's line and that nothing is known together.
 use mathlib.Core.Path.{refl}
-use Rattle.ride.proofs.Cases.{first-place}
+use Rattle.ride.proofs.Cases.{first-place, faulted}
 use Rattle.group.specs.declared.Heard.{Heard}
 use borrow.Author.Needs.{needs}
 use Rattle.ride.proofs.closing.faulty.Statement.{statement}
@@ -16,7 +16,10 @@ cast-t10 : tie.Need-cast-t10
 cast-t10 c = search needs
 
 returns : tie.Need-returns
-returns c = rw (c .before .nothing-known .ensures, first-place (c .before .before .before .args .t1 .kept) (record { place = 0; heard = Heard.Words 0 0 0 }) refl)
+returns c =
+    let a = c .before .before .before .args in
+    faulted (a .t1) (a .known) _ _ (a .number) (c .before .nothing-known .ensures)
+    (first-place (a .t1 .kept) (record { place = 0; heard = Heard.Words 0 0 0 }) refl)
 
 pub faulty-spec : {M : Type 1} → statement M
 faulty-spec =
