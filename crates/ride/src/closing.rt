@@ -5,7 +5,7 @@ ghost use Rattle.words.specs.Answer.{gives, refuses};
 ghost use Rattle.group.specs.Says.{saysTold, saysContent, saysMessage};
 ghost use Rattle.group.specs.Judge.{judge};
 ghost use Rattle.ride.specs.State.{noGroup, nothingKnown};
-ghost use Rattle.ride.specs.Closing.{linkingFrom, mainFrom, knownFrom, knownAfter, markFrom, lineOf, leave};
+ghost use Rattle.ride.specs.Closing.{linkingFrom, mainFrom, knownFrom, knownAfter, lineOf, leave};
 ghost use Rattle.ride.specs.Step.{ended};
 ghost use Rattle.ride.specs.Says.{saysClosed, saysEnded};
 use crate::Ended;
@@ -13,11 +13,10 @@ use crate::Known;
 use crate::Line;
 use crate::Lines;
 use crate::Linking;
-use crate::Mark;
 use crate::Ride;
 use crate::Seen;
 use crate::joining::no_group;
-use crate::marks::mark_of;
+use crate::marks::mark_from;
 use group::Content;
 use group::Group;
 use group::Judged;
@@ -96,26 +95,6 @@ fn known_from(content: Content, place: u32, known: Known) -> Known
         } => known,
         Content::Route(_) => known,
         Content::Nothing => known,
-    }
-}
-
-// The mark of an accepted group: present signals alone have one.
-fn mark_from(content: Content, place: u32, linking: Linking) -> Mark
-    ensures { λ r. ⌜ r ≡ markFrom (saysContent content) place linking ⌝ }
-{
-    match content {
-        Content::Signal {
-            distance: _,
-            preset: _,
-            main: _,
-            target: _,
-        } => mark_of(linking, place),
-        Content::Warning {
-            distance: _,
-            preset: _,
-        } => Mark::Unmarked,
-        Content::Route(_) => Mark::Unmarked,
-        Content::Nothing => Mark::Unmarked,
     }
 }
 

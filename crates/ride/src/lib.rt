@@ -176,16 +176,13 @@ pub fn step(ride: Ride, gap: u32, bytes: [u8; 8]) -> Stepped
 pub fn end(ride: Ride) -> Ended
     ensures { λ r. ⌜ saysEnded r ≡ end ride ⌝ }
 {
-    let odometer = ride.odometer;
     let group = ride.group;
     let known = ride.known;
     if joining::is_open(group) {
-        return closing::at_end(
-            odometer,
-            closing::close(group, closing::judge(group, known)),
-        );
+        let verdict = closing::judge(group, known);
+        return closing::at_end(ride.odometer, closing::close(group, verdict));
     }
-    closing::at_end(odometer, closing::leave(group, known))
+    closing::at_end(ride.odometer, closing::leave(group, known))
 }
 
 // The ride over a whole trace: 19 for the gap, 16 for the trace's length, or the state after all its records.

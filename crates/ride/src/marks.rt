@@ -1,9 +1,12 @@
 // Linking: the mark of a present signal, and when an expected one is missed.
 ghost use mathlib.Core.Path.{_≡_};
 ghost use Prim.Native.Nat.{_-_, _<_};
+ghost use Rattle.group.specs.Says.{saysContent};
 ghost use Rattle.ride.specs.Linking.{markAt, markOf, isOverdue, missedPlace};
+ghost use Rattle.ride.specs.Closing.{markFrom};
 use crate::Linking;
 use crate::Mark;
+use group::Content;
 
 // How far a place lies beyond another; 0 for a place before it.
 fn beyond(place: u32, from: u32) -> u64
@@ -31,12 +34,32 @@ fn mark_at(distance: u32, t: u64) -> Mark
 }
 
 // The mark of a present signal whose A balise lies at this place.
-pub fn mark_of(linking: Linking, place: u32) -> Mark
+fn mark_of(linking: Linking, place: u32) -> Mark
     ensures { λ r. ⌜ r ≡ markOf linking place ⌝ }
 {
     match linking {
         Linking::Unset => Mark::First,
         Linking::Set { distance, from } => mark_at(distance, beyond(place, from)),
+    }
+}
+
+// The mark of an accepted group: present signals alone have one.
+pub fn mark_from(content: Content, place: u32, linking: Linking) -> Mark
+    ensures { λ r. ⌜ r ≡ markFrom (saysContent content) place linking ⌝ }
+{
+    match content {
+        Content::Signal {
+            distance: _,
+            preset: _,
+            main: _,
+            target: _,
+        } => mark_of(linking, place),
+        Content::Warning {
+            distance: _,
+            preset: _,
+        } => Mark::Unmarked,
+        Content::Route(_) => Mark::Unmarked,
+        Content::Nothing => Mark::Unmarked,
     }
 }
 

@@ -2,8 +2,8 @@
 use mathlib.Core.Path.{_∙_}
 use Rattle.ride.proofs.Cases.{mark-signal}
 use borrow.Author.Needs.{needs}
-use Rattle.ride.proofs.closing.mark_from.Statement.{statement}
-use Rattle.ride.proofs.closing.mark_from.Tie as tie
+use Rattle.ride.proofs.marks.mark_from.Statement.{statement}
+use Rattle.ride.proofs.marks.mark_from.Tie as tie
 
 enum-told : tie.Need-enum-told
 enum-told c = search needs
