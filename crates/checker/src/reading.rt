@@ -52,8 +52,8 @@ pub fn fill(fd: i32, buf: &mut [u8]) -> Got
     }
 }
 
-// The length of the file from here on, by way of block: block after block up to one that is empty. A proved loop has to end, and nothing
-// says that a file does: so the loop counts its turns down from a number that no run uses up.
+// The length of the file from here on, by way of block: block after block up to one that is empty. A proved loop has to
+// end, and nothing says that a file does: so the loop counts its turns down from a number that no run uses up.
 pub fn length_of(fd: i32, block: &mut [u8]) -> Length {
     let mut bytes: u64 = 0;
     let mut turns = u64::MAX;
