@@ -73,9 +73,12 @@ returns-3 c =
     let a = p .before .before .before .args in
     let size : p .put-text .result ≡ 0 + length (text (a .line)) = p .put-text .ensures .0 in
     let room : a .at + length (text (a .line)) ≤ length (a .buf .now) = omega arith in
-    let is : filled (next (q .put .result)) (q .put .last .1 .0) ≡ filled (next (a .at + length (text (a .line)))) (placed (text (a .line)) (a .buf .now) (a .at)) =
-    cc (q .put .ensures .0, q .put .ensures .1, spelled p) in
-    is ∙ simp (le-leb _ _ room)
+    let place-is : q .put .result ≡ a .at + length (text (a .line)) = q .put .ensures .0 ∙ ap (λ (w : List ℕ). a .at + length w) (spelled p) in
+    let buffer-is : q .put .last .1 .0 ≡ placed (text (a .line)) (a .buf .now) (a .at) =
+    q .put .ensures .1 ∙ ap (λ (w : List ℕ). placed w (a .buf .now) (a .at)) (spelled p) in
+    ap (λ (n : ℕ). filled (next n) (q .put .last .1 .0)) place-is
+    ∙ ap (filled (next (a .at + length (text (a .line))))) buffer-is
+    ∙ simp (le-leb _ _ room)
 
 pub put-line-spec : {M : Type 1} → statement M
 put-line-spec =
