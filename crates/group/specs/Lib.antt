@@ -6,3 +6,4 @@ pub mod Speed
 pub mod Message
 pub mod Judge
 pub mod Says
+pub mod Inside

@@ -6,7 +6,7 @@ ghost use lib.ListN.{take, drop};
 ghost use Rattle.words.specs.Answer.{pick};
 ghost use Rattle.group.specs.Row.{all, _to_, category, any, M, must, may, fits, isCategory, isMarker, Y, Z, first};
 ghost use Rattle.group.specs.Rows.{howMany};
-ghost use Rattle.group.specs.Says.{saysSought};
+ghost use Rattle.group.specs.Inside.{saysSought};
 use crate::Part;
 use crate::Placed;
 

@@ -4,7 +4,7 @@ ghost use Prim.Native.Nat.{_≤_};
 ghost use lib.ListN.{take};
 ghost use Rattle.telegram.specs.Says.{saysTelegram};
 ghost use Rattle.group.specs.Balise.{partSaid, partHeard, readAll};
-ghost use Rattle.group.specs.Says.{saysPartRead, saysAllRead};
+ghost use Rattle.group.specs.Inside.{saysPartRead, saysAllRead};
 use crate::Balise;
 use crate::Heard;
 use crate::Part;

@@ -8,7 +8,7 @@ ghost use Rattle.words.specs.Answer.{pick};
 ghost use Rattle.group.specs.Row.{all, _to_, category, any, oneOf, M, Member, must, may, row, within, fits, misfit, fit, orElse, fitRow, fitRows};
 ghost use Rattle.group.specs.declared.Kind.{Kind};
 ghost use Rattle.group.specs.Rows.{present, opposite};
-ghost use Rattle.group.specs.Says.{saysFitting};
+ghost use Rattle.group.specs.Inside.{saysFitting};
 use crate::Kind;
 use crate::Part;
 use crate::Placed;

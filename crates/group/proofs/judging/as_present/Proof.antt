@@ -5,7 +5,8 @@ use lib.ListN.{take}
 use Rattle.words.specs.Answer.{gives, refuses}
 use Rattle.group.specs.Row.{Y, Z}
 use Rattle.group.specs.Judge.{contentOf}
-use Rattle.group.specs.Says.{saysContent, saysContained}
+use Rattle.group.specs.Says.{saysContent}
+use Rattle.group.specs.Inside.{saysContained}
 use borrow.Author.Needs.{needs}
 use Rattle.group.proofs.judging.as_present.Statement.{statement}
 use Rattle.group.proofs.judging.as_present.Tie as tie

@@ -11,7 +11,7 @@ use Rattle.group.specs.declared.Placed.{Placed}
 use Rattle.group.specs.Row.{Fit, fitRows}
 use Rattle.group.specs.Rows.{present, opposite, howMany, fitIn}
 use Rattle.group.specs.Judge.{decide, judgeRead}
-use Rattle.group.specs.Says.{saysFitting}
+use Rattle.group.specs.Inside.{saysFitting}
 use borrow.Author.Needs.{needs}
 use Rattle.group.proofs.judging.read.Statement.{statement}
 use Rattle.group.proofs.judging.read.Tie as tie

@@ -7,7 +7,7 @@ use borrow.Author.Needs.{needs}
 use lib.ListN.{length, take, drop, length-set}
 use Rattle.words.specs.Answer.{gives}
 use Rattle.group.specs.Balise.{readAll}
-use Rattle.group.specs.Says.{saysPartRead}
+use Rattle.group.specs.Inside.{saysPartRead}
 use Rattle.group.proofs.Hearing.{after, after-none, read-good, read-bad, read-end}
 use Rattle.group.proofs.reading.read_all.Statement.{statement}
 use Rattle.group.proofs.reading.read_all.Tie as tie

@@ -1,0 +1,40 @@
+-- What each case of the answers inside the crate says. No promise to a caller cites these; the functions that the code is cut into do.
+-- Assumes nothing.
+use Prim.Native.Nat.{ℕ}
+use mathlib.Core.List.{List}
+use lib.ListN.{take}
+use Rattle.words.specs.Answer.{Outcome, gives, refuses, pick}
+use Rattle.group.specs.declared.contents.Contained.{Contained}
+use Rattle.group.specs.declared.rows.Fitting.{Fitting}
+use Rattle.group.specs.declared.Part.{Part}
+use Rattle.group.specs.declared.Placed.{Placed}
+use Rattle.group.specs.declared.reading.PartRead.{PartRead}
+use Rattle.group.specs.declared.reading.AllRead.{AllRead}
+use Rattle.group.specs.declared.parts.Sought.{Sought}
+use Rattle.group.specs.Row.{Fit, misfit, fit, Found, none, found}
+use Rattle.group.specs.Message.{Content}
+use Rattle.group.specs.Says.{saysContent}
+
+-- How balises fit the rows of a direction.
+abbrev pub saysFitting : Fitting → Fit
+saysFitting (Fitting.Is kind a) = fit kind a
+saysFitting Fitting.Misfit = misfit
+
+-- A balise that was looked for.
+abbrev pub saysSought : Sought → Found
+saysSought (Sought.Is b) = found b
+saysSought Sought.Missing = none
+
+-- A balise read; "a balise unreadable, or its words refused" is 12.
+abbrev pub saysPartRead : PartRead → Outcome Part
+saysPartRead (PartRead.Is p) = gives p
+saysPartRead PartRead.Refused = refuses 12
+
+-- The first n balises read, or 12.
+abbrev pub saysAllRead : ℕ → AllRead → Outcome (List Placed)
+saysAllRead n r = pick (r .good) (gives (take n (r .parts))) (refuses 12)
+
+-- What a group says beyond its kind, if its distance is allowed; "distance not allowed" is 15.
+abbrev pub saysContained : Contained → Outcome Content
+saysContained (Contained.Is more) = gives (saysContent more)
+saysContained Contained.NotAllowed = refuses 15
