@@ -1,4 +1,4 @@
--- Calls that the contracts allow, made in full: the hypotheses on calls are met.
+-- Calls of `read_short` and `find` that the contracts allow, made in full: hypotheses on calls are met.
 -- Assumes nothing.
 use mathlib.Core.Path.{refl}
 use mathlib.Core.List.{List, [], _∷_}

@@ -4,7 +4,7 @@ use mathlib.Core.Path.{_≡_, refl, sym, ap, ap₂, _∙_, subst}
 use mathlib.Core.Logic.{_⊎_, inl, inr}
 use mathlib.Core.Bool.{true}
 use mathlib.Core.List.{List, [], _∷_, map, List·Memᴰ, List·Memᴰ·head, List·Memᴰ·tail}
-use Prim.Native.Nat.{ℕ, _+_, _-_}
+use Prim.Native.Nat.{ℕ, _+_, _-_, _≤_}
 use native.Mathlib.Omega.{arith}
 use lib.Dec.{T, eqb}
 use borrow.Author.Tests.{eqb-true, eq-eqb}
@@ -61,11 +61,16 @@ comes-listed {b} {s} {t} {start} {len} (further {p = p} {m = m} k c) =
     (at p (reads (saysTelegram m)) ∷ r .0, listed-further (specified b start len s t (Found.At p m) k) (r .1), ap₂ _∷_ (sym (found-back (Found.At p m))) (r .2), ap (λ (ps : List ℕ). p ∷ ps) (r .3))
 comes-listed {b} {s} {t} {start} {len} (ends k) = ([], listed-ends (specified b start len s t Found.NoPlace k), refl, refl)
 
--- And what the specification lists comes, to one who is answered at every call.
-listed-comes : {b : List ℕ} {s t start len : ℕ} {v : List Single} → ((start len : ℕ) → (r : Found) × Find b start len s t r)
-    → Listed (Specified b s t) start len v → (w : List Found) × Comes b s t start len w
-listed-comes {b} {s} {t} {start} {len} ask (listed-further {p = p} {m = m} e c) =
-    go (ask start len .0) (ask start len .1) (sym (specified b start len s t (ask start len .0) (ask start len .1)) ∙ e) (listed-comes ask c)
+-- And what the specification lists comes, to one who is answered at every call that lies between bit `low` and bit `high`.
+listed-comes : {b : List ℕ} {s t start len : ℕ} {v : List Single} (low high : ℕ)
+    → ((start len : ℕ) → low ≤ start → start + len ≤ high → (r : Found) × Find b start len s t r)
+    → low ≤ start → start + len ≤ high → Listed (Specified b s t) start len v → (w : List Found) × Comes b s t start len w
+listed-comes {b} {s} {t} {start} {len} low high ask from to (listed-further {p = p} {m = m} e c) =
+    let a = ask start len from to in
+    let f = handed b start len s t p m e .first in
+    let first : start ≤ p = f .from-start in
+    let last : p + 40 ≤ start + len = f .to-end in
+    go (a .0) (a .1) (sym (specified b start len s t (a .0) (a .1)) ∙ e) (listed-comes low high ask (omega arith) (omega arith) c)
   where
     go : (r : Found) → Find b start len s t r → saysFound r ≡ gives (at p m)
         → (w : List Found) × Comes b s t (p + 1) (start + len - (p + 1)) w → (w : List Found) × Comes b s t start len w
@@ -75,8 +80,9 @@ listed-comes {b} {s} {t} {start} {len} ask (listed-further {p = p} {m = m} e c) 
     go Found.NotSeven k is rest = absurd (let z : _≡_ {A = ℕ} 0 1 = cc in omega arith)
     go Found.Beyond k is rest = absurd (let z : _≡_ {A = ℕ} 0 1 = cc in omega arith)
     go Found.NoPlace k is rest = absurd (let z : _≡_ {A = ℕ} 0 1 = cc in omega arith)
-listed-comes {b} {s} {t} {start} {len} ask (listed-ends e) =
-    go (ask start len .0) (ask start len .1) (sym (specified b start len s t (ask start len .0) (ask start len .1)) ∙ e)
+listed-comes {b} {s} {t} {start} {len} low high ask from to (listed-ends e) =
+    let a = ask start len from to in
+    go (a .0) (a .1) (sym (specified b start len s t (a .0) (a .1)) ∙ e)
   where
     go : (r : Found) → Find b start len s t r → saysFound r ≡ refuses 6 → (w : List Found) × Comes b s t start len w
     go (Found.At q n) k is = absurd (let z : _≡_ {A = ℕ} 0 1 = cc in omega arith)
@@ -112,8 +118,11 @@ module _ (o : OneBalise) (proper : Proper o) where
       r .2 ∙ ap (map answerOf) (only (o .buffer) (o .s) (o .t) (r .1) (law (o .buffer) (o .s) (o .t) (good-pair o proper) (o .start) (o .len) (is-taken o proper)))
 
   -- And there is one, for one who is answered at every call.
-  pub asking-ends : ((start len : ℕ) → (r : Found) × Find (o .buffer) start len (o .s) (o .t) r) → (w : List Found) × ComesOf o w
-  asking-ends ask = listed-comes ask (law (o .buffer) (o .s) (o .t) (good-pair o proper) (o .start) (o .len) (is-taken o proper))
+  pub asking-ends : ((start len : ℕ) → o .start ≤ start → start + len ≤ o .start + o .len → (r : Found) × Find (o .buffer) start len (o .s) (o .t) r)
+      → (w : List Found) × ComesOf o w
+  asking-ends ask =
+      listed-comes (o .start) (o .start + o .len) ask (omega arith) (omega arith)
+      (law (o .buffer) (o .s) (o .t) (good-pair o proper) (o .start) (o .len) (is-taken o proper))
 
   pub the-sent : (p : ℕ) (m : Telegram) → Sent o p → reads (saysTelegram m) ≡ wordsAt (o .buffer) p → TheSent o p m
   the-sent p m there says = record { true-place = there .at-true; as-sent = same-telegram m (o .telegram) (says ∙ read-as-sent o proper p there) }

@@ -77,6 +77,7 @@ lastStep linking mark =
           };
     }
 
+-- What the group says.
 abbrev pub itsMessage : Message
 itsMessage =
     record {

@@ -1,5 +1,5 @@
--- No condition of demand 3 can be spared: for each a line that breaks it alone, of which what was not sent is handed out, or would be
--- if refusal 4 did not come first.
+-- Conditions of demand 3 that cannot be spared: for "together with the next", for the sync words and for the pair a line that breaks it, of
+-- which what was not sent is handed out, or would be if refusal 4 did not come first.
 -- (That a telegram of four flips can be another telegram is in Witnesses.)
 -- Assumes nothing.
 use mathlib.Core.Path.{_≡_, refl, sym}

@@ -6,9 +6,10 @@ use native.Mathlib.Omega.{arith}
 use mathlib.Core.Path.{_≡_, refl, sym, ap, ap₂, _∙_, subst}
 use mathlib.Core.Bool.{Bool, true, false}
 use mathlib.Core.List.{List, [], _∷_, _++_, map}
-use lib.Dec.{eqb, leb}
+use lib.Dec.{eqb}
 use lib.ListN.{length, take, drop}
 use lib.Seq.{take-all, take-at, drop-at}
+use borrow.Author.Tests.{le-leb, lt-leb}
 use Rattle.words.specs.Answer.{gives, pick}
 use Rattle.words.proofs.Told.{told}
 use Rattle.ride.specs.State.{freshRide}
@@ -17,20 +18,21 @@ use Rattle.ride.specs.Over.{records, rideOver}
 use Rattle.ride.specs.Says.{saysLines}
 use Rattle.ride.specs.declared.Line.{Line}
 use Rattle.ride.specs.declared.Ride.{Ride}
+use Rattle.ride.specs.Joining.{allowed}
 use Rattle.listing.specs.Text.{text, seen, decimal, digits}
 use Rattle.listing.specs.Put.{next, noRoom, Filled, filled, placed, put}
-use Rattle.listing.specs.List.{textOf, Listing, listOf, listTaken, list, unlisted}
-use Rattle.listing.specs.Says.{saysDone}
+use Rattle.listing.specs.List.{textOf, taken, Listing, listOf, listTaken, list, unlisted}
+use Rattle.listing.specs.Says.{saysPut, saysDone}
 use Rattle.listing.specs.declared.Done.{Done}
 use Rattle.listing.specs.declared.Listed.{Listed}
 use Rattle.listing.specs.declared.Put.{Put}
 use Rattle.listing.proofs.Texts.{text-one, text-join}
 use Rattle.listing.proofs.Determined as listing-is
-use Rattle.demands.specs.Table.{badLength}
+use Rattle.demands.specs.Table.{badLength, badGap}
 use Rattle.demands.specs.Contracts.{Fresh, PutLine, ListInto}
-use Rattle.demands.specs.Output.{ridden, output, recordsIn, Quoted, quoted, AllPut, Written}
+use Rattle.demands.specs.Output.{ridden, output, recordsIn, Quoted, quoted, AllQuoted, Takes, Written}
 use Rattle.demands.proofs.Rules.{not-false}
-use Rattle.demands.proofs.Room.{all-taken, records-many}
+use Rattle.demands.proofs.Room.{all-taken, few-taken, one-taken, records-many}
 
 -- ---- the listing
 
@@ -99,38 +101,70 @@ output-refused trace bad =
     ap (λ (t : Bool). pick t (textOf (Line.Trace 16 ∷ [])) (textOf (ridden trace .lines ++ end (ridden trace .ride) .lines))) bad
     ∙ sym (text-one (Line.Trace 16))
 
--- A text that has been put at the beginning stands there.
-put-first : (t before after : List ℕ) (n : ℕ) → filled (next n) after ≡ put t before 0 → take n after ≡ t
-unfolding put
-put-first t before after n e = go (leb (0 + length t) (length before)) e
-  where
-    go : (u : Bool) → filled (next n) after ≡ pick u (filled (next (0 + length t)) (placed t before 0)) (filled noRoom before) → take n after ≡ t
-    go true q =
-        let ends : next n ≡ next (0 + length t) = ap (λ (f : Filled). f .ends) q in
-        let long : n ≡ 0 + length t = cc in
-        let is : after ≡ placed t before 0 = ap (λ (f : Filled). f .buffer) q in
-        ap₂ take (long ∙ zero-add (length t)) (is ∙ at-first t before) ∙ take-at t (drop (length t) before) (length t) refl
-    go false q = absurd (let ends : next n ≡ noRoom = ap (λ (f : Filled). f .ends) q in let z : _≡_ {A = ℕ} 0 1 = cc in omega arith)
+-- ---- one line
 
--- `put_line` puts a line's text.
-put-text : (line : Line) (before after : List ℕ) (n : ℕ) → PutLine line before 0 (Put.Next n) after → take n after ≡ text line
-put-text line before after n c = put-first (text line) before after n (ap (filled (next n)) (sym (c .4)) ∙ c .5 ∙ ap (λ (v : List ℕ). put (text line) v 0) (c .3))
+put-so : (line : Line) (before : List ℕ) (at : ℕ) (r : Put) (after : List ℕ) → PutLine line before at r after → filled (saysPut r) after ≡ put (text line) before at
+put-so line before at r after c = ap (filled (saysPut r)) (sym (c .4)) ∙ c .5 ∙ ap (λ (v : List ℕ). put (text line) v at) (c .3)
+
+puts-so : (line : Line) (before : List ℕ) (at : ℕ) (r : Put) (after : List ℕ) → PutLine line before at r after → at + length (text line) ≤ length before
+    → (r ≡ Put.Next (at + length (text line))) × (after ≡ placed (text line) before at)
+unfolding put
+puts-so line before at r after c fits =
+    let e = put-so line before at r after c
+    ∙ ap (λ (t : Bool). pick t (filled (next (at + length (text line))) (placed (text line) before at)) (filled noRoom before)) (le-leb (at + length (text line)) (length before) fits) in
+    (told saysPut listing-is.putOf listing-is.put-back r (Put.Next (at + length (text line))) (ap (λ (f : Filled). f .ends) e) refl, ap (λ (f : Filled). f .buffer) e)
+
+no-room-so : (line : Line) (before : List ℕ) (at : ℕ) (r : Put) (after : List ℕ) → PutLine line before at r after → length before < at + length (text line)
+    → (r ≡ Put.NoRoom) × (after ≡ before)
+unfolding put
+no-room-so line before at r after c full =
+    let e = put-so line before at r after c
+    ∙ ap (λ (t : Bool). pick t (filled (next (at + length (text line))) (placed (text line) before at)) (filled noRoom before)) (lt-leb (at + length (text line)) (length before) full) in
+    (told saysPut listing-is.putOf listing-is.put-back r Put.NoRoom (ap (λ (f : Filled). f .ends) e) refl, ap (λ (f : Filled). f .buffer) e)
 
 -- The lines that document 01 quotes, computed at once.
-each : (qs : List Quoted) → map (λ q. text (q .line)) qs ≡ map (λ q. q .text) qs → AllPut qs
+each : (qs : List Quoted) → map (λ q. text (q .line)) qs ≡ map (λ q. q .reads) qs → AllQuoted qs
 each [] e = tt
 each (q ∷ qs) e =
-    let here : text (q .line) ≡ q .text = cc in
-    let rest : map (λ q. text (q .line)) qs ≡ map (λ q. q .text) qs = cc in
-    (λ before after n c. put-text (q .line) before after n c ∙ here, each qs rest)
+    let here : text (q .line) ≡ q .reads = cc in
+    let rest : map (λ q. text (q .line)) qs ≡ map (λ q. q .reads) qs = cc in
+    (here, each qs rest)
 
-all-quoted : AllPut quoted
+all-quoted : AllQuoted quoted
 unfolding text seen decimal digits
 all-quoted = each quoted refl
 
+-- ---- any listing
+
+takes-so : (ride : Ride) (gap number : ℕ) (trace before : List ℕ) (l : Listed) (after : List ℕ) → badGap gap ≡ false → badLength trace ≡ false
+    → ListInto ride gap number trace before l after → Takes ride gap number trace before l after
+unfolding list listOf badGap badLength
+takes-so ride gap number trace before l after good-gap good c =
+    let n = taken gap ride number (length before) (records trace) in
+    let w = textOf (rideOver (λ odometer. gap) ride number (take n (records trace)) .lines) in
+    let is = c .7 ∙ ap₂ (λ (v w : List ℕ). list ride gap number v w) (c .4) (c .5)
+    ∙ ap₂ (λ (t u : Bool). pick t (pick u (listTaken gap ride number (records trace) before) (unlisted ride number before 16)) (unlisted ride number before 19))
+    (not-false (allowed gap) good-gap) (not-false (eqb (length trace % 8) 0) good) in
+    let holds : after ≡ w ++ drop (length w) before = sym (c .6) ∙ ap (λ (v : Listing). v .out) is ∙ at-first w before in
+    let many : length (records trace) ≡ recordsIn trace = records-many (recordsIn trace) trace in
+    record {
+      n = n;
+      bytes = length w;
+      took = told saysDone listing-is.doneOf listing-is.done-back (l .done) (Done.Took n (length w)) (ap (λ (v : Listing). v .answer) is) refl;
+      of-these = subst (λ (k : ℕ). n ≤ k) many (few-taken (records trace) gap ride number (length before));
+      one-at-least = λ some room small. one-taken (records trace) gap ride number (length before) (subst (λ (k : ℕ). 1 ≤ k) (sym many) some) room small;
+      written = ap (take (length w)) holds ∙ take-at w (drop (length w) before) (length w) refl;
+      rest-stays = ap (drop (length w)) holds ∙ drop-at w (drop (length w) before) (length w) refl;
+      ridden-so = ap (λ (v : Listing). v .ride) is;
+      counted-on = ap (λ (v : Listing). v .number) is;
+    }
+
 pub written : Written
 written = record {
+  puts = puts-so;
+  no-room = no-room-so;
   quotes = all-quoted;
+  takes = takes-so;
   whole = λ f l e trace before after good small enough fresh c ended.
       let r = listed-so f l trace before after good small enough fresh c in
       let w = allText trace in
@@ -140,7 +174,6 @@ written = record {
         r .0,
         ap₂ (λ (u v : List ℕ). u ++ v) (ap (take (length w)) (r .2) ∙ take-at w (drop (length w) before) (length w) refl) (ap textOf lines)
             ∙ sym (output-whole trace good),
-        ap (drop (length w)) (r .2) ∙ drop-at w (drop (length w) before) (length w) refl,
       );
-  refused = λ trace before after n bad c. put-text (Line.Trace 16) before after n c ∙ sym (output-refused trace bad);
+  refused = output-refused;
 }

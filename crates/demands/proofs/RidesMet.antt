@@ -54,6 +54,7 @@ use Rattle.demands.proofs.MarksMet.{itsGroup}
 abbrev far : List ℕ
 far = 0x00 ∷ 0x00 ∷ 0x16 ∷ 0xA9 ∷ 0x03 ∷ 0x00 ∷ 0x00 ∷ 0x00 ∷ []
 
+-- its step
 abbrev missedStep : OneStep
 missedStep =
     record {
@@ -84,6 +85,7 @@ missed-met =
 abbrev alone : Group
 alone = record { kept = record { place = 1000; heard = Heard.Marker } ∷ noBalise ∷ noBalise ∷ noBalise ∷ noBalise ∷ []; count = 1; last = 1000 }
 
+-- the step that leaves it behind
 abbrev aloneStep : OneStep
 aloneStep =
     record {
@@ -117,6 +119,7 @@ alone-met = (
 abbrev second : List ℕ
 second = 0x00 ∷ 0x00 ∷ 0x04 ∷ 0x06 ∷ 0x00 ∷ 0x99 ∷ 0x2B ∷ 0x4D ∷ []
 
+-- its step
 abbrev joinsStep : OneStep
 joinsStep =
     record {
@@ -179,6 +182,7 @@ backwards =
       last = 1030;
     }
 
+-- what it says
 abbrev itsOther : Message
 itsOther = record { direction = Direction.Opposite; kind = Kind.Signal; place = 1030; ay = 8; az = 5; content = Content.Nothing }
 

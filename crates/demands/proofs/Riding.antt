@@ -9,7 +9,8 @@ use Rattle.words.specs.Answer.{gives, pick}
 use Rattle.group.specs.Says.{saysContent, saysMessage}
 use Rattle.group.specs.declared.Judged.{Judged}
 use Rattle.group.specs.declared.Message.{Message}
-use Rattle.ride.specs.State.{noGroup, isOpen}
+use Rattle.group.specs.declared.Told.{Told}
+use Rattle.ride.specs.State.{noGroup, isOpen, nothingKnown, freshRide}
 use Rattle.ride.specs.Joining.{takeUp}
 use Rattle.ride.specs.Linking.{isOverdue, missedPlace}
 use Rattle.ride.specs.Closing.{knownFrom, closeAs, close, leave}
@@ -135,6 +136,11 @@ unfolding end leave
 nothing-so ride r c is =
     c .1 ∙ ap (λ (t : Bool). ended (ride .odometer) (pick t (close (ride .group) (ride .known)) (leave (ride .group) (ride .known)))) is
 
+fresh-so : (f : Ride) → f ≡ freshRide
+    → (f .known ≡ record { linking = Linking.Unset; main = Told.Unknown; target = Told.Unknown }) × (isOpen (f .group) ≡ false) × (f .odometer ≡ 0)
+unfolding freshRide noGroup nothingKnown
+fresh-so f e = (ap (λ (r : Ride). r .known) e, ap (λ (r : Ride). isOpen (r .group)) e, ap (λ (r : Ride). r .odometer) e)
+
 pub riding : Riding
 riding = record {
   closes = λ o m mark b j marked. closes-so o m b j mark marked;
@@ -153,7 +159,8 @@ riding = record {
         ap (λ (v : End). v .ride .odometer) e,
         ap (λ (v : End). v .closed) e,
       );
-  nothing-open = λ ride r c is. let e = nothing-so ride r c is in (ap (λ (v : End). v .lines) e, ap (λ (v : End). v .ride) e);
+  nothing-open = λ ride r c is. let e = nothing-so ride r c is in (ap (λ (v : End). v .lines) e, ap (λ (v : End). v .ride) e, ap (λ (v : End). v .closed) e);
+  fresh = λ f c. fresh-so f (c .1);
   runs = runs-on;
   runs-none = runs-nowhere;
 }

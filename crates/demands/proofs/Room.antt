@@ -2,7 +2,7 @@
 -- Assumes nothing.
 use Prim.Native.Nat.{ℕ, zero, suc, _+_, _-_, _*_, _≤_, _<_}
 use native.Mathlib.Omega.{arith}
-use mathlib.Core.Path.{_≡_, refl, ap, ap₂, _∙_}
+use mathlib.Core.Path.{_≡_, refl, sym, ap, ap₂, _∙_, subst}
 use mathlib.Core.Bool.{Bool, true, false, _&&_}
 use mathlib.Core.List.{List, [], _∷_, _++_}
 use lib.ListN.{length, drop, length-append}
@@ -20,7 +20,7 @@ use Rattle.ride.specs.declared.Known.{Known}
 use Rattle.ride.specs.declared.Line.{Line}
 use Rattle.ride.specs.declared.Ride.{Ride}
 use Rattle.listing.specs.Put.{next}
-use Rattle.listing.specs.List.{textOf, taken}
+use Rattle.listing.specs.List.{textOf, isTaken, taken}
 use Rattle.listing.proofs.Longest.{longest}
 use Rattle.listing.proofs.Texts.{text-one, text-join}
 
@@ -81,3 +81,28 @@ pub records-many : (n : ℕ) (trace : List ℕ) → length (firstRecords n trace
 unfolding firstRecords
 records-many zero trace = refl
 records-many (suc n) trace = ap suc (records-many n (drop 8 trace))
+
+-- No more are taken than there are.
+pub few-taken : (rs : List (List ℕ)) (gap : ℕ) (ride : Ride) (number room : ℕ) → taken gap ride number room rs ≤ length rs
+unfolding taken
+few-taken [] gap ride number room = omega arith
+few-taken (r ∷ rs) gap ride number room =
+    let s : Step = treat ride gap r in
+    let left : ℕ = room - length (textOf (linesFor number (s .lines))) in
+    go (isTaken number room) (taken gap (s .ride) (suc number) left rs) (few-taken rs gap (s .ride) (suc number) left)
+  where
+    go : (t : Bool) (k : ℕ) → k ≤ length rs → pick t (suc k) 0 ≤ suc (length rs)
+    go true k h = omega arith
+    go false k h = omega arith
+
+-- One is, where there is one and room for it.
+pub one-taken : (rs : List (List ℕ)) (gap : ℕ) (ride : Ride) (number room : ℕ) → 1 ≤ length rs → 128 ≤ room → number < 18446744073709551615
+    → 1 ≤ taken gap ride number room rs
+unfolding taken
+one-taken [] gap ride number room some enough small = absurd (omega arith)
+one-taken (r ∷ rs) gap ride number room some enough small =
+    let s : Step = treat ride gap r in
+    let left : ℕ = room - length (textOf (linesFor number (s .lines))) in
+    let more : 1 ≤ suc (taken gap (s .ride) (suc number) left rs) = omega arith in
+    subst (λ (k : ℕ). 1 ≤ k)
+    (sym (ap₂ (λ (t u : Bool). pick (t && u) (suc (taken gap (s .ride) (suc number) left rs)) 0) (le-leb 128 room enough) (lt-ltb number 18446744073709551615 small))) more

@@ -1,5 +1,4 @@
--- Lines that meet demand 3's hypothesis, and lines that break one of its conditions and hand out what was not sent: the theorem
--- is about something, and none of its conditions can be spared.
+-- Lines that meet demand 3's hypothesis, and one with a fourth flip that does not and hands out what was not sent.
 -- Assumes nothing.
 use mathlib.Core.Path.{_≡_, refl, sym, ap, _∙_}
 use mathlib.Core.List.{List, [], _∷_}

@@ -67,7 +67,7 @@ abbrev pub BareWords : (TelegramRead → Reading) → Type 0
 BareWords says = (n : ℕ) (at : Letter) (r r′ : TelegramRead) → says r ≡ refused n at → says r′ ≡ refused n at → r ≡ r′
 
 -- Each public function refuses with the first number of its list whose condition holds, and reads exactly if none does. What the others
--- (`Given`) read is demand 2's.
+-- (`Given`) read is demand 2's: `Groups` (specs/Demand2.antt), `Riding` (specs/Ride.antt), `Written` (specs/Output.antt).
 pub record Demand1 : Type 0 where
   pub read-short : (w : ℕ) (r : ShortRead) → ReadShort w r → Decided (Is (figure 8 (exchanged 8 w))) (row 1 (notCode 8 w) ∷ []) (saysShortRead r)
   pub write-short : (x : ℕ) (r : ShortWritten) → WriteShort x r → Decided (Is (sent 8 x)) (row 2 (above 15 x) ∷ []) (saysShortWritten r)

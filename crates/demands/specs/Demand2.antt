@@ -118,7 +118,7 @@ pub record Groups : Type 0 where
   -- every accepted group has an A, and says what its kind says
   pub its-a : (g : Group) (m : Message) → JudgeGroup g (Judged.Accepted m) → Its-A (partsOf g) m
   pub content : (g : Group) (m : Message) → JudgeGroup g (Judged.Accepted m) → Content-of m
-  -- what present signals, present warning boards and route boards say: "10 x AZ km/h, or AY 4 and AZ 10 (140 km/h)"
+  -- what present signals, present warning boards and route boards (10 x AZ km/h with AY 2, 140 km/h with AY 4) say
   pub signal : (g : Group) (m : Message) (d : ℕ) (preset : Bool) (main target : Told) → JudgeGroup g (Judged.Accepted m)
       → m .content ≡ Content.Signal d preset main target → Announces (partsOf g) d preset × Speeds (partsOf g) m main target
   pub warning : (g : Group) (m : Message) (d : ℕ) (preset : Bool) → JudgeGroup g (Judged.Accepted m)

@@ -8,7 +8,7 @@
 -- specs/Contracts.antt; calls of `find` one after the other: specs/Calls.antt.
 -- That all of this holds: proofs/Demand3.antt.
 -- Assumes nothing.
-use Prim.Native.Nat.{ℕ, _≤_}
+use Prim.Native.Nat.{ℕ, _+_, _≤_}
 use mathlib.Core.Path.{_≡_}
 use mathlib.Core.Logic.{_↔_}
 use mathlib.Core.Bool.{true, false}
@@ -94,8 +94,9 @@ pub record Demand3 : Type 0 where
   pub long-code : NoiseLaw 16 saysLongRead ReadLong
   -- "Over any stretch (not refused with 4 or 5) .. if no sync bit flips and no telegram .. has more than three flipped data bits .."
   pub stretch : (o : OneBalise) → Proper o → FewFlips o → OnlyTheSent o
-  -- asking ends: one who is answered at every call of `find` comes to 6
-  pub ends : (o : OneBalise) → Proper o → ((start len : ℕ) → (r : Found) × Find (o .buffer) start len (o .s) (o .t) r)
+  -- asking ends: one who is answered at every call of `find` inside the stretch comes to 6
+  pub ends : (o : OneBalise) → Proper o
+      → ((start len : ℕ) → o .start ≤ start → start + len ≤ o .start + o .len → (r : Found) × Find (o .buffer) start len (o .s) (o .t) r)
       → (w : List Found) × ComesOf o w
   -- if nothing flips, what comes is the telegram sent, at every true place and nowhere else
   pub clean : (o : OneBalise) → Proper o → Clean o → (w : List Found) → ComesOf o w → w ≡ allSent o

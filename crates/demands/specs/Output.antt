@@ -1,7 +1,7 @@
 -- What the program writes for a trace (document 01, "One ride in full"), and that ride.
 -- "The program writes, one line each and nothing else"; "trace refused 16 as the only line for a bad trace length".
 -- Assumes nothing.
-use Prim.Native.Nat.{ℕ, _*_, _/_, _≤_, _<_}
+use Prim.Native.Nat.{ℕ, _+_, _*_, _/_, _≤_, _<_}
 use mathlib.Core.Path.{_≡_}
 use mathlib.Core.Bool.{true, false}
 use mathlib.Core.List.{List, [], _∷_, _++_}
@@ -20,12 +20,13 @@ use Rattle.ride.specs.declared.Linking.{Linking}
 use Rattle.ride.specs.declared.Mark.{Mark}
 use Rattle.ride.specs.declared.Ran.{Ran}
 use Rattle.ride.specs.declared.Ride.{Ride}
-use Rattle.listing.specs.Text.{codes}
+use Rattle.listing.specs.Text.{codes, text}
+use Rattle.listing.specs.Put.{placed}
 use Rattle.listing.specs.List.{textOf}
 use Rattle.listing.specs.declared.Done.{Done}
 use Rattle.listing.specs.declared.Listed.{Listed}
 use Rattle.listing.specs.declared.Put.{Put}
-use Rattle.demands.specs.Table.{badLength}
+use Rattle.demands.specs.Table.{badLength, badGap}
 use Rattle.demands.specs.Contracts.{Fresh, EndOf, RunOver, PutLine, ListInto}
 
 -- The ride over all records of a trace, from a fresh ride: "The program's gap is 40."
@@ -43,36 +44,62 @@ recordsIn trace = length trace / 8
 -- A line, and how document 01 writes it.
 pub record Quoted : Type 0 where
   pub line : Line
-  pub text : List ℕ
+  pub reads : List ℕ
 
--- "Other lines read"
+-- "Other lines read": with either direction, each kind and each mark among them.
 abbrev pub quoted : List Quoted
 quoted =
-    record { line = Line.Group (record { place = 1000; direction = Direction.Opposite; kind = Kind.Signal; mark = Mark.Unmarked }); text = codes "1000 opposite signal\n" }
-    ∷ record { line = Line.Group (record { place = 1000; direction = Direction.Present; kind = Kind.Route; mark = Mark.Unmarked }); text = codes "1000 present route\n" }
-    ∷ record { line = Line.Trace 16; text = codes "trace refused 16\n" }
-    ∷ record { line = Line.Fault 1000 13; text = codes "1000 fault 13\n" }
-    ∷ record { line = Line.Record 3 17; text = codes "record 3 refused 17\n" }
+    record { line = Line.Group (record { place = 1000; direction = Direction.Opposite; kind = Kind.Signal; mark = Mark.Unmarked }); reads = codes "1000 opposite signal\n" }
+    ∷ record { line = Line.Group (record { place = 1000; direction = Direction.Present; kind = Kind.Route; mark = Mark.Unmarked }); reads = codes "1000 present route\n" }
+    ∷ record { line = Line.Group (record { place = 1000; direction = Direction.Present; kind = Kind.Warning; mark = Mark.Unmarked }); reads = codes "1000 present warning\n" }
+    ∷ record { line = Line.Group (record { place = 1000; direction = Direction.Opposite; kind = Kind.Annulled; mark = Mark.Unmarked }); reads = codes "1000 opposite annulled\n" }
+    ∷ record { line = Line.Group (record { place = 1000; direction = Direction.Opposite; kind = Kind.Line; mark = Mark.Unmarked }); reads = codes "1000 opposite line\n" }
+    ∷ record { line = Line.Group (record { place = 1000; direction = Direction.Present; kind = Kind.Signal; mark = Mark.Early }); reads = codes "1000 present signal early\n" }
+    ∷ record { line = Line.Group (record { place = 1000; direction = Direction.Present; kind = Kind.Signal; mark = Mark.Good }); reads = codes "1000 present signal good\n" }
+    ∷ record { line = Line.Group (record { place = 1000; direction = Direction.Present; kind = Kind.Signal; mark = Mark.Late }); reads = codes "1000 present signal late\n" }
+    ∷ record { line = Line.Trace 16; reads = codes "trace refused 16\n" }
+    ∷ record { line = Line.Fault 1000 13; reads = codes "1000 fault 13\n" }
+    ∷ record { line = Line.Record 3 17; reads = codes "record 3 refused 17\n" }
     ∷ []
 
--- Each line of a list is put so by `put_line`.
-abbrev pub AllPut : List Quoted → Type 0
-AllPut [] = Unit {0}
-AllPut (q ∷ qs) = ((before after : List ℕ) (n : ℕ) → PutLine (q .line) before 0 (Put.Next n) after → take n after ≡ q .text) × AllPut qs
+-- Each line of a list reads so.
+abbrev pub AllQuoted : List Quoted → Type 0
+AllQuoted [] = Unit {0}
+AllQuoted (q ∷ qs) = (text (q .line) ≡ q .reads) × AllQuoted qs
 
--- The library's functions come to that. `list` into a buffer with room for 128 bytes a record takes all records; the bytes
--- that it says it wrote, and then the text of the lines of `end`, are the output; the buffer's other bytes stay. (The program
--- lists block after block; that its blocks join to one listing, and its reads and writes, are not proved here: docs/EXCEPTIONS.md.)
+-- What `list` comes to, from any ride, gap, number and room: so many records are taken, one at least where there is one and room for
+-- 128 bytes; the bytes that it says it wrote are the text of their lines; the ride and the number are those after them; the buffer's
+-- other bytes stay.
+pub record Takes (ride : Ride) (gap number : ℕ) (trace before : List ℕ) (l : Listed) (after : List ℕ) : Type 0 where
+  pub n : ℕ
+  pub bytes : ℕ
+  pub took : l .done ≡ Done.Took n bytes
+  pub of-these : n ≤ recordsIn trace
+  pub one-at-least : 1 ≤ recordsIn trace → 128 ≤ length before → number < 18446744073709551615 → 1 ≤ n
+  pub written : take bytes after ≡ textOf (rideOver (λ odometer. gap) ride number (take n (records trace)) .lines)
+  pub rest-stays : drop bytes after ≡ drop bytes before
+  pub ridden-so : l .ride ≡ rideOver (λ odometer. gap) ride number (take n (records trace)) .ride
+  pub counted-on : l .number ≡ number + n
+
+-- The library's functions come to what the program is to write. (The program lists block after block; that its blocks join to one
+-- listing, and its reads and writes, are not proved here: docs/EXCEPTIONS.md.)
 pub record Written : Type 0 where
+  -- `put_line` puts a line's text where it has room, and says where it ends; else it leaves the buffer
+  pub puts : (line : Line) (before : List ℕ) (at : ℕ) (r : Put) (after : List ℕ) → PutLine line before at r after
+      → at + length (text line) ≤ length before → (r ≡ Put.Next (at + length (text line))) × (after ≡ placed (text line) before at)
+  pub no-room : (line : Line) (before : List ℕ) (at : ℕ) (r : Put) (after : List ℕ) → PutLine line before at r after
+      → length before < at + length (text line) → (r ≡ Put.NoRoom) × (after ≡ before)
+  -- document 01's lines, to the letter
+  pub quotes : AllQuoted quoted
+  -- `list` takes records and writes their lines
+  pub takes : (ride : Ride) (gap number : ℕ) (trace before : List ℕ) (l : Listed) (after : List ℕ) → badGap gap ≡ false → badLength trace ≡ false
+      → ListInto ride gap number trace before l after → Takes ride gap number trace before l after
+  -- with room for 128 bytes a record it takes them all, and with the lines of `end` its bytes are the output
   pub whole : (f : Ride) (l : Listed) (e : Ended) (trace before after : List ℕ) → badLength trace ≡ false → recordsIn trace < 18446744073709551615
       → 128 * recordsIn trace ≤ length before → Fresh f → ListInto f 40 1 trace before l after → EndOf (l .ride) e
       → (bytes : ℕ) × (l .done ≡ Done.Took (recordsIn trace) bytes) × (take bytes after ++ textOf (saysLines (e .lines)) ≡ output trace)
-      × (drop bytes after ≡ drop bytes before)
-  -- every other line that document 01 quotes
-  pub quotes : AllPut quoted
-  -- a bad trace length: the line that `put_line` puts
-  pub refused : (trace before after : List ℕ) (n : ℕ) → badLength trace ≡ true → PutLine (Line.Trace 16) before 0 (Put.Next n) after
-      → take n after ≡ output trace
+  -- for a bad trace length the output is the one line
+  pub refused : (trace : List ℕ) → badLength trace ≡ true → output trace ≡ text (Line.Trace 16)
 
 -- "Records: 000003E8 00 17 8E 5A / 00000406 00 99 2B 4D / 00001770 03 00 00 00."
 abbrev pub oneRide : List ℕ

@@ -24,7 +24,7 @@ use Rattle.ride.specs.declared.Ran.{Ran}
 use Rattle.ride.specs.declared.Ride.{Ride}
 use Rattle.ride.specs.declared.Stepped.{Stepped}
 use Rattle.demands.specs.Table.{badLength, badGap}
-use Rattle.demands.specs.Contracts.{StepOf, EndOf, RunOver, JudgeGroup}
+use Rattle.demands.specs.Contracts.{Fresh, StepOf, EndOf, RunOver, JudgeGroup}
 use Rattle.demands.specs.Steps.{OneStep, Accepts, LeavesBehind, StaysOpen, NoneOpen, before, after, Gives}
 
 -- The message of a present signal.
@@ -33,7 +33,7 @@ IsSignal m = (m .direction ≡ Direction.Present) × (m .kind ≡ Kind.Signal)
 
 -- The mark of an accepted group, from the linking before it. "A present signal at travelled distance t (A balise to A balise) is
 -- marked first if linking wasn't set, early if 5t < 4D, good if 4D <= 5t <= 6D, late if 5t > 6D." So at 5t = 4D and at 5t = 6D it is
--- good, and one less or one more is not. For a place before a, which no ride makes, t is 0.
+-- good, below the one it is early, above the other late. For a place before a, which no ride makes, t is 0.
 pub data IsMarked (linking : Linking) (m : Message) : Mark → Type 0 where
   first : IsSignal m → linking ≡ Linking.Unset → IsMarked linking m Mark.First
   early : (D a : ℕ) → IsSignal m → linking ≡ Linking.Set D a → 5 * (m .place - a) < 4 * D → IsMarked linking m Mark.Early
@@ -69,6 +69,7 @@ pub record Step3 (o : OneStep) (lines : List Line) (k : Known) : Type 0 where
   pub not-yet : (D a : ℕ) → k .linking ≡ Linking.Set D a → 5 * (o .odometer - a) ≤ 6 * D → Gives o lines × (after o ≡ k)
   pub not-set : k .linking ≡ Linking.Unset → Gives o lines × (after o ≡ k)
 
+-- What every step, the end and a run do.
 pub record Riding : Type 0 where
   -- 2 and 3: a group that is left behind closes; if it is accepted, its line with its mark is given, and step 3 is done with what is
   -- known then
@@ -92,7 +93,11 @@ pub record Riding : Type 0 where
       → JudgeGroup (ride .group) (Judged.Accepted m) → IsMarked (ride .known .linking) m mark
       → (saysLines (r .lines) ≡ lineOf m mark ∷ []) × Becomes (ride .known) m (r .ride .known)
       × (r .ride .group ≡ noGroup) × (r .ride .odometer ≡ ride .odometer) × (r .closed ≡ ride .group)
-  pub nothing-open : (ride : Ride) (r : Ended) → EndOf ride r → isOpen (ride .group) ≡ false → (saysLines (r .lines) ≡ []) × (r .ride ≡ ride)
+  pub nothing-open : (ride : Ride) (r : Ended) → EndOf ride r → isOpen (ride .group) ≡ false
+      → (saysLines (r .lines) ≡ []) × (r .ride ≡ ride) × (r .closed ≡ noGroup)
+  -- "A fresh ride has none of them."
+  pub fresh : (f : Ride) → Fresh f
+      → (f .known ≡ record { linking = Linking.Unset; main = Told.Unknown; target = Told.Unknown }) × (isOpen (f .group) ≡ false) × (f .odometer ≡ 0)
   -- a run is step after step, from any state: that of the first record, and the run over the rest
   pub runs : (ride : Ride) (gap : ℕ) (bytes rest : List ℕ) (s : Stepped) (q q′ : Ran) → length bytes ≡ 8 → badLength rest ≡ false
       → StepOf ride gap bytes s → RunOver ride gap (bytes ++ rest) q → RunOver (s .ride) gap rest q′ → saysRan q ≡ saysRan q′

@@ -58,7 +58,8 @@ asA Kind.Annulled = 10 ∷ []
 asA Kind.Line = 3 ∷ []
 asA Kind.Route = 5 ∷ []
 
--- The message's place, AY and AZ are those of a balise of the group with such a category.
+-- The message's place, AY and AZ are those of a balise of the group with such a category. (A route board can have two: that the
+-- first is its A is in the rows, and in their cases.)
 pub record Its-A (bs : List Placed) (m : Message) : Type 0 where
   pub a : Placed
   pub of-group : List·Memᴰ a bs
