@@ -97,8 +97,7 @@ pub record Demand1 : Type 0 where
 
 -- "A refusal hands out no figure, and lent memory and state stay untouched unless the table says otherwise."
 -- Of the libraries only `listing` is lent memory that it may write; a search is given by value, and a refusal of `next_contact` gives
--- none back. (The face for C leaves every lent array as it was where it
--- refuses: `left` of crates/abi/specs/Face.antt.)
+-- none back. (The face for C leaves every lent array as it was where it refuses: `left` of crates/abi/specs/Face.antt.)
 pub record Untouched : Type 0 where
   -- a refused step closes no group, and it and a refused run leave the ride as it was
   pub step : (ride : Ride) (gap : ℕ) (bytes : List ℕ) (r : Stepped) (n : ℕ) → StepOf ride gap bytes r

@@ -1,4 +1,6 @@
 // The edges of document 01 for telegrams and contacts: what was asked, and what came.
+// Promises: it is safe and it ends; what it writes is compared with the file stdout beside it.
+// Specification: none of its own; document 01's "Edges for tests", worked out by hand.
 mod contacts;
 mod judgements;
 mod say;

@@ -1,5 +1,6 @@
-// Holds the crate `group` against table DF and tables HS and FS of source 000, and against groups worked out by hand from
-// document 01. Writes each group with its answer, a line for each difference, and counts. Its arguments name the three files.
+// Holds the crate `group` against tables DF, HS and FS of source 000 and groups worked out from document 01, in three files named to it.
+// Promises: it is safe and it ends; it writes each answer, a line for each difference, and counts, compared with the file stdout beside it.
+// Specification: none of its own; the tables as the scan shows them, and the groups worked out by hand.
 ghost use Rattle.io.specs.Counts.{Counts};
 
 mod answers;

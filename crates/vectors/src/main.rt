@@ -1,5 +1,6 @@
-// Holds the two codes against table NR of source 000, and every word against itself.
-// Writes its counts, and a line for each difference. The table's file is its first argument.
+// Holds the two codes against table NR of source 000, whose file is its first argument, and every word against itself.
+// Promises: it is safe and it ends; it writes its counts and a line for each difference, compared with the file stdout beside it.
+// Specification: none of its own; the table as the scan shows it.
 mod cells;
 mod counts;
 mod every;
