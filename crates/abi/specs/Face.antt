@@ -4,7 +4,7 @@ use Prim.Native.Nat.{ℕ, _+_, _*_}
 use mathlib.Core.List.{List, [], _∷_}
 use lib.IntN.{ℤ, pos, negℤ}
 use Rattle.words.specs.Answer.{Outcome, gives, refuses}
-use Rattle.telegram.specs.Telegram.{Message, figures, number, Reading, reads, refused}
+use Rattle.telegram.specs.Telegram.{Said, figures, number, Received, reads, refused}
 use Rattle.telegram.specs.Place.{Single, at}
 
 -- What a call returns: the number of what is given; refusal n is -n.
@@ -22,12 +22,12 @@ abbrev pub itself : ℕ → ℕ
 itself x = x
 
 -- A telegram as one number: X * 65536 + Y * 256 + Z, or 12 * 65536 + the number of a number balise.
-abbrev pub asOne : Message → ℕ
+abbrev pub asOne : Said → ℕ
 asOne (figures x y z) = x * 65536 + y * 256 + z
 asOne (number m) = 12 * 65536 + m
 
 -- What three words read, as an answer; which word was refused is not told.
-abbrev pub told : Reading → Outcome Message
+abbrev pub told : Received → Outcome Said
 told (reads m) = gives m
 told (refused n letter) = refuses n
 

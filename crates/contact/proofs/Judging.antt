@@ -9,7 +9,7 @@ use lib.ListN.{length}
 use Rattle.words.specs.Answer.{Outcome, gives, refuses, pick}
 use Rattle.telegram.specs.Stretch.{inside}
 use Rattle.telegram.specs.Sync.{isGood}
-use Rattle.telegram.specs.Telegram.{Reading}
+use Rattle.telegram.specs.Telegram.{Received}
 use Rattle.telegram.specs.Place.{wordsAt, places}
 use Rattle.telegram.specs.Survey.{allAs, Alike, alike, together, surveyed}
 use Rattle.contact.specs.Judge.{Contact, read, marker, isMarker, judgement, judged}
@@ -24,7 +24,7 @@ fromSurvey left (gives (alike m first count)) = pick (leb 2 count) (gives (read 
 fromSurvey left (refuses n) = pick (eqb n 6) left (refuses n)
 
 -- Several places: y is whether they are two or more, x whether all are alike.
-several : (left : Outcome Contact) (m : Reading) (p n : ℕ) (x : Bool)
+several : (left : Outcome Contact) (m : Received) (p n : ℕ) (x : Bool)
     → pick (leb 2 n && x) (gives (read m p n)) (pick (not x) (refuses 7) left) ≡ fromSurvey left (pick x (gives (alike m p n)) (refuses 7))
 several left m p n true = go (leb 2 n)
   where

@@ -11,7 +11,7 @@ use lib.ListN.{length, getD}
 use Rattle.words.specs.Answer.{Outcome, gives, refuses, pick}
 use Rattle.telegram.specs.Stretch.{bitAt, inside}
 use Rattle.telegram.specs.Sync.{isGood}
-use Rattle.telegram.specs.Telegram.{Reading}
+use Rattle.telegram.specs.Telegram.{Received}
 use Rattle.telegram.specs.Place.{wordsAt, places}
 use Rattle.telegram.specs.Survey.{allAs}
 
@@ -41,7 +41,7 @@ isMarker b start len =
 
 -- What a contact is: read, with what its words read, the first place and the number of places; or a marker.
 pub data Contact : Type 0 where
-  read : Reading → ℕ → ℕ → Contact
+  read : Received → ℕ → ℕ → Contact
   marker : Contact
 
 -- The judgement of a contact whose places are ps: (a), (b), (c) and (d), in this order.

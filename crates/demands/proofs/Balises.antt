@@ -8,7 +8,7 @@ use lib.Dec.{eqb}
 use Rattle.words.specs.Answer.{Outcome, gives, refuses, pick}
 use Rattle.words.specs.Plain.{isCode, figure}
 use Rattle.words.specs.Code.{exchanged, readWord}
-use Rattle.telegram.specs.Telegram.{Letter, X, Y as WordY, Z as WordZ, YZ, Reading, reads, refused, figures, number, then as word-then, notFifteen, shortWord, longWord, telegram}
+use Rattle.telegram.specs.Telegram.{Letter, X, Y as WordY, Z as WordZ, YZ, Received, reads, refused, figures, number, then as word-then, notFifteen, shortWord, longWord, telegram}
 use Rattle.group.specs.Balise.{then, partOf, partHeard, readAll}
 use Rattle.group.specs.declared.Balise.{Balise}
 use Rattle.group.specs.declared.Heard.{Heard}
@@ -17,7 +17,7 @@ use Rattle.group.specs.declared.Placed.{Placed}
 use Rattle.demands.specs.Table.{notCode, fifteen, isNumber, isBad, wordsRefused, isUnread, someUnread}
 use Rattle.demands.proofs.Answers.{isRefusal, Only, or-false}
 
-part-twelve : (r : Reading) → Only 12 (partOf r)
+part-twelve : (r : Received) → Only 12 (partOf r)
 unfolding Only
 part-twelve (reads (figures x y z)) = tt
 part-twelve (reads (number m)) = tt
@@ -30,12 +30,12 @@ heard-twelve Heard.Marker = tt
 heard-twelve Heard.Unreadable = refl
 
 -- whether words are refused
-abbrev isRefused : Reading → Bool
+abbrev isRefused : Received → Bool
 isRefused (reads m) = false
 isRefused (refused n letter) = true
 
 -- a word, and then what follows it
-refused-then : (letter : Letter) (t : Bool) (n f : ℕ) (next : ℕ → Reading) → isRefused (word-then letter (pick t (refuses n) (gives f)) next) ≡ (t || isRefused (next f))
+refused-then : (letter : Letter) (t : Bool) (n f : ℕ) (next : ℕ → Received) → isRefused (word-then letter (pick t (refuses n) (gives f)) next) ≡ (t || isRefused (next f))
 refused-then letter true n f next = refl
 refused-then letter false n f next = refl
 
@@ -71,10 +71,10 @@ words-refused x y z =
     fig : ℕ → ℕ
     fig w = figure 8 (exchanged 8 w)
 
-    yThenZ : ℕ → Reading
+    yThenZ : ℕ → Received
     yThenZ a = word-then WordY (shortWord y) (λ b. word-then WordZ (shortWord z) (λ c. reads (figures a b c)))
 
-    short-then : (letter : Letter) (w : ℕ) (next : ℕ → Reading) → isRefused (word-then letter (shortWord w) next) ≡ (isBad w || isRefused (next (fig w)))
+    short-then : (letter : Letter) (w : ℕ) (next : ℕ → Received) → isRefused (word-then letter (shortWord w) next) ≡ (isBad w || isRefused (next (fig w)))
     short-then letter w next =
         ap (λ (o : Outcome ℕ). isRefused (word-then letter o next)) (short-is w) ∙ refused-then letter (isBad w) (pick (notCode 8 w) 1 3) (fig w) next
 
@@ -90,7 +90,7 @@ words-refused x y z =
 heard-refused : (h : Heard) → isRefusal (partHeard h) ≡ isUnread h
 heard-refused (Heard.Words x y z) = go (telegram x y z) ∙ words-refused x y z
   where
-    go : (r : Reading) → isRefusal (partOf r) ≡ isRefused r
+    go : (r : Received) → isRefusal (partOf r) ≡ isRefused r
     go (reads (figures a b c)) = refl
     go (reads (number m)) = refl
     go (refused n letter) = refl

@@ -22,6 +22,7 @@ use Rattle.group.specs.declared.Placed.{Placed}
 use Rattle.demands.specs.Table.{listOf, partsOf}
 use Rattle.demands.specs.Said.{asA, Its-A}
 use Rattle.demands.proofs.Places.{and-parts, or-left, or-right}
+use Rattle.demands.proofs.Boards.{Board, Head, board-head}
 
 -- What is sought is among the balises, and is what was asked.
 first-of : (w : Asked) (bs : List Placed) (a : Placed) → first w bs ≡ found a → List·Memᴰ a bs × (meets w (a .part) ≡ true)
@@ -117,28 +118,30 @@ never : {C : Type 0} {m : C} (n : ℕ) → refuses n ≡ gives m → ⊥
 never n e = let z : _≡_ {A = ℕ} 0 1 = cc in omega arith
 
 -- a message that takes its place, AY and AZ from this balise
-from-a : (bs : List Placed) (direction : Direction) (k : Kind) (a : Placed) (c : Content) (m : Said) → CanBeA bs k a → messageOf direction k a c ≡ saysMessage m → Its-A bs m
-from-a bs direction k a c m can e =
+from-a : (bs : List Placed) (direction : Direction) (k : Kind) (a : Placed) (c : Content) (m : Said) → CanBeA bs k a → (direction ≡ Direction.Present → Board k → Head bs a)
+    → messageOf direction k a c ≡ saysMessage m → Its-A bs m
+from-a bs direction k a c m can heads e =
     record {
       a = a;
       of-group = can .0;
       category = subst (λ (v : Kind). isOneOf (asA v) (a .part) ≡ true) (ap (λ (v : Message). v .kind) e) (can .1);
+      first = λ d is. heads (ap (λ (v : Message). v .direction) e ∙ d) (subst Board (sym (ap (λ (v : Message). v .kind) e)) is);
       place-is = sym (ap (λ (v : Message). v .place) e);
       ay-is = sym (ap (λ (v : Message). v .ay) e);
       az-is = sym (ap (λ (v : Message). v .az) e);
     }
 
 decided-a : (bs : List Placed) (m : Said) (p o : Fit) → ((k : Kind) (a : Placed) → p ≡ fit k a → CanBeA bs k a) → ((k : Kind) (a : Placed) → o ≡ fit k a → CanBeA bs k a)
-    → decide p o bs ≡ gives (saysMessage m) → Its-A bs m
-decided-a bs m misfit misfit here there e = absurd (never 13 e)
-decided-a bs m (fit k a) (fit k′ a′) here there e = absurd (never 14 e)
-decided-a bs m misfit (fit k a) here there e =
-    let is : messageOf Direction.Opposite k a nothing ≡ saysMessage m = cc in from-a bs Direction.Opposite k a nothing m (there k a refl) is
-decided-a bs m (fit k a) misfit here there e = go (contentOf k (Y (a .part)) (Z (a .part)) bs) e
+    → ((k : Kind) (a : Placed) → p ≡ fit k a → Board k → Head bs a) → decide p o bs ≡ gives (saysMessage m) → Its-A bs m
+decided-a bs m misfit misfit here there heads e = absurd (never 13 e)
+decided-a bs m (fit k a) (fit k′ a′) here there heads e = absurd (never 14 e)
+decided-a bs m misfit (fit k a) here there heads e =
+    let is : messageOf Direction.Opposite k a nothing ≡ saysMessage m = cc in from-a bs Direction.Opposite k a nothing m (there k a refl) (λ q. absurd (let z : _≡_ {A = ℕ} 0 1 = cc in omega arith)) is
+decided-a bs m (fit k a) misfit here there heads e = go (contentOf k (Y (a .part)) (Z (a .part)) bs) e
   where
     go : (c : Outcome Content) → then c (λ more. gives (messageOf Direction.Present k a more)) ≡ gives (saysMessage m) → Its-A bs m
     go (refuses n) q = absurd (never n q)
-    go (gives c) q = let is : messageOf Direction.Present k a c ≡ saysMessage m = cc in from-a bs Direction.Present k a c m (here k a refl) is
+    go (gives c) q = let is : messageOf Direction.Present k a c ≡ saysMessage m = cc in from-a bs Direction.Present k a c m (here k a refl) (λ q. heads k a refl) is
 
 -- Every accepted group has an A.
 pub has-a : (g : Group) (m : Said) → judge g ≡ gives (saysMessage m) → Its-A (partsOf g) m
@@ -149,4 +152,4 @@ has-a g m e = go (eqb (g .count) 1) (ltb 5 (g .count)) (readAll (balises g)) e
     go true u o q = absurd (never 10 q)
     go false true o q = absurd (never 11 q)
     go false false (refuses n) q = absurd (never n q)
-    go false false (gives bs) q = decided-a bs m (fitIn present bs) (fitIn opposite bs) (in-direction present present-a bs) (in-direction opposite opposite-a bs) q
+    go false false (gives bs) q = decided-a bs m (fitIn present bs) (fitIn opposite bs) (in-direction present present-a bs) (in-direction opposite opposite-a bs) (board-head bs) q

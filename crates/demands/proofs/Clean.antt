@@ -8,7 +8,7 @@ use native.Mathlib.Omega.{arith}
 use lib.Dec.{eqb}
 use borrow.Author.Tests.{eq-eqb}
 use Rattle.words.specs.Plain.{among}
-use Rattle.telegram.specs.Telegram.{Message, reads}
+use Rattle.telegram.specs.Telegram.{Said, reads}
 use Rattle.telegram.specs.Place.{wordsAt, isPlace, places, from, those, at}
 use Rattle.telegram.specs.Says.{saysTelegram}
 use Rattle.telegram.specs.declared.Telegram.{Telegram}
@@ -30,7 +30,7 @@ both-ways false true there back = back refl
 both-ways false false there back = refl
 
 -- The places listed read alike, each m.
-with-message : (b : List ℕ) (m : Message) (ps : List ℕ) → ((p : ℕ) → among p ps ≡ true → wordsAt b p ≡ reads m) → withTelegrams b ps ≡ map (λ p. at p (reads m)) ps
+with-message : (b : List ℕ) (m : Said) (ps : List ℕ) → ((p : ℕ) → among p ps ≡ true → wordsAt b p ≡ reads m) → withTelegrams b ps ≡ map (λ p. at p (reads m)) ps
 with-message b m [] all = refl
 with-message b m (p ∷ ps) all =
     ap₂ _∷_ (ap (at p) (all p (or-left (among p ps) (eq-eqb p p refl)))) (with-message b m ps (λ r there. all r (or-right (eqb r p) there)))

@@ -10,7 +10,7 @@ use lib.Dec.{T, eqb}
 use borrow.Author.Tests.{eqb-true, eq-eqb}
 use Rattle.words.specs.Answer.{gives, refuses}
 use Rattle.words.specs.Plain.{among}
-use Rattle.telegram.specs.Telegram.{Reading, reads}
+use Rattle.telegram.specs.Telegram.{Received, reads}
 use Rattle.telegram.specs.Place.{wordsAt, places, Single, at, found}
 use Rattle.telegram.specs.Says.{saysTelegram, saysFound}
 use Rattle.telegram.specs.declared.Telegram.{Telegram}
@@ -139,7 +139,7 @@ module _ (o : OneBalise) (proper : Proper o) where
   unflipped-comes w c p sent none =
       let b = o .buffer in
       let answer : answerOf (at p (wordsAt b p)) ≡ Found.At p (o .telegram) =
-      ap (λ (r : Reading). answerOf (at p r)) (unflipped-words o proper p sent none) ∙ found-back (Found.At p (o .telegram)) in
+      ap (λ (r : Received). answerOf (at p r)) (unflipped-words o proper p sent none) ∙ found-back (Found.At p (o .telegram)) in
       subst (λ (r : Found). List·Memᴰ r w) answer
       (subst (λ (l : List Found). List·Memᴰ (answerOf (at p (wordsAt b p))) l) (sym (comes-is w c))
       (answered-with (at p (wordsAt b p)) (withTelegrams b (placesOf o)) (listed-with b p (placesOf o) (unflipped-among o proper p sent none))))

@@ -10,7 +10,7 @@ use lib.Dec.{leb}
 use lib.ListN.{length}
 use borrow.Author.Tests.{le-leb}
 use Rattle.words.specs.Answer.{Outcome, gives, refuses, pick}
-use Rattle.telegram.specs.Telegram.{Reading, reads}
+use Rattle.telegram.specs.Telegram.{Received, reads}
 use Rattle.telegram.specs.Survey.{Alike, surveyed}
 use Rattle.telegram.specs.Says.{saysTelegram}
 use Rattle.telegram.specs.declared.Telegram.{Telegram}
@@ -46,7 +46,7 @@ module _ (o : OneBalise) (proper : Proper o) (every-place : AllSent o) where
       never-left true e = let z : _≡_ {A = ℕ} 0 1 = cc in omega arith
       never-left false e = let z : _≡_ {A = ℕ} 8 7 = cc in omega arith
 
-      never-several : (t u : Bool) (m : Reading) (first count : ℕ) → pick t (gives (read m first count)) (pick u (gives marker) (refuses 8)) ≡ refuses 7 → ⊥
+      never-several : (t u : Bool) (m : Received) (first count : ℕ) → pick t (gives (read m first count)) (pick u (gives marker) (refuses 8)) ≡ refuses 7 → ⊥
       never-several true u m first count e = let z : _≡_ {A = ℕ} 0 1 = cc in omega arith
       never-several false u m first count e = never-left u e
 
@@ -56,11 +56,11 @@ module _ (o : OneBalise) (proper : Proper o) (every-place : AllSent o) where
           never-several (leb 2 (r .count)) (isMarker (o .buffer) (o .start) (o .len)) (r .message) (r .first) (r .count)
           (sym (ap (fromSurvey (markerOr (o .buffer) (o .start) (o .len))) (r .is)) ∙ e)
 
-      known-left : (t : Bool) (m : Reading) (first count : ℕ) → pick t (gives marker) (refuses 8) ≡ gives (read m first count) → Known o proper every-place m first count
+      known-left : (t : Bool) (m : Received) (first count : ℕ) → pick t (gives marker) (refuses 8) ≡ gives (read m first count) → Known o proper every-place m first count
       known-left true m first count e = absurd (let z : _≡_ {A = ℕ} 0 1 = cc in omega arith)
       known-left false m first count e = absurd (let z : _≡_ {A = ℕ} 0 1 = cc in omega arith)
 
-      known-several : (t u : Bool) (n m : Reading) (p q k l : ℕ) → Known o proper every-place n p k
+      known-several : (t u : Bool) (n m : Received) (p q k l : ℕ) → Known o proper every-place n p k
           → pick t (gives (read n p k)) (pick u (gives marker) (refuses 8)) ≡ gives (read m q l) → Known o proper every-place m q l
       known-several true u n m p q k l it e =
           let same-m : n ≡ m = cc in
@@ -69,7 +69,7 @@ module _ (o : OneBalise) (proper : Proper o) (every-place : AllSent o) where
           same-known o proper every-place same-m same-p same-k it
       known-several false u n m p q k l it e = known-left u m q l e
 
-      known : {a : Outcome Alike} → Survey o proper every-place a → (m : Reading) (first count : ℕ)
+      known : {a : Outcome Alike} → Survey o proper every-place a → (m : Received) (first count : ℕ)
           → fromSurvey (markerOr (o .buffer) (o .start) (o .len)) a ≡ gives (read m first count) → Known o proper every-place m first count
       known (inl none) m first count e =
           known-left (isMarker (o .buffer) (o .start) (o .len)) m first count (sym (ap (fromSurvey (markerOr (o .buffer) (o .start) (o .len))) (none .0)) ∙ e)
@@ -80,7 +80,7 @@ module _ (o : OneBalise) (proper : Proper o) (every-place : AllSent o) where
       of : (m : Telegram) (first count : ℕ) → JudgeContact (o .buffer) (o .start) (o .len) (o .s) (o .t) (Judged.Read m first count) → Known o proper every-place (reads (saysTelegram m)) first count
       of m first count k = known (the-survey o proper every-place) (reads (saysTelegram m)) first count (by (Judged.Read m first count) k)
 
-      is-read : (r : Judged) {m : Reading} {first count : ℕ} → gives (read m first count) ≡ saysJudged r → (m : Telegram) × (first : ℕ) × (count : ℕ) × (r ≡ Judged.Read m first count)
+      is-read : (r : Judged) {m : Received} {first count : ℕ} → gives (read m first count) ≡ saysJudged r → (m : Telegram) × (first : ℕ) × (count : ℕ) × (r ≡ Judged.Read m first count)
       is-read (Judged.Read m first count) e = (m, first, count, refl)
       is-read Judged.Marker e = absurd (let z : _≡_ {A = ℕ} 0 1 = cc in omega arith)
       is-read Judged.NotSeven e = absurd (let z : _≡_ {A = ℕ} 0 1 = cc in omega arith)

@@ -21,6 +21,7 @@ pub mod Cases
 pub mod RowCases
 pub mod Codes
 pub mod Prefix
+pub mod Boards
 pub mod CalledA
 pub mod Contents
 pub mod Saying

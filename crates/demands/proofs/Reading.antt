@@ -14,7 +14,7 @@ use Rattle.words.specs.declared.LongRead.{LongRead}
 use Rattle.words.proofs.Told.{told}
 use Rattle.telegram.specs.Stretch.{inside}
 use Rattle.telegram.specs.Sync.{isGood}
-use Rattle.telegram.specs.Telegram.{X, Y, Z, YZ, Reading, then, notFifteen, shortWord, longWord, reads, figures, number, telegram}
+use Rattle.telegram.specs.Telegram.{X, Y, Z, YZ, Received, then, notFifteen, shortWord, longWord, reads, figures, number, telegram}
 use Rattle.telegram.specs.Place.{wordsAt, places}
 use Rattle.telegram.specs.Says.{saysTelegram, saysTelegramRead}
 use Rattle.telegram.specs.declared.Found.{Found}
@@ -48,7 +48,7 @@ long-word y z r c = sym (c .1)
 
 -- ---- what X says decides how Y and Z are read
 
-yThenZ : ℕ → ℕ → ℕ → Reading
+yThenZ : ℕ → ℕ → ℕ → Received
 yThenZ y z a = then Y (shortWord y) (λ b. then Z (shortWord z) (λ c. reads (figures a b c)))
 
 on-x : (x y z : ℕ) (o : Outcome ℕ) → shortWord x ≡ o
@@ -74,7 +74,7 @@ on-z : (x y z a b : ℕ) (o : Outcome ℕ) → Good x a → (a ≡ 12 → ⊥) �
 on-z x y z a b o g other h e =
     on-y x y z a (gives b) g other (good-word y b h) ∙ ap (λ (o : Outcome ℕ). then Z o (λ c. reads (figures a b c))) e
 
-is-read : (o : Reading) (r r′ : TelegramRead) → saysTelegramRead r ≡ o → o ≡ saysTelegramRead r′ → r ≡ r′
+is-read : (o : Received) (r r′ : TelegramRead) → saysTelegramRead r ≡ o → o ≡ saysTelegramRead r′ → r ≡ r′
 is-read o r r′ p q = told saysTelegramRead telegram-is.readOf telegram-is.read-back r r′ p (sym q)
 
 -- ---- every place once

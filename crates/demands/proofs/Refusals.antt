@@ -11,7 +11,7 @@ use Rattle.words.specs.Answer.{Outcome, gives, refuses, pick}
 use Rattle.words.specs.Plain.{isCode, figure}
 use Rattle.words.specs.Code.{exchanged, readWord, sent, writeWord}
 use Rattle.telegram.specs.Sync.{good, isGood, pairOf}
-use Rattle.telegram.specs.Telegram.{figures, number, Letter, X, Y, Z, YZ, Reading, reads, then, notFifteen, shortWord, longWord, telegram}
+use Rattle.telegram.specs.Telegram.{figures, number, Letter, X, Y, Z, YZ, Received, reads, then, notFifteen, shortWord, longWord, telegram}
 use Rattle.telegram.specs.Stretch.{inside}
 use Rattle.telegram.specs.Place.{at, firstOf, wordsAt, places, found}
 use Rattle.telegram.specs.Survey.{alike, allAs, together, surveyed}
@@ -55,7 +55,7 @@ unfolding notSeven pairOf isGood
 pairing s t = if-not (Is good) [] (refuses 4) (gives good) refl (isGood s t)
 
 -- A short word of a telegram, 1 and then 3, before what follows it.
-short-then : (letter : Letter) (w : ℕ) (rules : List (Rule Reading)) (next : ℕ → Reading)
+short-then : (letter : Letter) (w : ℕ) (rules : List (Rule Received)) (next : ℕ → Received)
     → Decided IsTelegram rules (next (figure 8 (exchanged 8 w)))
     → Decided IsTelegram (rowAt letter 1 (notCode 8 w) ∷ rowAt letter 3 (fifteen w) ∷ rules) (then letter (shortWord w) next)
 unfolding notCode fifteen shortWord readWord

@@ -7,7 +7,7 @@ use lib.Dec.{eqb, leb}
 use borrow.Author.Tests.{le-leb, leb-true, eqb-true, eq-eqb}
 use Rattle.words.specs.Plain.{among}
 use Rattle.telegram.specs.Stretch.{bitsAt}
-use Rattle.telegram.specs.Telegram.{Reading, reads, telegram}
+use Rattle.telegram.specs.Telegram.{Received, reads, telegram}
 use Rattle.telegram.specs.Place.{wordsAt}
 use Rattle.telegram.specs.Says.{saysTelegram}
 use Rattle.demands.specs.Line.{OneBalise, Proper, lineBit, sentAt}
@@ -41,7 +41,7 @@ AllSent o = (p : ℕ) → among p (placesOf o) ≡ true → Sent o p
 pub same-words : (o : OneBalise) (p : ℕ) {x y z : ℕ} → bitsAt (o .buffer) (p + 8) 8 ≡ x → bitsAt (o .buffer) (p + 16) 8 ≡ y → bitsAt (o .buffer) (p + 24) 8 ≡ z
     → wordsAt (o .buffer) p ≡ telegram x y z
 unfolding wordsAt
-same-words o p x-is y-is z-is = ap₂ (λ (f : ℕ → Reading) (k : ℕ). f k) (ap₂ telegram x-is y-is) z-is
+same-words o p x-is y-is z-is = ap₂ (λ (f : ℕ → Received) (k : ℕ). f k) (ap₂ telegram x-is y-is) z-is
 
 pub read-as-sent : (o : OneBalise) → Proper o → (p : ℕ) → Sent o p → wordsAt (o .buffer) p ≡ reads (saysTelegram (o .telegram))
 read-as-sent o proper p there = same-words o p (there .x-is) (there .y-is) (there .z-is) ∙ proper .valid

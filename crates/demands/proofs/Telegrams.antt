@@ -13,7 +13,7 @@ use Rattle.words.proofs.Weight.{no-ones-zero}
 use Rattle.words.proofs.Widths.{Width, short, long}
 use Rattle.words.proofs.Laws.{three-flips}
 use Rattle.telegram.specs.Sync.{differing}
-use Rattle.telegram.specs.Telegram.{Message, figures, number, Letter, X, Y, Z, YZ, Reading, reads, refused, then, notFifteen, shortWord, longWord, telegram}
+use Rattle.telegram.specs.Telegram.{Said, figures, number, Letter, X, Y, Z, YZ, Received, reads, refused, then, notFifteen, shortWord, longWord, telegram}
 use Rattle.telegram.specs.Place.{accepted}
 use Rattle.demands.proofs.Bits.{ones-differing}
 use Rattle.words.proofs.HowMany.{onesOf}
@@ -53,16 +53,16 @@ as-short w a e = go (readShort w) e
         by false e = e
 
 -- A word whose answer goes on to a telegram gave a figure.
-onward : (l : Letter) (o : Outcome ℕ) (next : ℕ → Reading) (m : Message) → then l o next ≡ reads m → (a : ℕ) × (o ≡ gives a) × (next a ≡ reads m)
+onward : (l : Letter) (o : Outcome ℕ) (next : ℕ → Received) (m : Said) → then l o next ≡ reads m → (a : ℕ) × (o ≡ gives a) × (next a ≡ reads m)
 onward l (gives a) next m e = (a, refl, e)
 onward l (refuses k) next m e = absurd (let z : _≡_ {A = ℕ} 0 1 = cc in omega arith)
 
-pub taken : (r : Reading) → accepted r ≡ true → (m : Message) × (r ≡ reads m)
+pub taken : (r : Received) → accepted r ≡ true → (m : Said) × (r ≡ reads m)
 taken (reads m) e = (m, refl)
 taken (refused k l) e = absurd (let z : _≡_ {A = ℕ} 0 1 = cc in omega arith)
 
 -- what follows an X that reads a
-abbrev after : ℕ → ℕ → ℕ → Reading
+abbrev after : ℕ → ℕ → ℕ → Received
 after y z a =
     pick (eqb a 12) (then YZ (longWord y z) (λ m. reads (number m)))
     (then Y (shortWord y) (λ b. then Z (shortWord z) (λ c. reads (figures a b c))))
@@ -78,7 +78,7 @@ module _ (x y z u v w : ℕ) (hx : x < 256) (hy : y < 256) (hz : z < 256) (hu : 
   short-still : (c k : ℕ) → c < 256 → k < 256 → (a d : ℕ) → shortWord c ≡ gives a → shortWord k ≡ gives d → differing k c 8 ≤ 3 → k ≡ c
   short-still c k hc hk a d sent received near = still short c k a d hc hk (as-short c a sent) (as-short k d received) near
 
-  rest-still : (a : ℕ) (m n : Message) → after y z a ≡ reads m → after v w a ≡ reads n → (v ≡ y) × (w ≡ z)
+  rest-still : (a : ℕ) (m n : Said) → after y z a ≡ reads m → after v w a ≡ reads n → (v ≡ y) × (w ≡ z)
   unfolding longWord
   rest-still a m n sent received = go (eqb a 12) sent received
     where
@@ -98,7 +98,7 @@ module _ (x y z u v w : ℕ) (hx : x < 256) (hy : y < 256) (hz : z < 256) (hu : 
           let r′ = onward Z (shortWord w) (λ c. reads (figures a (r .0) c)) n (r .2) in
           (short-still y v hy hv (s .0) (r .0) (s .1) (r .1) near-y, short-still z w hz hw (s′ .0) (r′ .0) (s′ .1) (r′ .1) near-z)
 
-  pub telegram-still : (m n : Message) → telegram x y z ≡ reads m → telegram u v w ≡ reads n → (u ≡ x) × (v ≡ y) × (w ≡ z)
+  pub telegram-still : (m n : Said) → telegram x y z ≡ reads m → telegram u v w ≡ reads n → (u ≡ x) × (v ≡ y) × (w ≡ z)
   telegram-still m n sent received =
       let s = onward X (shortWord x) (after y z) m (sym (on-x x y z) ∙ sent) in
       let r = onward X (shortWord u) (after v w) n (sym (on-x u v w) ∙ received) in

@@ -12,7 +12,7 @@ use borrow.Author.Tests.{eq-eqb}
 use Rattle.words.specs.Answer.{Outcome, gives, refuses, pick}
 use Rattle.words.specs.Plain.{among}
 use Rattle.telegram.specs.Stretch.{bitsAt}
-use Rattle.telegram.specs.Telegram.{Reading, reads}
+use Rattle.telegram.specs.Telegram.{Received, reads}
 use Rattle.telegram.specs.Place.{wordsAt}
 use Rattle.telegram.specs.Survey.{sameWords, allAs, Alike, alike, together, surveyed}
 use Rattle.telegram.specs.Says.{saysTelegram, saysSurveyed}
@@ -45,14 +45,14 @@ module _ (o : OneBalise) (proper : Proper o) (every-place : AllSent o) where
   b = o .buffer
 
   -- What is known of a reading with its first place and their number.
-  pub record Known (m : Reading) (first count : ℕ) : Type 0 where
+  pub record Known (m : Received) (first count : ℕ) : Type 0 where
     pub first-is : Sent o first
     pub read-there : m ≡ wordsAt b first
     pub as-many : count ≡ length (placesOf o)
 
   -- An answer that all places are alike.
   pub record AllAlike (a : Outcome Alike) : Type 0 where
-    pub message : Reading
+    pub message : Received
     pub first : ℕ
     pub count : ℕ
     pub is : a ≡ gives (alike message first count)
@@ -100,9 +100,9 @@ module _ (o : OneBalise) (proper : Proper o) (every-place : AllSent o) where
   pub known-sent : (m : Telegram) (first count : ℕ) → Known (reads (saysTelegram m)) first count → TheSent o first m
   known-sent m first count known = the-sent o proper first m (known .first-is) (known .read-there)
 
-  pub same-known : {m n : Reading} {p q k l : ℕ} → m ≡ n → p ≡ q → k ≡ l → Known m p k → Known n q l
+  pub same-known : {m n : Received} {p q k l : ℕ} → m ≡ n → p ≡ q → k ≡ l → Known m p k → Known n q l
   same-known {m} {n} {p} {q} {k} {l} e f g known =
-      subst (λ (v : ℕ). Known n q v) g (subst (λ (v : ℕ). Known n v k) f (subst (λ (v : Reading). Known v p k) e known))
+      subst (λ (v : ℕ). Known n q v) g (subst (λ (v : ℕ). Known n v k) f (subst (λ (v : Received). Known v p k) e known))
 
   pub survey-sent : TogetherTheSent o (SurveyAllows b (o .start) (o .len) (o .s) (o .t)) 1 Surveyed.Differ Surveyed.Alike
   survey-sent =
@@ -129,7 +129,7 @@ module _ (o : OneBalise) (proper : Proper o) (every-place : AllSent o) where
       never (inl none) e = let f = none .0 in let z : _≡_ {A = ℕ} 6 7 = cc in omega arith
       never (inr r) e = let f = r .is in let z : _≡_ {A = ℕ} 0 1 = cc in omega arith
 
-      known : {a : Outcome Alike} → Survey a → (m : Reading) (first count : ℕ) → a ≡ gives (alike m first count) → Known m first count
+      known : {a : Outcome Alike} → Survey a → (m : Received) (first count : ℕ) → a ≡ gives (alike m first count) → Known m first count
       known (inl none) m first count e = absurd (let f = none .0 in let z : _≡_ {A = ℕ} 0 1 = cc in omega arith)
       known (inr r) m first count e =
           let f = r .is in

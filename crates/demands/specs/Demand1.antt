@@ -20,7 +20,7 @@ use Rattle.words.specs.declared.ShortWritten.{ShortWritten}
 use Rattle.words.specs.declared.LongRead.{LongRead}
 use Rattle.words.specs.declared.LongWritten.{LongWritten}
 use Rattle.telegram.specs.Sync.{good}
-use Rattle.telegram.specs.Telegram.{Letter, Reading, refused}
+use Rattle.telegram.specs.Telegram.{Letter, Received, refused}
 use Rattle.telegram.specs.Says.{saysPair, saysTelegramRead, saysFound, saysSurveyed}
 use Rattle.telegram.specs.declared.Pair.{Pair}
 use Rattle.telegram.specs.declared.TelegramRead.{TelegramRead}
@@ -63,7 +63,7 @@ abbrev pub Bare : {A B : Type 0} → (A → Outcome B) → Type 0
 Bare {A} says = (n : ℕ) (r r′ : A) → says r ≡ refuses n → says r′ ≡ refuses n → r ≡ r′
 
 -- The same of a telegram's words: a refusal says its number and the word's letter, and no more.
-abbrev pub BareWords : (TelegramRead → Reading) → Type 0
+abbrev pub BareWords : (TelegramRead → Received) → Type 0
 BareWords says = (n : ℕ) (at : Letter) (r r′ : TelegramRead) → says r ≡ refused n at → says r′ ≡ refused n at → r ≡ r′
 
 -- Each public function refuses with the first number of its list whose condition holds, and reads exactly if none does. What the others

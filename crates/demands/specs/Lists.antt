@@ -7,7 +7,7 @@ use mathlib.Core.List.{List, [], _∷_}
 use lib.Dec.{leb}
 use lib.ListN.{length}
 use Rattle.words.specs.Answer.{Outcome, gives, pick}
-use Rattle.telegram.specs.Telegram.{Message, Letter, X, Y, Z, YZ, Reading, reads, refused}
+use Rattle.telegram.specs.Telegram.{Said, Letter, X, Y, Z, YZ, Received, reads, refused}
 use Rattle.telegram.specs.Place.{wordsAt, places, Single, at}
 use Rattle.telegram.specs.Survey.{Alike, alike}
 use Rattle.contact.specs.declared.Search.{Search}
@@ -19,22 +19,22 @@ use Rattle.demands.specs.Table.{notCode, fifteen, notSeven, beyond, noPl
 use Rattle.demands.specs.Rules.{Rule, row}
 
 -- A row of the table at the word of a telegram that this letter names.
-abbrev pub rowAt : Letter → ℕ → Bool → Rule Reading
+abbrev pub rowAt : Letter → ℕ → Bool → Rule Received
 rowAt letter n condition = record { holds = condition; answer = refused n letter }
 
 -- A telegram was read.
-abbrev pub IsTelegram : Reading → Type 0
-IsTelegram o = (m : Message) × (o ≡ reads m)
+abbrev pub IsTelegram : Received → Type 0
+IsTelegram o = (m : Said) × (o ≡ reads m)
 
 -- After X: if it reads 12, Y and Z as one long word, 1; else Y, then Z, each 1, then 3.
-abbrev pub rulesAfterX : ℕ → ℕ → ℕ → List (Rule Reading)
+abbrev pub rulesAfterX : ℕ → ℕ → ℕ → List (Rule Received)
 rulesAfterX x y z =
     pick (isNumber x)
     (rowAt YZ 1 (notCode 16 (y * 256 + z)) ∷ [])
     (rowAt Y 1 (notCode 8 y) ∷ rowAt Y 3 (fifteen y) ∷ rowAt Z 1 (notCode 8 z) ∷ rowAt Z 3 (fifteen z) ∷ [])
 
 -- "X is judged before Y, Y before Z, and the first bad word decides whatever the numbers."
-abbrev pub telegramRules : ℕ → ℕ → ℕ → List (Rule Reading)
+abbrev pub telegramRules : ℕ → ℕ → ℕ → List (Rule Received)
 telegramRules x y z = rowAt X 1 (notCode 8 x) ∷ rowAt X 3 (fifteen x) ∷ rulesAfterX x y z
 
 -- `find`: 4, 5, 6.

@@ -58,12 +58,13 @@ asA Kind.Annulled = 10 ∷ []
 asA Kind.Line = 3 ∷ []
 asA Kind.Route = 5 ∷ []
 
--- The message's place, AY and AZ are those of a balise of the group with such a category. (A route board can have two: that the
--- first is its A is in the rows, and in their cases.)
+-- The message's place, AY and AZ are those of a balise of the group with such a category. "In a present line or route board A is the
+-- first balise."
 pub record Its-A (bs : List Placed) (m : Message) : Type 0 where
   pub a : Placed
   pub of-group : List·Memᴰ a bs
   pub category : isOneOf (asA (m .kind)) (a .part) ≡ true
+  pub first : m .direction ≡ Direction.Present → (m .kind ≡ Kind.Line) ⊎ (m .kind ≡ Kind.Route) → (rest : List Placed) × (bs ≡ a ∷ rest)
   pub place-is : m .place ≡ a .place
   pub ay-is : m .ay ≡ YOf (a .part)
   pub az-is : m .az ≡ ZOf (a .part)

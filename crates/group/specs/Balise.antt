@@ -5,7 +5,7 @@
 use mathlib.Core.List.{List, [], _∷_}
 use lib.ListN.{take}
 use Rattle.words.specs.Answer.{Outcome, gives, refuses}
-use Rattle.telegram.specs.Telegram.{Message, figures, number, Reading, reads, refused, telegram}
+use Rattle.telegram.specs.Telegram.{Said, figures, number, Received, reads, refused, telegram}
 use Rattle.group.specs.declared.Heard.{Heard}
 use Rattle.group.specs.declared.Balise.{Balise}
 use Rattle.group.specs.declared.Group.{Group}
@@ -22,12 +22,12 @@ then (gives x) next = next x
 then (refuses n) next = refuses n
 
 -- A telegram as a part of a group: the figures of X, Y and Z, or the number of a number balise (12).
-abbrev pub partSaid : Message → Part
+abbrev pub partSaid : Said → Part
 partSaid (figures x y z) = Part.Figures x y z
 partSaid (number m) = Part.Number m
 
 -- If its words are refused, so is the group, with 12.
-abbrev pub partOf : Reading → Outcome Part
+abbrev pub partOf : Received → Outcome Part
 partOf (reads t) = gives (partSaid t)
 partOf (refused n at) = refuses 12
 

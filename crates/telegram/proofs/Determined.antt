@@ -8,7 +8,7 @@ use borrow.Fn.Kinds.{Dens, endedOf}
 use denote.Triple.Clauses.{AtExit}
 use Rattle.words.specs.Answer.{Outcome, gives, refuses, pick}
 use Rattle.telegram.specs.Sync.{Good}
-use Rattle.telegram.specs.Telegram.{Message, figures, number, Letter, X, Y, Z, YZ, Reading, reads, refused}
+use Rattle.telegram.specs.Telegram.{Said, figures, number, Letter, X, Y, Z, YZ, Received, reads, refused}
 use Rattle.telegram.specs.Place.{Single, at}
 use Rattle.telegram.specs.Survey.{Alike, alike}
 use Rattle.telegram.specs.Says.{saysPair, saysTelegram, saysWord, saysTelegramRead, saysFound, saysSurveyed}
@@ -38,7 +38,7 @@ pub pair-back : (r : Pair) → pairOf (saysPair r) ≡ r
 pair-back Pair.Good = refl
 pair-back Pair.NotSeven = refl
 
-abbrev pub telegramOf : Message → Telegram
+abbrev pub telegramOf : Said → Telegram
 telegramOf (figures x y z) = Telegram.Figures x y z
 telegramOf (number m) = Telegram.Number m
 
@@ -58,7 +58,7 @@ word-back Word.Y = refl
 word-back Word.Z = refl
 word-back Word.YZ = refl
 
-abbrev pub readOf : Reading → TelegramRead
+abbrev pub readOf : Received → TelegramRead
 readOf (reads m) = TelegramRead.Is (telegramOf m)
 readOf (refused n letter) = pick (eqb n 1) (TelegramRead.NotCode (wordOf letter)) (TelegramRead.Fifteen (wordOf letter))
 
@@ -68,7 +68,7 @@ read-back (TelegramRead.NotCode w) = ap TelegramRead.NotCode (word-back w)
 read-back (TelegramRead.Fifteen w) = ap TelegramRead.Fifteen (word-back w)
 
 -- Of a reading that is none, any answer will do.
-abbrev pub told : {A : Type 0} → (Telegram → A) → A → Reading → A
+abbrev pub told : {A : Type 0} → (Telegram → A) → A → Received → A
 told some none (reads m) = some (telegramOf m)
 told some none (refused n letter) = none
 

@@ -8,13 +8,13 @@ use native.Mathlib.Omega.{arith}
 use Rattle.words.specs.Answer.{gives, refuses, pick}
 use Rattle.telegram.specs.Stretch.{inside}
 use Rattle.telegram.specs.Sync.{isGood}
-use Rattle.telegram.specs.Telegram.{Reading}
+use Rattle.telegram.specs.Telegram.{Received}
 use Rattle.telegram.specs.Place.{wordsAt, places, at, firstOf, found}
 use Rattle.telegram.specs.Survey.{together, surveyed}
 use Rattle.telegram.proofs.Rest.{First, first-and-rest}
 
 -- What it says that the place p is handed out with m: the stretch is a good one, p is its first place, and m is read there.
-pub record Handed (b : List ℕ) (start len s t p : ℕ) (m : Reading) : Type 0 where
+pub record Handed (b : List ℕ) (start len s t p : ℕ) (m : Received) : Type 0 where
   pub good : isGood s t ≡ true
   pub taken : inside b start len ≡ true
   pub rest : List ℕ
@@ -23,7 +23,7 @@ pub record Handed (b : List ℕ) (start len s t p : ℕ) (m : Reading) : Type 0 
   pub says : m ≡ wordsAt b p
 
 module _ (b : List ℕ) (start len s t : ℕ) where
-  pub handed : (p : ℕ) (m : Reading) → found b start len s t ≡ gives (at p m) → Handed b start len s t p m
+  pub handed : (p : ℕ) (m : Received) → found b start len s t ≡ gives (at p m) → Handed b start len s t p m
   unfolding found
   handed p m e = go (isGood s t) (inside b start len) (places b start len s t) refl refl refl e
     where

@@ -10,7 +10,7 @@ use native.Mathlib.Omega.{arith}
 use Rattle.words.specs.Answer.{Outcome, gives, refuses}
 use Rattle.telegram.specs.Stretch.{inside}
 use Rattle.telegram.specs.Sync.{isGood}
-use Rattle.telegram.specs.Telegram.{Reading}
+use Rattle.telegram.specs.Telegram.{Received}
 use Rattle.telegram.specs.Place.{wordsAt, places, Single, at, firstOf, found}
 use Rattle.telegram.proofs.Taken.{part-taken}
 use Rattle.telegram.proofs.Rest.{first-and-rest}
@@ -18,7 +18,7 @@ use Rattle.telegram.proofs.Rest.{first-and-rest}
 -- What comes of asking on and on, where `Says start len o` is that asking with a stretch is answered by o: a place with its
 -- telegram, and then what comes from the bit after it to the same end; or nothing more, by refusal 6.
 pub data Comes (Says : ℕ → ℕ → Outcome Single → Type 0) : ℕ → ℕ → List Single → Type 0 where
-  further : {start len p : ℕ} {m : Reading} {rest : List Single}
+  further : {start len p : ℕ} {m : Received} {rest : List Single}
       → Says start len (gives (at p m)) → Comes Says (p + 1) (start + len - (p + 1)) rest → Comes Says start len (at p m ∷ rest)
   ends : {start len : ℕ} → Says start len (refuses 6) → Comes Says start len []
 

@@ -9,7 +9,7 @@ use native.Mathlib.Omega.{arith}
 use lib.Pow.{pow-mono}
 use lib.ListN.{getD}
 use Rattle.telegram.specs.Stretch.{bitAt, bitsAt}
-use Rattle.telegram.specs.Telegram.{Reading, telegram}
+use Rattle.telegram.specs.Telegram.{Received, telegram}
 use Rattle.telegram.specs.Place.{wordsAt}
 
 -- A bit is 0 or 1.
@@ -67,7 +67,7 @@ module _ (b : List ℕ) (p : ℕ) where
   z-word = omega (arith, cut b p 32 8, bits-lt b (p + 32) 8, cut b p 24 8, bits-lt b (p + 24) 8)
 
 -- What the three inner words of forty bits read.
-abbrev pub inner : ℕ → Reading
+abbrev pub inner : ℕ → Received
 inner v = telegram (v / 2 ^ 24 % 256) (v / 2 ^ 16 % 256) (v / 2 ^ 8 % 256)
 
 pub inner-is : (b : List ℕ) (p : ℕ) → inner (bitsAt b p 40) ≡ wordsAt b p

@@ -10,18 +10,18 @@ use lib.Dec.{eqb, leb}
 use Rattle.words.specs.Answer.{Outcome, gives, refuses, pick}
 use Rattle.telegram.specs.Stretch.{bitsAt, inside}
 use Rattle.telegram.specs.Sync.{isGood}
-use Rattle.telegram.specs.Telegram.{Reading, reads, refused, telegram}
+use Rattle.telegram.specs.Telegram.{Received, reads, refused, telegram}
 
 -- Whether the bytes a and z are s and t, in either order.
 unfoldable pub areSyncs : ℕ → ℕ → ℕ → ℕ → Bool
 areSyncs s t a z = (eqb a s && eqb z t) || (eqb a t && eqb z s)
 
 -- What the three words after the sync word at bit p of the buffer read.
-unfoldable pub wordsAt : List ℕ → ℕ → Reading
+unfoldable pub wordsAt : List ℕ → ℕ → Received
 wordsAt b p = telegram (bitsAt b (p + 8) 8) (bitsAt b (p + 16) 8) (bitsAt b (p + 24) 8)
 
 -- Whether words are accepted.
-abbrev pub accepted : Reading → Bool
+abbrev pub accepted : Received → Bool
 accepted (reads m) = true
 accepted (refused n letter) = false
 
@@ -45,7 +45,7 @@ places b start len s t = those (isPlace b start len s t) (from start len)
 
 -- A place handed out: where it is, and what the words there read.
 pub data Single : Type 0 where
-  at : ℕ → Reading → Single
+  at : ℕ → Received → Single
 
 -- The first of the places listed, with its telegram, or refusal 6 if there is none.
 abbrev pub firstOf : List ℕ → List ℕ → Outcome Single

@@ -2,7 +2,7 @@
 -- Assumes nothing.
 use Rattle.words.specs.Answer.{Outcome, gives, refuses}
 use Rattle.telegram.specs.Sync.{Good, good}
-use Rattle.telegram.specs.Telegram.{Message, figures, number, Letter, X, Y, Z, YZ, Reading, reads, refused}
+use Rattle.telegram.specs.Telegram.{Said, figures, number, Letter, X, Y, Z, YZ, Received, reads, refused}
 use Rattle.telegram.specs.Place.{Single, at}
 use Rattle.telegram.specs.Survey.{Alike, alike}
 use Rattle.telegram.specs.declared.Pair.{Pair}
@@ -18,7 +18,7 @@ saysPair Pair.Good = gives good
 saysPair Pair.NotSeven = refuses 4
 
 -- The figures of X, Y and Z, or the number.
-abbrev pub saysTelegram : Telegram → Message
+abbrev pub saysTelegram : Telegram → Said
 saysTelegram (Telegram.Figures x y z) = figures x y z
 saysTelegram (Telegram.Number m) = number m
 
@@ -30,7 +30,7 @@ saysWord Word.Z = Z
 saysWord Word.YZ = YZ
 
 -- A telegram; "not a code word" is 1, "a short word of a telegram reads 15" is 3, each of the word named.
-abbrev pub saysTelegramRead : TelegramRead → Reading
+abbrev pub saysTelegramRead : TelegramRead → Received
 saysTelegramRead (TelegramRead.Is t) = reads (saysTelegram t)
 saysTelegramRead (TelegramRead.NotCode w) = refused 1 (saysWord w)
 saysTelegramRead (TelegramRead.Fifteen w) = refused 3 (saysWord w)

@@ -10,7 +10,7 @@ use lib.ListN.{length}
 use Rattle.words.specs.Answer.{Outcome, gives, refuses, pick}
 use Rattle.telegram.specs.Stretch.{bitsAt, inside}
 use Rattle.telegram.specs.Sync.{isGood}
-use Rattle.telegram.specs.Telegram.{Reading}
+use Rattle.telegram.specs.Telegram.{Received}
 use Rattle.telegram.specs.Place.{wordsAt, places}
 
 -- Whether the places p and q have the same X, Y and Z, as received.
@@ -27,7 +27,7 @@ allAs b p (q ∷ qs) = sameWords b p q && allAs b p qs
 
 -- What places that are alike say: what their words read, the first place, and the number of places.
 pub data Alike : Type 0 where
-  alike : Reading → ℕ → ℕ → Alike
+  alike : Received → ℕ → ℕ → Alike
 
 -- The places listed, taken together: refusal 6 if there is none, refusal 7 if two differ.
 abbrev pub together : List ℕ → List ℕ → Outcome Alike

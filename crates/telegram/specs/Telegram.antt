@@ -8,21 +8,21 @@ use Rattle.words.specs.Answer.{Outcome, gives, refuses, pick}
 use Rattle.words.specs.Code.{readShort, readLong}
 
 -- What a telegram says: the figures of X, Y and Z, or, if X reads 12, the number that Y and Z carry together.
-pub data Message : Type 0 where
-  figures : ℕ → ℕ → ℕ → Message
-  number : ℕ → Message
+pub data Said : Type 0 where
+  figures : ℕ → ℕ → ℕ → Said
+  number : ℕ → Said
 
 -- The words of a telegram, by their letters.
 pub data Letter : Type 0 where
   X Y Z YZ : Letter
 
 -- What the three received words are: a telegram, or refused with a number for the word named.
-pub data Reading : Type 0 where
-  reads : Message → Reading
-  refused : ℕ → Letter → Reading
+pub data Received : Type 0 where
+  reads : Said → Received
+  refused : ℕ → Letter → Received
 
 -- A word's answer: its figure goes on to what follows; its refusal decides.
-abbrev pub then : Letter → Outcome ℕ → (ℕ → Reading) → Reading
+abbrev pub then : Letter → Outcome ℕ → (ℕ → Received) → Received
 then at (gives x) next = next x
 then at (refuses n) next = refused n at
 
@@ -40,7 +40,7 @@ unfoldable pub longWord : ℕ → ℕ → Outcome ℕ
 longWord y z = readLong (y * 256 + z)
 
 -- The received words x, y, z as a telegram.
-unfoldable pub telegram : ℕ → ℕ → ℕ → Reading
+unfoldable pub telegram : ℕ → ℕ → ℕ → Received
 telegram x y z =
     then X (shortWord x) λ a.
     pick (eqb a 12)

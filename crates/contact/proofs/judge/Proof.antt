@@ -10,7 +10,7 @@ use borrow.Author.Tests.{le-leb, lt-leb}
 use lib.Dec.{leb}
 use Rattle.words.specs.Answer.{Outcome, gives, refuses, pick}
 use Rattle.telegram.specs.Stretch.{inside}
-use Rattle.telegram.specs.Telegram.{Reading, reads}
+use Rattle.telegram.specs.Telegram.{Received, reads}
 use Rattle.telegram.specs.Survey.{Alike, alike, surveyed}
 use Rattle.telegram.specs.Says.{saysTelegram, saysSurveyed}
 use Rattle.telegram.specs.declared.Surveyed.{Surveyed}
@@ -26,7 +26,7 @@ module _ (b : List ℕ) (start len s t : ℕ) (r : Surveyed) (says : saysSurveye
   decided : (o : Outcome Alike) → saysSurveyed r ≡ o → fromSurvey (markerOr b start len) o ≡ judged b start len s t
   decided o e = sym (by-survey b start len s t ∙ ap (fromSurvey (markerOr b start len)) (sym says ∙ e))
 
-  count-alike : (m : Reading) (first count : ℕ) (x : Bool) → saysSurveyed r ≡ gives (alike m first count) → leb 2 count ≡ x
+  count-alike : (m : Received) (first count : ℕ) (x : Bool) → saysSurveyed r ≡ gives (alike m first count) → leb 2 count ≡ x
       → pick x (gives (read m first count)) (markerOr b start len) ≡ judged b start len s t
   count-alike m first count x e x-is =
       ap (λ (y : Bool). pick y (gives (read m first count)) (markerOr b start len)) (sym x-is) ∙ decided (gives (alike m first count)) e

@@ -5,14 +5,14 @@ use Prim.Native.Nat.{ℕ}
 use lib.Dec.{eqb}
 use borrow.Author.Tests.{eq-eqb, ne-eqb}
 use Rattle.words.specs.Answer.{Outcome, pick}
-use Rattle.telegram.specs.Telegram.{X, Y, Z, YZ, Reading, then, shortWord, longWord, reads, figures, number, telegram}
+use Rattle.telegram.specs.Telegram.{X, Y, Z, YZ, Received, then, shortWord, longWord, reads, figures, number, telegram}
 use Rattle.telegram.proofs.Words.{a-figure, fifteen, no-code}
 use borrow.Author.Needs.{needs}
 use Rattle.telegram.proofs.read.Statement.{statement}
 use Rattle.telegram.proofs.read.Tie as tie
 
 -- what follows an X that reads a
-abbrev after : ℕ → ℕ → ℕ → Reading
+abbrev after : ℕ → ℕ → ℕ → Received
 after y z a =
     pick (eqb a 12) (then YZ (longWord y z) (λ m. reads (number m)))
     (then Y (shortWord y) (λ b. then Z (shortWord z) (λ c. reads (figures a b c))))

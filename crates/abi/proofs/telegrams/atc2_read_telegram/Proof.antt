@@ -4,7 +4,7 @@ use mathlib.Core.Path.{_∙_, ap}
 use Prim.Native.Nat.{_<_}
 use native.Mathlib.Omega.{arith}
 use lib.IntN.{ℤ, pos}
-use Rattle.telegram.specs.Telegram.{Reading}
+use Rattle.telegram.specs.Telegram.{Received}
 use Rattle.telegram.specs.Says.{saysTelegramRead}
 use Rattle.abi.specs.Face.{returned, asOne, told}
 use Rattle.abi.proofs.Carried.{carried, as-i32}
@@ -31,7 +31,7 @@ enum-told-2 : tie.Need-enum-told-2
 enum-told-2 c = search needs
 
 -- What is returned of a reading.
-abbrev face : Reading → ℤ
+abbrev face : Received → ℤ
 face reading = returned asOne (told reading)
 
 returns : tie.Need-returns

@@ -9,7 +9,7 @@ use borrow.Author.Count.{below-none, below-more}
 use Rattle.words.specs.Answer.{gives}
 use Rattle.telegram.specs.Stretch.{bitsAt}
 use Rattle.telegram.specs.Survey.{together, alike}
-use Rattle.telegram.specs.Telegram.{Reading}
+use Rattle.telegram.specs.Telegram.{Received}
 use Rattle.telegram.proofs.Window.{bits-lt, rolls}
 use Rattle.telegram.proofs.Places.{ahead, none-ahead}
 use Rattle.telegram.proofs.SoFar.{soFar, begins, ends, wordIn, turn-alike, turn-differs, turn-not-here}
@@ -144,7 +144,7 @@ returns-2 c =
     let l = c .before .before .scan in
     let a = c .before .before .before .before .before .args in
     let b = a .buf .now in
-    ap (λ (m : Reading). gives (alike m (a .first) (l .count))) (c .before .before .before .before .before .pre .3)
+    ap (λ (m : Received). gives (alike m (a .first) (l .count))) (c .before .before .before .before .before .pre .3)
     ∙ sym (l .inv .4 ∙ ap (soFar b (a .first) (l .count)) (none-ahead b (a .s) (a .t) (a .stop) (l .p) (c .if4 .left)) ∙ ends b (a .first) (l .count))
 
 pub to-first-spec : {M : Type 1} → statement M

@@ -7,7 +7,7 @@ use native.Mathlib.Omega.{arith}
 use Rattle.words.specs.Answer.{gives}
 use Rattle.telegram.specs.Stretch.{bitsAt}
 use Rattle.telegram.specs.Place.{at, firstOf}
-use Rattle.telegram.specs.Telegram.{Reading}
+use Rattle.telegram.specs.Telegram.{Received}
 use Rattle.telegram.proofs.Window.{bits-lt, rolls, inner, inner-is}
 use Rattle.telegram.proofs.Places.{fits, fit-accepted, ahead, none-ahead, ahead-here, ahead-not-here}
 use Rattle.telegram.proofs.scan.first_place.Statement.{statement}
@@ -74,7 +74,7 @@ returns c =
     let l = u .before .before .before .before .before .loop in
     let on = u .before .before .before .before .loop-test .taken in
     c .found-at .ensures
-    ∙ ap (λ (m : Reading). gives (at (l .p) m)) (ap inner (u .before .with-bit .ensures) ∙ inner-is (a .buf .now) (l .p))
+    ∙ ap (λ (m : Received). gives (at (l .p) m)) (ap inner (u .before .with-bit .ensures) ∙ inner-is (a .buf .now) (l .p))
     ∙ sym (l .inv .3 ∙ ap (firstOf (a .buf .now)) (ahead-here (a .buf .now) (a .s) (a .t) (a .stop) (l .p) on (fits-is u true (c .before .if2 .taken))))
 
 add-p-2 : tie.Need-add-p-2 Inv-loop μ-loop

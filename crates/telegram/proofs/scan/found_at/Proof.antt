@@ -4,7 +4,7 @@ use mathlib.Core.Path.{_≡_, ap, sym, _∙_}
 use mathlib.Core.Bool.{true, false}
 use borrow.Author.Needs.{needs}
 use Rattle.words.specs.Answer.{gives}
-use Rattle.telegram.specs.Telegram.{Reading}
+use Rattle.telegram.specs.Telegram.{Received}
 use Rattle.telegram.specs.Place.{at, accepted}
 use Rattle.telegram.specs.Says.{saysTelegramRead}
 use Rattle.telegram.proofs.Window.{inner}
@@ -12,7 +12,7 @@ use Rattle.telegram.proofs.scan.found_at.Statement.{statement}
 use Rattle.telegram.proofs.scan.found_at.Tie as tie
 
 -- words that are accepted are not refused
-not-both : {A : Type 0} {x y : A} (m : Reading) → accepted m ≡ true → accepted m ≡ false → x ≡ y
+not-both : {A : Type 0} {x y : A} (m : Received) → accepted m ≡ true → accepted m ≡ false → x ≡ y
 not-both m p q = let e : true ≡ false = sym p ∙ q in cc
 
 words-of-requires : tie.Need-words-of-requires
@@ -30,7 +30,7 @@ enum-told-2 c = search needs
 returns : tie.Need-returns
 returns c =
     let u = c .before .before .before in
-    ap (λ (m : Reading). gives (at (u .before .args .p) m)) (sym (ap saysTelegramRead (c .before .read .given .1)) ∙ u .words-of .ensures)
+    ap (λ (m : Received). gives (at (u .before .args .p) m)) (sym (ap saysTelegramRead (c .before .read .given .1)) ∙ u .words-of .ensures)
 
 returns-2 : tie.Need-returns-2
 returns-2 c =
