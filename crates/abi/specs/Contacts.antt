@@ -17,10 +17,11 @@ searchIn lent = record { next = getD lent 0 0; left = getD lent 1 0; history = g
 abbrev pub inArray : Search → List ℕ
 inArray search = search .next ∷ search .left ∷ search .history ∷ []
 
--- The beginning of a search is returned as 0, and put into `search`.
+-- The beginning of a search is returned as 0 ..
 abbrev pub begunNumber : Search → ℕ
 begunNumber begun = 0
 
+-- .. and put into `search`.
 abbrev pub begunPut : Search → List ℕ → List ℕ
 begunPut begun before = inArray begun
 
