@@ -27,38 +27,6 @@ use Rattle.demands.specs.Table.{partsOf}
 use Rattle.demands.specs.Ride.{IsSignal, IsMarked, first, early, good, late, unmarked, Becomes}
 use Rattle.demands.proofs.Messages.{not-signal, View, signal, warning, route, plain, view}
 
--- Whether a message is a present signal's.
-pub data Signal? (m : Message) : Type 0 where
-  is : IsSignal m → Signal? m
-  is-not : (IsSignal m → ⊥) → Signal? m
-
-signal? : (m : Message) → Signal? m
-signal? m = go (m .direction) refl (m .kind) refl
-  where
-    go : (d : Direction) → m .direction ≡ d → (k : Kind) → m .kind ≡ k → Signal? m
-    go Direction.Opposite e k f = is-not (λ s. let g = s .0 in let z : _≡_ {A = ℕ} 0 1 = cc in omega arith)
-    go Direction.Present e Kind.Signal f = is (e, f)
-    go Direction.Present e Kind.Warning f = is-not (λ s. let g = s .1 in let z : _≡_ {A = ℕ} 0 1 = cc in omega arith)
-    go Direction.Present e Kind.Annulled f = is-not (λ s. let g = s .1 in let z : _≡_ {A = ℕ} 0 1 = cc in omega arith)
-    go Direction.Present e Kind.Line f = is-not (λ s. let g = s .1 in let z : _≡_ {A = ℕ} 0 1 = cc in omega arith)
-    go Direction.Present e Kind.Route f = is-not (λ s. let g = s .1 in let z : _≡_ {A = ℕ} 0 1 = cc in omega arith)
-
--- Every group has a mark, or none.
-pub mark-of : (linking : Linking) (m : Message) → (mark : Mark) × IsMarked linking m mark
-mark-of linking m = go (signal? m) linking refl
-  where
-    by : (D a : ℕ) → IsSignal m → linking ≡ Linking.Set D a → (t : Bool) → ltb (5 * (m .place - a)) (4 * D) ≡ t → (u : Bool) → leb (5 * (m .place - a)) (6 * D) ≡ u
-        → (mark : Mark) × IsMarked linking m mark
-    by D a s e true h u k = (Mark.Early, early D a s e (ltb-true (5 * (m .place - a)) (4 * D) h))
-    by D a s e false h true k =
-        (Mark.Good, good D a s e (ltb-false (5 * (m .place - a)) (4 * D) h) (leb-true (5 * (m .place - a)) (6 * D) k))
-    by D a s e false h false k = (Mark.Late, late D a s e (leb-false (5 * (m .place - a)) (6 * D) k))
-
-    go : Signal? m → (l : Linking) → linking ≡ l → (mark : Mark) × IsMarked linking m mark
-    go (is-not other) l e = (Mark.Unmarked, unmarked other)
-    go (is s) Linking.Unset e = (Mark.First, first s e)
-    go (is s) (Linking.Set D a) e = by D a s e (ltb (5 * (m .place - a)) (4 * D)) refl (leb (5 * (m .place - a)) (6 * D)) refl
-
 -- The content of a group that is no present signal sets no mark and leaves what is known.
 abbrev Leaves : Message → Type 0
 Leaves m =
@@ -116,3 +84,37 @@ module _ (g : Group) (m : Message) (judged : judge g ≡ gives (saysMessage m)) 
         ends = λ d main target e. ap (λ (c : Said). knownFrom (saysContent c) (m .place) k .linking) e;
         others = λ other. other-leaves (partsOf g) m other seen .1 k;
       }
+
+-- ---- every group has a mark, or none
+
+-- Whether a message is a present signal's.
+pub data Signal? (m : Message) : Type 0 where
+  is : IsSignal m → Signal? m
+  is-not : (IsSignal m → ⊥) → Signal? m
+
+signal? : (m : Message) → Signal? m
+signal? m = go (m .direction) refl (m .kind) refl
+  where
+    go : (d : Direction) → m .direction ≡ d → (k : Kind) → m .kind ≡ k → Signal? m
+    go Direction.Opposite e k f = is-not (λ s. let g = s .0 in let z : _≡_ {A = ℕ} 0 1 = cc in omega arith)
+    go Direction.Present e Kind.Signal f = is (e, f)
+    go Direction.Present e Kind.Warning f = is-not (λ s. let g = s .1 in let z : _≡_ {A = ℕ} 0 1 = cc in omega arith)
+    go Direction.Present e Kind.Annulled f = is-not (λ s. let g = s .1 in let z : _≡_ {A = ℕ} 0 1 = cc in omega arith)
+    go Direction.Present e Kind.Line f = is-not (λ s. let g = s .1 in let z : _≡_ {A = ℕ} 0 1 = cc in omega arith)
+    go Direction.Present e Kind.Route f = is-not (λ s. let g = s .1 in let z : _≡_ {A = ℕ} 0 1 = cc in omega arith)
+
+-- Every group has a mark, or none.
+pub mark-of : (linking : Linking) (m : Message) → (mark : Mark) × IsMarked linking m mark
+mark-of linking m = go (signal? m) linking refl
+  where
+    by : (D a : ℕ) → IsSignal m → linking ≡ Linking.Set D a → (t : Bool) → ltb (5 * (m .place - a)) (4 * D) ≡ t → (u : Bool) → leb (5 * (m .place - a)) (6 * D) ≡ u
+        → (mark : Mark) × IsMarked linking m mark
+    by D a s e true h u k = (Mark.Early, early D a s e (ltb-true (5 * (m .place - a)) (4 * D) h))
+    by D a s e false h true k =
+        (Mark.Good, good D a s e (ltb-false (5 * (m .place - a)) (4 * D) h) (leb-true (5 * (m .place - a)) (6 * D) k))
+    by D a s e false h false k = (Mark.Late, late D a s e (leb-false (5 * (m .place - a)) (6 * D) k))
+
+    go : Signal? m → (l : Linking) → linking ≡ l → (mark : Mark) × IsMarked linking m mark
+    go (is-not other) l e = (Mark.Unmarked, unmarked other)
+    go (is s) Linking.Unset e = (Mark.First, first s e)
+    go (is s) (Linking.Set D a) e = by D a s e (ltb (5 * (m .place - a)) (4 * D)) refl (leb (5 * (m .place - a)) (6 * D)) refl
