@@ -1,9 +1,10 @@
 /*
  * The balise bench checker's libraries for C and C++.
  *
- * Link with target/staticlib/libabi.a (rt staticlib abi; x86-64 Linux). Each function is total: whatever numbers and bytes are passed, it returns one of the values
- * listed, and a refusal, -N for document 01's number N, leaves every lent array as it was. Buffers are read only while the call runs.
- * The caller keeps: buf points to n bytes (and is not NULL, even where n is 0), search and out to as many numbers as they are declared with, and no two of them overlap.
+ * Link with target/staticlib/libabi.a (rt staticlib abi; x86-64 Linux). Each function is total: whatever numbers and bytes are passed,
+ * it returns one of the values listed, and a refusal, -N for document 01's number N, leaves every lent array as it was. Buffers are read
+ * only while the call runs. The caller keeps: buf points to n bytes (and is not NULL, even where n is 0), search and out to as many numbers
+ * as they are declared with, and no two of them overlap.
  */
 #ifndef ATC2_H
 #define ATC2_H
