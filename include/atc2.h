@@ -3,8 +3,11 @@
  *
  * Link with target/staticlib/libabi.a (rt staticlib abi; x86-64 Linux). Each function is total: whatever numbers and bytes are passed,
  * it returns one of the values listed, and a refusal, -N for document 01's number N, leaves every lent array as it was. Buffers are read
- * only while the call runs. The caller keeps: buf points to n bytes (and is not NULL, even where n is 0), search and out to as many numbers
- * as they are declared with, and no two of them overlap.
+ * only while the call runs. The caller keeps: buf points to n bytes (and is not NULL, even where n is 0), search to a search, out to as many
+ * numbers as it is declared with, and no two of them overlap.
+ *
+ * Here are the codes, telegrams, contacts and table DF's distances. Groups, rides and their lines are not: for those there is the
+ * program checker (./run checker). tests/abi/calls.c is a small program that uses every function.
  */
 #ifndef ATC2_H
 #define ATC2_H
@@ -15,6 +18,35 @@
 #ifdef __cplusplus
 extern "C" {
 #endif
+
+/* The refusals that these functions give: minus document 01's number. */
+enum {
+    ATC2_NOT_CODE = -1,     /* not a code word */
+    ATC2_TOO_LARGE = -2,    /* figure to write above 15 or above 2,047 */
+    ATC2_FIFTEEN = -3,      /* a short word of a telegram reads 15 */
+    ATC2_NOT_SEVEN = -4,    /* sync pair doesn't differ in seven bits */
+    ATC2_BEYOND = -5,       /* stretch beyond the buffer, or above 16,777,216 bits */
+    ATC2_NO_PLACE = -6,     /* no place in the stretch */
+    ATC2_DIFFER = -7,       /* places differ */
+    ATC2_NEITHER = -8,      /* contact neither telegram nor marker */
+    ATC2_CUT = -9,          /* contact cut by the end of the record */
+    ATC2_NOT_ALLOWED = -15  /* distance not allowed */
+};
+
+/* What atc2_judge and atc2_next_contact answer where they do not refuse. */
+enum {
+    ATC2_NO_FURTHER = 0, /* next_contact: no further contact opens */
+    ATC2_CONTACT = 1,    /* next_contact: a contact */
+    ATC2_TELEGRAM = 1,   /* judge: two or more places, all alike */
+    ATC2_MARKER = 2      /* judge: a marker */
+};
+
+/* A search for contacts, as atc2_begin makes it and atc2_next_contact moves it on: the next bit, the bits left, the latest sixteen bits. */
+struct atc2_search {
+    uint64_t next;
+    uint64_t left;
+    uint64_t history;
+};
 
 /* The figure of a received short word, 0 to 15; -1 if it is not a code word.
  * Nothing is mended. */
@@ -46,11 +78,11 @@ int32_t atc2_judge(const uint8_t *buf, size_t n, size_t start, size_t len, uint8
 
 /* The beginning of a search for contacts in a stretch: 0, and search = next bit, bits left, history (65535).
  * -5: the stretch is not inside the n bytes, or too long. */
-int32_t atc2_begin(const uint8_t *buf, size_t n, size_t start, size_t len, uint64_t search[3]);
+int32_t atc2_begin(const uint8_t *buf, size_t n, size_t start, size_t len, struct atc2_search *search);
 
-/* The next contact of a search: 1, and out = start, length, and search moves on behind its closing bit; 0: no further one opens, both as they were.
+/* The next contact of a search: 1, and out = start, length, and search moves on past its closing bit; 0: no further one opens, both as they were.
  * -5 as above; -9: a contact is cut by the end. A history above 65535 counts by its low sixteen bits. */
-int32_t atc2_next_contact(const uint8_t *buf, size_t n, uint64_t search[3], uint64_t out[2]);
+int32_t atc2_next_contact(const uint8_t *buf, size_t n, struct atc2_search *search, uint64_t out[2]);
 
 /* The distance in decimetres of a figure 1 to 14 in column BY 0 to 14 of table DF.
  * -15 for any other column or figure. */

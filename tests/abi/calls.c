@@ -1,0 +1,152 @@
+/* Calls every function of include/atc2.h: readings, every refusal, and what is left in lent arrays. What is wanted is worked out from
+   document 01 by hand. It is also a sample of how the library is used from C; tests/abi/run builds and runs it.
+   Its last line is 'N passed, M failed'. */
+#include "atc2.h"
+#include <stdio.h>
+
+static unsigned passed, failed;
+
+static void same(const char *what, int64_t got, int64_t wanted)
+{
+    if (got == wanted) {
+        passed++;
+    } else {
+        failed++;
+        printf("FAILED %s: %lld, wanted %lld\n", what, (long long)got, (long long)wanted);
+    }
+}
+
+/* ---- Words */
+
+static void words(void)
+{
+    static const uint8_t m8[16] = {0x00, 0x17, 0x2B, 0x3C, 0x4D, 0x5A, 0x66, 0x71, 0x8E, 0x99, 0xA5, 0xB2, 0xC3, 0xD4, 0xE8, 0xFF};
+    for (int x = 0; x < 16; x++) {
+        same("write_short of a figure", atc2_write_short((uint8_t)x), m8[x]);
+        same("read_short of its word", atc2_read_short(m8[x]), x);
+    }
+    same("write_short 16", atc2_write_short(16), ATC2_TOO_LARGE);
+    same("write_short 255", atc2_write_short(255), ATC2_TOO_LARGE);
+    same("read_short 18", atc2_read_short(0x18), ATC2_NOT_CODE);
+    same("write_long 1152", atc2_write_long(1152), 0x8806);
+    same("write_long 1216", atc2_write_long(1216), 0x9900);
+    same("write_long 1612", atc2_write_long(1612), 0xD1C6);
+    same("write_long 2048", atc2_write_long(2048), ATC2_TOO_LARGE);
+    same("write_long 65535", atc2_write_long(65535), ATC2_TOO_LARGE);
+    same("read_long 88/06", atc2_read_long(0x8806), 1152);
+    same("read_long D1/C6", atc2_read_long(0xD1C6), 1612);
+    same("read_long 88/07", atc2_read_long(0x8807), ATC2_NOT_CODE);
+}
+
+/* ---- Telegrams */
+
+static void telegrams(void)
+{
+    same("read_telegram 1 8 5", atc2_read_telegram(0x17, 0x8E, 0x5A), 1 * 65536 + 8 * 256 + 5);
+    same("read_telegram number 1612", atc2_read_telegram(0xC3, 0xD1, 0xC6), 12 * 65536 + 1612);
+    same("read_telegram X no code word", atc2_read_telegram(0x18, 0x8E, 0x5A), ATC2_NOT_CODE);
+    same("read_telegram Y is 15", atc2_read_telegram(0x17, 0xFF, 0x5A), ATC2_FIFTEEN);
+    same("read_telegram Y is 15, Z no code word", atc2_read_telegram(0x17, 0xFF, 0x18), ATC2_FIFTEEN);
+    same("read_telegram Y no code word, Z is 15", atc2_read_telegram(0x17, 0x18, 0xFF), ATC2_NOT_CODE);
+    same("read_telegram YZ no code word", atc2_read_telegram(0xC3, 0x88, 0x07), ATC2_NOT_CODE);
+}
+
+/* ---- Places. The pair 1E/E0 differs in seven bits. Two telegrams 1 8 5 that share a sync word, from bit 4 on. */
+
+enum { S = 0x1E, T = 0xE0 };
+
+static const uint8_t two[11] = {0xF1, 0xE1, 0x78, 0xE5, 0xAE, 0x01, 0x78, 0xE5, 0xA1, 0xEF, 0xFF};
+static const uint8_t differing[11] = {0xF1, 0xE1, 0x78, 0xE5, 0xAE, 0x01, 0x78, 0xE4, 0xD1, 0xEF, 0xFF};
+
+static void places(void)
+{
+    uint64_t out[2] = {7, 8};
+    same("find a pair of eight bits", atc2_find(two, 11, 0, 88, 0x1E, 0xE1, out), ATC2_NOT_SEVEN);
+    same("find a pair of six bits", atc2_find(two, 11, 0, 88, 0x1E, 0xE2, out), ATC2_NOT_SEVEN);
+    same("find a bit beyond", atc2_find(two, 11, 1, 88, S, T, out), ATC2_BEYOND);
+    same("find a bad pair and beyond", atc2_find(two, 11, 1, 88, 0x1E, 0xE1, out), ATC2_NOT_SEVEN);
+    same("find 39 bits", atc2_find(two, 11, 4, 39, S, T, out), ATC2_NO_PLACE);
+    same("find refused leaves out[0]", (int64_t)out[0], 7);
+    same("find refused leaves out[1]", (int64_t)out[1], 8);
+    same("find 40 bits", atc2_find(two, 11, 4, 40, S, T, out), 0);
+    same("find place", (int64_t)out[0], 4);
+    same("find telegram", (int64_t)out[1], 1 * 65536 + 8 * 256 + 5);
+    same("find again", atc2_find(two, 11, 5, 83, T, S, out), 0);
+    same("find the second place", (int64_t)out[0], 36);
+    same("find no third", atc2_find(two, 11, 37, 51, S, T, out), ATC2_NO_PLACE);
+}
+
+static void judging(void)
+{
+    uint64_t out[3] = {7, 8, 9};
+    static const uint8_t zeroes[10] = {0};
+    same("judge a bad pair", atc2_judge(two, 11, 4, 72, 0, 0, out), ATC2_NOT_SEVEN);
+    same("judge beyond", atc2_judge(two, 11, 88, 1, S, T, out), ATC2_BEYOND);
+    same("judge one place", atc2_judge(two, 11, 4, 40, S, T, out), ATC2_NEITHER);
+    same("judge places that differ", atc2_judge(differing, 11, 4, 72, S, T, out), ATC2_DIFFER);
+    same("judge 63 zeroes", atc2_judge(zeroes, 10, 0, 63, S, T, out), ATC2_NEITHER);
+    same("judge 64 zeroes", atc2_judge(zeroes, 10, 0, 64, S, T, out), ATC2_MARKER);
+    same("judge leaves out[0]", (int64_t)out[0], 7);
+    same("judge leaves out[1]", (int64_t)out[1], 8);
+    same("judge leaves out[2]", (int64_t)out[2], 9);
+    same("judge two places", atc2_judge(two, 11, 4, 72, S, T, out), ATC2_TELEGRAM);
+    same("judge telegram", (int64_t)out[0], 1 * 65536 + 8 * 256 + 5);
+    same("judge first place", (int64_t)out[1], 4);
+    same("judge number of places", (int64_t)out[2], 2);
+}
+
+/* ---- Contacts. Ones, then twelve zeroes from bit 24 on, then ones: the eighth zero, bit 31, brings the zeroes to 8; with bits 24 to 35
+   zero, the bit that brings them to 4 is the twelfth one after the eighth last zero: bit 47. */
+
+static void contacts(void)
+{
+    static const uint8_t line[8] = {0xFF, 0xFF, 0xFF, 0x00, 0x0F, 0xFF, 0xFF, 0xFF};
+    struct atc2_search search = {1, 2, 3};
+    uint64_t out[2] = {7, 8};
+    same("begin beyond", atc2_begin(line, 8, 1, 64, &search), ATC2_BEYOND);
+    same("begin beyond leaves next", (int64_t)search.next, 1);
+    same("begin beyond leaves left", (int64_t)search.left, 2);
+    same("begin beyond leaves history", (int64_t)search.history, 3);
+    same("begin", atc2_begin(line, 8, 0, 64, &search), 0);
+    same("begin next", (int64_t)search.next, 0);
+    same("begin left", (int64_t)search.left, 64);
+    same("begin history", (int64_t)search.history, 65535);
+    same("next_contact", atc2_next_contact(line, 8, &search, out), ATC2_CONTACT);
+    same("its start", (int64_t)out[0], 31);
+    same("its length", (int64_t)out[1], 16);
+    same("search after it", (int64_t)search.next, 48);
+    same("bits left after it", (int64_t)search.left, 16);
+    same("history after it", (int64_t)search.history, 0x0FFF);
+    same("no further contact", atc2_next_contact(line, 8, &search, out), ATC2_NO_FURTHER);
+    same("no further leaves next", (int64_t)search.next, 48);
+    same("no further leaves out", (int64_t)out[0], 31);
+    atc2_begin(line, 8, 0, 47, &search);
+    same("a contact cut", atc2_next_contact(line, 8, &search, out), ATC2_CUT);
+    same("cut leaves next", (int64_t)search.next, 0);
+    same("cut leaves out", (int64_t)out[1], 16);
+    search.left = 65;
+    same("a search beyond", atc2_next_contact(line, 8, &search, out), ATC2_BEYOND);
+}
+
+static void distances(void)
+{
+    same("distance 0, 1", atc2_distance(0, 1), 125);
+    same("distance 13, 14", atc2_distance(13, 14), 119000);
+    same("distance 14, 1", atc2_distance(14, 1), 7000);
+    same("distance 14, 14", atc2_distance(14, 14), 500);
+    same("distance 0, 0", atc2_distance(0, 0), ATC2_NOT_ALLOWED);
+    same("distance 0, 15", atc2_distance(0, 15), ATC2_NOT_ALLOWED);
+    same("distance 15, 1", atc2_distance(15, 1), ATC2_NOT_ALLOWED);
+}
+
+int main(void)
+{
+    words();
+    telegrams();
+    places();
+    judging();
+    contacts();
+    distances();
+    printf("%u passed, %u failed\n", passed, failed);
+    return failed != 0;
+}

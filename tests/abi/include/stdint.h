@@ -1,0 +1,10 @@
+/* The types of stdint.h that include/atc2.h uses, from the compiler's own: the kit brings no headers. */
+#ifndef TEST_STDINT_H
+#define TEST_STDINT_H
+typedef __UINT8_TYPE__ uint8_t;
+typedef __UINT16_TYPE__ uint16_t;
+typedef __INT32_TYPE__ int32_t;
+typedef __UINT32_TYPE__ uint32_t;
+typedef __INT64_TYPE__ int64_t;
+typedef __UINT64_TYPE__ uint64_t;
+#endif
