@@ -21,7 +21,7 @@ use Rattle.group.specs.declared.Part.{Part}
 use Rattle.group.specs.declared.Placed.{Placed}
 use Rattle.demands.specs.Table.{listOf, partsOf}
 use Rattle.demands.specs.Said.{asA, Its-A}
-use Rattle.demands.proofs.Places.{and-parts, or-left, or-right}
+use Rattle.line.proofs.Places.{and-parts, or-left, or-right}
 use Rattle.demands.proofs.Boards.{Board, Head, board-head}
 
 -- What is sought is among the balises, and is what was asked.

@@ -1,13 +1,13 @@
 -- Demand 3 holds.
 -- Assumes nothing.
 use Rattle.words.specs.Says.{saysShortRead, saysLongRead}
-use Rattle.demands.specs.Line.{OneBalise, Proper}
+use Rattle.line.specs.Line.{OneBalise, Proper}
 use Rattle.demands.specs.Contracts.{ReadShort, ReadLong}
 use Rattle.demands.specs.Demand3.{OnlyTheSent, Demand3}
 use Rattle.demands.proofs.Noise.{noise-law}
-use Rattle.demands.proofs.Sent.{AllSent}
-use Rattle.demands.proofs.Stretch.{all-sent}
-use Rattle.demands.proofs.Unflipped.{unflipped-among}
+use Rattle.line.proofs.Sent.{AllSent}
+use Rattle.line.proofs.Stretch.{all-sent}
+use Rattle.line.proofs.Unflipped.{unflipped-among}
 use Rattle.demands.proofs.Handed.{asking-ends, every-sent, all-places-sent, unflipped-comes}
 use Rattle.demands.proofs.Together.{survey-sent}
 use Rattle.demands.proofs.JudgedAlike.{judge-sent}

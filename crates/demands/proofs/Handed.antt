@@ -18,15 +18,14 @@ use Rattle.telegram.specs.declared.Found.{Found}
 use Rattle.telegram.proofs.Determined.{telegramOf, telegram-back, foundOf, found-back}
 use Rattle.telegram.proofs.Handed.{handed}
 use Rattle.telegram.proofs.Law.{Comes as Listed, further as listed-further, ends as listed-ends, withTelegrams, Specified, law, only}
-use Rattle.demands.specs.Line.{OneBalise, Proper, sentAt, flipsAt}
+use Rattle.line.specs.Line.{OneBalise, Proper, sentAt, flipsAt, placesOf}
 use Rattle.demands.specs.Contracts.{Find}
 use Rattle.demands.specs.Calls.{HandedOut, first, later, Comes, further, ends}
 use Rattle.demands.specs.Demand2.{placeOf}
-use Rattle.demands.specs.Demand3.{TheSent, ComesOf, placesOf}
-use Rattle.demands.proofs.Places.{or-left, or-right, or-parts}
-use Rattle.demands.proofs.Sent.{Sent, AllSent, read-as-sent}
-use Rattle.demands.proofs.Unflipped.{unflipped-words, unflipped-among}
-use Rattle.demands.proofs.Proper.{good-pair, is-taken}
+use Rattle.demands.specs.Demand3.{TheSent, ComesOf}
+use Rattle.line.proofs.Places.{or-left, or-right, or-parts}
+use Rattle.line.proofs.Sent.{Sent, AllSent, read-as-sent}
+use Rattle.line.proofs.Unflipped.{unflipped-words, unflipped-among}
 
 -- A call answers as the specification says.
 pub specified : (b : List ℕ) (start len s t : ℕ) (r : Found) → Find b start len s t r → found b start len s t ≡ saysFound r
@@ -115,14 +114,14 @@ module _ (o : OneBalise) (proper : Proper o) where
   pub comes-is : (w : List Found) → ComesOf o w → w ≡ map answerOf (withTelegrams (o .buffer) (placesOf o))
   comes-is w c =
       let r = comes-listed c in
-      r .2 ∙ ap (map answerOf) (only (o .buffer) (o .s) (o .t) (r .1) (law (o .buffer) (o .s) (o .t) (good-pair o proper) (o .start) (o .len) (is-taken o proper)))
+      r .2 ∙ ap (map answerOf) (only (o .buffer) (o .s) (o .t) (r .1) (law (o .buffer) (o .s) (o .t) (proper .pair) (o .start) (o .len) (proper .taken)))
 
   -- And there is one, for one who is answered at every call.
   pub asking-ends : ((start len : ℕ) → o .start ≤ start → start + len ≤ o .start + o .len → (r : Found) × Find (o .buffer) start len (o .s) (o .t) r)
       → (w : List Found) × ComesOf o w
   asking-ends ask =
       listed-comes (o .start) (o .start + o .len) ask (omega arith) (omega arith)
-      (law (o .buffer) (o .s) (o .t) (good-pair o proper) (o .start) (o .len) (is-taken o proper))
+      (law (o .buffer) (o .s) (o .t) (proper .pair) (o .start) (o .len) (proper .taken))
 
   pub the-sent : (p : ℕ) (m : Telegram) → Sent o p → reads (saysTelegram m) ≡ wordsAt (o .buffer) p → TheSent o p m
   the-sent p m there says = record { true-place = there .at-true; as-sent = same-telegram m (o .telegram) (says ∙ read-as-sent o proper p there) }

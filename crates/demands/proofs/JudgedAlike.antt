@@ -18,10 +18,10 @@ use Rattle.contact.specs.Judge.{read, marker, isMarker, judged}
 use Rattle.contact.specs.Says.{saysJudged}
 use Rattle.contact.specs.declared.Judged.{Judged}
 use Rattle.contact.proofs.Judging.{markerOr, fromSurvey, by-survey}
-use Rattle.demands.specs.Line.{OneBalise, Proper}
+use Rattle.line.specs.Line.{OneBalise, Proper, placesOf}
 use Rattle.demands.specs.Contracts.{JudgeContact}
-use Rattle.demands.specs.Demand3.{placesOf, TogetherTheSent}
-use Rattle.demands.proofs.Sent.{AllSent}
+use Rattle.demands.specs.Demand3.{TogetherTheSent}
+use Rattle.line.proofs.Sent.{AllSent}
 use Rattle.demands.proofs.Together.{Known, Survey, the-survey, known-sent, same-known}
 
 module _ (o : OneBalise) (proper : Proper o) (every-place : AllSent o) where

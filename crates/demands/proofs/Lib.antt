@@ -25,18 +25,6 @@ pub mod Boards
 pub mod CalledA
 pub mod Contents
 pub mod Saying
-pub mod Sums
-pub mod Bits
-pub mod Telegrams
-pub mod Proper
-pub mod Round
-pub mod Offsets
-pub mod Window
-pub mod Places
-pub mod Sent
-pub mod Unflipped
-pub mod Wrong
-pub mod Stretch
 pub mod Handed
 pub mod Reading
 pub mod Room
@@ -48,7 +36,6 @@ pub mod JudgedAlike
 pub mod Clean
 pub mod Noise
 pub mod Demand3
-pub mod Computed
 pub mod Witnesses
 pub mod CallsMet
 pub mod Needed

@@ -18,7 +18,7 @@ use Rattle.telegram.specs.Says.{saysTelegram, saysFound}
 use Rattle.telegram.specs.declared.Telegram.{Telegram}
 use Rattle.telegram.specs.declared.Found.{Found}
 use Rattle.demands.specs.Contracts.{Find}
-use Rattle.demands.specs.Line.{OneBalise, sentBit, receivedBit, inStretch, unequal, flip, sum, flips, syncFlips, dataFlips, lineBit, sentAt}
+use Rattle.line.specs.Line.{OneBalise, sentBit, receivedBit, inStretch, unequal, flip, sum, flips, syncFlips, dataFlips, lineBit, sentAt}
 use Rattle.demands.proofs.Handed.{specified}
 
 -- A stretch of forty bits, the whole buffer, that begins at the line bit `phase`.

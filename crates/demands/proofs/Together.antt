@@ -18,13 +18,12 @@ use Rattle.telegram.specs.Survey.{sameWords, allAs, Alike, alike, together, sur
 use Rattle.telegram.specs.Says.{saysTelegram, saysSurveyed}
 use Rattle.telegram.specs.declared.Telegram.{Telegram}
 use Rattle.telegram.specs.declared.Surveyed.{Surveyed}
-use Rattle.demands.specs.Line.{OneBalise, Proper}
+use Rattle.line.specs.Line.{OneBalise, Proper, placesOf}
 use Rattle.demands.specs.Contracts.{Survey as SurveyAllows}
-use Rattle.demands.specs.Demand3.{TheSent, placesOf, TogetherTheSent}
-use Rattle.demands.proofs.Places.{and-true, or-left, or-right}
-use Rattle.demands.proofs.Sent.{Sent, AllSent}
+use Rattle.demands.specs.Demand3.{TheSent, TogetherTheSent}
+use Rattle.line.proofs.Places.{and-true, or-left, or-right}
+use Rattle.line.proofs.Sent.{Sent, AllSent}
 use Rattle.demands.proofs.Handed.{the-sent}
-use Rattle.demands.proofs.Proper.{good-pair, is-taken}
 
 -- Places that have the words sent are alike.
 all-alike : (o : OneBalise) (p : ℕ) → Sent o p → (ps : List ℕ) → ((q : ℕ) → among q ps ≡ true → Sent o q) → allAs (o .buffer) p ps ≡ true
@@ -90,7 +89,7 @@ module _ (o : OneBalise) (proper : Proper o) (every-place : AllSent o) where
   unfolding surveyed
   the-survey =
       subst Survey
-      (sym (ap₂ (λ (g i : Bool). pick g (pick i (together b (placesOf o)) (refuses 5)) (refuses 4)) (good-pair o proper) (is-taken o proper)))
+      (sym (ap₂ (λ (g i : Bool). pick g (pick i (together b (placesOf o)) (refuses 5)) (refuses 4)) (proper .pair) (proper .taken)))
       (survey-of (placesOf o) refl)
 
   -- What a call of `survey` answers.

@@ -23,11 +23,10 @@ use Rattle.contact.specs.declared.Judged.{Judged}
 use Rattle.contact.proofs.Determined.{judgedOf, judged-back}
 use Rattle.words.proofs.Told.{told}
 use Rattle.demands.specs.Contracts.{Find, Survey, JudgeContact}
-use Rattle.demands.specs.Line.{OneBalise, Proper, FewFlips, Clean, sentBit, receivedBit, inStretch, unequal, flip, sum, flips, syncFlips, dataFlips}
+use Rattle.line.specs.Line.{OneBalise, Proper, FewFlips, Clean, sentBit, receivedBit, inStretch, unequal, flip, sum, flips, syncFlips, dataFlips}
 use Rattle.demands.specs.Demand3.{ComesOf}
-use Rattle.demands.proofs.Computed.{quietAt, few-flips, unflipped, clean}
+use Rattle.line.proofs.Computed.{quietAt, few-flips, unflipped, clean}
 use Rattle.demands.proofs.Handed.{specified, comes-is}
-use Rattle.demands.specs.Table.{notSeven, beyond}
 
 -- Figures 1, 8 and 5 are sent between 72 and 0D hex. The stretch of sixteen bytes begins with Y of a telegram and ends with X of
 -- another; of the three whole telegrams between, the first has this word as its X.
@@ -48,7 +47,7 @@ line x =
 
 -- Whatever that word is, the line is a proper one.
 line-proper : (x : ℕ) → Proper (line x)
-unfolding notSeven differing beyond telegram shortWord readWord isCode even count covers exchanged other word figure onwards isCheck
+unfolding isGood differing inside telegram shortWord readWord isCode even count covers exchanged other word figure onwards isCheck
 line-proper x = record { bytes = (omega arith, omega arith, omega arith, omega arith, omega arith); pair = refl; valid = refl; taken = refl }
 
 -- The telegram sent, at a place.

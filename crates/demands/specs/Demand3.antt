@@ -4,7 +4,7 @@
 -- telegram with the set sync words, if no sync bit flips and no telegram, alone or together with the next, cut ones
 -- included, has more than three flipped data bits, every telegram handed out is the one sent, at its true place, and every
 -- unflipped telegram lying with both its sync words in the stretch is handed out."
--- What is sent, what flips and the hypothesis on the flips: specs/Line.antt. What the contracts allow:
+-- What is sent, what flips and the hypothesis on the flips: specs/Line.antt of `line`. What the contracts allow:
 -- specs/Contracts.antt; calls of `find` one after the other: specs/Calls.antt.
 -- That all of this holds: proofs/Demand3.antt.
 -- Assumes nothing.
@@ -20,14 +20,14 @@ use Rattle.words.specs.Plain.{among, figure}
 use Rattle.words.specs.Code.{exchanged}
 use Rattle.words.specs.Says.{saysShortRead, saysLongRead}
 use Rattle.telegram.specs.Telegram.{reads}
-use Rattle.telegram.specs.Place.{wordsAt, places, from, those}
+use Rattle.telegram.specs.Place.{wordsAt, from, those}
 use Rattle.telegram.specs.Says.{saysTelegram}
 use Rattle.telegram.specs.declared.Telegram.{Telegram}
 use Rattle.telegram.specs.declared.Found.{Found}
 use Rattle.telegram.specs.declared.Surveyed.{Surveyed}
 use Rattle.contact.specs.declared.Judged.{Judged}
 use Rattle.demands.specs.Table.{notCode}
-use Rattle.demands.specs.Line.{OneBalise, Proper, FewFlips, Clean, sentAt, flipsAt}
+use Rattle.line.specs.Line.{OneBalise, Proper, FewFlips, Clean, sentAt, flipsAt, placesOf}
 use Rattle.demands.specs.Contracts.{ReadShort, ReadLong, Find, Survey, JudgeContact}
 use Rattle.demands.specs.Calls.{HandedOut, Comes}
 
@@ -55,10 +55,6 @@ pub record TheSent (o : OneBalise) (p : ℕ) (m : Telegram) : Type 0 where
 -- The list is all that comes of calling `find` with the stretch, and from the bit after each place, until it answers 6.
 abbrev pub ComesOf : OneBalise → List Found → Type 0
 ComesOf o w = Comes (o .buffer) (o .s) (o .t) (o .start) (o .len) w
-
--- The places of the stretch, with the set sync words.
-abbrev pub placesOf : OneBalise → List ℕ
-placesOf o = places (o .buffer) (o .start) (o .len) (o .s) (o .t)
 
 -- The places taken together, by `judge` or `survey`: `Answers a` is that its contract allows the answer a; `differ` is its answer
 -- that they differ (7), and `alike m first count` that they all read m, with the first of them and their number, for which there

@@ -11,5 +11,4 @@ pub mod Output
 pub mod Calls
 pub mod Said
 pub mod Demand2
-pub mod Line
 pub mod Demand3

@@ -9,10 +9,10 @@ use lib.ListN.{getD}
 use borrow.Author.Tests.{ltb-true, ltb-false, eqb-true}
 use Rattle.telegram.specs.Stretch.{bitAt, bitsAt}
 use Rattle.telegram.specs.Sync.{differing, isGood}
-use Rattle.demands.specs.Line.{OneBalise, Proper, repeated, sentBit, sum, unequal}
-use Rattle.demands.proofs.Sums.{unequal-sym}
-use Rattle.demands.proofs.Bits.{byte-spelt, differing-bits, spelt-on}
-use Rattle.demands.proofs.Proper.{good-pair}
+use Rattle.telegram.proofs.Window.{cut}
+use Rattle.line.specs.Line.{OneBalise, Proper, repeated, sentBit, sum, unequal}
+use Rattle.line.proofs.Sums.{unequal-sym}
+use Rattle.line.proofs.Bits.{byte-spelt, differing-bits}
 
 module _ (o : OneBalise) where
   -- the words after the second sync word are those after the first
@@ -106,11 +106,11 @@ module _ (o : OneBalise) where
     word-z = byte-spelt (repeated o) 3 (proper .bytes .4)
 
     pub word-yz : bitsAt (repeated o) 16 16 ≡ o .y * 256 + o .z
-    word-yz = spelt-on (repeated o) 16 8 8 ∙ ap₂ (λ (u v : ℕ). u * 256 + v) word-y word-z
+    word-yz = cut (repeated o) 16 8 8 ∙ ap₂ (λ (u v : ℕ). u * 256 + v) word-y word-z
 
     -- The sync words differ in seven bits.
     pub seven : sum pattern 8 ≡ 7
     unfolding pattern isGood
     seven =
         sym (differing-bits (repeated o) (repeated o) 0 32 8)
-        ∙ ap₂ (λ (u v : ℕ). differing u v 8) first-sync second-sync ∙ eqb-true (differing (o .s) (o .t) 8) 7 (good-pair o proper)
+        ∙ ap₂ (λ (u v : ℕ). differing u v 8) first-sync second-sync ∙ eqb-true (differing (o .s) (o .t) 8) 7 (proper .pair)

@@ -7,8 +7,8 @@ use native.Mathlib.Omega.{arith}
 use borrow.Author.Tests.{le-leb, lt-ltb}
 use Rattle.words.specs.Answer.{pick}
 use Rattle.telegram.specs.Stretch.{bitAt}
-use Rattle.demands.specs.Line.{OneBalise, FewFlips, sentBit, receivedBit, inStretch, unequal, flip, sum, flips, syncFlips, dataFlips, lineBit}
-use Rattle.demands.proofs.Sums.{sum-split, sum-part, sum-ext, sum-none, unequal-none}
+use Rattle.line.specs.Line.{OneBalise, FewFlips, sentBit, receivedBit, inStretch, unequal, flip, sum, flips, syncFlips, dataFlips, lineBit}
+use Rattle.line.proofs.Sums.{sum-split, sum-part, sum-ext, sum-none, unequal-none}
 
 module _ (o : OneBalise) (p : ℕ) (after-start : o .start ≤ p) (before-end : p + 40 ≤ o .start + o .len) where
   received : (i : ℕ) → receivedBit o (lineBit o p + i) ≡ bitAt (o .buffer) (p + i)

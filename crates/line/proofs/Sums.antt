@@ -9,7 +9,7 @@ use native.Mathlib.Omega.{arith}
 use lib.Dec.{eqb}
 use borrow.Author.Tests.{eqb-true, eq-eqb, ne-eqb}
 use Rattle.words.specs.Answer.{pick}
-use Rattle.demands.specs.Line.{sum, unequal}
+use Rattle.line.specs.Line.{sum, unequal}
 
 -- What holds at each number below n + 1 holds at each below n.
 pub sooner : {P : ℕ → Type 0} (n : ℕ) → ((i : ℕ) → i < suc n → P i) → (i : ℕ) → i < n → P i

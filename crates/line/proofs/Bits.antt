@@ -4,7 +4,7 @@ use mathlib.Core.Path.{_≡_, refl, sym, ap, ap₂, _∙_, subst}
 use mathlib.Core.Logic.{_⊎_, inl, inr}
 use mathlib.Core.List.{List}
 use Prim.Native.Nat.{ℕ, zero, suc, _+_, _-_, _*_, _/_, _%_, _^_, _≤_, _<_}
-use native.Mathlib.Nat.{le-of-suc-le-suc, eq-or-lt-of-le, not-suc-le-zero, mod-lt, zero-lt-suc, lt-suc-self, add-suc, add-zero, add-assoc, mul-one, mul-assoc, pow-suc, add-mul}
+use native.Mathlib.Nat.{le-of-suc-le-suc, eq-or-lt-of-le, not-suc-le-zero, lt-suc-self, add-assoc}
 use native.Mathlib.Numerals.{one-add}
 use native.Mathlib.Omega.{arith}
 use lib.Dec.{eqb}
@@ -16,21 +16,10 @@ use Rattle.words.specs.Bits.{bit}
 use Rattle.words.proofs.Digits.{bit-lt, bit-xor, two-bits}
 use Rattle.telegram.specs.Stretch.{bitAt, bitsAt}
 use Rattle.telegram.specs.Sync.{differing}
-use Rattle.demands.specs.Line.{sum, unequal}
-use Rattle.demands.proofs.Sums.{sooner}
+use Rattle.telegram.proofs.Window.{bit-lt as bitAt-lt}
+use Rattle.line.specs.Line.{sum, unequal}
+use Rattle.line.proofs.Sums.{sooner}
 use Rattle.words.proofs.HowMany.{onesOf}
-
-pub bitAt-lt : (b : List ℕ) (i : ℕ) → bitAt b i < 2
-bitAt-lt b i = mod-lt (getD b (i / 8) 0 / 2 ^ (7 - i % 8)) (zero-lt-suc 1)
-
--- n bits are a number below 2 ^ n.
-pub bitsAt-lt : (b : List ℕ) (p n : ℕ) → bitsAt b p n < 2 ^ n
-unfolding bitsAt
-bitsAt-lt b p zero = zero-lt-suc 0
-bitsAt-lt b p (suc n) =
-    let r : bitsAt b p n < 2 ^ n = bitsAt-lt b p n in
-    let l : bitAt b (p + n) < 2 = bitAt-lt b (p + n) in
-    subst (λ (k : ℕ). bitsAt b p n * 2 + bitAt b (p + n) < k) (sym (pow-suc 2 n)) (omega arith)
 
 module _ (b c : List ℕ) (p q : ℕ) where
   -- The same bits spell the same number, and only they do.
@@ -127,14 +116,3 @@ byte-so-far c m (suc n) h small =
 
 pub byte-spelt : (c : List ℕ) (m : ℕ) → getD c m 0 < 256 → bitsAt c (8 * m) 8 ≡ getD c m 0
 byte-spelt c m small = byte-so-far c m 8 (omega arith) small ∙ (let e : getD c m 0 / 1 ≡ getD c m 0 = omega arith in e)
-
--- m bits and then n bits.
-pub spelt-on : (b : List ℕ) (p m n : ℕ) → bitsAt b p (m + n) ≡ bitsAt b p m * 2 ^ n + bitsAt b (p + m) n
-unfolding bitsAt
-spelt-on b p m zero = ap (bitsAt b p) (add-zero m) ∙ sym (mul-one (bitsAt b p m)) ∙ sym (add-zero (bitsAt b p m * 1))
-spelt-on b p m (suc n) =
-    ap (bitsAt b p) (add-suc m n)
-    ∙ ap₂ (λ (u v : ℕ). u * 2 + bitAt b v) (spelt-on b p m n) (sym (add-assoc p m n))
-    ∙ ap (λ (k : ℕ). k + bitAt b (p + m + n)) (add-mul (bitsAt b p m * 2 ^ n) (bitsAt b (p + m) n) 2)
-    ∙ add-assoc (bitsAt b p m * 2 ^ n * 2) (bitsAt b (p + m) n * 2) (bitAt b (p + m + n))
-    ∙ ap (λ (k : ℕ). k + (bitsAt b (p + m) n * 2 + bitAt b (p + m + n))) (mul-assoc (bitsAt b p m) (2 ^ n) 2 ∙ ap (λ (k : ℕ). bitsAt b p m * k) (sym (pow-suc 2 n)))

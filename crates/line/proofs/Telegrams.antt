@@ -15,7 +15,7 @@ use Rattle.words.proofs.Laws.{three-flips}
 use Rattle.telegram.specs.Sync.{differing}
 use Rattle.telegram.specs.Telegram.{Said, figures, number, Letter, X, Y, Z, YZ, Received, reads, refused, then, notFifteen, shortWord, longWord, telegram}
 use Rattle.telegram.specs.Place.{accepted}
-use Rattle.demands.proofs.Bits.{ones-differing}
+use Rattle.line.proofs.Bits.{ones-differing}
 use Rattle.words.proofs.HowMany.{onesOf}
 
 -- Of either code: a word that is accepted and differs from a code word in at most three bits is that code word.

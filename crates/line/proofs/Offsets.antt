@@ -9,8 +9,8 @@ use native.Mathlib.Omega.{arith}
 use lib.Dec.{leb, leb→le}
 use Rattle.words.specs.Answer.{pick}
 use Rattle.words.proofs.Ranges.{upto, below}
-use Rattle.demands.specs.Line.{sum, unequal}
-use Rattle.demands.proofs.Sums.{notAt}
+use Rattle.line.specs.Line.{sum, unequal}
+use Rattle.line.proofs.Sums.{notAt}
 
 -- what bit i of the two bytes costs
 unfoldable pub cost : ℕ → ℕ → ℕ → ℕ

@@ -10,13 +10,13 @@ use borrow.Author.Tests.{leb-true, leb-false, eqb-true}
 use Rattle.words.specs.Answer.{pick}
 use Rattle.telegram.specs.Stretch.{bitAt, bitsAt}
 use Rattle.telegram.specs.Place.{areSyncs}
-use Rattle.demands.specs.Line.{OneBalise, Proper, FewFlips, repeated, sentBit, unequal, flip, sum, flips, dataFlips, lineBit}
-use Rattle.demands.proofs.Sums.{sum-le, sum-both, unequal-same, unequal-sym, unequal-between, unequal-lt, notAt, Missing, one-missing}
-use Rattle.demands.proofs.Bits.{same-bits}
-use Rattle.demands.proofs.Round.{data-alike, pattern, sync-pattern, first-sync, second-sync, seven}
-use Rattle.demands.proofs.Offsets.{cost, at-least-four}
-use Rattle.demands.proofs.Window.{flip-is, unflipped-bit, flips-part, sync-quiet, with-syncs}
-use Rattle.demands.proofs.Places.{and-parts, or-parts}
+use Rattle.line.specs.Line.{OneBalise, Proper, FewFlips, repeated, sentBit, unequal, flip, sum, flips, dataFlips, lineBit}
+use Rattle.line.proofs.Sums.{sum-le, sum-both, unequal-same, unequal-sym, unequal-between, unequal-lt, notAt, Missing, one-missing}
+use Rattle.line.proofs.Bits.{same-bits}
+use Rattle.line.proofs.Round.{data-alike, pattern, sync-pattern, first-sync, second-sync, seven}
+use Rattle.line.proofs.Offsets.{cost, at-least-four}
+use Rattle.line.proofs.Window.{flip-is, unflipped-bit, flips-part, sync-quiet, with-syncs}
+use Rattle.line.proofs.Places.{and-parts, or-parts}
 
 module _ (o : OneBalise) (proper : Proper o) (quiet : FewFlips o) (p : ℕ) (after-start : o .start ≤ p) (before-end : p + 40 ≤ o .start + o .len) where
   -- the difference between the bits i of the two outer bytes, as received

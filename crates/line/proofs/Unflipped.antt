@@ -11,13 +11,12 @@ use Rattle.telegram.specs.Stretch.{bitAt, bitsAt}
 use Rattle.telegram.specs.Telegram.{reads}
 use Rattle.telegram.specs.Place.{areSyncs, wordsAt, accepted, isPlace, places}
 use Rattle.telegram.specs.Says.{saysTelegram}
-use Rattle.demands.specs.Line.{OneBalise, Proper, repeated, sentBit, flip, lineBit, sentAt, flipsAt}
-use Rattle.demands.specs.Demand3.{placesOf}
-use Rattle.demands.proofs.Bits.{spelt-alike}
-use Rattle.demands.proofs.Round.{data-sent, first-sync, second-sync, word-x, word-y, word-z}
-use Rattle.demands.proofs.Window.{unflipped-bit, no-flip}
-use Rattle.demands.proofs.Places.{and-true, or-left, or-right, parts-place, lists}
-use Rattle.demands.proofs.Sent.{same-words, sent-parts}
+use Rattle.line.specs.Line.{OneBalise, Proper, repeated, sentBit, flip, lineBit, sentAt, flipsAt, placesOf}
+use Rattle.line.proofs.Bits.{spelt-alike}
+use Rattle.line.proofs.Round.{data-sent, first-sync, second-sync, word-x, word-y, word-z}
+use Rattle.line.proofs.Window.{unflipped-bit, no-flip}
+use Rattle.line.proofs.Places.{and-true, or-left, or-right, parts-place, lists}
+use Rattle.line.proofs.Sent.{same-words, sent-parts}
 
 module _ (o : OneBalise) (proper : Proper o) (p : ℕ) (after-start : o .start ≤ p) (before-end : p + 40 ≤ o .start + o .len)
     (aligned : lineBit o p % 32 ≡ 0) (quiet : (i : ℕ) → i < 40 → flip o (lineBit o p + i) ≡ 0) where

@@ -10,15 +10,16 @@ use Rattle.telegram.specs.Sync.{differing}
 use Rattle.telegram.specs.Telegram.{telegram}
 use Rattle.telegram.specs.Place.{wordsAt, accepted, isPlace, places}
 use Rattle.telegram.specs.Says.{saysTelegram}
-use Rattle.demands.specs.Line.{OneBalise, Proper, FewFlips, repeated, sentBit, unequal, flip, flips, dataFlips, lineBit}
-use Rattle.demands.proofs.Sums.{sum-ext}
-use Rattle.demands.proofs.Bits.{spelt-on, bitsAt-lt, differing-bits}
-use Rattle.demands.proofs.Telegrams.{taken, telegram-still}
-use Rattle.demands.proofs.Round.{data-sent, word-x, word-y, word-z, word-yz}
-use Rattle.demands.proofs.Window.{flip-is, flips-part}
-use Rattle.demands.proofs.Places.{place-parts, listed}
-use Rattle.demands.proofs.Sent.{parts-sent, Sent, AllSent}
-use Rattle.demands.proofs.Wrong.{aligned}
+use Rattle.telegram.proofs.Window.{bits-lt, cut}
+use Rattle.line.specs.Line.{OneBalise, Proper, FewFlips, repeated, sentBit, unequal, flip, flips, dataFlips, lineBit}
+use Rattle.line.proofs.Sums.{sum-ext}
+use Rattle.line.proofs.Bits.{differing-bits}
+use Rattle.line.proofs.Telegrams.{taken, telegram-still}
+use Rattle.line.proofs.Round.{data-sent, word-x, word-y, word-z, word-yz}
+use Rattle.line.proofs.Window.{flip-is, flips-part}
+use Rattle.line.proofs.Places.{place-parts, listed}
+use Rattle.line.proofs.Sent.{parts-sent, Sent, AllSent}
+use Rattle.line.proofs.Wrong.{aligned}
 
 module _ (o : OneBalise) (proper : Proper o) (quiet : FewFlips o) (p : ℕ) (after-start : o .start ≤ p) (before-end : p + 40 ≤ o .start + o .len) where
   -- line bit of bit p
@@ -56,7 +57,7 @@ module _ (o : OneBalise) (proper : Proper o) (quiet : FewFlips o) (p : ℕ) (aft
       let r = taken (telegram u v w) e in
       let further : p + 16 + 8 ≡ p + 24 = omega arith in
       let joined : bitsAt (o .buffer) (p + 16) 16 ≡ v * 256 + w =
-      spelt-on (o .buffer) (p + 16) 8 8 ∙ ap (λ (k : ℕ). v * 256 + bitsAt (o .buffer) k 8) further in
+      cut (o .buffer) (p + 16) 8 8 ∙ ap (λ (k : ℕ). v * 256 + bitsAt (o .buffer) k 8) further in
       let near-x : differing u (o .x) 8 ≤ 3 = subst (λ (k : ℕ). differing u k 8 ≤ 3) (word-x o proper) (near straight 8 8 (omega arith) (omega arith)) in
       let near-y : differing v (o .y) 8 ≤ 3 = subst (λ (k : ℕ). differing v k 8 ≤ 3) (word-y o proper) (near straight 16 8 (omega arith) (omega arith)) in
       let near-z : differing w (o .z) 8 ≤ 3 = subst (λ (k : ℕ). differing w k 8 ≤ 3) (word-z o proper) (near straight 24 8 (omega arith) (omega arith)) in
@@ -64,7 +65,7 @@ module _ (o : OneBalise) (proper : Proper o) (quiet : FewFlips o) (p : ℕ) (aft
       subst (λ (k : ℕ). differing k (o .y * 256 + o .z) 16 ≤ 3) joined
       (subst (λ (k : ℕ). differing (bitsAt (o .buffer) (p + 16) 16) k 16 ≤ 3) (word-yz o proper) (near straight 16 16 (omega arith) (omega arith))) in
       let same = telegram-still (o .x) (o .y) (o .z) u v w (proper .bytes .2) (proper .bytes .3) (proper .bytes .4)
-      (bitsAt-lt (o .buffer) (p + 8) 8) (bitsAt-lt (o .buffer) (p + 16) 8) (bitsAt-lt (o .buffer) (p + 24) 8)
+      (bits-lt (o .buffer) (p + 8) 8) (bits-lt (o .buffer) (p + 16) 8) (bits-lt (o .buffer) (p + 24) 8)
       near-x near-y near-z near-yz (saysTelegram (o .telegram)) (r .0) (proper .valid) (r .1) in
       record {
         at-true = parts-sent o p after-start before-end straight;

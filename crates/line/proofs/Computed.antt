@@ -8,8 +8,8 @@ use lib.Dec.{T, eqb, leb, ltb, eqb→eq, leb→le}
 use borrow.Author.Tests.{ltb-true, ltb-false, le-ltb}
 use Rattle.words.specs.Answer.{pick}
 use Rattle.words.proofs.Ranges.{both, both-left, both-right, upto, below}
-use Rattle.demands.specs.Line.{OneBalise, FewFlips, Clean, sentBit, receivedBit, inStretch, unequal, flip, flips, syncFlips, dataFlips}
-use Rattle.demands.proofs.Sums.{none-sum}
+use Rattle.line.specs.Line.{OneBalise, FewFlips, Clean, sentBit, receivedBit, inStretch, unequal, flip, flips, syncFlips, dataFlips}
+use Rattle.line.proofs.Sums.{none-sum}
 
 -- what is asked of telegram k
 unfoldable pub quietAt : OneBalise → ℕ → Bool

@@ -5,15 +5,16 @@
 -- Assumes nothing.
 use Prim.Native.Nat.{ℕ, zero, suc, _+_, _-_, _*_, _%_, _≤_, _<_}
 use mathlib.Core.Path.{_≡_}
-use mathlib.Core.Bool.{Bool, false, _&&_}
+use mathlib.Core.Bool.{Bool, true, _&&_}
 use mathlib.Core.List.{List, [], _∷_}
 use lib.Dec.{eqb, leb, ltb}
 use Rattle.words.specs.Answer.{pick}
-use Rattle.telegram.specs.Stretch.{bitAt}
+use Rattle.telegram.specs.Stretch.{bitAt, inside}
+use Rattle.telegram.specs.Sync.{isGood}
 use Rattle.telegram.specs.Telegram.{reads, telegram}
+use Rattle.telegram.specs.Place.{places}
 use Rattle.telegram.specs.Says.{saysTelegram}
 use Rattle.telegram.specs.declared.Telegram.{Telegram}
-use Rattle.demands.specs.Table.{notSeven, beyond}
 
 -- One balise, heard over one stretch of a lent buffer.
 pub record OneBalise : Type 0 where
@@ -35,9 +36,9 @@ pub record OneBalise : Type 0 where
 -- The sync words and the telegram are good, and the stretch is taken: what is not refused with 4 or 5.
 pub record Proper (o : OneBalise) : Type 0 where
   pub bytes : (o .s < 256) × (o .t < 256) × (o .x < 256) × (o .y < 256) × (o .z < 256)
-  pub pair : notSeven (o .s) (o .t) ≡ false
+  pub pair : isGood (o .s) (o .t) ≡ true
   pub valid : telegram (o .x) (o .y) (o .z) ≡ reads (saysTelegram (o .telegram))
-  pub taken : beyond (o .buffer) (o .start) (o .len) ≡ false
+  pub taken : inside (o .buffer) (o .start) (o .len) ≡ true
 
 -- The eight bytes that the balise repeats.
 abbrev pub repeated : OneBalise → List ℕ
@@ -102,3 +103,7 @@ sentAt o p = leb (o .start) p && leb (p + 40) (o .start + o .len) && eqb (lineBi
 -- How many of the forty bits of the telegram that begins at bit p, both its sync words included, were flipped.
 unfoldable pub flipsAt : OneBalise → ℕ → ℕ
 flipsAt o p = flips o (lineBit o p) 40
+
+-- The places of the stretch, with the set sync words.
+abbrev pub placesOf : OneBalise → List ℕ
+placesOf o = places (o .buffer) (o .start) (o .len) (o .s) (o .t)

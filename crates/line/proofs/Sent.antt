@@ -10,9 +10,8 @@ use Rattle.telegram.specs.Stretch.{bitsAt}
 use Rattle.telegram.specs.Telegram.{Received, reads, telegram}
 use Rattle.telegram.specs.Place.{wordsAt}
 use Rattle.telegram.specs.Says.{saysTelegram}
-use Rattle.demands.specs.Line.{OneBalise, Proper, lineBit, sentAt}
-use Rattle.demands.specs.Demand3.{placesOf}
-use Rattle.demands.proofs.Places.{and-parts, and-true}
+use Rattle.line.specs.Line.{OneBalise, Proper, lineBit, sentAt, placesOf}
+use Rattle.line.proofs.Places.{and-parts, and-true}
 
 -- What it says that a telegram was sent at bit p.
 pub sent-parts : (o : OneBalise) (p : ℕ) → sentAt o p ≡ true → (o .start ≤ p) × (p + 40 ≤ o .start + o .len) × (lineBit o p % 32 ≡ 0)

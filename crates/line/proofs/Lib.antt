@@ -1,0 +1,13 @@
+pub mod Sums
+pub mod Bits
+pub mod Telegrams
+pub mod Round
+pub mod Offsets
+pub mod Window
+pub mod Places
+pub mod Sent
+pub mod Unflipped
+pub mod Wrong
+pub mod Stretch
+pub mod Clean
+pub mod Computed
