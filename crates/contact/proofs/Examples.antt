@@ -6,6 +6,7 @@ use mathlib.Core.List.{[], _∷_}
 use Rattle.words.specs.Answer.{gives, refuses}
 use Rattle.telegram.specs.Stretch.{inside}
 use Rattle.contact.specs.History.{after, zeroesOf, zeroes, opens, closes}
+use Rattle.contact.specs.Judge.{onesAtEnd, allZero, isMarker}
 use Rattle.contact.specs.Contacts.{contacts, contactsFrom, contact, quiet, noFurther, nextContact, fromStart}
 
 -- 7 zeroes in sixteen open no contact, 8 do; 5 don't close one, 4 do.
@@ -52,3 +53,20 @@ cut-line = refl
 beyond : nextContact (0xff ∷ []) (fromStart 3 6) ≡ refuses 5
 unfolding nextContact contactsFrom contacts fromStart inside after opens closes zeroes zeroesOf
 beyond = refl
+
+-- A marker's edges: 63 zeroes are none and 64 are one; so are 64 bits that end with 11 ones, and with 12 they are none.
+sixty-three : isMarker (0 ∷ 0 ∷ 0 ∷ 0 ∷ 0 ∷ 0 ∷ 0 ∷ 0 ∷ []) 0 63 ≡ false
+unfolding isMarker onesAtEnd allZero
+sixty-three = refl
+
+sixty-four : isMarker (0 ∷ 0 ∷ 0 ∷ 0 ∷ 0 ∷ 0 ∷ 0 ∷ 0 ∷ []) 0 64 ≡ true
+unfolding isMarker onesAtEnd allZero
+sixty-four = refl
+
+eleven-ones : isMarker (0 ∷ 0 ∷ 0 ∷ 0 ∷ 0 ∷ 0 ∷ 0x07 ∷ 0xff ∷ []) 0 64 ≡ true
+unfolding isMarker onesAtEnd allZero
+eleven-ones = refl
+
+twelve-ones : isMarker (0 ∷ 0 ∷ 0 ∷ 0 ∷ 0 ∷ 0 ∷ 0x0f ∷ 0xff ∷ []) 0 64 ≡ false
+unfolding isMarker onesAtEnd allZero
+twelve-ones = refl

@@ -14,7 +14,7 @@ use Rattle.contact.specs.Contacts.{Mode, outside, since, Contacts, contact, qui
 use Rattle.contact.specs.Judge.{allAlike, firstPlace, isMarker, Contact, read, marker, judgement, judged}
 use Rattle.contact.specs.declared.Search.{Search}
 use Rattle.demands.specs.Rules.{row, Decided, Is}
-use Rattle.demands.specs.Table.{beyond, placesDiffer, isRead, neither, cut}
+use Rattle.demands.specs.Table.{beyond, placesDiffer, isRead, isMarked, neither, cut}
 use Rattle.demands.specs.Lists.{nextRules, judgeRules, JudgeReads, NextReads}
 use Rattle.demands.proofs.Rules.{true-not-false, if-not}
 use Rattle.demands.proofs.Refusals.{beyond-is, stretch-then}
@@ -84,7 +84,7 @@ lettered false true false a m = (λ q. absurd (true-not-false (sym q)), λ q. (�
 
 -- The judging of a contact: 4, 5, 7, 8.
 pub judging : (b : List ℕ) (start len s t : ℕ) → Decided (JudgeReads b start len s t) (judgeRules b start len s t) (judged b start len s t)
-unfolding judged judgement placesDiffer neither isRead
+unfolding judged judgement placesDiffer neither isRead isMarker isMarked
 judging b start len s t =
     let ps = places b start len s t in
     stretch-then (JudgeReads b start len s t) b start len s t (row 7 (placesDiffer b start len s t) ∷ row 8 (neither b start len s t) ∷ []) (judgement b start len ps)

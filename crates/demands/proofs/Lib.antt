@@ -16,6 +16,7 @@ pub mod Runs
 pub mod Riding
 pub mod Listings
 pub mod Bare
+pub mod Spelled
 pub mod Demand1
 pub mod Cases
 pub mod RowCases

@@ -1,6 +1,6 @@
 -- A listing refuses as document 01's table says, and then leaves everything as it was.
 -- Assumes nothing.
-use mathlib.Core.Path.{_≡_, refl, sym}
+use mathlib.Core.Path.{_≡_, refl, sym, subst}
 use mathlib.Core.Bool.{Bool, true, false, not}
 use mathlib.Core.List.{List, [], _∷_}
 use Prim.Native.Nat.{ℕ, _+_, _%_}
@@ -14,15 +14,18 @@ use Rattle.ride.specs.declared.Ride.{Ride}
 use Rattle.listing.specs.Put.{next, noRoom, filled, placed, put}
 use Rattle.listing.specs.List.{Listing, listOf, listTaken, unlisted, list}
 use Rattle.demands.specs.Rules.{row, Decided, Given}
-use Rattle.demands.specs.Table.{badLength, badGap}
+use Rattle.demands.specs.Table.{badLength}
 use Rattle.demands.specs.Lists.{runRules}
 use Rattle.demands.proofs.Rules.{true-not-false}
 use Rattle.demands.proofs.Rides.{gives-not}
+use Rattle.demands.proofs.Spelled.{bad-gap}
 
 -- A listing: 19, 16.
 pub listing : (ride : Ride) (gap number : ℕ) (trace out : List ℕ) → Decided Given (runRules gap trace) (list ride gap number trace out .answer)
-unfolding list listOf badGap badLength
-listing ride gap number trace out = go (allowed gap) (eqb (length trace % 8) 0)
+unfolding list listOf badLength
+listing ride gap number trace out =
+    subst (λ (t : Bool). Decided Given (row 19 t ∷ row 16 (badLength trace) ∷ []) (list ride gap number trace out .answer)) (sym (bad-gap gap))
+    (go (allowed gap) (eqb (length trace % 8) 0))
   where
     go : (t u : Bool)
         → Decided Given (row 19 (not t) ∷ row 16 (not u) ∷ [])

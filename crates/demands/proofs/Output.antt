@@ -32,6 +32,7 @@ use Rattle.demands.specs.Table.{badLength, badGap}
 use Rattle.demands.specs.Contracts.{Fresh, PutLine, ListInto}
 use Rattle.demands.specs.Output.{ridden, output, recordsIn, Quoted, quoted, AllQuoted, Takes, Written}
 use Rattle.demands.proofs.Rules.{not-false}
+use Rattle.demands.proofs.Spelled.{bad-gap}
 use Rattle.demands.proofs.Room.{all-taken, few-taken, one-taken, records-many}
 
 -- ---- the listing
@@ -138,13 +139,13 @@ all-quoted = each quoted refl
 
 takes-so : (ride : Ride) (gap number : ℕ) (trace before : List ℕ) (l : Listed) (after : List ℕ) → badGap gap ≡ false → badLength trace ≡ false
     → ListInto ride gap number trace before l after → Takes ride gap number trace before l after
-unfolding list listOf badGap badLength
+unfolding list listOf badLength
 takes-so ride gap number trace before l after good-gap good c =
     let n = taken gap ride number (length before) (records trace) in
     let w = textOf (rideOver (λ odometer. gap) ride number (take n (records trace)) .lines) in
     let is = c .7 ∙ ap₂ (λ (v w : List ℕ). list ride gap number v w) (c .4) (c .5)
     ∙ ap₂ (λ (t u : Bool). pick t (pick u (listTaken gap ride number (records trace) before) (unlisted ride number before 16)) (unlisted ride number before 19))
-    (not-false (allowed gap) good-gap) (not-false (eqb (length trace % 8) 0) good) in
+    (not-false (allowed gap) (sym (bad-gap gap) ∙ good-gap)) (not-false (eqb (length trace % 8) 0) good) in
     let holds : after ≡ w ++ drop (length w) before = sym (c .6) ∙ ap (λ (v : Listing). v .out) is ∙ at-first w before in
     let many : length (records trace) ≡ recordsIn trace = records-many (recordsIn trace) trace in
     record {

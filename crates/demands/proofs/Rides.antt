@@ -1,6 +1,6 @@
 -- The check of a record, the step and the run refuse as document 01's table says, and leave the ride as it was.
 -- Assumes nothing.
-use mathlib.Core.Path.{_≡_, refl, sym}
+use mathlib.Core.Path.{_≡_, refl, sym, subst}
 use mathlib.Core.Bool.{Bool, true, false, not}
 use mathlib.Core.List.{List, [], _∷_}
 use Prim.Native.Nat.{ℕ, _%_}
@@ -15,21 +15,24 @@ use Rattle.ride.specs.Step.{goOn, refuseOr, refused, treat, step}
 use Rattle.ride.specs.Over.{records, rideOver, through, Run, run}
 use Rattle.ride.specs.declared.Ride.{Ride}
 use Rattle.demands.specs.Rules.{row, Decided, Given, Is}
-use Rattle.demands.specs.Table.{badLength, badRecord, wentBack, tooFar, badGap}
+use Rattle.demands.specs.Table.{badLength, wentBack, tooFar}
 use Rattle.demands.specs.Lists.{recordRules, stepRules, runRules}
 use Rattle.demands.proofs.Rules.{true-not-false, if-so}
+use Rattle.demands.proofs.Spelled.{bad-gap, bad-record}
 
 -- The check of a record: 16, 18, 17.
 pub checking : (ride : Ride) (r : List ℕ)
     → Decided (Is (record { odometer = odometerOf r; passed = passedOf r })) (recordRules ride r) (check (ride .odometer) r)
-unfolding check badRecord tooFar wentBack
+unfolding check tooFar wentBack
 checking ride r =
+    subst (λ (t : Bool). Decided (Is (record { odometer = odometerOf r; passed = passedOf r })) (row 16 t ∷ row 18 (tooFar r) ∷ row 17 (wentBack (ride .odometer) r) ∷ []) (check (ride .odometer) r))
+    (sym (bad-record r)) (
     let e : Entry = record { odometer = odometerOf r; passed = passedOf r } in
     let back : Outcome Entry = pick (ltb (odometerOf r) (ride .odometer)) (refuses 17) (gives e) in
     if-so (Is e) (row 18 (tooFar r) ∷ row 17 (wentBack (ride .odometer) r) ∷ []) (refuses 16) (pick (ltb 4000000000 (odometerOf r)) (refuses 18) back)
     (if-so (Is e) (row 17 (wentBack (ride .odometer) r) ∷ []) (refuses 18) back
     (if-so (Is e) [] (refuses 17) (gives e) refl (ltb (odometerOf r) (ride .odometer))) (ltb 4000000000 (odometerOf r)))
-    (not (inOrder r))
+    (not (inOrder r)))
 
 -- what goes on from the check is refused as the check is
 carried : (ride : Ride) (gap : ℕ) (e : Entry) (a b c : Bool)
@@ -44,10 +47,15 @@ carried ride gap e false false false =
 
 -- A step: 19, then as the record is checked.
 pub stepping : (ride : Ride) (gap : ℕ) (r : List ℕ) → Decided Given (stepRules ride gap r) (step ride gap r .lines)
-unfolding step treat check badGap badRecord tooFar wentBack
-stepping ride gap r = go (allowed gap)
+unfolding step treat check tooFar wentBack
+stepping ride gap r =
+    subst (λ (t : Bool). Decided Given (row 19 t ∷ recordRules ride r) (step ride gap r .lines)) (sym (bad-gap gap))
+    (subst (λ (t : Bool). Decided Given (row 19 (not (allowed gap)) ∷ row 16 t ∷ row 18 (tooFar r) ∷ row 17 (wentBack (ride .odometer) r) ∷ []) (step ride gap r .lines)) (sym (bad-record r))
+    (go (allowed gap)))
   where
-    go : (t : Bool) → Decided Given (row 19 (not t) ∷ recordRules ride r) (pick t (treat ride gap r) (refused ride 19) .lines)
+    go : (t : Bool)
+        → Decided Given (row 19 (not t) ∷ row 16 (not (inOrder r)) ∷ row 18 (tooFar r) ∷ row 17 (wentBack (ride .odometer) r) ∷ [])
+        (pick t (treat ride gap r) (refused ride 19) .lines)
     go true = (
       λ q. absurd (true-not-false (sym q)),
       λ q. carried ride gap (record { odometer = odometerOf r; passed = passedOf r }) (not (inOrder r)) (ltb 4000000000 (odometerOf r)) (ltb (odometerOf r) (ride .odometer)),
@@ -63,8 +71,10 @@ left ride k = record { answer = refuses k; ride = ride }
 
 -- A run: 19, 16.
 pub running : (ride : Ride) (gap : ℕ) (trace : List ℕ) → Decided (Is through) (runRules gap trace) (run ride gap trace .answer)
-unfolding run badGap badLength
-running ride gap trace = go (allowed gap) (eqb (length trace % 8) 0)
+unfolding run badLength
+running ride gap trace =
+    subst (λ (t : Bool). Decided (Is through) (row 19 t ∷ row 16 (badLength trace) ∷ []) (run ride gap trace .answer)) (sym (bad-gap gap))
+    (go (allowed gap) (eqb (length trace % 8) 0))
   where
     go : (t u : Bool) → Decided (Is through) (row 19 (not t) ∷ row 16 (not u) ∷ []) (pick t (pick u (over ride gap trace) (left ride 16)) (left ride 19) .answer)
     go false u = (λ q. refl, λ q. absurd (true-not-false q))

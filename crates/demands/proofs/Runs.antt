@@ -22,6 +22,7 @@ use Rattle.ride.specs.declared.Stepped.{Stepped}
 use Rattle.demands.specs.Table.{badLength, badGap}
 use Rattle.demands.specs.Contracts.{StepOf, RunOver}
 use Rattle.demands.proofs.Rules.{not-false}
+use Rattle.demands.proofs.Spelled.{bad-gap}
 
 -- The state after some records, whatever the first one's number.
 unnumbered : (gaps : ℕ → ℕ) (rs : List (List ℕ)) (ride : Ride) (n k : ℕ) → rideOver gaps ride n rs .ride ≡ rideOver gaps ride k rs .ride
@@ -86,7 +87,7 @@ runs-on ride gap bytes rest s q q′ eight good stepped c d =
     ∙ ap (λ (v : Step). run (v .ride) gap rest) (sym (stepped .1)) ∙ sym (ran (s .ride) gap rest q′ d)
 
 pub runs-nowhere : (ride : Ride) (gap : ℕ) (q : Ran) → badGap gap ≡ false → RunOver ride gap [] q → q .ride ≡ ride
-unfolding badGap rideOver firstRecords
+unfolding rideOver firstRecords
 runs-nowhere ride gap q good c =
     ap (λ (v : Run). v .ride) (ran ride gap [] q c ∙ good-run ride gap [] refl)
-    ∙ ap (λ (t : Bool). pick t (over ride gap []) (kept ride) .ride) (not-false (allowed gap) good)
+    ∙ ap (λ (t : Bool). pick t (over ride gap []) (kept ride) .ride) (not-false (allowed gap) (sym (bad-gap gap) ∙ good))

@@ -24,6 +24,7 @@ use Rattle.demands.specs.Table.{badGap}
 use Rattle.demands.specs.Contracts.{JudgeGroup, EndOf}
 use Rattle.demands.specs.Steps.{OneStep, Accepts, LeavesBehind, NoneOpen}
 use Rattle.demands.proofs.Rules.{not-false}
+use Rattle.demands.proofs.Spelled.{bad-gap}
 
 -- what the record says
 abbrev pub entry : OneStep → Entry
@@ -31,10 +32,10 @@ entry o = record { odometer = o .odometer; passed = o .passed }
 
 -- An accepted record goes on.
 pub goes-on : (o : OneStep) → Accepts o → saysStepped (o .answer) ≡ goOn (o .ride) (o .gap) (entry o)
-unfolding step treat badGap
+unfolding step treat
 goes-on o a =
     a .called .1
-    ∙ ap (λ (t : Bool). pick t (treat (o .ride) (o .gap) (o .bytes)) (refused (o .ride) 19)) (not-false (allowed (o .gap)) (a .good-gap))
+    ∙ ap (λ (t : Bool). pick t (treat (o .ride) (o .gap) (o .bytes)) (refused (o .ride) 19)) (not-false (allowed (o .gap)) (sym (bad-gap (o .gap)) ∙ a .good-gap))
     ∙ ap (refuseOr (o .ride) (o .gap)) (sym (a .accepted .1))
 
 -- A group left behind closes.

@@ -1,10 +1,12 @@
--- Document 01's table of refusal numbers, row by row. Each condition stands alone, and names no number.
+-- Document 01's table of refusal numbers, row by row. Each condition stands alone, and names no number. Its figures (7, 15,
+-- 16,777,216, 64 and 11, 8 and 4, 1 to 14, 1 to 200, 4,000,000,000) stand here a second time, so that a wrong one in a crate shows as a failing proof. What a place is,
+-- when places are alike (`allAlike`), how a row fits (`fitIn`) and the ones and zeroes of a contact are cited from the crates.
 -- Assumes nothing.
-use Prim.Native.Nat.{ℕ, zero, suc, _+_, _*_, _%_, _^_}
+use Prim.Native.Nat.{ℕ, zero, suc, _+_, _-_, _*_, _%_, _^_}
 use mathlib.Core.Bool.{Bool, true, false, not, _&&_, _||_}
 use mathlib.Core.List.{List, [], _∷_}
 use lib.Dec.{eqb, ltb, leb}
-use lib.ListN.{length}
+use lib.ListN.{length, getD}
 use Rattle.words.specs.Answer.{Outcome, gives, refuses, pick}
 use Rattle.words.specs.Plain.{isCode, figure}
 use Rattle.words.specs.Code.{exchanged}
@@ -12,7 +14,7 @@ use Rattle.telegram.specs.Stretch.{bitAt}
 use Rattle.telegram.specs.Sync.{differing}
 use Rattle.telegram.specs.Place.{places}
 use Rattle.contact.specs.History.{after, zeroes}
-use Rattle.contact.specs.Judge.{allAlike, isMarker}
+use Rattle.contact.specs.Judge.{allAlike, onesAtEnd, allZero}
 use Rattle.contact.specs.declared.Search.{Search}
 use Rattle.group.specs.Balise.{balises, readAll}
 use Rattle.group.specs.Row.{Found, none, found, Y, Fit, misfit, fit}
@@ -23,8 +25,7 @@ use Rattle.group.specs.declared.Group.{Group}
 use Rattle.group.specs.declared.Heard.{Heard}
 use Rattle.group.specs.declared.Kind.{Kind}
 use Rattle.group.specs.declared.Placed.{Placed}
-use Rattle.ride.specs.Record.{odometerOf, inOrder}
-use Rattle.ride.specs.Joining.{allowed}
+use Rattle.ride.specs.Record.{odometerOf}
 
 -- 1: "not a code word", of n bits
 unfoldable pub notCode : ℕ → ℕ → Bool
@@ -63,9 +64,13 @@ placesDiffer b start len s t = not (allAlike b (places b start len s t))
 unfoldable pub isRead : List ℕ → ℕ → ℕ → ℕ → ℕ → Bool
 isRead b start len s t = leb 2 (length (places b start len s t)) && allAlike b (places b start len s t)
 
+-- Whether a contact is a marker's: "at least 64 bits long and made of zeroes followed by at most 11 ones".
+unfoldable pub isMarked : List ℕ → ℕ → ℕ → Bool
+isMarked b start len = leb 64 len && leb (onesAtEnd b start len) 11 && allZero b start (len - onesAtEnd b start len)
+
 -- 8: "contact neither telegram nor marker"
 unfoldable pub neither : List ℕ → ℕ → ℕ → ℕ → ℕ → Bool
-neither b start len s t = not (isRead b start len s t) && not (isMarker b start len)
+neither b start len s t = not (isRead b start len s t) && not (isMarked b start len)
 
 -- Whether one of the numbers below n passes the test.
 unfoldable pub some : (ℕ → Bool) → ℕ → Bool
@@ -183,9 +188,13 @@ notAllowed bs = isJudged (fitIn present bs) && noLink (yOf (B bs)) (zOf (B bs)) 
 unfoldable pub badLength : List ℕ → Bool
 badLength trace = not (eqb (length trace % 8) 0)
 
--- 16: "kind above 3, or bytes 5 to 7 not zero where they must be"
+-- Whether one of bytes 5 to 7 of a record is not zero.
+abbrev pub someNotZero : List ℕ → Bool
+someNotZero r = ltb 0 (getD r 5 0) || ltb 0 (getD r 6 0) || ltb 0 (getD r 7 0)
+
+-- 16: "kind above 3, or bytes 5 to 7 not zero where they must be": "all zero for kinds 1 to 3". Byte 4 is the kind.
 unfoldable pub badRecord : List ℕ → Bool
-badRecord r = not (inOrder r)
+badRecord r = ltb 3 (getD r 4 0) || (leb 1 (getD r 4 0) && someNotZero r)
 
 -- 17: "odometer below the last accepted one"
 unfoldable pub wentBack : ℕ → List ℕ → Bool
@@ -197,4 +206,4 @@ tooFar r = ltb 4000000000 (odometerOf r)
 
 -- 19: "gap outside 1 to 200"
 unfoldable pub badGap : ℕ → Bool
-badGap gap = not (allowed gap)
+badGap gap = ltb gap 1 || ltb 200 gap
