@@ -53,6 +53,6 @@ unfolding badRecord inOrder
 bad-record r =
     let kind = getD r 4 0 in
     let zeroes : (ltb 0 (getD r 5 0) || ltb 0 (getD r 6 0) || ltb 0 (getD r 7 0)) ≡ (not (eqb (getD r 5 0) 0) || not (eqb (getD r 6 0) 0) || not (eqb (getD r 7 0) 0))
-        = ap₂ _||_ (ap₂ _||_ (some-not (getD r 5 0)) (some-not (getD r 6 0))) (some-not (getD r 7 0)) in
+    = ap₂ _||_ (ap₂ _||_ (some-not (getD r 5 0)) (some-not (getD r 6 0))) (some-not (getD r 7 0)) in
     ap₂ _||_ (above kind 3) (ap₂ _&&_ (some-not kind) zeroes)
     ∙ in-words (leb kind 3) (eqb kind 0) (eqb (getD r 5 0) 0) (eqb (getD r 6 0) 0) (eqb (getD r 7 0) 0)
