@@ -1,6 +1,6 @@
 -- Laws of the checks' counts: each is a sum over the positions, and the exchange only says where a position's bit stands.
 -- Assumes nothing.
-use mathlib.Core.Path.{_≡_, refl, sym, ap, ap₂, _∙_, subst}
+use mathlib.Core.Path.{_≡_, sym, ap, _∙_}
 use mathlib.Core.Bool.{Bool, true, false}
 use Prim.Native.Nat.{ℕ, zero, suc, _+_, _*_, _/_, _%_, _^_, _≤_, _<_}
 use native.Mathlib.Nat.{add-comm, le-refl, mod-lt, zero-lt-suc}
@@ -48,9 +48,3 @@ count-le c h (suc n) =
 pub count-more : (p : ℕ → ℕ) (h i : ℕ) → count p h i + p i * bit h i ≡ count p h (i + 1)
 unfolding count
 count-more p h i = add-comm (count p h i) (p i * bit h i) ∙ ap (count p h) (sym (add-one i))
-
--- One position more of a received word: m says whether the check looks at it, and `at` where its bit stands.
-pub count-on : (c w n i at k m : ℕ) → i < n → at ≡ other i → m ≡ covers c i → k ≡ count (covers c) (exchanged n w) i
-    → k + m * (w / 2 ^ at % 2) ≡ count (covers c) (exchanged n w) (i + 1)
-count-on c w n i at k m h at-is m-is k-is =
-    ap₂ _+_ k-is (ap₂ _*_ m-is (ap (bit w) at-is ∙ sym (bit-exchanged n w i h))) ∙ count-more (covers c) (exchanged n w) i

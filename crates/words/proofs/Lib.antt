@@ -11,6 +11,7 @@ pub mod Linear
 pub mod Zero
 pub mod Weight
 pub mod Widths
+pub mod Masks
 pub mod Made
 pub mod Written
 pub mod Laws

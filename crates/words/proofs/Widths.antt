@@ -39,7 +39,8 @@ unfolding stays other
 other-within short i l = ltb→lt (other i) 8 (below (stays 8) 8 tt i l)
 other-within long i l = ltb→lt (other i) 16 (below (stays 16) 16 tt i l)
 
-other-other : (i : ℕ) → i < 16 → other (other i) ≡ i
+-- The exchange undoes itself.
+pub other-other : (i : ℕ) → i < 16 → other (other i) ≡ i
 unfolding back other
 other-other i l = eqb→eq (other (other i)) i (below back 16 tt i l)
 
@@ -51,12 +52,12 @@ exchanged-twice {n} wide w small =
     ∙ ap (bit w) (other-other i (lt-of-lt-of-le l (width-le wide))))
 
 -- a sum over the positions below n
-abbrev sum : (ℕ → ℕ) → ℕ → ℕ
+abbrev pub sum : (ℕ → ℕ) → ℕ → ℕ
 sum f zero = 0
 sum f (suc n) = f n + sum f n
 
 -- in another order
-sum-other : {n : ℕ} → Width n → (f : ℕ → ℕ) → sum (λ i. f (other i)) n ≡ sum f n
+pub sum-other : {n : ℕ} → Width n → (f : ℕ → ℕ) → sum (λ i. f (other i)) n ≡ sum f n
 unfolding other
 sum-other short f = omega arith
 sum-other long f = omega arith
@@ -66,7 +67,7 @@ unfolding onesOf
 ones-sum w zero = refl
 ones-sum w (suc n) = ap (λ (k : ℕ). bit w n + k) (ones-sum w n)
 
-sum-ext : (f g : ℕ → ℕ) (n : ℕ) → ((i : ℕ) → i < n → f i ≡ g i) → sum f n ≡ sum g n
+pub sum-ext : (f g : ℕ → ℕ) (n : ℕ) → ((i : ℕ) → i < n → f i ≡ g i) → sum f n ≡ sum g n
 sum-ext f g zero same = refl
 sum-ext f g (suc n) same = ap₂ _+_ (same n (lt-suc-self n)) (sum-ext f g n (λ i l. same i (lt-of-lt-of-le l (omega arith))))
 

@@ -37,7 +37,7 @@ pub fn read_short(word: u8) -> ShortRead
     ensures { λ r. ⌜ saysShortRead r ≡ readShort word ⌝ }
 {
     let w = word as u32;
-    if reading::is_code(w, 8) {
+    if reading::is_code(w) {
         let x = reading::figure(w, 8);
         ShortRead::Figure((x % 256) as u8)
     } else {
@@ -62,7 +62,7 @@ pub fn read_long(word: u16) -> LongRead
     ensures { λ r. ⌜ saysLongRead r ≡ readLong word ⌝ }
 {
     let w = word as u32;
-    if reading::is_code(w, 16) {
+    if reading::is_code(w) {
         let x = reading::figure(w, 16);
         LongRead::Figure((x % 65536) as u16)
     } else {

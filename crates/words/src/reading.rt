@@ -1,6 +1,8 @@
-// Reading a word of n bits, 8 or 16, by a walk over its positions.
+// Reading a word of n bits, 8 or 16: five counts of ones say whether it is a code word, and a walk over its positions reads its figure.
 ghost use mathlib.Core.Path.{_≡_};
-ghost use Prim.Native.Nat.{_≤_};
+ghost use Prim.Native.Nat.{_%_, _≤_, _<_};
+ghost use lib.Dec.{eqb};
+ghost use lib.Count.{ones};
 ghost use Rattle.words.specs.Plain.{isCode, figure, isCheck};
 ghost use Rattle.words.specs.Code.{other, exchanged};
 
@@ -31,28 +33,34 @@ pub fn is_check(i: u32) -> bool
     }
 }
 
-// Whether the received word w of n bits is a code word: five counts in one walk.
-pub fn is_code(w: u32, n: u32) -> bool
-    requires { ⌜ n ≤ 16 ⌝ }
-    ensures { λ r. ⌜ r ≡ isCode n (exchanged n w) ⌝ }
+// The positions that each check looks at in a word as received, where bits 3 and 4 stand exchanged, and 11 and 12.
+const CHECK_8: u32 = 0xFF00;
+
+const CHECK_4: u32 = 0xE8E8;
+
+const CHECK_2: u32 = 0xD4D4;
+
+const CHECK_1: u32 = 0xB2B2;
+
+const CHECK_0: u32 = 0xFFFF;
+
+// Whether the number of ones is even.
+fn is_even(w: u32) -> bool
+    ensures { λ r. ⌜ r ≡ eqb (ones w % 2) 0 ⌝ }
 {
-    let mut c0: u32 = 0;
-    let mut c1: u32 = 0;
-    let mut c2: u32 = 0;
-    let mut c4: u32 = 0;
-    let mut c8: u32 = 0;
-    let mut i: u32 = 0;
-    while i < n {
-        let at = other(i);
-        let b = (w >> at) % 2;
-        c0 += b;
-        c1 += i % 2 * b;
-        c2 += i / 2 % 2 * b;
-        c4 += i / 4 % 2 * b;
-        c8 += i / 8 % 2 * b;
-        i += 1;
-    }
-    (c8 % 2 == 0) & (c4 % 2 == 0) & (c2 % 2 == 0) & (c1 % 2 == 0) & (c0 % 2 == 0)
+    u32::count_ones(w) % 2 == 0
+}
+
+// Whether the received word w is a code word of the long code, and of the short one if it is a byte: each check's count of ones is even.
+pub fn is_code(w: u32) -> bool
+    requires { ⌜ w < 65536 ⌝ }
+    ensures { λ r. ⌜ (r ≡ isCode 16 (exchanged 16 w)) × (w < 256 → r ≡ isCode 8 (exchanged 8 w)) ⌝ }
+{
+    is_even(w & CHECK_0)
+        && is_even(w & CHECK_1)
+        && is_even(w & CHECK_2)
+        && is_even(w & CHECK_4)
+        && is_even(w & CHECK_8)
 }
 
 // The figure that the received word w of n bits carries, highest bit first.

@@ -15,11 +15,11 @@ cast-t7 c = search needs
 
 returns : tie.Need-returns
 returns c =
-    accepted 16 (c .before .before .before .args .word) (c .before .before .is-code .result) (c .before .before .is-code .ensures)
+    accepted 16 (c .before .before .before .args .word) (c .before .before .is-code .result) (c .before .before .is-code .ensures .0)
     (c .figure .result) (c .figure .ensures) (c .before .if1 .taken)
 
 returns-2 : tie.Need-returns-2
-returns-2 c = refused 16 (c .before .before .args .word) (c .before .is-code .result) (c .before .is-code .ensures) (c .if1 .left)
+returns-2 c = refused 16 (c .before .before .args .word) (c .before .is-code .result) (c .before .is-code .ensures .0) (c .if1 .left)
 
 pub read-long-spec : {M : Type 1} → statement M
 read-long-spec = tie.close (tie.spec is-code-requires figure-requires cast-t7 returns returns-2)
