@@ -8,7 +8,7 @@
 
 static bool is_odd(uint32_t bits)
 {
-    return __builtin_parity(bits);
+    return __builtin_popcount(bits) % 2 != 0;
 }
 
 /* Bits 3 and 4, and 11 and 12, exchanged: from the sent word to the plain one, and back. */
@@ -20,9 +20,10 @@ static uint32_t exchanged(uint32_t word)
 
 static int32_t read_word(uint32_t sent)
 {
-    uint32_t h = exchanged(sent);
-    if (is_odd(h & 0xFF00) || is_odd(h & 0xF0F0) || is_odd(h & 0xCCCC) || is_odd(h & 0xAAAA) || is_odd(h))
+    /* The masks are those of the plain word with the same bits exchanged. */
+    if (is_odd(sent) || is_odd(sent & 0xB2B2) || is_odd(sent & 0xD4D4) || is_odd(sent & 0xE8E8) || is_odd(sent & 0xFF00))
         return -1;
+    uint32_t h = exchanged(sent);
     return (int32_t)(h >> 9 << 4 | (h >> 5 & 7) << 1 | (h >> 3 & 1));
 }
 

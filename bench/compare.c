@@ -162,19 +162,19 @@ static void compare_stretch(uint64_t i, size_t start, size_t len, uint8_t s, uin
 {
     uint64_t a[3], b[3];
     lend(a, b);
-    int32_t ours = proved.find(buffer, bytes, start, len, s, t, a), theirs = plain.find(buffer, bytes, start, len, s, t, b);
+    int32_t ours = proved.find(buffer, bytes, start, len, s, t, a), theirs = other.find(buffer, bytes, start, len, s, t, b);
     same(ours == theirs && same_arrays(a, b), "atc2_find", i);
     met[FIND][ours + 9]++;
     same(ours == 0 || same_arrays(a, before), "atc2_find leaves out", i);
     lend(a, b);
     ours = proved.judge(buffer, bytes, start, len, s, t, a);
-    theirs = plain.judge(buffer, bytes, start, len, s, t, b);
+    theirs = other.judge(buffer, bytes, start, len, s, t, b);
     same(ours == theirs && same_arrays(a, b), "atc2_judge", i);
     met[JUDGE][ours + 9]++;
     same(ours == 1 || same_arrays(a, before), "atc2_judge leaves out", i);
     lend(a, b);
     ours = proved.begin(buffer, bytes, start, len, a);
-    theirs = plain.begin(buffer, bytes, start, len, b);
+    theirs = other.begin(buffer, bytes, start, len, b);
     same(ours == theirs && same_arrays(a, b), "atc2_begin", i);
     met[BEGIN][ours + 9]++;
     same(ours == 0 || same_arrays(a, before), "atc2_begin leaves search", i);
@@ -191,7 +191,7 @@ static void compare_contacts(uint64_t i, size_t start, size_t len, uint8_t s, ui
         memcpy(was, a, sizeof a);
         lend(out_a, out_b);
         ours = proved.next_contact(buffer, bytes, a, out_a);
-        int32_t theirs = plain.next_contact(buffer, bytes, b, out_b);
+        int32_t theirs = other.next_contact(buffer, bytes, b, out_b);
         same(ours == theirs && same_arrays(a, b) && same_arrays(out_a, out_b), "atc2_next_contact", i);
         met[NEXT][ours + 9]++;
         same(ours == 1 || (same_arrays(a, was) && same_arrays(out_a, before)), "atc2_next_contact leaves both", i);

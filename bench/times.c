@@ -1,7 +1,7 @@
-/* times NAME FILE..: for each stretch of 16,777,216 bits, both sides do the same jobs over it. Their answers are compared
-   first, and a difference ends the run with status 1; then each side does the job five times, in turn, and a line says the
-   least time of each in processor seconds and the ratio, proved to plain. NAME is what the line calls the stretch; that
-   named `line` is gone over as a vehicle hears it, contact after contact, each judged. */
+/* times NAME FILE..: both sides read all words of the two codes again and again, then do the same jobs over each stretch of
+   16,777,216 bits. Their answers are compared first, and a difference ends the run with status 1; then each side does the job
+   five times, in turn, and a line says the least time of each in processor seconds and the ratio, proved to plain. NAME is
+   what the line calls the stretch; that named `line` is gone over as a vehicle hears it, contact after contact, each judged. */
 #include "pair.h"
 #include "sides.h"
 
@@ -32,6 +32,36 @@ static void note_answer(int32_t answer)
 }
 
 /* ---- The jobs ---- */
+
+/* All words of a code, again and again. What one round answered is one sum, in which each word's answer counts by its place,
+   so that noting it takes no time beside a read. */
+#define WORDS_READ 16777216
+
+static void note_round(uint64_t sum, uint32_t words)
+{
+    answers += words;
+    note(sum);
+}
+
+static void read_long_words(const struct side *side)
+{
+    for (uint32_t done = 0; done < WORDS_READ; done += 65536) {
+        uint64_t sum = 0;
+        for (uint32_t w = 0; w < 65536; w++)
+            sum += (uint64_t)side->read_long((uint16_t)w) * (2 * w + 1);
+        note_round(sum, 65536);
+    }
+}
+
+static void read_short_words(const struct side *side)
+{
+    for (uint32_t done = 0; done < WORDS_READ; done += 256) {
+        uint64_t sum = 0;
+        for (uint32_t w = 0; w < 256; w++)
+            sum += (uint64_t)side->read_short((uint8_t)w) * (2 * w + 1);
+        note_round(sum, 256);
+    }
+}
 
 /* Every place of the stretch: asked again from the bit after each. */
 static void find_all(const struct side *side)
@@ -93,12 +123,14 @@ static void next_and_judge(const struct side *side)
 static const struct {
     const char *name;
     void (*job)(const struct side *side);
-    bool is_of_line;
+    enum input { WORDS, STRETCH, LINE } over;
 } jobs[] = {
-    {"find", find_all, false},
-    {"judge", judge_whole, false},
-    {"next_contact", next_all, false},
-    {"next_contact, judge", next_and_judge, true},
+    {"read_long", read_long_words, WORDS},
+    {"read_short", read_short_words, WORDS},
+    {"find", find_all, STRETCH},
+    {"judge", judge_whole, STRETCH},
+    {"next_contact", next_all, STRETCH},
+    {"next_contact, judge", next_and_judge, LINE},
 };
 
 /* ---- Measuring ---- */
@@ -131,7 +163,7 @@ static bool load(const char *file)
 static bool run_job(size_t i, const char *name)
 {
     double least[2] = {1e9, 1e9};
-    measured(jobs[i].job, &plain);
+    measured(jobs[i].job, &other);
     uint64_t wanted = digest, many = answers;
     measured(jobs[i].job, &proved);
     if (digest != wanted || answers != many) {
@@ -140,28 +172,34 @@ static bool run_job(size_t i, const char *name)
     }
     for (int round = 0; round < ROUNDS; round++)
         for (int k = 0; k < 2; k++) {
-            double took = measured(jobs[i].job, k == 0 ? &proved : &plain);
+            double took = measured(jobs[i].job, k == 0 ? &proved : &other);
             if (took < least[k])
                 least[k] = took;
         }
-    printf("%-20s %-10s %8" PRIu64 " answers alike; proved %.4f s, plain %.4f s, ratio %.2f\n", jobs[i].name, name, many, least[0], least[1],
-           least[0] / least[1]);
+    printf("%-20s %-10s %8" PRIu64 " answers alike; %s %.4f s, %s %.4f s, ratio %.2f\n", jobs[i].name, name, many, proved.name, least[0], other.name,
+           least[1], least[0] / least[1]);
     fflush(stdout);
+    return true;
+}
+
+/* The jobs over this kind of input. */
+static bool run_jobs(enum input over, const char *name)
+{
+    for (size_t i = 0; i < sizeof jobs / sizeof jobs[0]; i++)
+        if (jobs[i].over == over && !run_job(i, name))
+            return false;
     return true;
 }
 
 int main(int argc, char **argv)
 {
-    bool good = argc >= 3;
+    bool good = run_jobs(WORDS, "words");
     for (int a = 1; good && a + 1 < argc; a += 2) {
         if (!load(argv[a + 1])) {
             fprintf(stderr, "times: %s has no %d bytes\n", argv[a + 1], BYTES);
             return 2;
         }
-        bool is_line = strcmp(argv[a], "line") == 0;
-        for (size_t i = 0; good && i < sizeof jobs / sizeof jobs[0]; i++)
-            if (jobs[i].is_of_line == is_line)
-                good = run_job(i, argv[a]);
+        good = run_jobs(strcmp(argv[a], "line") == 0 ? LINE : STRETCH, argv[a]);
     }
     return good ? 0 : 1;
 }
