@@ -12,6 +12,7 @@ pub mod Zero
 pub mod Weight
 pub mod Widths
 pub mod Masks
+pub mod Carrying
 pub mod Made
 pub mod Written
 pub mod Laws

@@ -38,7 +38,7 @@ pub fn read_short(word: u8) -> ShortRead
 {
     let w = word as u32;
     if reading::is_code(w) {
-        let x = reading::figure(w, 8);
+        let x = reading::figure(w);
         ShortRead::Figure((x % 256) as u8)
     } else {
         ShortRead::NotCode
@@ -63,7 +63,7 @@ pub fn read_long(word: u16) -> LongRead
 {
     let w = word as u32;
     if reading::is_code(w) {
-        let x = reading::figure(w, 16);
+        let x = reading::figure(w);
         LongRead::Figure((x % 65536) as u16)
     } else {
         LongRead::NotCode

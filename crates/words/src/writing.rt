@@ -3,14 +3,40 @@ ghost use mathlib.Core.Path.{_≡_};
 ghost use Prim.Native.Nat.{_+_, _≤_, _<_};
 ghost use Rattle.words.specs.Answer.{pick};
 ghost use Rattle.words.specs.Plain.{isCheck, carried, count, covers, madeEven};
-ghost use Rattle.words.specs.Code.{exchanged, sent};
-use crate::reading;
+ghost use Rattle.words.specs.Code.{other, exchanged, sent};
+
+// The position with which i is exchanged.
+fn other(i: u32) -> u32
+    ensures { λ r. ⌜ r ≡ other i ⌝ }
+{
+    match i {
+        3 => 4,
+        4 => 3,
+        11 => 12,
+        12 => 11,
+        _ => i,
+    }
+}
+
+// Whether the position i is a check.
+fn is_check(i: u32) -> bool
+    ensures { λ r. ⌜ r ≡ isCheck i ⌝ }
+{
+    match i {
+        0 => true,
+        1 => true,
+        2 => true,
+        4 => true,
+        8 => true,
+        _ => false,
+    }
+}
 
 // 0 at a check, 1 at a position that carries a bit of the figure.
 fn carrier(i: u32) -> u32
     ensures { λ r. ⌜ r ≡ pick (isCheck i) 0 1 ⌝ }
 {
-    if reading::is_check(i) { 0 } else { 1 }
+    if is_check(i) { 0 } else { 1 }
 }
 
 // The figure x in its positions, with 0 at each check.
@@ -71,7 +97,7 @@ fn exchanged(w: u32, n: u32) -> u32
     let mut one: u32 = 1;
     let mut i: u32 = 0;
     while i < n {
-        let at = reading::other(i);
+        let at = other(i);
         let b = (w >> at) % 2;
         e += b * one;
         one *= 2;

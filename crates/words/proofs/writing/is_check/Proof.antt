@@ -1,8 +1,8 @@
 -- `is_check` answers true at exactly the positions that document 01 lists as checks.
 use borrow.Author.Tests.{ne-eqb}
 use Rattle.words.specs.Plain.{isCheck}
-use Rattle.words.proofs.reading.is_check.Statement.{statement}
-use Rattle.words.proofs.reading.is_check.Tie as tie
+use Rattle.words.proofs.writing.is_check.Statement.{statement}
+use Rattle.words.proofs.writing.is_check.Tie as tie
 
 returns : tie.Need-returns
 unfolding isCheck
