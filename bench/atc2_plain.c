@@ -21,7 +21,7 @@ static uint32_t exchanged(uint32_t word)
 static int32_t read_word(uint32_t sent)
 {
     /* The masks are those of the plain word with the same bits exchanged. */
-    if (is_odd(sent) || is_odd(sent & 0xB2B2) || is_odd(sent & 0xD4D4) || is_odd(sent & 0xE8E8) || is_odd(sent & 0xFF00))
+    if (is_odd(sent & 0xFF00) || is_odd(sent & 0xE8E8) || is_odd(sent & 0xD4D4) || is_odd(sent & 0xB2B2) || is_odd(sent))
         return -1;
     uint32_t h = exchanged(sent);
     return (int32_t)(h >> 9 << 4 | (h >> 5 & 7) << 1 | (h >> 3 & 1));

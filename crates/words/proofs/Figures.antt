@@ -16,16 +16,6 @@ use Rattle.words.proofs.Digits.{bit-lt}
 abbrev pub grown : ℕ → ℕ → ℕ → ℕ
 grown h n a = pick (isCheck n) a (a * 2 + bit h n)
 
-grown-ge : (t : Bool) (a b : ℕ) → a ≤ pick t a (a * 2 + b)
-grown-ge true a b = le-refl a
-grown-ge false a b = omega arith
-
--- The figure never shrinks.
-pub onwards-ge : (h n a : ℕ) → a ≤ onwards h n a
-unfolding onwards
-onwards-ge h zero a = le-refl a
-onwards-ge h (suc n) a = le-trans (grown-ge (isCheck n) a (bit h n)) (onwards-ge h n (grown h n a))
-
 -- Each position that carries at most doubles what there was.
 onwards-lt : (h n a : ℕ) → onwards h n a < suc a * 2 ^ carriers n
 unfolding onwards carriers

@@ -15,7 +15,7 @@ use Rattle.words.specs.Bits.{bit, word}
 use Rattle.words.specs.Plain.{checks, among, isCheck, covers, count, even, allEven, isCode, onwards, figure}
 use Rattle.words.proofs.Digits.{bit-lt, bits-ext}
 use Rattle.words.proofs.Ranges.{both, both-left, both-right, upto, below}
-use Rattle.words.proofs.Figures.{grown, onwards-ge}
+use Rattle.words.proofs.Figures.{grown}
 use Rattle.words.proofs.Linear.{and-parts}
 
 -- A figure so far that stays 0 met no one at a position that carries.

@@ -29,11 +29,11 @@ pub fn is_code(w: u32) -> bool
     requires { ⌜ w < 65536 ⌝ }
     ensures { λ r. ⌜ (r ≡ isCode 16 (exchanged 16 w)) × (w < 256 → r ≡ isCode 8 (exchanged 8 w)) ⌝ }
 {
-    is_even(w & CHECK_0)
-        && is_even(w & CHECK_1)
-        && is_even(w & CHECK_2)
+    is_even(w & CHECK_8)
         && is_even(w & CHECK_4)
-        && is_even(w & CHECK_8)
+        && is_even(w & CHECK_2)
+        && is_even(w & CHECK_1)
+        && is_even(w & CHECK_0)
 }
 
 // The figure that the received word w carries, as a word of the long code, and of the short one if it is a byte: bits 15, 14, 13, 11, 12, 10, 9 and 7 to 4.
