@@ -18,6 +18,7 @@ use Rattle.line.specs.Line.{OneBalise, Proper, Clean, sentAt, placesOf}
 use Rattle.demands.specs.Demand3.{ComesOf, allSent}
 use Rattle.line.proofs.Places.{or-left, or-right}
 use Rattle.line.proofs.Sent.{read-as-sent}
+use Rattle.line.proofs.TooFew.{few-flips-few}
 use Rattle.line.proofs.Stretch.{all-sent}
 use Rattle.line.proofs.Clean.{clean-few, true-places}
 use Rattle.demands.proofs.Handed.{answerOf, comes-is}
@@ -38,6 +39,6 @@ comes-all-sent o clean proper w c =
     comes-is o proper w c
     ∙ ap (map answerOf)
     (with-message (o .buffer) (saysTelegram (o .telegram)) (placesOf o)
-    (λ p there. read-as-sent o proper p (all-sent o proper (clean-few o clean) p there))
+    (λ p there. read-as-sent o proper p (all-sent o proper (few-flips-few o (clean-few o clean)) p there))
     ∙ ap (map (λ p. at p (reads (saysTelegram (o .telegram))))) (true-places o clean proper))
     ∙ answers (o .telegram) (those (sentAt o) (from (o .start) (o .len)))

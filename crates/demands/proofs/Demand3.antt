@@ -6,6 +6,7 @@ use Rattle.demands.specs.Contracts.{ReadShort, ReadLong}
 use Rattle.demands.specs.Demand3.{OnlyTheSent, Demand3}
 use Rattle.demands.proofs.Noise.{noise-law}
 use Rattle.line.proofs.Sent.{AllSent}
+use Rattle.line.proofs.TooFew.{few-flips-few}
 use Rattle.line.proofs.Stretch.{all-sent}
 use Rattle.line.proofs.Unflipped.{unflipped-among}
 use Rattle.demands.proofs.Handed.{asking-ends, every-sent, all-places-sent, unflipped-comes}
@@ -30,7 +31,7 @@ demand-3 =
     record {
       short-code = noise-law 8 saysShortRead ReadShort (λ w r called. called .1);
       long-code = noise-law 16 saysLongRead ReadLong (λ w r called. called .1);
-      stretch = λ o proper quiet. only-the-sent o proper (all-sent o proper quiet);
+      stretch = λ o proper quiet. only-the-sent o proper (all-sent o proper (few-flips-few o quiet));
       ends = asking-ends;
       clean = λ o proper clean. comes-all-sent o clean proper;
     }

@@ -37,6 +37,8 @@ pub mod JudgedAlike
 pub mod Clean
 pub mod Noise
 pub mod Demand3
+pub mod FalsePlaces
+pub mod SyncNoise
 pub mod Witnesses
 pub mod CallsMet
 pub mod Needed

@@ -12,3 +12,4 @@ pub mod Calls
 pub mod Said
 pub mod Demand2
 pub mod Demand3
+pub mod SyncNoise

@@ -8,6 +8,7 @@ use Rattle.telegram.specs.Place.{isPlace, places, from, those}
 use Rattle.line.specs.Line.{OneBalise, Proper, FewFlips, Clean, flip, flips, syncFlips, dataFlips, lineBit, sentAt, flipsAt, placesOf}
 use Rattle.line.proofs.Sums.{none-sum}
 use Rattle.line.proofs.Places.{place-parts, lists-alike}
+use Rattle.line.proofs.TooFew.{few-flips-few}
 use Rattle.line.proofs.Stretch.{place-sent}
 use Rattle.line.proofs.Unflipped.{unflipped-place}
 
@@ -35,5 +36,5 @@ module _ (o : OneBalise) (clean : Clean o) where
     true-places =
         lists-alike (isPlace (o .buffer) (o .start) (o .len) (o .s) (o .t)) (sentAt o) (o .start) (o .len)
         (λ p l h. both-ways (isPlace (o .buffer) (o .start) (o .len) (o .s) (o .t) p) (sentAt o p)
-        (λ e. place-sent o proper clean-few p l (place-parts (o .buffer) (o .start) (o .len) (o .s) (o .t) p e .0) e .at-true)
+        (λ e. place-sent o proper (few-flips-few o clean-few) p l (place-parts (o .buffer) (o .start) (o .len) (o .s) (o .t) p e .0) e .at-true)
         (λ sent. unflipped-place o proper p sent (none (lineBit o p) 40)))

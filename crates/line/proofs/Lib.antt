@@ -4,10 +4,13 @@ pub mod Telegrams
 pub mod Round
 pub mod Offsets
 pub mod Window
+pub mod TooFew
 pub mod Places
 pub mod Sent
 pub mod Unflipped
 pub mod Wrong
 pub mod Stretch
 pub mod Clean
+pub mod EqualBit
+pub mod Forty
 pub mod Computed

@@ -1,4 +1,4 @@
--- Over a stretch with few flips every place has the words sent, at their true place: the sync words of a place lie at a telegram's
+-- Over a stretch with too few flips for a false place every place has the words sent, at their true place: the sync words of a place lie at a telegram's
 -- beginning, and there each word is accepted only if it is the word sent.
 -- Assumes nothing.
 use mathlib.Core.Path.{_≡_, sym, ap, ap₂, _∙_, subst}
@@ -11,7 +11,7 @@ use Rattle.telegram.specs.Telegram.{telegram}
 use Rattle.telegram.specs.Place.{wordsAt, accepted, isPlace, places}
 use Rattle.telegram.specs.Says.{saysTelegram}
 use Rattle.telegram.proofs.Window.{bits-lt, cut}
-use Rattle.line.specs.Line.{OneBalise, Proper, FewFlips, repeated, sentBit, unequal, flip, flips, dataFlips, lineBit}
+use Rattle.line.specs.Line.{OneBalise, Proper, repeated, sentBit, unequal, flip, flips, lineBit}
 use Rattle.line.proofs.Sums.{sum-ext}
 use Rattle.line.proofs.Bits.{differing-bits}
 use Rattle.line.proofs.Telegrams.{taken, telegram-still}
@@ -19,21 +19,22 @@ use Rattle.line.proofs.Round.{data-sent, word-x, word-y, word-z, word-y
 use Rattle.line.proofs.Window.{flip-is, flips-part}
 use Rattle.line.proofs.Places.{place-parts, listed}
 use Rattle.line.proofs.Sent.{parts-sent, Sent, AllSent}
+use Rattle.line.proofs.TooFew.{TooFew}
 use Rattle.line.proofs.Wrong.{aligned}
 
-module _ (o : OneBalise) (proper : Proper o) (quiet : FewFlips o) (p : ℕ) (after-start : o .start ≤ p) (before-end : p + 40 ≤ o .start + o .len) where
+module _ (o : OneBalise) (proper : Proper o) (few : TooFew o) (p : ℕ) (after-start : o .start ≤ p) (before-end : p + 40 ≤ o .start + o .len) where
   -- line bit of bit p
   abbrev q : ℕ
   q = lineBit o p
 
   -- At a true place the n bits from the d-th on differ from those sent in at most three.
   near : q % 32 ≡ 0 → (d n : ℕ) → 8 ≤ d → d + n ≤ 32 → differing (bitsAt (o .buffer) (p + d) n) (bitsAt (repeated o) d n) n ≤ 3
-  unfolding flips dataFlips
+  unfolding flips
   near straight d n l h =
       let k : ℕ = q / 32 in
       let is : q ≡ 32 * k = omega arith in
-      let few = quiet .few k in
-      let part : flips o (32 * k + d) n ≤ dataFlips o k = flips-part o (32 * k + 8) (32 * k + d) 24 n (omega arith) (omega arith) in
+      let data-few : flips o (q + 8) 24 ≤ 3 = few .inner p after-start before-end straight in
+      let part : flips o (32 * k + d) n ≤ flips o (q + 8) 24 = flips-part o (q + 8) (32 * k + d) 24 n (omega arith) (omega arith) in
       let count : differing (bitsAt (o .buffer) (p + d) n) (bitsAt (repeated o) d n) n ≡ flips o (32 * k + d) n =
       differing-bits (o .buffer) (repeated o) (p + d) d n
       ∙ sum-ext (λ i. unequal (bitAt (o .buffer) (p + d + i)) (bitAt (repeated o) (d + i))) (λ i. flip o (32 * k + d + i)) n (λ i m. one k is i m) in
@@ -77,11 +78,11 @@ module _ (o : OneBalise) (proper : Proper o) (quiet : FewFlips o) (p : ℕ) (aft
   pub place-sent : isPlace (o .buffer) (o .start) (o .len) (o .s) (o .t) p ≡ true → Sent o p
   place-sent e =
       let h = place-parts (o .buffer) (o .start) (o .len) (o .s) (o .t) p e in
-      as-sent (aligned o proper quiet p after-start before-end (h .1)) (h .2)
+      as-sent (aligned o proper few p after-start before-end (h .1)) (h .2)
 
 -- So every place has the words sent.
-pub all-sent : (o : OneBalise) → Proper o → FewFlips o → AllSent o
+pub all-sent : (o : OneBalise) → Proper o → TooFew o → AllSent o
 unfolding places
-all-sent o proper quiet p e =
+all-sent o proper few p e =
     let h = listed (isPlace (o .buffer) (o .start) (o .len) (o .s) (o .t)) p (o .start) (o .len) e in
-    place-sent o proper quiet p (h .0) (place-parts (o .buffer) (o .start) (o .len) (o .s) (o .t) p (h .2) .0) (h .2)
+    place-sent o proper few p (h .0) (place-parts (o .buffer) (o .start) (o .len) (o .s) (o .t) p (h .2) .0) (h .2)

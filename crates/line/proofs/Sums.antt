@@ -111,15 +111,19 @@ unequal-sym a c = go (unequal a c) (unequal c a) refl refl
         let k : unequal c a < 2 = unequal-lt c a in
         omega arith
 
--- A difference between a and c costs one between a and d, or between c and d.
-pub unequal-between : (a c d : ℕ) → unequal a c ≤ unequal a d + unequal c d
-unequal-between a c d = go (unequal a d) refl
+-- Two differences that differ cost one of the bits between.
+pub unequal-across : (a c b d : ℕ) → unequal (unequal a c) (unequal b d) ≤ unequal a b + unequal c d
+unequal-across a c b d = go (unequal a b) (unequal c d) refl refl
   where
-    go : (u : ℕ) → unequal a d ≡ u → unequal a c ≤ unequal a d + unequal c d
-    go zero p =
-        let same : unequal a c ≡ unequal c d = ap (λ (k : ℕ). unequal k c) (unequal-none a d p) ∙ unequal-sym d c in
+    small : unequal (unequal a c) (unequal b d) < 2
+    small = unequal-lt (unequal a c) (unequal b d)
+
+    go : (u v : ℕ) → unequal a b ≡ u → unequal c d ≡ v → unequal (unequal a c) (unequal b d) ≤ unequal a b + unequal c d
+    go zero zero p q =
+        let none : unequal (unequal a c) (unequal b d) ≡ 0 = unequal-same (unequal a c) (unequal b d) (ap₂ unequal (unequal-none a b p) (unequal-none c d q)) in
         omega arith
-    go (suc u) p = let h : unequal a c < 2 = unequal-lt a c in omega arith
+    go zero (suc v) p q = let h : unequal (unequal a c) (unequal b d) < 2 = small in omega arith
+    go (suc u) v p q = let h : unequal (unequal a c) (unequal b d) < 2 = small in omega arith
 
 notAt-same : (e : ℕ) → notAt e e ≡ 0
 unfolding notAt
