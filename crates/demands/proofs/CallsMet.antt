@@ -25,7 +25,7 @@ unfolding readWord isCode even count covers figure onwards isCheck exchanged oth
 one-sent = (((0x17, tt), refl), ((0x99, tt), refl))
 
 -- A lent buffer with these bytes.
-abbrev lent : List ℕ → RefT (List ℕ)
+abbrev pub lent : List ℕ → RefT (List ℕ)
 lent bytes = record { ptr = (0, 0); name = 0; now = bytes }
 
 -- The line with three flips, asked until 6: from bit 0, from bit 49 and from bit 81.

@@ -6,7 +6,6 @@ use mathlib.Core.Bool.{Bool, true, false, not}
 use mathlib.Core.List.{List, [], _∷_}
 use Prim.Native.Nat.{ℕ, zero, suc, _+_, _-_, _≤_, _<_}
 use native.Mathlib.Omega.{arith}
-use denote.Ref.{RefT}
 use lib.Dec.{T, leb, ltb, leb→le}
 use lib.ListN.{getD}
 use borrow.Author.Tests.{ltb-true}
@@ -28,6 +27,7 @@ use Rattle.line.specs.Forty.{equalBits, EqualBit}
 use Rattle.demands.specs.Contracts.{Find}
 use Rattle.demands.specs.Calls.{first}
 use Rattle.demands.specs.SyncNoise.{FalsePlace, enough}
+use Rattle.demands.proofs.CallsMet.{lent}
 use Rattle.line.proofs.EqualBit.{isOnly, only-this}
 
 -- The balise sends zeroes between the sync words s and t. Of the stretch, forty bits that begin at the line bit `phase`, the bytes s, 0, 0, 0 and t are
@@ -55,9 +55,10 @@ is-false false t = refl
 -- ---- what is computed of the eight lines
 
 bytes : (i : ℕ) → i < 8 → (line i .s < 256) × (line i .t < 256)
-bytes i l =
-    (ltb-true (line i .s) 256 (is-true (ltb (line i .s) 256) (below (λ i. ltb (line i .s) 256) 8 tt i l)),
-    ltb-true (line i .t) 256 (is-true (ltb (line i .t) 256) (below (λ i. ltb (line i .t) 256) 8 tt i l)))
+bytes i l = (
+  ltb-true (line i .s) 256 (is-true (ltb (line i .s) 256) (below (λ i. ltb (line i .s) 256) 8 tt i l)),
+  ltb-true (line i .t) 256 (is-true (ltb (line i .t) 256) (below (λ i. ltb (line i .t) 256) 8 tt i l)),
+)
 
 pair : (i : ℕ) → i < 8 → isGood (line i .s) (line i .t) ≡ true
 unfolding isGood differing
@@ -94,10 +95,6 @@ found-there i l =
     let t = line i .t in
     ap₂ (λ (g : Bool) (ps : List ℕ). pick g (pick (inside b 0 40) (firstOf b ps) (refuses 5)) (refuses 4)) (pair i l)
     (one-offset b s t 0 39 ∙ ap (λ (x : Bool). pick x (0 ∷ places b 1 39 s t) (places b 1 39 s t)) (place-is i l))
-
--- A lent buffer with these bytes.
-abbrev lent : List ℕ → RefT (List ℕ)
-lent bytes = record { ptr = (0, 0); name = 0; now = bytes }
 
 handed : (i : ℕ) → i < 8 → Find (line i .buffer) 0 40 (line i .s) (line i .t) (Found.At 0 (Telegram.Figures 0 0 0))
 handed i l =

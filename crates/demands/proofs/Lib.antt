@@ -39,6 +39,7 @@ pub mod Noise
 pub mod Demand3
 pub mod FalsePlaces
 pub mod SyncNoise
+pub mod SyncWitnesses
 pub mod Witnesses
 pub mod CallsMet
 pub mod Needed

@@ -85,10 +85,13 @@ module _ (o : OneBalise) where
   unfolding pattern equalBits
   one-equal proper =
       let m : Missing (pattern o) 8 = one-missing (pattern o) (λ i. unequal-lt (bitAt (repeated o) (0 + i)) (bitAt (repeated o) (32 + i))) 7 (seven o proper) in
-      let l : m .at < 8 = m .within in
-      (suc (m .at), omega arith, omega arith,
-      lists-alike (λ k. eqb (bit (o .s) (8 - k)) (bit (o .t) (8 - k))) (λ k. eqb (k - 1) (m .at)) 1 8 (λ k low high. alike (m .at) (m .is) k low high)
-      ∙ only-at (m .at) l)
+      let l : m .at < 8 = m .within in (
+        suc (m .at),
+        omega arith,
+        omega arith,
+        lists-alike (λ k. eqb (bit (o .s) (8 - k)) (bit (o .t) (8 - k))) (λ k. eqb (k - 1) (m .at)) 1 8 (λ k low high. alike (m .at) (m .is) k low high)
+            ∙ only-at (m .at) l,
+      )
     where
       alike : (e : ℕ) → ((i : ℕ) → i < 8 → pattern o i ≡ notAt e i) → (k : ℕ) → 1 ≤ k → k < 1 + 8 → eqb (bit (o .s) (8 - k)) (bit (o .t) (8 - k)) ≡ eqb (k - 1) e
       alike e is k low high =
