@@ -17,17 +17,18 @@ use Rattle.telegram.specs.declared.Telegram.{Telegram}
 use Rattle.telegram.specs.declared.Found.{Found}
 use Rattle.line.specs.Line.{OneBalise, Proper, sentAt, placesOf}
 use Rattle.line.specs.Forty.{EqualBit, AtMostInForty}
+use Rattle.demands.specs.Contracts.{Find}
 use Rattle.demands.specs.Calls.{HandedOut}
-use Rattle.demands.specs.Demand3.{ComesOf, OnlyTheSent}
+use Rattle.demands.specs.Demand3.{OnlyTheSent}
 
 -- "The third, fourth, fifth or sixth sent".
 abbrev pub middle : List ℕ
 middle = 3 ∷ 4 ∷ 5 ∷ 6 ∷ []
 
--- Nothing is handed out: the stretch has no place, and `find` answers 6 at once.
+-- Nothing is handed out: the stretch has no place, and `find` answers 6.
 pub record NothingComes (o : OneBalise) : Type 0 where
   pub no-place : placesOf o ≡ []
-  pub nothing : (w : List Found) → ComesOf o w → w ≡ []
+  pub answers-6 : (r : Found) → Find (o .buffer) (o .start) (o .len) (o .s) (o .t) r → r ≡ Found.NoPlace
 
 -- A line with this equal bit, and at most so many flips in any forty bits in a row, of which a telegram is handed out where none was sent.
 pub record FalsePlace (k most : ℕ) (o : OneBalise) : Type 0 where
@@ -43,6 +44,7 @@ pub record FalsePlace (k most : ℕ) (o : OneBalise) : Type 0 where
 abbrev pub enough : List ℕ
 enough = 1 ∷ 2 ∷ 3 ∷ 3 ∷ 3 ∷ 3 ∷ 2 ∷ 1 ∷ []
 
+-- Noise on the sync words too. Of a telegram that has flips it says, as demand 3 does, that it is handed out as it was sent or not at all.
 pub record SyncNoise : Type 0 where
   -- every pair that is not refused with 4 has one equal bit, one of the eight
   pub one-equal : (o : OneBalise) → Proper o → (k : ℕ) × (1 ≤ k) × (k ≤ 8) × EqualBit o k
