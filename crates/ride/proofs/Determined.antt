@@ -1,6 +1,7 @@
 -- Each contract fixes its function's whole answer: any two answers that it allows are equal.
 -- Assumes nothing.
 use mathlib.Core.Path.{_≡_, refl, sym, ap, _∙_}
+use mathlib.Core.Bool.{Bool}
 use mathlib.Core.List.{List, [], _∷_}
 use Prim.Native.Nat.{ℕ}
 use lib.Dec.{eqb}
@@ -10,13 +11,17 @@ use denote.Triple.Clauses.{AtExit}
 use Rattle.words.specs.Answer.{Outcome, gives, refuses, pick}
 use Rattle.ride.specs.Record.{Entry}
 use Rattle.ride.specs.Step.{Step, End}
+use Rattle.ride.specs.At.{Replied, says, noRecord, Treatment}
 use Rattle.ride.specs.Over.{Through, Run}
-use Rattle.ride.specs.Says.{saysWrong, saysChecked, saysLines, saysReport, saysStepped, saysEnded, saysWay, saysRan}
+use Rattle.ride.specs.Says.{saysWrong, saysChecked, saysLines, saysReport, saysGiven, saysReply, saysStepped, saysTreated, saysEnded, saysWay, saysRan}
 use Rattle.ride.specs.declared.Wrong.{Wrong}
 use Rattle.ride.specs.declared.Checked.{Checked}
 use Rattle.ride.specs.declared.Line.{Line}
 use Rattle.ride.specs.declared.Lines.{Lines}
 use Rattle.ride.specs.declared.Report.{Report}
+use Rattle.ride.specs.declared.trace.Given.{Given}
+use Rattle.ride.specs.declared.trace.Reply.{Reply}
+use Rattle.ride.specs.declared.trace.Treated.{Treated}
 use Rattle.ride.specs.declared.Ride.{Ride}
 use Rattle.ride.specs.declared.Stepped.{Stepped}
 use Rattle.ride.specs.declared.Ended.{Ended}
@@ -24,10 +29,14 @@ use Rattle.ride.specs.declared.Way.{Way}
 use Rattle.ride.specs.declared.Ran.{Ran}
 use Rattle.ride.proofs.fresh.Kinds as fresh-kinds
 use Rattle.ride.proofs.fresh.Reads as fresh-reads
-use Rattle.ride.proofs.check_record.Kinds as check-kinds
-use Rattle.ride.proofs.check_record.Reads as check-reads
+use Rattle.ride.proofs.joining.allowed.Kinds as allowed-kinds
+use Rattle.ride.proofs.joining.allowed.Reads as allowed-reads
+use Rattle.ride.proofs.records.check_record.Kinds as check-kinds
+use Rattle.ride.proofs.records.check_record.Reads as check-reads
 use Rattle.ride.proofs.step.Kinds as step-kinds
 use Rattle.ride.proofs.step.Reads as step-reads
+use Rattle.ride.proofs.trace.treat_at.Kinds as treat-at-kinds
+use Rattle.ride.proofs.trace.treat_at.Reads as treat-at-reads
 use Rattle.ride.proofs.end.Kinds as end-kinds
 use Rattle.ride.proofs.end.Reads as end-reads
 use Rattle.ride.proofs.run.Kinds as run-kinds
@@ -77,6 +86,29 @@ steppedOf s = record { ride = s .ride; closed = s .closed; report = reportOf (s 
 pub stepped-back : (r : Stepped) → steppedOf (saysStepped r) ≡ r
 stepped-back r = ap (λ (p : Report). record { ride = r .ride; closed = r .closed; report = p }) (report-back (r .report))
 
+abbrev pub givenOf : Outcome (List Line) → Given
+givenOf (gives ls) = Given.Lines (linesOf ls)
+givenOf (refuses n) = Given.Refused (wrongOf n)
+
+abbrev pub replyOf : Replied → Reply
+replyOf (says (gives ls)) = Reply.Record (givenOf (gives ls))
+replyOf (says (refuses n)) = pick (eqb n 19) Reply.Gap (Reply.Record (givenOf (refuses n)))
+replyOf noRecord = Reply.NoRecord
+
+pub reply-back : (r : Reply) → replyOf (saysReply r) ≡ r
+reply-back Reply.Gap = refl
+reply-back Reply.NoRecord = refl
+reply-back (Reply.Record (Given.Refused Wrong.Malformed)) = refl
+reply-back (Reply.Record (Given.Refused Wrong.TooHigh)) = refl
+reply-back (Reply.Record (Given.Refused Wrong.TooLow)) = refl
+reply-back (Reply.Record (Given.Lines ls)) = ap (λ (l : Lines). Reply.Record (Given.Lines l)) (lines-back ls)
+
+abbrev pub treatedOf : Treatment → Treated
+treatedOf t = record { ride = t .ride; closed = t .closed; reply = replyOf (t .reply) }
+
+pub treated-back : (r : Treated) → treatedOf (saysTreated r) ≡ r
+treated-back r = ap (λ (p : Reply). record { ride = r .ride; closed = r .closed; reply = p }) (reply-back (r .reply))
+
 abbrev pub endedOf′ : End → Ended
 endedOf′ e = record { ride = e .ride; closed = e .closed; lines = linesOf (e .lines) }
 
@@ -103,6 +135,11 @@ pub fresh-determined : (κs : Lfts 0) (a : Dens κs fresh-kinds.ps) (r r′ : Ri
     → fresh-reads.Post κs a r x → fresh-reads.Post κs a r′ x′ → r ≡ r′
 fresh-determined κs a r r′ x x′ p q = p ∙ sym q
 
+pub allowed-determined : (κs : Lfts 0) (a : Dens κs allowed-kinds.ps) (r r′ : Bool)
+    (x x′ : AtExit (endedOf 0 allowed-kinds.ps allowed-kinds.r) κs)
+    → allowed-reads.Post κs a r x → allowed-reads.Post κs a r′ x′ → r ≡ r′
+allowed-determined κs a r r′ x x′ p q = p ∙ sym q
+
 pub check-record-determined : (κs : Lfts 0) (a : Dens κs check-kinds.ps) (r r′ : Checked)
     (x x′ : AtExit (endedOf 0 check-kinds.ps check-kinds.r) κs)
     → check-reads.Post κs a r x → check-reads.Post κs a r′ x′ → r ≡ r′
@@ -112,6 +149,11 @@ pub step-determined : (κs : Lfts 0) (a : Dens κs step-kinds.ps) (r r′ : Step
     (x x′ : AtExit (endedOf 0 step-kinds.ps step-kinds.r) κs)
     → step-reads.Post κs a r x → step-reads.Post κs a r′ x′ → r ≡ r′
 step-determined κs a r r′ x x′ p q = sym (stepped-back r) ∙ ap steppedOf (p ∙ sym q) ∙ stepped-back r′
+
+pub treat-at-determined : (κs : Lfts 1) (a : Dens κs treat-at-kinds.ps) (r r′ : Treated)
+    (x x′ : AtExit (endedOf 1 treat-at-kinds.ps treat-at-kinds.r) κs)
+    → treat-at-reads.Post κs a r x → treat-at-reads.Post κs a r′ x′ → r ≡ r′
+treat-at-determined κs a r r′ x x′ p q = sym (treated-back r) ∙ ap treatedOf (p ∙ sym q) ∙ treated-back r′
 
 pub end-determined : (κs : Lfts 0) (a : Dens κs end-kinds.ps) (r r′ : Ended)
     (x x′ : AtExit (endedOf 0 end-kinds.ps end-kinds.r) κs)

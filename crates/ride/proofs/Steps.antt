@@ -1,9 +1,9 @@
 -- The steps of the definitions, each from what its tests say.
 -- Assumes nothing.
-use Prim.Native.Nat.{ℕ, _+_, _≤_, _<_}
+use Prim.Native.Nat.{ℕ, _/_, _≤_, _<_}
 use native.Mathlib.Omega.{arith}
-use mathlib.Core.Path.{_≡_, refl}
-use mathlib.Core.Bool.{Bool, true, false, not, _&&_}
+use mathlib.Core.Path.{_≡_}
+use mathlib.Core.Bool.{true, false}
 use mathlib.Core.List.{List, [], _∷_, _++_, append-nil}
 use lib.Dec.{ltb}
 use lib.ListN.{length, set}
@@ -20,9 +20,10 @@ use Rattle.ride.specs.declared.Lines.{Lines}
 use Rattle.ride.specs.State.{noGroup, isOpen}
 use Rattle.ride.specs.Record.{Entry, check}
 use Rattle.ride.specs.Joining.{allowed, isBehind, counted, join, takeUp}
-use Rattle.ride.specs.Linking.{isOverdue, missedPlace}
+use Rattle.ride.specs.Linking.{missedPlace}
 use Rattle.ride.specs.Closing.{Closing, close, leave}
 use Rattle.ride.specs.Step.{closeBehind, isMissed, missedLines, unlinked, afterMissed, Step, refused, afterClosing, goOn, treat, step}
+use Rattle.ride.specs.At.{recordAt, asStep, without, treatAt}
 use Rattle.ride.specs.Says.{saysLines}
 
 -- ---- step 4
@@ -57,23 +58,26 @@ take-none g g₀ o p h e f n = rw (e, f, n)
 
 -- ---- steps 2 and 3
 
-one-of-two : (b : Bool) (g : Group) (known : Known) → length (pick b (close g known) (leave g known) .lines) ≤ 1
-unfolding close leave
-one-of-two true g known = omega arith
-one-of-two false g known = omega arith
-
 -- step 2 gives at most one line
-pub at-most-one : (gap o : ℕ) (g : Group) (known : Known) → length (closeBehind gap o g known .lines) ≤ 1
-unfolding closeBehind
-at-most-one gap o g known = one-of-two (isBehind gap o g) g known
+pub close-lines : (g : Group) (known : Known) (c : Closing) → c ≡ close g known → length (c .lines) ≤ 1
+unfolding close
+close-lines g known c e = rw e (omega arith)
 
-pub behind : (gap o : ℕ) (g : Group) (known : Known) (c : Closing) → isBehind gap o g ≡ true → c ≡ close g known → c ≡ closeBehind gap o g known
-unfolding closeBehind
-behind gap o g known c e h = rw e h
+pub leave-lines : (g : Group) (known : Known) (c : Closing) → c ≡ leave g known → length (c .lines) ≤ 1
+unfolding leave
+leave-lines g known c e = rw e (omega arith)
 
-pub not-behind : (gap o : ℕ) (g : Group) (known : Known) (c : Closing) → isBehind gap o g ≡ false → c ≡ leave g known → c ≡ closeBehind gap o g known
-unfolding closeBehind
-not-behind gap o g known c e h = rw e h
+-- it closes a group that is left behind
+pub behind : (ride : Ride) (gap : ℕ) (e : Entry) (c : Closing) → isBehind gap (e .odometer) (ride .group) ≡ true → c ≡ close (ride .group) (ride .known)
+    → afterClosing e c ≡ goOn ride gap e
+unfolding goOn closeBehind
+behind ride gap e c b h = rw (b, h)
+
+-- and leaves any other
+pub not-behind : (ride : Ride) (gap : ℕ) (e : Entry) (c : Closing) → isBehind gap (e .odometer) (ride .group) ≡ false → c ≡ leave (ride .group) (ride .known)
+    → afterClosing e c ≡ goOn ride gap e
+unfolding goOn closeBehind
+not-behind ride gap e c b h = rw (b, h)
 
 -- the line of a missed signal comes after those of step 2
 pub missed-after-none : (ls : Lines) (l : Line) → ls ≡ Lines.None → l ∷ [] ≡ saysLines ls ++ (l ∷ [])
@@ -101,26 +105,7 @@ pub after-none : (e : Entry) (c : Closing) (g : Group) → g ≡ takeUp (c .grou
 unfolding missedLines afterMissed
 after-none e c g h m = rw (h, m, append-nil)
 
--- ---- a quiet record: no group is left behind, and no signal is missed
-
-and-true : (b : Bool) → b ≡ (b && true)
-and-true true = refl
-and-true false = refl
-
--- an open group can be left behind, but lets nothing be missed
-pub quiet-open : (gap o : ℕ) (g : Group) (known : Known) → isOpen g ≡ true
-    → not (isBehind gap o g) ≡ (not (isBehind gap o g) && not (isMissed o g known))
-quiet-open gap o g known e = rw e (and-true (not (ltb (g .last + gap) o)))
-
--- where none is open none is left behind, but a signal can be missed
-pub quiet-none : (gap o : ℕ) (g : Group) (known : Known) → isOpen g ≡ false
-    → not (isOverdue (known .linking) o) ≡ (not (isBehind gap o g) && not (isMissed o g known))
-quiet-none gap o g known e = rw e
-
-pub neither : (a b : Bool) → (not a && not b) ≡ true → (a ≡ false) × (b ≡ false)
-neither true b e = absurd (let z : _≡_ {A = ℕ} 0 1 = cc in omega arith)
-neither false true e = absurd (let z : _≡_ {A = ℕ} 0 1 = cc in omega arith)
-neither false false e = (refl, refl)
+-- ---- a quiet record
 
 -- Where no group is left behind and no signal is missed, steps 2 and 3 do nothing: the odometer is set, a balise is taken up,
 -- and nothing else changes. A position record then sets the odometer alone.
@@ -141,10 +126,29 @@ pub step-gap : (ride : Ride) (gap : ℕ) (r : List ℕ) → allowed gap ≡ fals
 unfolding step
 step-gap ride gap r e = rw e
 
-pub step-refused : (ride : Ride) (gap : ℕ) (r : List ℕ) (n : ℕ) → allowed gap ≡ true → refuses n ≡ check (ride .odometer) r → refused ride n ≡ step ride gap r
-unfolding step treat
-step-refused ride gap r n e h = rw (e, ← h)
+pub step-allowed : (ride : Ride) (gap : ℕ) (r : List ℕ) → allowed gap ≡ true → step ride gap r ≡ treat ride gap r
+unfolding step
+step-allowed ride gap r e = rw e
 
-pub step-on : (ride : Ride) (gap : ℕ) (r : List ℕ) (e : Entry) → allowed gap ≡ true → gives e ≡ check (ride .odometer) r → goOn ride gap e ≡ step ride gap r
-unfolding step treat
-step-on ride gap r e a h = rw (a, ← h)
+pub treat-not : (ride : Ride) (gap : ℕ) (r : List ℕ) (n : ℕ) → refuses n ≡ check (ride .odometer) r → refused ride n ≡ treat ride gap r
+unfolding treat
+treat-not ride gap r n h = rw (← h)
+
+pub treat-on : (ride : Ride) (gap : ℕ) (r : List ℕ) (e : Entry) → gives e ≡ check (ride .odometer) r → goOn ride gap e ≡ treat ride gap r
+unfolding treat
+treat-on ride gap r e h = rw (← h)
+
+-- ---- the record at an index
+
+pub at-gap : (ride : Ride) (gap : ℕ) (trace : List ℕ) (i : ℕ) → allowed gap ≡ false → asStep (refused ride 19) ≡ treatAt ride gap trace i
+unfolding treatAt
+at-gap ride gap trace i e = rw e
+
+pub at-none : (ride : Ride) (gap : ℕ) (trace : List ℕ) (i : ℕ) → allowed gap ≡ true → length trace / 8 ≤ i → without ride ≡ treatAt ride gap trace i
+unfolding treatAt
+at-none ride gap trace i e h = rw (e, le-ltb i (length trace / 8) h)
+
+pub at-record : (ride : Ride) (gap : ℕ) (trace : List ℕ) (i : ℕ) → allowed gap ≡ true → i < length trace / 8
+    → asStep (treat ride gap (recordAt trace i)) ≡ treatAt ride gap trace i
+unfolding treatAt
+at-record ride gap trace i e h = rw (e, lt-ltb i (length trace / 8) h)

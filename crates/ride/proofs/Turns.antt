@@ -12,7 +12,7 @@ use lib.Seq.{drop-cons, drop-drop}
 use Rattle.words.specs.Answer.{gives, refuses}
 use Rattle.ride.specs.declared.Ride.{Ride}
 use Rattle.ride.specs.Joining.{allowed}
-use Rattle.ride.specs.Step.{treat, step}
+use Rattle.ride.specs.Step.{treat}
 use Rattle.ride.specs.Over.{firstRecords, records, rideOver, through, Run, run}
 
 -- ---- the eight bytes of a record
@@ -39,10 +39,6 @@ eight-bytes l at h =
     rw add-zero at (bytes-from l at 0 8 more)
 
 -- ---- one record more
-
-pub step-allowed : (ride : Ride) (gap : ℕ) (r : List ℕ) → allowed gap ≡ true → step ride gap r ≡ treat ride gap r
-unfolding step
-step-allowed ride gap r e = rw e
 
 -- the state after the records of a trace from the one that i others stand before, in the state `ride`
 abbrev pub fromHere : ℕ → List ℕ → ℕ → Ride → ℕ → Ride

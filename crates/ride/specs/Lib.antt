@@ -4,5 +4,6 @@ pub mod Joining
 pub mod Linking
 pub mod Closing
 pub mod Step
+pub mod At
 pub mod Over
 pub mod Says

@@ -8,7 +8,11 @@ use Rattle.ride.specs.declared.Checked.{Checked}
 use Rattle.ride.specs.declared.Line.{Line}
 use Rattle.ride.specs.declared.Lines.{Lines}
 use Rattle.ride.specs.declared.Report.{Report}
+use Rattle.ride.specs.declared.trace.Given.{Given}
+use Rattle.ride.specs.declared.trace.Reply.{Reply}
+use Rattle.ride.specs.declared.trace.Treated.{Treated}
 use Rattle.ride.specs.declared.closing.Closed.{Closed}
+use Rattle.ride.specs.declared.stepping.Treating.{Treating}
 use Rattle.ride.specs.declared.Stepped.{Stepped}
 use Rattle.ride.specs.declared.Ended.{Ended}
 use Rattle.ride.specs.declared.Way.{Way}
@@ -16,6 +20,7 @@ use Rattle.ride.specs.declared.Ran.{Ran}
 use Rattle.ride.specs.Record.{Entry}
 use Rattle.ride.specs.Closing.{Closing}
 use Rattle.ride.specs.Step.{Step, End}
+use Rattle.ride.specs.At.{Replied, says, noRecord, Treatment}
 use Rattle.ride.specs.Over.{Through, through, Run}
 
 -- "kind above 3, or bytes 5 to 7 not zero where they must be" is 16, "odometer above 4,000,000,000" is 18, "odometer
@@ -42,6 +47,17 @@ saysReport Report.Gap = refuses 19
 saysReport (Report.Refused w) = refuses (saysWrong w)
 saysReport (Report.Lines lines) = gives (saysLines lines)
 
+-- The lines of a record, or the number of its refusal.
+abbrev pub saysGiven : Given → Outcome (List Line)
+saysGiven (Given.Refused w) = refuses (saysWrong w)
+saysGiven (Given.Lines lines) = gives (saysLines lines)
+
+-- "gap outside 1 to 200" is 19; no such record; or what the record gives.
+abbrev pub saysReply : Reply → Replied
+saysReply Reply.Gap = says (refuses 19)
+saysReply Reply.NoRecord = noRecord
+saysReply (Reply.Record given) = says (saysGiven given)
+
 -- What closing leaves.
 abbrev pub saysClosed : Closed → Closing
 saysClosed c = record { lines = saysLines (c .lines); closed = c .closed; group = c .group; known = c .known }
@@ -49,6 +65,14 @@ saysClosed c = record { lines = saysLines (c .lines); closed = c .closed; group 
 -- A step: its report, the group that closed, the state after it.
 abbrev pub saysStepped : Stepped → Step
 saysStepped s = record { lines = saysReport (s .report); closed = s .closed; ride = s .ride }
+
+-- What treating a record leaves.
+abbrev pub saysTreating : Treating → Step
+saysTreating t = record { lines = saysGiven (t .given); closed = t .closed; ride = t .ride }
+
+-- The record at an index: the reply, the group that closed, the state after it.
+abbrev pub saysTreated : Treated → Treatment
+saysTreated t = record { reply = saysReply (t .reply); closed = t .closed; ride = t .ride }
 
 -- The end: its lines, the group that closed, the state after it.
 abbrev pub saysEnded : Ended → End

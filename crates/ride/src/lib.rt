@@ -1,12 +1,12 @@
 // A ride over the records of a trace: the check of a record, what is known on the way, the lines that it gives.
 // Promises: every record is treated by document 01's steps 1 to 4 in order, from whatever state is lent; a refused one changes nothing.
-// Specification: specs/Record.antt, State.antt, Joining.antt, Linking.antt, Closing.antt, Step.antt, Over.antt (a whole trace), Says.antt (the answers).
+// Specification: specs/Record.antt, State.antt, Joining.antt, Linking.antt, Closing.antt, Step.antt, At.antt (one record of a trace),
+// Over.antt (a whole trace), Says.antt (the answers).
 ghost use mathlib.Core.Path.{_≡_};
-ghost use Rattle.ride.specs.Record.{check};
 ghost use Rattle.ride.specs.State.{freshRide};
 ghost use Rattle.ride.specs.Step.{step, end};
 ghost use Rattle.ride.specs.Over.{run};
-ghost use Rattle.ride.specs.Says.{saysChecked, saysStepped, saysEnded, saysRan};
+ghost use Rattle.ride.specs.Says.{saysStepped, saysEnded, saysRan};
 
 mod closing;
 mod joining;
@@ -14,6 +14,13 @@ mod marks;
 mod records;
 mod stepping;
 mod trace;
+
+pub use joining::allowed;
+pub use records::check_record;
+pub use trace::Given;
+pub use trace::Reply;
+pub use trace::Treated;
+pub use trace::treat_at;
 
 use group::Direction;
 use group::Group;
@@ -141,35 +148,19 @@ pub fn fresh() -> Ride
     }
 }
 
-// The check of a record's eight bytes: 16, 18, 17 in this order, or what the record says.
-pub fn check_record(ride: Ride, bytes: [u8; 8]) -> Checked
-    ensures { λ r. ⌜ saysChecked r ≡ check (ride .odometer) bytes ⌝ }
-{
-    if !records::in_order(bytes) {
-        return Checked::Refused(Wrong::Malformed);
-    }
-    let odometer = records::odometer_of(bytes);
-    if odometer > 4000000000 {
-        return Checked::Refused(Wrong::TooHigh);
-    }
-    if odometer < ride.odometer {
-        return Checked::Refused(Wrong::TooLow);
-    }
-    Checked::Accepted(odometer, records::what_passed(bytes))
-}
-
 // One record's step: 19 for the gap, or steps 1 to 4 of document 01.
 pub fn step(ride: Ride, gap: u32, bytes: [u8; 8]) -> Stepped
     ensures { λ r. ⌜ saysStepped r ≡ step ride gap bytes ⌝ }
 {
-    if !joining::allowed(gap) {
-        return stepping::nothing_closed(ride, Report::Gap);
+    if !allowed(gap) {
+        let none = joining::no_group();
+        return Stepped {
+            ride,
+            closed: none,
+            report: Report::Gap,
+        };
     }
-    let checked = check_record(ride, bytes);
-    let Checked::Accepted(odometer, passed) = checked else {
-        return stepping::nothing_closed(ride, Report::Refused(records::why(checked)));
-    };
-    stepping::go_on(ride, gap, odometer, passed)
+    stepping::reported(stepping::treat(ride, gap, bytes))
 }
 
 // The end of a ride: an open group closes.
@@ -189,7 +180,7 @@ pub fn end(ride: Ride) -> Ended
 pub fn run(ride: Ride, gap: u32, trace: &[u8]) -> Ran
     ensures { λ r. ⌜ saysRan r ≡ run ride gap (now (trace .entry)) ⌝ }
 {
-    if !joining::allowed(gap) {
+    if !allowed(gap) {
         return trace::went(ride, Way::Gap);
     }
     if trace.len() % 8 != 0 {

@@ -1,11 +1,13 @@
-// The eight bytes of a record: odometer, kind, and the received words.
+// The eight bytes of a record: odometer, kind, and the received words; their check.
 ghost use mathlib.Core.Path.{_≡_};
 ghost use Prim.Native.Nat.{_+_, _*_};
-ghost use Rattle.ride.specs.Record.{odometerOf, inOrder, passedOf};
+ghost use Rattle.ride.specs.Record.{odometerOf, inOrder, passedOf, check};
+ghost use Rattle.ride.specs.Says.{saysChecked};
 ghost use Rattle.ride.specs.declared.Wrong.{Wrong};
 ghost use Rattle.ride.specs.declared.Checked.{Checked};
 use crate::Checked;
 use crate::Passed;
+use crate::Ride;
 use crate::Wrong;
 use group::Heard;
 
@@ -17,14 +19,14 @@ fn high_first(a: u8, b: u8, c: u8, d: u8) -> u32
 }
 
 // The odometer in dm: bytes 0 to 3, high byte first.
-pub fn odometer_of(bytes: [u8; 8]) -> u32
+fn odometer_of(bytes: [u8; 8]) -> u32
     ensures { λ r. ⌜ r ≡ odometerOf bytes ⌝ }
 {
     high_first(bytes[0], bytes[1], bytes[2], bytes[3])
 }
 
 // Whether the kind is at most 3, and bytes 5 to 7 are zero for the kinds 1 to 3.
-pub fn in_order(bytes: [u8; 8]) -> bool
+fn in_order(bytes: [u8; 8]) -> bool
     ensures { λ r. ⌜ r ≡ inOrder bytes ⌝ }
 {
     let kind = bytes[4];
@@ -35,7 +37,7 @@ pub fn in_order(bytes: [u8; 8]) -> bool
 }
 
 // What the record says beyond its odometer, by its kind.
-pub fn what_passed(bytes: [u8; 8]) -> Passed
+fn what_passed(bytes: [u8; 8]) -> Passed
     ensures { λ r. ⌜ r ≡ passedOf bytes ⌝ }
 {
     let kind = bytes[4];
@@ -49,6 +51,23 @@ pub fn what_passed(bytes: [u8; 8]) -> Passed
         return Passed::Balise(Heard::Unreadable);
     }
     Passed::Position
+}
+
+// The check of a record's eight bytes: 16, 18, 17 in this order, or what the record says.
+pub fn check_record(ride: Ride, bytes: [u8; 8]) -> Checked
+    ensures { λ r. ⌜ saysChecked r ≡ check (ride .odometer) bytes ⌝ }
+{
+    if !in_order(bytes) {
+        return Checked::Refused(Wrong::Malformed);
+    }
+    let odometer = odometer_of(bytes);
+    if odometer > 4000000000 {
+        return Checked::Refused(Wrong::TooHigh);
+    }
+    if odometer < ride.odometer {
+        return Checked::Refused(Wrong::TooLow);
+    }
+    Checked::Accepted(odometer, what_passed(bytes))
 }
 
 // Why a refused record is refused.

@@ -1,4 +1,4 @@
--- `nothing_closed` hands on the state and the report, and has no group.
+-- `nothing_closed` hands on the state and what the record gives, and has no group.
 use borrow.Author.Needs.{needs}
 use Rattle.ride.proofs.stepping.nothing_closed.Statement.{statement}
 use Rattle.ride.proofs.stepping.nothing_closed.Tie as tie

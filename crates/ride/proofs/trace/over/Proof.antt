@@ -1,12 +1,12 @@
 -- `over` takes the records one by one: the ride over those that are left, from here, is the ride over all.
-use mathlib.Core.Path.{_≡_, refl, ap, _∙_}
+use mathlib.Core.Path.{_≡_, refl, ap, sym, _∙_}
 use Prim.Native.Nat.{ℕ, _-_, _/_, _≤_}
 use native.Mathlib.Omega.{arith}
-use mathlib.Core.List.{List}
 use lib.ListN.{length}
-use Rattle.ride.specs.Step.{Step, treat}
+use Rattle.ride.specs.At.{Treatment}
 use Rattle.ride.specs.Over.{firstRecords, rideOver}
-use Rattle.ride.proofs.Turns.{step-allowed, fromHere, from-first, from-next, from-last}
+use Rattle.ride.proofs.Steps.{at-record}
+use Rattle.ride.proofs.Turns.{fromHere, from-first, from-next, from-last}
 use Rattle.ride.proofs.trace.over.Statement.{statement}
 use Rattle.ride.proofs.trace.over.Tie as tie
 
@@ -22,14 +22,8 @@ loop-holds c =
     let a = c .before .args in
     (refl, omega arith, from-first (a .gap) (a .trace .now) _ (a .ride))
 
-mul-eight : tie.Need-mul-eight Inv-loop μ-loop
-mul-eight c = omega arith
-
-eight-requires : tie.Need-eight-requires Inv-loop μ-loop
-eight-requires c κs = omega arith
-
-step-requires : tie.Need-step-requires Inv-loop μ-loop
-step-requires c κs = tt
+treat-at-requires : tie.Need-treat-at-requires Inv-loop μ-loop
+treat-at-requires c κs = tt
 
 add-i : tie.Need-add-i Inv-loop μ-loop
 add-i c = omega arith
@@ -39,15 +33,14 @@ loop-less c = omega arith
 
 loop-again : tie.Need-loop-again Inv-loop μ-loop
 loop-again c =
-    let l = c .before .before .before .before in
+    let l = c .before .before .before in
     let a = l .before .before .args in
     let t = l .loop in
-    let record-is = c .before .before .eight .ensures in
-    let stepped = ap (λ (s : Step). s .ride) (c .before .step .ensures ∙ step-allowed (t .now) (a .gap) _ (l .before .before .pre)) in
-    let next = stepped ∙ ap (λ (r : List ℕ). treat (t .now) (a .gap) r .ride) record-is in (
+    let test = c .before .before .loop-test .taken in
+    let treated = c .before .treat-at .ensures ∙ sym (at-record (t .now) (a .gap) (a .trace .now) (t .i) (l .before .before .pre) test) in (
       refl,
       omega arith,
-      from-next (a .gap) (a .trace .now) _ (t .now) (c .before .step .result .ride) _ (t .i) (c .before .before .before .loop-test .taken) next (t .inv .2),
+      from-next (a .gap) (a .trace .now) _ (t .now) (c .before .treat-at .result .ride) _ (t .i) test (ap (λ (x : Treatment). x .ride) treated) (t .inv .2),
     )
 
 returns : tie.Need-returns Inv-loop μ-loop
@@ -59,14 +52,4 @@ returns c =
 pub over-spec : {M : Type 1} → statement M
 over-spec =
     tie.close
-    (tie.spec
-    Inv-loop
-    μ-loop
-    loop-holds
-    mul-eight
-    eight-requires
-    step-requires
-    add-i
-    loop-less
-    loop-again
-    returns)
+    (tie.spec Inv-loop μ-loop loop-holds treat-at-requires add-i loop-less loop-again returns)

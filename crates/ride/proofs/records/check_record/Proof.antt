@@ -2,8 +2,8 @@
 use borrow.Author.Tests.{le-ltb, lt-ltb, not-true, not-false}
 use Rattle.ride.specs.Record.{check}
 use borrow.Author.Needs.{needs}
-use Rattle.ride.proofs.check_record.Statement.{statement}
-use Rattle.ride.proofs.check_record.Tie as tie
+use Rattle.ride.proofs.records.check_record.Statement.{statement}
+use Rattle.ride.proofs.records.check_record.Tie as tie
 
 in-order-requires : tie.Need-in-order-requires
 in-order-requires c κs = search needs
