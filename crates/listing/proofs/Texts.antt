@@ -8,9 +8,9 @@ use native.Mathlib.Nat.{add-zero}
 use lib.ListN.{length, length-append}
 use Rattle.ride.specs.declared.Line.{Line}
 use Rattle.ride.specs.declared.Lines.{Lines}
-use Rattle.ride.specs.declared.Report.{Report}
+use Rattle.ride.specs.declared.trace.Given.{Given}
 use Rattle.ride.specs.Over.{linesFor}
-use Rattle.ride.specs.Says.{saysWrong, saysLines, saysReport}
+use Rattle.ride.specs.Says.{saysWrong, saysLines, saysGiven}
 use Rattle.listing.specs.Text.{text}
 use Rattle.listing.specs.Put.{placed}
 use Rattle.listing.specs.List.{textOf}
@@ -51,7 +51,6 @@ lines-short Lines.None = omega arith
 lines-short (Lines.One l) = one-short l
 lines-short (Lines.Two l m) = omega (arith, longest l, longest m, length-append (text l) (text m), ap length (text-two l m))
 
-pub report-short : (number : ℕ) (r : Report) → length (textOf (linesFor number (saysReport r))) ≤ 128
-report-short number (Report.Lines ls) = lines-short ls
-report-short number (Report.Refused w) = one-short (Line.Record number (saysWrong w))
-report-short number Report.Gap = one-short (Line.Record number 19)
+pub given-short : (number : ℕ) (g : Given) → length (textOf (linesFor number (saysGiven g))) ≤ 128
+given-short number (Given.Refused w) = one-short (Line.Record number (saysWrong w))
+given-short number (Given.Lines ls) = lines-short ls

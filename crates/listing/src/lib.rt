@@ -53,7 +53,7 @@ pub fn put_line(line: Line, buf: &mut [u8], at: usize) -> Put
 pub fn list(ride: Ride, gap: u32, number: u64, trace: &[u8], out: &mut [u8]) -> Listed
     ensures { λ r. ⌜ saysListed r (now (out .exit)) ≡ list ride gap number (now (trace .entry)) (now (out .entry)) ⌝ }
 {
-    if !records::allowed(gap) {
+    if !ride::allowed(gap) {
         return Listed {
             ride,
             number,

@@ -2,45 +2,22 @@
 ghost use mathlib.Core.Path.{_≡_};
 ghost use Prim.Native.Nat.{_+_, _≤_};
 ghost use mathlib.Core.Bool.{true};
-ghost use lib.ListN.{length, take, drop};
+ghost use lib.ListN.{length};
 ghost use Rattle.ride.specs.Joining.{allowed};
 ghost use Rattle.ride.specs.Over.{records, linesFor};
-ghost use Rattle.ride.specs.Says.{saysWrong, saysLines, saysReport};
+ghost use Rattle.ride.specs.Says.{saysWrong, saysLines, saysGiven};
 ghost use Rattle.listing.specs.Put.{placed};
 ghost use Rattle.listing.specs.List.{textOf, listTaken};
 ghost use Rattle.listing.specs.Says.{saysListed};
 use crate::Done;
 use crate::Listed;
 use crate::lines::put_text;
+use ride::Given;
 use ride::Line;
 use ride::Lines;
-use ride::Report;
+use ride::Reply;
 use ride::Ride;
 use ride::Wrong;
-
-// Whether the gap is 1 to 200.
-pub fn allowed(gap: u32) -> bool
-    ensures { λ r. ⌜ r ≡ allowed gap ⌝ }
-{
-    (1 <= gap) & (gap <= 200)
-}
-
-// The eight bytes of a trace from this one on.
-fn eight(trace: &[u8], at: usize) -> [u8; 8]
-    requires { ⌜ at + 8 ≤ length (now trace) ⌝ }
-    ensures { λ r. ⌜ r ≡ take 8 (drop at (now (trace .entry))) ⌝ }
-{
-    [
-        trace[at],
-        trace[at + 1],
-        trace[at + 2],
-        trace[at + 3],
-        trace[at + 4],
-        trace[at + 5],
-        trace[at + 6],
-        trace[at + 7],
-    ]
-}
 
 // The number of a refusal.
 fn refusal(wrong: Wrong) -> u8
@@ -69,34 +46,35 @@ fn put_lines(lines: Lines, out: &mut [u8], at: usize) -> usize
     }
 }
 
-// The lines of the record with this number: those of its step, or that it was refused.
-fn put_report(number: u64, report: Report, out: &mut [u8], at: usize) -> usize
+// The lines of the record with this number: those that it gives, or that it was refused.
+fn put_given(number: u64, given: Given, out: &mut [u8], at: usize) -> usize
     requires { ⌜ at + 128 ≤ length (now out) ⌝ }
-    ensures { λ r. ⌜ r ≡ at + length (textOf (linesFor number (saysReport report))) ⌝ }
-    ensures { λ r. ⌜ now (out .exit) ≡ placed (textOf (linesFor number (saysReport report))) (now (out .entry)) at ⌝ }
+    ensures { λ r. ⌜ r ≡ at + length (textOf (linesFor number (saysGiven given))) ⌝ }
+    ensures { λ r. ⌜ now (out .exit) ≡ placed (textOf (linesFor number (saysGiven given))) (now (out .entry)) at ⌝ }
 {
-    match report {
-        Report::Lines(lines) => put_lines(lines, out, at),
-        Report::Refused(wrong) => put_text(Line::Record(number, refusal(wrong)), out, at),
-        Report::Gap => put_text(Line::Record(number, 19), out, at),
+    match given {
+        Given::Refused(wrong) => put_text(Line::Record(number, refusal(wrong)), out, at),
+        Given::Lines(lines) => put_lines(lines, out, at),
     }
 }
 
-// The records in turn, while there is room for the lines of one more and the next number fits.
+// The records in turn, up to the last, while there is room for the lines of one more and the next number fits.
 pub fn over(ride: Ride, gap: u32, number: u64, trace: &[u8], out: &mut [u8]) -> Listed
     requires { ⌜ allowed gap ≡ true ⌝ }
     ensures { λ r. ⌜ saysListed r (now (out .exit)) ≡ listTaken gap ride number (records (now (trace .entry))) (now (out .entry)) ⌝ }
 {
-    let count = trace.len() / 8;
     let mut now = ride;
     let mut next = number;
     let mut i: usize = 0;
     let mut at: usize = 0;
-    while (i < count) & ((out.len() - at >= 128) & (next < u64::MAX)) {
-        let stepped = ride::step(now, gap, eight(trace, i * 8));
-        let report = stepped.report;
-        at = put_report(next, report, out, at);
-        now = stepped.ride;
+    while (out.len() - at >= 128) & (next < u64::MAX) {
+        let treated = ride::treat_at(now, gap, trace, i);
+        let reply = treated.reply;
+        let Reply::Record(given) = reply else {
+            break;
+        };
+        at = put_given(next, given, out, at);
+        now = treated.ride;
         next += 1;
         i += 1;
     }

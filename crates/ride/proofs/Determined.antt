@@ -11,7 +11,7 @@ use denote.Triple.Clauses.{AtExit}
 use Rattle.words.specs.Answer.{Outcome, gives, refuses, pick}
 use Rattle.ride.specs.Record.{Entry}
 use Rattle.ride.specs.Step.{Step, End}
-use Rattle.ride.specs.At.{Replied, says, noRecord, Treatment}
+use Rattle.ride.specs.At.{Standing, noRecord, treated, Treatment}
 use Rattle.ride.specs.Over.{Through, Run}
 use Rattle.ride.specs.Says.{saysWrong, saysChecked, saysLines, saysReport, saysGiven, saysReply, saysStepped, saysTreated, saysEnded, saysWay, saysRan}
 use Rattle.ride.specs.declared.Wrong.{Wrong}
@@ -90,18 +90,19 @@ abbrev pub givenOf : Outcome (List Line) → Given
 givenOf (gives ls) = Given.Lines (linesOf ls)
 givenOf (refuses n) = Given.Refused (wrongOf n)
 
-abbrev pub replyOf : Replied → Reply
-replyOf (says (gives ls)) = Reply.Record (givenOf (gives ls))
-replyOf (says (refuses n)) = pick (eqb n 19) Reply.Gap (Reply.Record (givenOf (refuses n)))
-replyOf noRecord = Reply.NoRecord
+pub given-back : (g : Given) → givenOf (saysGiven g) ≡ g
+given-back (Given.Refused w) = ap Given.Refused (wrong-back w)
+given-back (Given.Lines ls) = ap Given.Lines (lines-back ls)
+
+abbrev pub replyOf : Outcome Standing → Reply
+replyOf (refuses n) = Reply.Gap
+replyOf (gives noRecord) = Reply.NoRecord
+replyOf (gives (treated o)) = Reply.Record (givenOf o)
 
 pub reply-back : (r : Reply) → replyOf (saysReply r) ≡ r
 reply-back Reply.Gap = refl
 reply-back Reply.NoRecord = refl
-reply-back (Reply.Record (Given.Refused Wrong.Malformed)) = refl
-reply-back (Reply.Record (Given.Refused Wrong.TooHigh)) = refl
-reply-back (Reply.Record (Given.Refused Wrong.TooLow)) = refl
-reply-back (Reply.Record (Given.Lines ls)) = ap (λ (l : Lines). Reply.Record (Given.Lines l)) (lines-back ls)
+reply-back (Reply.Record g) = ap Reply.Record (given-back g)
 
 abbrev pub treatedOf : Treatment → Treated
 treatedOf t = record { ride = t .ride; closed = t .closed; reply = replyOf (t .reply) }

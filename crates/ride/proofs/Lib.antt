@@ -1,5 +1,6 @@
 pub mod Cases
 pub mod Steps
+pub mod At
 pub mod Turns
 pub mod Law
 pub mod Examples

@@ -1,6 +1,6 @@
 -- The steps of the definitions, each from what its tests say.
 -- Assumes nothing.
-use Prim.Native.Nat.{ℕ, _/_, _≤_, _<_}
+use Prim.Native.Nat.{ℕ, _≤_, _<_}
 use native.Mathlib.Omega.{arith}
 use mathlib.Core.Path.{_≡_}
 use mathlib.Core.Bool.{true, false}
@@ -23,7 +23,6 @@ use Rattle.ride.specs.Joining.{allowed, isBehind, counted, join, takeUp}
 use Rattle.ride.specs.Linking.{missedPlace}
 use Rattle.ride.specs.Closing.{Closing, close, leave}
 use Rattle.ride.specs.Step.{closeBehind, isMissed, missedLines, unlinked, afterMissed, Step, refused, afterClosing, goOn, treat, step}
-use Rattle.ride.specs.At.{recordAt, asStep, without, treatAt}
 use Rattle.ride.specs.Says.{saysLines}
 
 -- ---- step 4
@@ -137,18 +136,3 @@ treat-not ride gap r n h = rw (← h)
 pub treat-on : (ride : Ride) (gap : ℕ) (r : List ℕ) (e : Entry) → gives e ≡ check (ride .odometer) r → goOn ride gap e ≡ treat ride gap r
 unfolding treat
 treat-on ride gap r e h = rw (← h)
-
--- ---- the record at an index
-
-pub at-gap : (ride : Ride) (gap : ℕ) (trace : List ℕ) (i : ℕ) → allowed gap ≡ false → asStep (refused ride 19) ≡ treatAt ride gap trace i
-unfolding treatAt
-at-gap ride gap trace i e = rw e
-
-pub at-none : (ride : Ride) (gap : ℕ) (trace : List ℕ) (i : ℕ) → allowed gap ≡ true → length trace / 8 ≤ i → without ride ≡ treatAt ride gap trace i
-unfolding treatAt
-at-none ride gap trace i e h = rw (e, le-ltb i (length trace / 8) h)
-
-pub at-record : (ride : Ride) (gap : ℕ) (trace : List ℕ) (i : ℕ) → allowed gap ≡ true → i < length trace / 8
-    → asStep (treat ride gap (recordAt trace i)) ≡ treatAt ride gap trace i
-unfolding treatAt
-at-record ride gap trace i e h = rw (e, lt-ltb i (length trace / 8) h)

@@ -20,7 +20,7 @@ use Rattle.ride.specs.declared.Ran.{Ran}
 use Rattle.ride.specs.Record.{Entry}
 use Rattle.ride.specs.Closing.{Closing}
 use Rattle.ride.specs.Step.{Step, End}
-use Rattle.ride.specs.At.{Replied, says, noRecord, Treatment}
+use Rattle.ride.specs.At.{Standing, noRecord, treated, Treatment}
 use Rattle.ride.specs.Over.{Through, through, Run}
 
 -- "kind above 3, or bytes 5 to 7 not zero where they must be" is 16, "odometer above 4,000,000,000" is 18, "odometer
@@ -53,10 +53,10 @@ saysGiven (Given.Refused w) = refuses (saysWrong w)
 saysGiven (Given.Lines lines) = gives (saysLines lines)
 
 -- "gap outside 1 to 200" is 19; no such record; or what the record gives.
-abbrev pub saysReply : Reply → Replied
-saysReply Reply.Gap = says (refuses 19)
-saysReply Reply.NoRecord = noRecord
-saysReply (Reply.Record given) = says (saysGiven given)
+abbrev pub saysReply : Reply → Outcome Standing
+saysReply Reply.Gap = refuses 19
+saysReply Reply.NoRecord = gives noRecord
+saysReply (Reply.Record given) = gives (treated (saysGiven given))
 
 -- What closing leaves.
 abbrev pub saysClosed : Closed → Closing

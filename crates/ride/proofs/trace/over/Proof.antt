@@ -5,7 +5,7 @@ use native.Mathlib.Omega.{arith}
 use lib.ListN.{length}
 use Rattle.ride.specs.At.{Treatment}
 use Rattle.ride.specs.Over.{firstRecords, rideOver}
-use Rattle.ride.proofs.Steps.{at-record}
+use Rattle.ride.proofs.At.{at-record}
 use Rattle.ride.proofs.Turns.{fromHere, from-first, from-next, from-last}
 use Rattle.ride.proofs.trace.over.Statement.{statement}
 use Rattle.ride.proofs.trace.over.Tie as tie

@@ -4,8 +4,8 @@ use mathlib.Core.List.{List}
 use Prim.Native.Nat.{ℕ}
 use borrow.Author.Tests.{not-true, not-false}
 use Rattle.ride.specs.Step.{treat}
-use Rattle.ride.specs.At.{asStep}
-use Rattle.ride.proofs.Steps.{at-gap, at-none, at-record}
+use Rattle.ride.specs.At.{byStep}
+use Rattle.ride.proofs.At.{at-gap, at-none, at-record}
 use borrow.Author.Needs.{needs}
 use Rattle.ride.proofs.trace.treat_at.Statement.{statement}
 use Rattle.ride.proofs.trace.treat_at.Tie as tie
@@ -49,7 +49,7 @@ returns-3 c =
     let e = t .before in
     let g = e .before .before .before in
     let a = g .before .before .args in
-    ap asStep (t .treat .ensures ∙ ap (treat (a .ride) (a .gap)) (e .eight .ensures))
+    ap byStep (t .treat .ensures ∙ ap (treat (a .ride) (a .gap)) (e .eight .ensures))
     ∙ at-record (a .ride) (a .gap) (a .trace .now) (a .i) (sym (g .allowed .ensures) ∙ not-false (g .allowed .result) (e .before .before .if1 .left))
     (e .before .if2 .left)
 
