@@ -1,67 +1,162 @@
+-- `over` takes the records one by one: the listing from each of them on is the whole.
+use mathlib.Core.Path.{_≡_, refl, sym, ap, _∙_}
+use mathlib.Core.List.{List}
+use Prim.Native.Nat.{ℕ, suc, _+_, _-_, _/_, _<_, _≤_}
+use native.Mathlib.Omega.{arith}
+use native.Mathlib.Numerals.{add-one}
+use lib.Dec.{leb, ltb}
+use lib.ListN.{length}
+use borrow.Author.Tests.{ltb-true, leb-true}
+use Rattle.ride.specs.declared.Ride.{Ride}
+use Rattle.ride.specs.Step.{Step, treat}
+use Rattle.ride.specs.At.{recordAt}
+use Rattle.ride.specs.Over.{records, linesFor}
+use Rattle.ride.specs.Says.{saysGiven}
+use Rattle.ride.proofs.At.{Took, took, past}
+use Rattle.listing.specs.Put.{placed}
+use Rattle.listing.specs.List.{textOf, taken, listTaken}
+use Rattle.listing.proofs.Placing.{placed-length}
+use Rattle.listing.proofs.Texts.{given-short}
+use Rattle.listing.proofs.Turns.{listing, fromHere, from-first, from-next, from-last, textAt, leftOf, left-next, left-all, no-room, none-left, both}
 use Rattle.listing.proofs.records.over.Statement.{statement}
 use Rattle.listing.proofs.records.over.Tie as tie
-use Rattle.listing.proofs.records.over.Reads as reads
-use Rattle.listing.proofs.records.over.Lts as lts
-use Rattle.listing.proofs.records.put_given.Reads as put-given-reads
-use Rattle.ride.proofs.treat_at.Reads as treat-at-reads
 
 abbrev Inv-loop : tie.InvT-loop
-Inv-loop gap number trace out₀ now₀ next₀ i₀ at₀ out now next i at = ?
+Inv-loop gap number trace out₀ now₀ next₀ i₀ at₀ out now next i at =
+    (at ≤ length out)
+    × (length out ≡ length out₀)
+    × (next ≤ 18446744073709551615)
+    × (i ≤ length trace / 8)
+    × (fromHere gap now next i at (leftOf trace (length trace / 8) i) out ≡ fromHere gap now₀ number 0 0 (leftOf trace (length trace / 8) 0) out₀)
 
 abbrev μ-loop : tie.MeasureT-loop
-μ-loop gap number trace out₀ now₀ next₀ i₀ at₀ out now next i at = ?
+μ-loop gap number trace out₀ now₀ next₀ i₀ at₀ out now next i at = length trace / 8 - i
 
--- src/records.rt:70:5
 loop-holds : tie.Need-loop-holds Inv-loop μ-loop
-loop-holds c = ?
+loop-holds c = (omega arith, refl, omega arith, omega arith, refl)
 
--- src/records.rt:70:12
 sub-loop : tie.Need-sub-loop Inv-loop μ-loop
-sub-loop c = ?
+sub-loop c = omega arith
 
--- src/records.rt:71:13
+-- what the loop's test says: there is room, and a next number
+test : (c : tie.In-loop Inv-loop μ-loop) →
+    let l = c .before .loop in
+    (l .at + 128 ≤ length (l .out)) × (l .next < 18446744073709551615)
+test c =
+    let l = c .before .loop in
+    let parts = both (leb 128 (length (l .out) - l .at)) (ltb (l .next) 18446744073709551615) (c .loop-test .taken) in
+    (omega (arith, leb-true 128 (length (l .out) - l .at) (parts .0)), ltb-true _ _ (parts .1))
+
 treat-at-requires : tie.Need-treat-at-requires Inv-loop μ-loop
-treat-at-requires c κs = ?
+treat-at-requires c κs = tt
 
--- src/records.rt:73:27
 enum-known-reply : tie.Need-enum-known-reply Inv-loop μ-loop
-enum-known-reply c = ?
+enum-known-reply c = c .match .keys1
 
--- src/records.rt:76:9
+-- what the reply says of a record that is taken
+took-one : (c : tie.After-reply Inv-loop μ-loop) →
+    let t = c .before .before in
+    let l = t .before .before in
+    let a = l .before .before .before .args in
+    Took (l .loop .now) (a .gap) (a .trace .now) (l .loop .i) (t .treat-at .result) (c .reply .given .0 .0)
+took-one c =
+    let t = c .before .before in
+    let l = t .before .before in
+    let s = l .before .before .before in
+    took (l .loop .now) (s .args .gap) (s .args .trace .now) (l .loop .i) (t .treat-at .result) (c .reply .given .0 .0) (s .pre) (t .treat-at .ensures)
+    (c .reply .given .1)
+
 put-given-requires : tie.Need-put-given-requires Inv-loop μ-loop
-put-given-requires c κs = ?
+put-given-requires c κs = omega (arith, test (c .before .before .before .before .before) .0)
 
--- src/records.rt:78:9
 add-next : tie.Need-add-next Inv-loop μ-loop
-add-next c = ?
+add-next c = omega (arith, test (c .before .before .before .before .before .before .before .before .before) .1)
 
--- src/records.rt:79:9
 add-i : tie.Need-add-i Inv-loop μ-loop
-add-i c = ?
+add-i c = omega (arith, took-one (c .before .before .before .before .before .before) .there)
 
--- src/records.rt:70:5
 loop-less : tie.Need-loop-less Inv-loop μ-loop
-loop-less c = ?
+loop-less c = omega (arith, took-one (c .before .before .before .before .before .before) .there)
 
--- src/records.rt:70:5
 loop-again : tie.Need-loop-again Inv-loop μ-loop
-loop-again c = ?
+loop-again c =
+    let p = c .before .before .before in
+    let g = p .before .before .before in
+    let t = g .before .before in
+    let l = t .before .before in
+    let s = l .before .before .before in
+    let gap = s .args .gap in
+    let trace = s .args .trace .now in
+    let ride = l .loop .now in
+    let next = l .loop .next in
+    let i = l .loop .i in
+    let at = l .loop .at in
+    let out = l .loop .out in
+    let r : List ℕ = recordAt trace i in
+    let rest = leftOf trace (length trace / 8) (i + 1) in
+    let given = g .reply .given .0 .0 in
+    let one = took-one g in
+    let ride-is : t .treat-at .result .ride ≡ treat ride gap r .ride = ap (λ (x : Step). x .ride) (one .step) in
+    let w : List ℕ = textAt gap ride next r in
+    let text-is : textOf (linesFor next (saysGiven given)) ≡ w = ap (λ (x : Step). textOf (linesFor next (x .lines))) (one .step) in
+    let test-is = test (t .before) in
+    let fits : at + length w ≤ length out = omega (arith, given-short next given, ap length text-is) in
+    let at-is : p .put-given .result ≡ at + length w = p .put-given .ensures .0 ∙ ap (λ (u : List ℕ). at + length u) text-is in
+    let out-is : p .put-given .last .1 .1 .0 ≡ placed w out at = p .put-given .ensures .1 ∙ ap (λ (u : List ℕ). placed u out at) text-is in
+    let length-is : length (p .put-given .last .1 .1 .0) ≡ length out = ap length out-is ∙ placed-length w out at fits in
+    let number-is : next + 1 ≡ suc next = add-one next in
+    let here : fromHere gap (t .treat-at .result .ride) (next + 1) (i + 1) (p .put-given .result) rest (p .put-given .last .1 .1 .0)
+    ≡ fromHere gap (treat ride gap r .ride) (suc next) (i + 1) (at + length w) rest (placed w out at) = cc in (
+      omega arith,
+      length-is ∙ l .loop .inv .1,
+      omega arith,
+      omega (arith, one .there),
+      here
+          ∙ sym (from-next gap ride next i at r rest out (t .before .loop-test .taken) fits)
+          ∙ ap (λ (rs : List (List ℕ)). fromHere gap ride next i at rs out) (sym (left-next trace (length trace / 8) i (one .there)))
+          ∙ l .loop .inv .4,
+    )
 
--- src/records.rt:62:1
+-- where no record more is taken, the listing is whole
+whole : (l : tie.At-loop Inv-loop μ-loop) →
+    let s = l .before .before .before in
+    let a = s .args in
+    taken (a .gap) (l .loop .now) (l .loop .next) (length (l .loop .out) - l .loop .at) (leftOf (a .trace .now) (length (a .trace .now) / 8) (l .loop .i)) ≡ 0
+    → listing (l .loop .i) (l .loop .at) (l .loop .now) (l .loop .next) (l .loop .out)
+    ≡ listTaken (a .gap) (a .ride) (a .number) (records (a .trace .now)) (a .out .now)
+whole l none =
+    let s = l .before .before .before in
+    let gap = s .args .gap in
+    let trace = s .args .trace .now in
+    from-last gap (l .loop .now) (l .loop .next) (l .loop .i) (l .loop .at) (leftOf trace (length trace / 8) (l .loop .i)) (l .loop .out) none
+    ∙ l .loop .inv .4
+    ∙ from-first gap (s .args .ride) (s .args .number) (leftOf trace (length trace / 8) 0) (s .args .out .now)
+    ∙ ap (λ (rs : List (List ℕ)). listTaken gap (s .args .ride) (s .args .number) rs (s .args .out .now)) (left-all trace)
+
 same-length : tie.Need-same-length Inv-loop μ-loop
-same-length c = ?
+same-length c = c .before .loop .inv .1
 
--- src/records.rt:62:1
 returns : tie.Need-returns Inv-loop μ-loop
-returns c = ?
+returns c =
+    let l = c .before in
+    let a = l .before .before .before .args in
+    whole l
+    (no-room (a .gap) (l .loop .now) (l .loop .next) (length (l .loop .out) - l .loop .at) (leftOf (a .trace .now) (length (a .trace .now) / 8) (l .loop .i))
+    (c .loop-test .left))
 
--- src/records.rt:62:1
 same-length-2 : tie.Need-same-length-2 Inv-loop μ-loop
-same-length-2 c = ?
+same-length-2 c = c .before .before .before .loop .inv .1
 
--- src/records.rt:62:1
 returns-2 : tie.Need-returns-2 Inv-loop μ-loop
-returns-2 c = ?
+returns-2 c =
+    let t = c .before in
+    let l = t .before .before in
+    let s = l .before .before .before in
+    let gap = s .args .gap in
+    let trace = s .args .trace .now in
+    whole l
+    (none-left gap (l .loop .now) (l .loop .next) (length (l .loop .out) - l .loop .at) trace (length trace / 8) (l .loop .i)
+    (past (l .loop .now) gap trace (l .loop .i) (t .treat-at .result) (s .pre) (t .treat-at .ensures) (c .match .keys2)))
 
 pub over-spec : {M : Type 1} → statement M
 over-spec =
