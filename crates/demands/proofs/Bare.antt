@@ -7,7 +7,7 @@ use Rattle.words.specs.Says.{saysShortRead, saysShortWritten, saysLongRead, say
 use Rattle.telegram.specs.Says.{saysPair, saysTelegramRead, saysFound, saysSurveyed}
 use Rattle.contact.specs.Says.{saysBegun, saysNext, saysJudged}
 use Rattle.group.specs.Says.{saysMeasured, saysJudged as saysGroup}
-use Rattle.ride.specs.Says.{saysChecked, saysReport, saysWay}
+use Rattle.ride.specs.Says.{saysChecked, saysReport, saysReply, saysWay}
 use Rattle.ride.specs.Step.{Step, step}
 use Rattle.ride.specs.Over.{Run, run}
 use Rattle.listing.specs.Text.{text}
@@ -23,6 +23,7 @@ use Rattle.ride.proofs.Determined as ride-is
 use Rattle.listing.proofs.Determined as listing-is
 use Rattle.demands.specs.Demand1.{Untouched}
 use Rattle.demands.proofs.Rides.{step-untouched, run-untouched}
+use Rattle.demands.proofs.Treats.{treat-untouched}
 use Rattle.demands.proofs.Steps.{group-refused, end-refused}
 use Rattle.demands.proofs.Listings.{list-untouched, put-untouched}
 
@@ -31,6 +32,7 @@ untouched = record {
   step = λ ride gap bytes r n c e.
       let kept = step-untouched ride gap bytes n (sym (ap (λ (s : Step). s .lines) (c .1)) ∙ e) in
       (ap (λ (s : Step). s .ride) (c .1) ∙ kept .0, ap (λ (s : Step). s .closed) (c .1) ∙ kept .1);
+  treat-at = treat-untouched;
   run = λ ride gap trace r n c e.
       let is = c .4 ∙ ap (λ (v : List ℕ). run ride gap v) (c .3) in
       ap (λ (s : Run). s .ride) is ∙ run-untouched ride gap trace n (sym (ap (λ (s : Run). s .answer) is) ∙ e);
@@ -61,6 +63,7 @@ untouched = record {
   group-judged = λ n r r′ p q. told saysGroup group-is.judged group-is.judged-back r r′ p q;
   checked = λ n r r′ p q. told saysChecked ride-is.checkedOf ride-is.checked-back r r′ p q;
   report = λ n r r′ p q. told saysReport ride-is.reportOf ride-is.report-back r r′ p q;
+  reply = λ n r r′ p q. told saysReply ride-is.replyOf ride-is.reply-back r r′ p q;
   way = λ n r r′ p q. told saysWay ride-is.wayOf ride-is.way-back r r′ p q;
   done = λ n r r′ p q. told saysDone listing-is.doneOf listing-is.done-back r r′ p q;
 }

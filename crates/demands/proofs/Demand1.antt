@@ -8,6 +8,7 @@ use Rattle.telegram.specs.Survey.{surveyed}
 use Rattle.contact.specs.Contacts.{begun, nextContact}
 use Rattle.contact.specs.Judge.{judged}
 use Rattle.ride.specs.Step.{Step}
+use Rattle.ride.specs.At.{Treatment}
 use Rattle.ride.specs.Over.{Run, run}
 use Rattle.listing.specs.List.{Listing, list}
 use Rattle.demands.specs.Demand1.{Demand1}
@@ -16,6 +17,7 @@ use Rattle.demands.proofs.Contacts.{beginning, nexting, judging}
 use Rattle.demands.proofs.Distances.{measuring}
 use Rattle.demands.proofs.Groups.{grouping}
 use Rattle.demands.proofs.Rides.{checking, stepping, running}
+use Rattle.demands.proofs.Treats.{treated-is, treating}
 use Rattle.demands.proofs.Listings.{listing}
 
 pub demand1 : Demand1
@@ -35,6 +37,7 @@ demand1 = record {
   judge-group = λ g r c. rw (c .1) (grouping g);
   check-record = λ ride bytes r c. rw (c .1) (checking ride bytes);
   step = λ ride gap bytes r c. let e = ap (λ (s : Step). s .lines) (c .1) in rw e (stepping ride gap bytes);
+  treat-at = λ ride gap trace i r c. let e = ap (λ (t : Treatment). t .reply) (treated-is ride gap trace i r c) in rw e (treating ride gap trace i);
   run = λ ride gap trace r c. let e = ap (λ (s : Run). s .answer) (c .4 ∙ ap (λ (v : List ℕ). run ride gap v) (c .3)) in rw e (running ride gap trace);
   list = λ ride gap number trace before r after c.
       let e = ap (λ (l : Listing). l .answer) (c .7 ∙ ap₂ (λ (v w : List ℕ). list ride gap number v w) (c .4) (c .5)) in

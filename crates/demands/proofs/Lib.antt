@@ -12,6 +12,7 @@ pub mod Rides
 pub mod Messages
 pub mod Steps
 pub mod Marking
+pub mod Treats
 pub mod Runs
 pub mod Riding
 pub mod Listings

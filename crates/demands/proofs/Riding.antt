@@ -26,6 +26,7 @@ use Rattle.demands.specs.Contracts.{EndOf, JudgeGroup}
 use Rattle.demands.specs.Steps.{OneStep, Accepts, LeavesBehind, StaysOpen, NoneOpen, before, after, Gives}
 use Rattle.demands.specs.Ride.{IsMarked, lineOf, Becomes, Step3, Riding}
 use Rattle.demands.proofs.Steps.{entry, goes-on, closes, stays-none, stays-open}
+use Rattle.demands.proofs.Treats.{treats-as, treats-nothing}
 use Rattle.demands.proofs.Runs.{runs-on, runs-nowhere}
 use Rattle.demands.proofs.Marking.{mark-of, mark-so, becomes}
 
@@ -161,6 +162,8 @@ riding = record {
       );
   nothing-open = λ ride r c is. let e = nothing-so ride r c is in (ap (λ (v : End). v .lines) e, ap (λ (v : End). v .ride) e, ap (λ (v : End). v .closed) e);
   fresh = λ f c. fresh-so f (c .1);
+  treats = treats-as;
+  treats-none = treats-nothing;
   runs = runs-on;
   runs-none = runs-nowhere;
 }

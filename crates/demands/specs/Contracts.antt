@@ -29,6 +29,7 @@ use Rattle.group.specs.declared.Judged.{Judged as GroupJudged}
 use Rattle.ride.specs.declared.Ride.{Ride}
 use Rattle.ride.specs.declared.Checked.{Checked}
 use Rattle.ride.specs.declared.Stepped.{Stepped}
+use Rattle.ride.specs.declared.trace.Treated.{Treated}
 use Rattle.ride.specs.declared.Ended.{Ended}
 use Rattle.ride.specs.declared.Ran.{Ran}
 use Rattle.ride.specs.declared.Line.{Line}
@@ -68,6 +69,8 @@ use Rattle.ride.proofs.check_record.Kinds as check-record-kinds
 use Rattle.ride.proofs.check_record.Reads as check-record-reads
 use Rattle.ride.proofs.step.Kinds as step-kinds
 use Rattle.ride.proofs.step.Reads as step-reads
+use Rattle.ride.proofs.treat_at.Kinds as treat-at-kinds
+use Rattle.ride.proofs.treat_at.Reads as treat-at-reads
 use Rattle.ride.proofs.end.Kinds as end-kinds
 use Rattle.ride.proofs.end.Reads as end-reads
 use Rattle.ride.proofs.run.Kinds as run-kinds
@@ -157,6 +160,12 @@ CheckRecord ride bytes r =
 abbrev pub StepOf : Ride → ℕ → List ℕ → Stepped → Type 0
 StepOf ride gap bytes r =
     (e : AtExit (endedOf 0 step-kinds.ps step-kinds.r) tt) × step-reads.Post tt (ride, (gap, (bytes, tt))) r e
+
+-- The contract of `treat_at` allows the answer r for the record at this index of the trace after this ride, with this gap.
+abbrev pub TreatAt : Ride → ℕ → List ℕ → ℕ → Treated → Type 0
+TreatAt ride gap trace i r =
+    (κs : Lfts 1) × (lent : RefT (List ℕ)) × (e : AtExit (endedOf 1 treat-at-kinds.ps treat-at-kinds.r) κs)
+    × (now lent ≡ trace) × treat-at-reads.Post κs (ride, (gap, (lent, (i, tt)))) r e
 
 -- The contract of `end` allows the answer r for this ride.
 abbrev pub EndOf : Ride → Ended → Type 0

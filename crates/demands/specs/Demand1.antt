@@ -4,7 +4,7 @@
 -- The first sentence is the record `Demand1`, the second the record `Untouched`. The conditions are specs/Table.antt, the
 -- lists specs/Lists.antt, what the contracts allow is specs/Contracts.antt. That every call ends is the kit's own check of each function, and no theorem here. The
 -- functions without a list give no number: `fresh`, `speed` and `end` always answer; `put_line` says that a line has no room, for which
--- document 01 has no number; `telegram::inside`, which serves `contact`, says whether row 5's condition does not hold. Those of the
+-- document 01 has no number; `telegram::inside` says whether row 5's condition does not hold, and `ride::allowed` whether row 19's does not. Those of the
 -- face for C (crates/abi) have contracts of their own over the same definitions.
 -- Assumes nothing.
 use Prim.Native.Nat.{ℕ}
@@ -41,10 +41,11 @@ use Rattle.ride.specs.Over.{through}
 use Rattle.ride.specs.State.{noGroup, isOpen, nothingKnown}
 use Rattle.ride.specs.Joining.{takeUp}
 use Rattle.ride.specs.Closing.{firstPlace}
-use Rattle.ride.specs.Says.{saysChecked, saysReport, saysStepped, saysEnded, saysWay, saysRan}
+use Rattle.ride.specs.Says.{saysChecked, saysReport, saysReply, saysStepped, saysTreated, saysEnded, saysWay, saysRan}
 use Rattle.ride.specs.declared.Ride.{Ride}
 use Rattle.ride.specs.declared.Checked.{Checked}
 use Rattle.ride.specs.declared.Stepped.{Stepped}
+use Rattle.ride.specs.declared.trace.Treated.{Treated}
 use Rattle.ride.specs.declared.Ended.{Ended}
 use Rattle.ride.specs.declared.Ran.{Ran}
 use Rattle.ride.specs.declared.Line.{Line}
@@ -53,8 +54,8 @@ use Rattle.listing.specs.Says.{saysPut, saysDone}
 use Rattle.listing.specs.declared.Put.{Put}
 use Rattle.listing.specs.declared.Listed.{Listed}
 use Rattle.demands.specs.Rules.{row, Decided, Given, Is}
-use Rattle.demands.specs.Table.{notCode, above, notSeven, beyond, noDistance}
-use Rattle.demands.specs.Contracts.{ReadShort, WriteShort, ReadLong, WriteLong, GoodPair, ReadTelegram, Find, Survey, Begin, NextContact, JudgeContact, Distance, JudgeGroup, CheckRecord, StepOf, EndOf, RunOver, PutLine, ListInto}
+use Rattle.demands.specs.Table.{notCode, above, notSeven, beyond, noDistance, badGap}
+use Rattle.demands.specs.Contracts.{ReadShort, WriteShort, ReadLong, WriteLong, GoodPair, ReadTelegram, Find, Survey, Begin, NextContact, JudgeContact, Distance, JudgeGroup, CheckRecord, StepOf, TreatAt, EndOf, RunOver, PutLine, ListInto}
 use Rattle.demands.specs.Lists.{IsTelegram, telegramRules, findRules, surveyRules, nextRules, judgeRules, groupRules, recordRules, stepRules, runRules, findReads, surveyReads, JudgeReads, NextReads}
 use Rattle.demands.specs.Steps.{OneStep, LeavesBehind}
 
@@ -91,6 +92,9 @@ pub record Demand1 : Type 0 where
       → Decided (Is (record { odometer = odometerOf bytes; passed = passedOf bytes })) (recordRules ride bytes) (saysChecked r)
   pub step : (ride : Ride) (gap : ℕ) (bytes : List ℕ) (r : Stepped) → StepOf ride gap bytes r
       → Decided Given (stepRules ride gap bytes) (saysStepped r .lines)
+  -- what stands at an index is no refusal of the call: no record, or one that is treated as by `step` (`treats` of specs/Ride.antt)
+  pub treat-at : (ride : Ride) (gap : ℕ) (trace : List ℕ) (i : ℕ) (r : Treated) → TreatAt ride gap trace i r
+      → Decided Given (row 19 (badGap gap) ∷ []) (saysTreated r .reply)
   pub run : (ride : Ride) (gap : ℕ) (trace : List ℕ) (r : Ran) → RunOver ride gap trace r → Decided (Is through) (runRules gap trace) (saysRan r .answer)
   pub list : (ride : Ride) (gap number : ℕ) (trace before : List ℕ) (r : Listed) (after : List ℕ) → ListInto ride gap number trace before r after
       → Decided Given (runRules gap trace) (saysDone (r .done))
@@ -102,6 +106,8 @@ pub record Untouched : Type 0 where
   -- a refused step closes no group, and it and a refused run leave the ride as it was
   pub step : (ride : Ride) (gap : ℕ) (bytes : List ℕ) (r : Stepped) (n : ℕ) → StepOf ride gap bytes r
       → saysStepped r .lines ≡ refuses n → (r .ride ≡ ride) × (r .closed ≡ noGroup)
+  pub treat-at : (ride : Ride) (gap : ℕ) (trace : List ℕ) (i : ℕ) (r : Treated) (n : ℕ) → TreatAt ride gap trace i r
+      → saysTreated r .reply ≡ refuses n → (r .ride ≡ ride) × (r .closed ≡ noGroup)
   pub run : (ride : Ride) (gap : ℕ) (trace : List ℕ) (r : Ran) (n : ℕ) → RunOver ride gap trace r → saysRan r .answer ≡ refuses n → r .ride ≡ ride
   -- so does a refused listing, which leaves the number and the lent buffer too; a line without room leaves the buffer
   pub list : (ride : Ride) (gap number : ℕ) (trace before : List ℕ) (r : Listed) (after : List ℕ) (n : ℕ)
@@ -143,5 +149,6 @@ pub record Untouched : Type 0 where
   pub group-judged : Bare saysGroup
   pub checked : Bare saysChecked
   pub report : Bare saysReport
+  pub reply : Bare saysReply
   pub way : Bare saysWay
   pub done : Bare saysDone

@@ -14,7 +14,9 @@ use Rattle.group.specs.declared.Message.{Message}
 use Rattle.group.specs.declared.Told.{Told}
 use Rattle.ride.specs.State.{noGroup, isOpen}
 use Rattle.ride.specs.Joining.{takeUp}
-use Rattle.ride.specs.Says.{saysLines, saysRan}
+use Rattle.words.specs.Answer.{gives}
+use Rattle.ride.specs.At.{recordAt, noRecord, byStep, stays}
+use Rattle.ride.specs.Says.{saysLines, saysStepped, saysTreated, saysRan}
 use Rattle.ride.specs.declared.Ended.{Ended}
 use Rattle.ride.specs.declared.Known.{Known}
 use Rattle.ride.specs.declared.Line.{Line}
@@ -23,8 +25,9 @@ use Rattle.ride.specs.declared.Mark.{Mark}
 use Rattle.ride.specs.declared.Ran.{Ran}
 use Rattle.ride.specs.declared.Ride.{Ride}
 use Rattle.ride.specs.declared.Stepped.{Stepped}
+use Rattle.ride.specs.declared.trace.Treated.{Treated}
 use Rattle.demands.specs.Table.{badLength, badGap}
-use Rattle.demands.specs.Contracts.{Fresh, StepOf, EndOf, RunOver, JudgeGroup}
+use Rattle.demands.specs.Contracts.{Fresh, StepOf, TreatAt, EndOf, RunOver, JudgeGroup}
 use Rattle.demands.specs.Steps.{OneStep, Accepts, LeavesBehind, StaysOpen, NoneOpen, before, after, Gives}
 
 -- The message of a present signal.
@@ -98,6 +101,11 @@ pub record Riding : Type 0 where
   -- "A fresh ride has none of them."
   pub fresh : (f : Ride) → Fresh f
       → (f .known ≡ record { linking = Linking.Unset; main = Told.Unknown; target = Told.Unknown }) × (isOpen (f .group) ≡ false) × (f .odometer ≡ 0)
+  -- the record at an index of a trace is treated as by its step, refused or not; behind the last there is none, and the state stays
+  pub treats : (ride : Ride) (gap : ℕ) (trace : List ℕ) (i : ℕ) (s : Stepped) (t : Treated) → badGap gap ≡ false → i < length trace / 8
+      → StepOf ride gap (recordAt trace i) s → TreatAt ride gap trace i t → saysTreated t ≡ byStep (saysStepped s)
+  pub treats-none : (ride : Ride) (gap : ℕ) (trace : List ℕ) (i : ℕ) (t : Treated) → badGap gap ≡ false → length trace / 8 ≤ i
+      → TreatAt ride gap trace i t → saysTreated t ≡ stays ride (gives noRecord)
   -- a run is step after step, from any state: that of the first record, and the run over the rest
   pub runs : (ride : Ride) (gap : ℕ) (bytes rest : List ℕ) (s : Stepped) (q q′ : Ran) → length bytes ≡ 8 → badLength rest ≡ false
       → StepOf ride gap bytes s → RunOver ride gap (bytes ++ rest) q → RunOver (s .ride) gap rest q′ → saysRan q ≡ saysRan q′
