@@ -6,8 +6,10 @@ use native.Mathlib.Nat.{add-zero, zero-add, sub-zero, add-assoc}
 use mathlib.Core.Path.{_≡_, refl, ap, sym, _∙_}
 use mathlib.Core.Bool.{Bool, true, false, _&&_}
 use mathlib.Core.List.{List, [], _∷_, _++_}
+use lib.Dec.{ltb}
 use lib.ListN.{length, take, drop, length-append}
 use lib.Seq.{drop-drop}
+use borrow.Author.Tests.{ltb-true, ltb-false}
 use Rattle.words.specs.Answer.{gives, pick}
 use Rattle.ride.specs.declared.Line.{Line}
 use Rattle.ride.specs.declared.Ride.{Ride}
@@ -99,18 +101,24 @@ left-next trace count i h =
 pub left-all : (trace : List ℕ) → leftOf trace (length trace / 8) 0 ≡ records trace
 left-all trace = ap (λ (k : ℕ). firstRecords k trace) (sub-zero (length trace / 8))
 
--- Without room, or without a next number, no record is taken.
-pub no-room : (gap : ℕ) (ride : Ride) (number room : ℕ) (rs : List (List ℕ)) → isTaken number room ≡ false → taken gap ride number room rs ≡ 0
-unfolding taken
-no-room gap ride number room [] e = refl
-no-room gap ride number room (r ∷ rs) e = simp e
-
 -- Where none is left, none is taken.
 pub none-left : (gap : ℕ) (ride : Ride) (number room : ℕ) (trace : List ℕ) (count i : ℕ) → count ≤ i → taken gap ride number room (leftOf trace count i) ≡ 0
 unfolding taken firstRecords
 none-left gap ride number room trace count i h =
     let none : count - i ≡ 0 = omega arith in
     ap (λ (k : ℕ). taken gap ride number room (firstRecords k (drop (i * 8) trace))) none
+
+-- Where the loop stops, no record is taken.
+stopped : (gap : ℕ) (ride : Ride) (number room : ℕ) (trace : List ℕ) (count i : ℕ) (b : Bool) → ltb i count ≡ b → (b && isTaken number room) ≡ false
+    → taken gap ride number room (leftOf trace count i) ≡ 0
+unfolding taken
+stopped gap ride number room trace count i true more e =
+    ap (taken gap ride number room) (left-next trace count i (ltb-true i count more)) ∙ simp e
+stopped gap ride number room trace count i false more e = none-left gap ride number room trace count i (ltb-false i count more)
+
+pub no-more : (gap : ℕ) (ride : Ride) (number room : ℕ) (trace : List ℕ) (count i : ℕ) → (ltb i count && isTaken number room) ≡ false
+    → taken gap ride number room (leftOf trace count i) ≡ 0
+no-more gap ride number room trace count i e = stopped gap ride number room trace count i (ltb i count) refl e
 
 -- A test that holds, part by part.
 pub both : (a b : Bool) → (a && b) ≡ true → (a ≡ true) × (b ≡ true)

@@ -63,11 +63,12 @@ pub fn over(ride: Ride, gap: u32, number: u64, trace: &[u8], out: &mut [u8]) -> 
     requires { ⌜ allowed gap ≡ true ⌝ }
     ensures { λ r. ⌜ saysListed r (now (out .exit)) ≡ listTaken gap ride number (records (now (trace .entry))) (now (out .entry)) ⌝ }
 {
+    let count = trace.len() / 8;
     let mut now = ride;
     let mut next = number;
     let mut i: usize = 0;
     let mut at: usize = 0;
-    while (out.len() - at >= 128) & (next < u64::MAX) {
+    while (i < count) & ((out.len() - at >= 128) & (next < u64::MAX)) {
         let treated = ride::treat_at(now, gap, trace, i);
         let reply = treated.reply;
         let Reply::Record(given) = reply else {

@@ -1,9 +1,9 @@
 -- The steps of the definitions, each from what its tests say.
 -- Assumes nothing.
-use Prim.Native.Nat.{ℕ, _≤_, _<_}
+use Prim.Native.Nat.{ℕ, _+_, _≤_, _<_}
 use native.Mathlib.Omega.{arith}
-use mathlib.Core.Path.{_≡_}
-use mathlib.Core.Bool.{true, false}
+use mathlib.Core.Path.{_≡_, refl}
+use mathlib.Core.Bool.{Bool, true, false, not, _&&_}
 use mathlib.Core.List.{List, [], _∷_, _++_, append-nil}
 use lib.Dec.{ltb}
 use lib.ListN.{length, set}
@@ -20,7 +20,7 @@ use Rattle.ride.specs.declared.Lines.{Lines}
 use Rattle.ride.specs.State.{noGroup, isOpen}
 use Rattle.ride.specs.Record.{Entry, check}
 use Rattle.ride.specs.Joining.{allowed, isBehind, counted, join, takeUp}
-use Rattle.ride.specs.Linking.{missedPlace}
+use Rattle.ride.specs.Linking.{isOverdue, missedPlace}
 use Rattle.ride.specs.Closing.{Closing, close, leave}
 use Rattle.ride.specs.Step.{closeBehind, isMissed, missedLines, unlinked, afterMissed, Step, refused, afterClosing, goOn, treat, step}
 use Rattle.ride.specs.Says.{saysLines}
@@ -57,26 +57,23 @@ take-none g g₀ o p h e f n = rw (e, f, n)
 
 -- ---- steps 2 and 3
 
+one-of-two : (b : Bool) (g : Group) (known : Known) → length (pick b (close g known) (leave g known) .lines) ≤ 1
+unfolding close leave
+one-of-two true g known = omega arith
+one-of-two false g known = omega arith
+
 -- step 2 gives at most one line
-pub close-lines : (g : Group) (known : Known) (c : Closing) → c ≡ close g known → length (c .lines) ≤ 1
-unfolding close
-close-lines g known c e = rw e (omega arith)
+pub at-most-one : (gap o : ℕ) (g : Group) (known : Known) → length (closeBehind gap o g known .lines) ≤ 1
+unfolding closeBehind
+at-most-one gap o g known = one-of-two (isBehind gap o g) g known
 
-pub leave-lines : (g : Group) (known : Known) (c : Closing) → c ≡ leave g known → length (c .lines) ≤ 1
-unfolding leave
-leave-lines g known c e = rw e (omega arith)
+pub behind : (gap o : ℕ) (g : Group) (known : Known) (c : Closing) → isBehind gap o g ≡ true → c ≡ close g known → c ≡ closeBehind gap o g known
+unfolding closeBehind
+behind gap o g known c e h = rw e h
 
--- it closes a group that is left behind
-pub behind : (ride : Ride) (gap : ℕ) (e : Entry) (c : Closing) → isBehind gap (e .odometer) (ride .group) ≡ true → c ≡ close (ride .group) (ride .known)
-    → afterClosing e c ≡ goOn ride gap e
-unfolding goOn closeBehind
-behind ride gap e c b h = rw (b, h)
-
--- and leaves any other
-pub not-behind : (ride : Ride) (gap : ℕ) (e : Entry) (c : Closing) → isBehind gap (e .odometer) (ride .group) ≡ false → c ≡ leave (ride .group) (ride .known)
-    → afterClosing e c ≡ goOn ride gap e
-unfolding goOn closeBehind
-not-behind ride gap e c b h = rw (b, h)
+pub not-behind : (gap o : ℕ) (g : Group) (known : Known) (c : Closing) → isBehind gap o g ≡ false → c ≡ leave g known → c ≡ closeBehind gap o g known
+unfolding closeBehind
+not-behind gap o g known c e h = rw e h
 
 -- the line of a missed signal comes after those of step 2
 pub missed-after-none : (ls : Lines) (l : Line) → ls ≡ Lines.None → l ∷ [] ≡ saysLines ls ++ (l ∷ [])
@@ -104,7 +101,26 @@ pub after-none : (e : Entry) (c : Closing) (g : Group) → g ≡ takeUp (c .grou
 unfolding missedLines afterMissed
 after-none e c g h m = rw (h, m, append-nil)
 
--- ---- a quiet record
+-- ---- a quiet record: no group is left behind, and no signal is missed
+
+and-true : (b : Bool) → b ≡ (b && true)
+and-true true = refl
+and-true false = refl
+
+-- an open group can be left behind, but lets nothing be missed
+pub quiet-open : (gap o : ℕ) (g : Group) (known : Known) → isOpen g ≡ true
+    → not (isBehind gap o g) ≡ (not (isBehind gap o g) && not (isMissed o g known))
+quiet-open gap o g known e = rw e (and-true (not (ltb (g .last + gap) o)))
+
+-- where none is open none is left behind, but a signal can be missed
+pub quiet-none : (gap o : ℕ) (g : Group) (known : Known) → isOpen g ≡ false
+    → not (isOverdue (known .linking) o) ≡ (not (isBehind gap o g) && not (isMissed o g known))
+quiet-none gap o g known e = rw e
+
+pub neither : (a b : Bool) → (not a && not b) ≡ true → (a ≡ false) × (b ≡ false)
+neither true b e = absurd (let z : _≡_ {A = ℕ} 0 1 = cc in omega arith)
+neither false true e = absurd (let z : _≡_ {A = ℕ} 0 1 = cc in omega arith)
+neither false false e = (refl, refl)
 
 -- Where no group is left behind and no signal is missed, steps 2 and 3 do nothing: the odometer is set, a balise is taken up,
 -- and nothing else changes. A position record then sets the odometer alone.

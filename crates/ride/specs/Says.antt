@@ -12,7 +12,7 @@ use Rattle.ride.specs.declared.trace.Given.{Given}
 use Rattle.ride.specs.declared.trace.Reply.{Reply}
 use Rattle.ride.specs.declared.trace.Treated.{Treated}
 use Rattle.ride.specs.declared.closing.Closed.{Closed}
-use Rattle.ride.specs.declared.stepping.Treating.{Treating}
+use Rattle.ride.specs.declared.treating.Treating.{Treating}
 use Rattle.ride.specs.declared.Stepped.{Stepped}
 use Rattle.ride.specs.declared.Ended.{Ended}
 use Rattle.ride.specs.declared.Way.{Way}

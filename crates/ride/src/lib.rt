@@ -14,19 +14,19 @@ mod marks;
 mod records;
 mod stepping;
 mod trace;
-
-pub use joining::allowed;
-pub use records::check_record;
-pub use trace::Given;
-pub use trace::Reply;
-pub use trace::Treated;
-pub use trace::treat_at;
+mod treating;
 
 use group::Direction;
 use group::Group;
 use group::Heard;
 use group::Kind;
 use group::Told;
+pub use joining::allowed;
+pub use records::check_record;
+pub use trace::Given;
+pub use trace::Reply;
+pub use trace::Treated;
+pub use trace::treat_at;
 
 // Linking: not set, or set with a distance in dm from a place.
 pub enum Linking {
@@ -160,7 +160,7 @@ pub fn step(ride: Ride, gap: u32, bytes: [u8; 8]) -> Stepped
             report: Report::Gap,
         };
     }
-    stepping::reported(stepping::treat(ride, gap, bytes))
+    treating::reported(stepping::treat(ride, gap, bytes))
 }
 
 // The end of a ride: an open group closes.

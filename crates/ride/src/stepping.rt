@@ -1,13 +1,13 @@
 // The steps of a record.
 ghost use mathlib.Core.Path.{_≡_};
+ghost use mathlib.Core.Bool.{not, _&&_};
 ghost use mathlib.Core.List.{[], _∷_, _++_};
 ghost use Prim.Native.Nat.{_≤_};
 ghost use lib.ListN.{length};
 ghost use Rattle.ride.specs.declared.Line.{Line};
-ghost use Rattle.ride.specs.State.{noGroup};
 ghost use Rattle.ride.specs.Joining.{isBehind};
-ghost use Rattle.ride.specs.Step.{isMissed, unlinked, afterClosing, goOn, treat};
-ghost use Rattle.ride.specs.Says.{saysLines, saysGiven, saysTreating, saysStepped, saysClosed};
+ghost use Rattle.ride.specs.Step.{closeBehind, isMissed, unlinked, goOn, treat};
+ghost use Rattle.ride.specs.Says.{saysLines, saysTreating, saysClosed};
 use crate::Checked;
 use crate::Given;
 use crate::Known;
@@ -15,48 +15,41 @@ use crate::Line;
 use crate::Lines;
 use crate::Linking;
 use crate::Passed;
-use crate::Report;
 use crate::Ride;
-use crate::Stepped;
 use crate::closing::Closed;
 use crate::closing::close;
 use crate::closing::judge;
 use crate::closing::leave;
 use crate::joining::exceeds;
 use crate::joining::is_open;
-use crate::joining::no_group;
 use crate::joining::take_up;
 use crate::marks::is_overdue;
 use crate::marks::missed_place;
 use crate::records::check_record;
 use crate::records::why;
+use crate::treating::Treating;
+use crate::treating::nothing_closed;
 use group::Group;
 
-// What treating a record leaves: the state, the group that closed, and what the record gives.
-pub struct Treating {
-    pub ride: Ride,
-    pub closed: Group,
-    pub given: Given,
-}
-
-// A record by which no group closes.
-fn nothing_closed(ride: Ride, given: Given) -> Treating
-    ensures { λ r. ⌜ saysTreating r ≡ record { lines = saysGiven given; closed = noGroup; ride = ride } ⌝ }
-{
-    let none = no_group();
-    Treating {
-        ride,
-        closed: none,
-        given,
-    }
-}
-
 // Whether the group is left behind: it is open, and the odometer exceeds its last balise by more than the gap.
-fn is_behind(group: Group, gap: u32, odometer: u32) -> bool
-    ensures { λ r. ⌜ r ≡ isBehind gap odometer group ⌝ }
+fn is_behind(ride: Ride, gap: u32, odometer: u32) -> bool
+    ensures { λ r. ⌜ r ≡ isBehind gap odometer (ride .group) ⌝ }
 {
+    let group = ride.group;
     let last = group.last;
     is_open(group) & exceeds(odometer, last, gap)
+}
+
+// Step 2: a group that is left behind closes.
+fn close_behind(ride: Ride, gap: u32, odometer: u32) -> Closed
+    ensures { λ r. ⌜ saysClosed r ≡ closeBehind gap odometer (ride .group) (ride .known) ⌝ }
+{
+    let group = ride.group;
+    let known = ride.known;
+    if is_behind(ride, gap, odometer) {
+        return close(group, judge(group, known));
+    }
+    leave(group, known)
 }
 
 // Whether the expected signal is missed: no group is open, and it is overdue.
@@ -92,11 +85,11 @@ fn and_missed(lines: Lines, place: u64) -> Lines
     }
 }
 
-// Steps 3 and 4, on what step 2 leaves.
-fn after_closing(two: Closed, odometer: u32, passed: Passed) -> Treating
-    requires { ⌜ length (saysLines (two .lines)) ≤ 1 ⌝ }
-    ensures { λ r. ⌜ saysTreating r ≡ afterClosing (record { odometer = odometer; passed = passed }) (saysClosed two) ⌝ }
+// Steps 2 to 4, each in its turn.
+fn all_steps(ride: Ride, gap: u32, odometer: u32, passed: Passed) -> Treating
+    ensures { λ r. ⌜ saysTreating r ≡ goOn ride gap (record { odometer = odometer; passed = passed }) ⌝ }
 {
+    let two = close_behind(ride, gap, odometer);
     let lines = two.lines;
     let closed = two.closed;
     let left = two.group;
@@ -126,26 +119,35 @@ fn after_closing(two: Closed, odometer: u32, passed: Passed) -> Treating
     }
 }
 
-// Steps 2 to 4 for an accepted record. Most are quiet, with no group left behind and no signal missed: they set the odometer and
-// take the balise up, and the state is spared the way through steps 2 and 3.
+// Whether steps 2 and 3 do nothing: an open group is not left behind; where none is open, no signal is overdue.
+fn is_quiet(ride: Ride, gap: u32, odometer: u32) -> bool
+    ensures { λ r. ⌜ r ≡ (not (isBehind gap odometer (ride .group)) && not (isMissed odometer (ride .group) (ride .known))) ⌝ }
+{
+    let group = ride.group;
+    if is_open(group) {
+        return !is_behind(ride, gap, odometer);
+    }
+    let known = ride.known;
+    let linking = known.linking;
+    !is_overdue(linking, odometer)
+}
+
+// Steps 2 to 4 for an accepted record. Most are quiet: then the state is spared the way through steps 2 and 3.
 fn go_on(ride: Ride, gap: u32, odometer: u32, passed: Passed) -> Treating
     ensures { λ r. ⌜ saysTreating r ≡ goOn ride gap (record { odometer = odometer; passed = passed }) ⌝ }
 {
     let left = ride.group;
     let known = ride.known;
-    if is_behind(left, gap, odometer) {
-        return after_closing(close(left, judge(left, known)), odometer, passed);
+    if is_quiet(ride, gap, odometer) {
+        let group = take_up(left, odometer, passed);
+        let after = Ride {
+            odometer,
+            group,
+            known,
+        };
+        return nothing_closed(after, Given::Lines(Lines::None));
     }
-    if is_missed(odometer, left, known) {
-        return after_closing(leave(left, known), odometer, passed);
-    }
-    let group = take_up(left, odometer, passed);
-    let after = Ride {
-        odometer,
-        group,
-        known,
-    };
-    nothing_closed(after, Given::Lines(Lines::None))
+    all_steps(ride, gap, odometer, passed)
 }
 
 // Steps 1 to 4: the record is refused, or goes on.
@@ -157,25 +159,4 @@ pub fn treat(ride: Ride, gap: u32, bytes: [u8; 8]) -> Treating
         return nothing_closed(ride, Given::Refused(why(checked)));
     };
     go_on(ride, gap, odometer, passed)
-}
-
-// What a step reports of a record under an allowed gap.
-pub fn reported(treating: Treating) -> Stepped
-    ensures { λ r. ⌜ saysStepped r ≡ saysTreating treating ⌝ }
-{
-    let ride = treating.ride;
-    let closed = treating.closed;
-    let given = treating.given;
-    match given {
-        Given::Refused(wrong) => Stepped {
-            ride,
-            closed,
-            report: Report::Refused(wrong),
-        },
-        Given::Lines(lines) => Stepped {
-            ride,
-            closed,
-            report: Report::Lines(lines),
-        },
-    }
 }

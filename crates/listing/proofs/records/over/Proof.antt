@@ -14,15 +14,15 @@ use Rattle.ride.specs.Over.{records, linesFor}
 use Rattle.ride.specs.Says.{saysGiven}
 use Rattle.ride.proofs.At.{Took, took, past}
 use Rattle.listing.specs.Put.{placed}
-use Rattle.listing.specs.List.{textOf, taken, listTaken}
+use Rattle.listing.specs.List.{textOf, isTaken, taken, listTaken}
 use Rattle.listing.proofs.Placing.{placed-length}
 use Rattle.listing.proofs.Texts.{given-short}
-use Rattle.listing.proofs.Turns.{listing, fromHere, from-first, from-next, from-last, textAt, leftOf, left-next, left-all, no-room, none-left, both}
+use Rattle.listing.proofs.Turns.{listing, fromHere, from-first, from-next, from-last, textAt, leftOf, left-next, left-all, no-more, none-left, both}
 use Rattle.listing.proofs.records.over.Statement.{statement}
 use Rattle.listing.proofs.records.over.Tie as tie
 
 abbrev Inv-loop : tie.InvT-loop
-Inv-loop gap number trace out₀ now₀ next₀ i₀ at₀ out now next i at =
+Inv-loop gap number trace out₀ count now₀ next₀ i₀ at₀ out now next i at =
     (at ≤ length out)
     × (length out ≡ length out₀)
     × (next ≤ 18446744073709551615)
@@ -30,7 +30,7 @@ Inv-loop gap number trace out₀ now₀ next₀ i₀ at₀ out now next i at =
     × (fromHere gap now next i at (leftOf trace (length trace / 8) i) out ≡ fromHere gap now₀ number 0 0 (leftOf trace (length trace / 8) 0) out₀)
 
 abbrev μ-loop : tie.MeasureT-loop
-μ-loop gap number trace out₀ now₀ next₀ i₀ at₀ out now next i at = length trace / 8 - i
+μ-loop gap number trace out₀ count now₀ next₀ i₀ at₀ out now next i at = length trace / 8 - i
 
 loop-holds : tie.Need-loop-holds Inv-loop μ-loop
 loop-holds c = (omega arith, refl, omega arith, omega arith, refl)
@@ -38,13 +38,22 @@ loop-holds c = (omega arith, refl, omega arith, omega arith, refl)
 sub-loop : tie.Need-sub-loop Inv-loop μ-loop
 sub-loop c = omega arith
 
--- what the loop's test says: there is room, and a next number
+-- what the loop's test says: a record is left, there is room, and there is a next number
 test : (c : tie.In-loop Inv-loop μ-loop) →
     let l = c .before .loop in
-    (l .at + 128 ≤ length (l .out)) × (l .next < 18446744073709551615)
+    (l .i < length (c .before .before .before .before .args .trace .now) / 8) × (isTaken (l .next) (length (l .out) - l .at) ≡ true)
 test c =
     let l = c .before .loop in
-    let parts = both (leb 128 (length (l .out) - l .at)) (ltb (l .next) 18446744073709551615) (c .loop-test .taken) in
+    let parts = both (ltb (l .i) (length (c .before .before .before .before .args .trace .now) / 8)) (isTaken (l .next) (length (l .out) - l .at)) (c .loop-test .taken) in
+    (ltb-true _ _ (parts .0), parts .1)
+
+-- a record that is taken has room, and a next number
+room : (c : tie.In-loop Inv-loop μ-loop) →
+    let l = c .before .loop in
+    (l .at + 128 ≤ length (l .out)) × (l .next < 18446744073709551615)
+room c =
+    let l = c .before .loop in
+    let parts = both (leb 128 (length (l .out) - l .at)) (ltb (l .next) 18446744073709551615) (test c .1) in
     (omega (arith, leb-true 128 (length (l .out) - l .at) (parts .0)), ltb-true _ _ (parts .1))
 
 treat-at-requires : tie.Need-treat-at-requires Inv-loop μ-loop
@@ -67,10 +76,10 @@ took-one c =
     (c .reply .given .1)
 
 put-given-requires : tie.Need-put-given-requires Inv-loop μ-loop
-put-given-requires c κs = omega (arith, test (c .before .before .before .before .before) .0)
+put-given-requires c κs = omega (arith, room (c .before .before .before .before .before) .0)
 
 add-next : tie.Need-add-next Inv-loop μ-loop
-add-next c = omega (arith, test (c .before .before .before .before .before .before .before .before .before) .1)
+add-next c = omega (arith, room (c .before .before .before .before .before .before .before .before .before) .1)
 
 add-i : tie.Need-add-i Inv-loop μ-loop
 add-i c = omega (arith, took-one (c .before .before .before .before .before .before) .there)
@@ -99,7 +108,7 @@ loop-again c =
     let ride-is : t .treat-at .result .ride ≡ treat ride gap r .ride = ap (λ (x : Step). x .ride) (one .step) in
     let w : List ℕ = textAt gap ride next r in
     let text-is : textOf (linesFor next (saysGiven given)) ≡ w = ap (λ (x : Step). textOf (linesFor next (x .lines))) (one .step) in
-    let test-is = test (t .before) in
+    let room-is = room (t .before) in
     let fits : at + length w ≤ length out = omega (arith, given-short next given, ap length text-is) in
     let at-is : p .put-given .result ≡ at + length w = p .put-given .ensures .0 ∙ ap (λ (u : List ℕ). at + length u) text-is in
     let out-is : p .put-given .last .1 .1 .0 ≡ placed w out at = p .put-given .ensures .1 ∙ ap (λ (u : List ℕ). placed u out at) text-is in
@@ -112,7 +121,7 @@ loop-again c =
       omega arith,
       omega (arith, one .there),
       here
-          ∙ sym (from-next gap ride next i at r rest out (t .before .loop-test .taken) fits)
+          ∙ sym (from-next gap ride next i at r rest out (test (t .before) .1) fits)
           ∙ ap (λ (rs : List (List ℕ)). fromHere gap ride next i at rs out) (sym (left-next trace (length trace / 8) i (one .there)))
           ∙ l .loop .inv .4,
     )
@@ -141,7 +150,7 @@ returns c =
     let l = c .before in
     let a = l .before .before .before .args in
     whole l
-    (no-room (a .gap) (l .loop .now) (l .loop .next) (length (l .loop .out) - l .loop .at) (leftOf (a .trace .now) (length (a .trace .now) / 8) (l .loop .i))
+    (no-more (a .gap) (l .loop .now) (l .loop .next) (length (l .loop .out) - l .loop .at) (a .trace .now) (length (a .trace .now) / 8) (l .loop .i)
     (c .loop-test .left))
 
 same-length-2 : tie.Need-same-length-2 Inv-loop μ-loop

@@ -1,7 +1,7 @@
 -- `nothing_closed` hands on the state and what the record gives, and has no group.
 use borrow.Author.Needs.{needs}
-use Rattle.ride.proofs.stepping.nothing_closed.Statement.{statement}
-use Rattle.ride.proofs.stepping.nothing_closed.Tie as tie
+use Rattle.ride.proofs.treating.nothing_closed.Statement.{statement}
+use Rattle.ride.proofs.treating.nothing_closed.Tie as tie
 
 no-group-requires : tie.Need-no-group-requires
 no-group-requires c κs = search needs

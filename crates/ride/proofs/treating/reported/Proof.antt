@@ -1,7 +1,7 @@
 -- `reported` says of the record what it gives.
 use borrow.Author.Needs.{needs}
-use Rattle.ride.proofs.stepping.reported.Statement.{statement}
-use Rattle.ride.proofs.stepping.reported.Tie as tie
+use Rattle.ride.proofs.treating.reported.Statement.{statement}
+use Rattle.ride.proofs.treating.reported.Tie as tie
 
 enum-known-given : tie.Need-enum-known-given
 enum-known-given c = search needs
