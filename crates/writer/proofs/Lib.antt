@@ -1,0 +1,7 @@
+pub mod Spelt
+pub mod Bytes
+pub mod Answers
+pub mod Heard
+pub mod Valid
+pub mod Determined
+pub mod Examples

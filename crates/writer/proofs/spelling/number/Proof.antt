@@ -1,0 +1,54 @@
+-- `number` writes the number as one long word, whose two bytes are Y and Z.
+use mathlib.Core.Path.{_≡_, refl, sym, ap, ap₂, _∙_}
+use Prim.Native.Nat.{ℕ, _/_, _%_, _≤_}
+use borrow.Author.Needs.{needs}
+use Rattle.words.specs.Answer.{Outcome, gives}
+use Rattle.words.specs.Bits.{word}
+use Rattle.words.specs.Plain.{isCheck, covers, count, carriers, carried, madeEven, plainWord}
+use Rattle.words.specs.Code.{other, exchanged, sent}
+use Rattle.words.specs.Says.{saysLongWritten}
+use Rattle.telegram.specs.declared.Telegram.{Telegram}
+use Rattle.writer.specs.Words.{Words, wordsOf}
+use Rattle.writer.proofs.Spelt.{written, unwritten, large-number, number-out}
+use Rattle.writer.proofs.spelling.number.Statement.{statement}
+use Rattle.writer.proofs.spelling.number.Tie as tie
+
+write-long-requires : tie.Need-write-long-requires
+write-long-requires c κs = search needs
+
+enum-known-w : tie.Need-enum-known-w
+enum-known-w c = search needs
+
+enum-told : tie.Need-enum-told
+enum-told c = search needs
+
+returns : tie.Need-returns
+returns c =
+    let s = c .before .before in
+    let m = s .before .args .m in
+    large-number m (unwritten 16 2047 m (ap saysLongWritten (sym (c .enum-told .given .1)) ∙ s .write-long .ensures))
+
+cast-t5 : tie.Need-cast-t5
+cast-t5 c = search needs
+
+cast-t7 : tie.Need-cast-t7
+cast-t7 c = search needs
+
+-- the word for 12
+twelve : sent 8 12 ≡ 0xC3
+unfolding sent exchanged other word plainWord madeEven carried carriers count covers isCheck
+twelve = refl
+
+returns-2 : tie.Need-returns-2
+unfolding wordsOf
+returns-2 c =
+    let s = c .before .before .before in
+    let m = s .before .args .m in
+    let w = c .before .w .given .0 .0 in
+    let is = written 16 2047 m w (ap saysLongWritten (sym (c .before .w .given .1)) ∙ s .write-long .ensures) in
+    ap₂ (λ (a b : ℕ). gives (record { x = a; y = b / 256; z = b % 256 })) (sym twelve) (is .1) ∙ number-out m (is .0)
+
+pub number-spec : {M : Type 1} → statement M
+number-spec =
+    tie.close
+    (tie.spec write-long-requires enum-known-w enum-told returns cast-t5 cast-t7 returns-2)

@@ -1,0 +1,4 @@
+pub mod Words
+pub mod Write
+pub mod Sender
+pub mod Says
