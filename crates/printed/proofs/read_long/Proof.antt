@@ -1,0 +1,80 @@
+-- `read_long` is right because a code word stands in the list, at its figure alone: where the search meets the word, that is its
+-- figure; where it has passed all of the list, the word is no code word.
+use mathlib.Core.Path.{_≡_, refl, sym, ap, _∙_}
+use mathlib.Core.Bool.{false}
+use mathlib.Core.List.{List}
+use Prim.Native.Nat.{ℕ, _-_, _≤_, _<_}
+use native.Mathlib.Omega.{arith}
+use lib.ListN.{getD}
+use borrow.Author.Count.{below-more}
+use borrow.Author.Needs.{needs}
+use Rattle.words.proofs.Answers.{refused}
+use Rattle.printed.specs.Listed.{list}
+use Rattle.printed.proofs.Law.{listed-reads, not-listed}
+use Rattle.printed.proofs.read_long.Statement.{statement}
+use Rattle.printed.proofs.read_long.Tie as tie
+use Rattle.printed.proofs.read_long.Reads as reads
+use Rattle.printed.proofs.read_long.Lts as lts
+use Rattle.printed.proofs.list.Reads as list-reads
+
+-- The word stands at none of the figures passed.
+abbrev Inv-loop : tie.InvT-loop
+Inv-loop word words figure₀ figure = (figure ≤ 2048) × ((k : ℕ) → k < figure → getD words k 0 ≡ word → ⊥)
+
+abbrev μ-loop : tie.MeasureT-loop
+μ-loop word words figure₀ figure = 2048 - figure
+
+list-requires : tie.Need-list-requires Inv-loop μ-loop
+list-requires c κs = search needs
+
+loop-holds : tie.Need-loop-holds Inv-loop μ-loop
+loop-holds c = search needs
+
+cast-if1 : tie.Need-cast-if1 Inv-loop μ-loop
+cast-if1 c = search needs
+
+mul-if1 : tie.Need-mul-if1 Inv-loop μ-loop
+mul-if1 c = search needs
+
+array-read-if1 : tie.Need-array-read-if1 Inv-loop μ-loop
+array-read-if1 c = search needs
+
+returns : tie.Need-returns Inv-loop μ-loop
+returns c =
+    let at = c .before .before in
+    let x : ℕ = at .loop .figure in
+    let here : getD list x 0 ≡ at .before .before .args .word = ap (λ (l : List ℕ). getD l x 0) (sym (at .before .list .ensures)) ∙ c .if1 .taken in
+    sym (listed-reads x (at .before .before .args .word) (c .before .loop-test .taken) here)
+
+add-figure : tie.Need-add-figure Inv-loop μ-loop
+add-figure c = search needs
+
+loop-less : tie.Need-loop-less Inv-loop μ-loop
+loop-less c = search needs
+
+loop-again : tie.Need-loop-again Inv-loop μ-loop
+loop-again c = (search needs, below-more _ _ (c .before .before .loop .inv .1) (c .if1 .left))
+
+returns-2 : tie.Need-returns-2 Inv-loop μ-loop
+returns-2 c =
+    let at = c .before in
+    let none : (x : ℕ) → x < 2048 → getD list x 0 ≡ at .before .before .args .word → ⊥ =
+    λ x l e. at .loop .inv .1 x (omega (arith, c .loop-test .left)) (ap (λ (l : List ℕ). getD l x 0) (at .before .list .ensures) ∙ e) in
+    refused 16 (at .before .before .args .word) false (sym (not-listed (at .before .before .args .word) (search needs) none)) refl
+
+pub read-long-spec : {M : Type 1} → statement M
+read-long-spec =
+    tie.close
+    (tie.spec
+    Inv-loop
+    μ-loop
+    list-requires
+    loop-holds
+    cast-if1
+    mul-if1
+    array-read-if1
+    returns
+    add-figure
+    loop-less
+    loop-again
+    returns-2)

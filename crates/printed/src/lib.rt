@@ -1,0 +1,32 @@
+// A second, plain reader for the long code, which a fitter can follow with the printed list.
+// Promises: it gives for every word what the reader by checks gives; each word of the list stands at its own figure and nowhere else.
+// Specification: specs/Listed.antt (the list, and reading by it), specs/Alike.antt (the promises).
+ghost use mathlib.Core.Path.{_≡_};
+ghost use Rattle.words.specs.Code.{readLong};
+ghost use Rattle.words.specs.Says.{saysLongRead};
+ghost use Rattle.printed.specs.Listed.{list};
+use words::LongRead;
+
+mod table;
+
+// The printed list: at each figure its word.
+pub fn list() -> [u16; 2048]
+    ensures { λ r. ⌜ r ≡ list ⌝ }
+{
+    table::WORDS
+}
+
+// The figure of a received long word, or refusal 1: the list is searched for it from figure 0 on.
+pub fn read_long(word: u16) -> LongRead
+    ensures { λ r. ⌜ saysLongRead r ≡ readLong word ⌝ }
+{
+    let words = list();
+    let mut figure: u16 = 0;
+    while figure < 2048 {
+        if words[figure as usize] == word {
+            return LongRead::Figure(figure);
+        }
+        figure += 1;
+    }
+    LongRead::NotCode
+}
