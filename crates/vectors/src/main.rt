@@ -1,6 +1,8 @@
-// Holds the two codes against table NR of source 000, whose file is its first argument, and every word against itself.
+// Holds the two codes and the printed list against table NR of source 000, whose file is its first argument, every word against
+// itself, and every long word against the list.
 // Promises: it is safe and it ends; it writes its counts and a line for each difference, compared with the file stdout beside it.
 // Specification: none of its own; the table as the scan shows it.
+mod alike;
 mod cells;
 mod counts;
 mod every;
@@ -26,4 +28,5 @@ fn main() {
     compare_file();
     every::long_words();
     every::short_words();
+    alike::long_words();
 }

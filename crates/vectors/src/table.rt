@@ -1,5 +1,5 @@
-// Table NR, cell by cell: a readable one is written and read, one that the scan misreads is refused, an unreadable one
-// is counted.
+// Table NR, cell by cell: a readable one is written, and read by the checks and by the printed list; one that the scan misreads
+// is refused by both; an unreadable one is counted.
 use crate::cells;
 use crate::cells::Cell;
 use crate::counts;
@@ -42,36 +42,54 @@ fn is_written(figure: u16, word: u16) -> bool {
     }
 }
 
-// Whether the word shown reads as the figure; if not, a line says so.
-fn is_read(figure: u16, word: u16) -> bool {
-    match words::read_long(word) {
+// Whether a reader reads the word shown as the figure; if not, a line says so.
+fn is_read(figure: u16, word: u16, read: LongRead, by: &[u8]) -> bool {
+    match read {
         LongRead::Figure(f) => {
             if f != figure {
                 begin(figure, word);
-                say::number(b", read ", f as u32);
+                say::text(by);
+                say::number(b" read ", f as u32);
                 say::text(b"\n");
             }
             f == figure
         }
         LongRead::NotCode => {
             begin(figure, word);
-            say::text(b", reading refused with 1\n");
+            say::text(by);
+            say::text(b" refused with 1\n");
             false
         }
     }
 }
 
-// Whether the word shown by mistake is refused; if not, a line says so.
-fn is_refused(figure: u16, word: u16) -> bool {
-    match words::read_long(word) {
+// Whether a reader refuses the word shown by mistake; if not, a line says so.
+fn is_refused(figure: u16, word: u16, read: LongRead, by: &[u8]) -> bool {
+    match read {
         LongRead::NotCode => true,
         LongRead::Figure(f) => {
             begin(figure, word);
-            say::number(b" by mistake, read ", f as u32);
+            say::text(b" by mistake");
+            say::text(by);
+            say::number(b" read ", f as u32);
             say::text(b"\n");
             false
         }
     }
+}
+
+// A word shown, by both readers.
+fn word_shown(before: Counts, figure: u16, word: u16) -> Counts {
+    let by_checks = words::read_long(word);
+    let by_list = printed::read_long(word);
+    if is_misread(figure) {
+        let first = is_refused(figure, word, by_checks, b", by the checks");
+        let second = is_refused(figure, word, by_list, b", by the list");
+        return counts::misread(before, first, second);
+    }
+    let first = is_read(figure, word, by_checks, b", by the checks");
+    let second = is_read(figure, word, by_list, b", by the list");
+    counts::readable(before, is_written(figure, word), first, second)
 }
 
 // Whether the figure is the one that stands next; if not, a line says so.
@@ -102,10 +120,7 @@ fn line(before: Counts, text: &[u8]) -> Counts {
         }
         Cell::Word(figure, word) => {
             let c = counts::cell(before, figure, is_next(figure, before.next));
-            if is_misread(figure) {
-                return counts::misread(c, is_refused(figure, word));
-            }
-            counts::readable(c, is_written(figure, word), is_read(figure, word))
+            word_shown(c, figure, word)
         }
     }
 }

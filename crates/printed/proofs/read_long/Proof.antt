@@ -44,7 +44,7 @@ returns c =
     let at = c .before .before in
     let x : ℕ = at .loop .figure in
     let here : getD list x 0 ≡ at .before .before .args .word = ap (λ (l : List ℕ). getD l x 0) (sym (at .before .list .ensures)) ∙ c .if1 .taken in
-    sym (listed-reads x (at .before .before .args .word) (c .before .loop-test .taken) here)
+    sym (listed-reads x (at .before .before .args .word) (omega (arith, c .before .loop-test .taken)) here)
 
 add-figure : tie.Need-add-figure Inv-loop μ-loop
 add-figure c = search needs
