@@ -6,12 +6,11 @@ use mathlib.Core.List.{List}
 use mathlib.Core.Logic.{⊎-elim}
 use Prim.Native.Nat.{ℕ, _<_}
 use native.Mathlib.Omega.{arith}
-use lib.Dec.{ltb}
 use lib.ListN.{length, getD}
 use borrow.Author.Tests.{lt-ltb, le-ltb}
 use borrow.Fn.Kinds.{endedOf}
 use denote.Triple.Clauses.{AtExit}
-use Rattle.words.specs.Answer.{Outcome, gives, refuses, pick}
+use Rattle.words.specs.Answer.{gives, refuses, pick}
 use Rattle.words.specs.Plain.{isCode, figure}
 use Rattle.words.specs.Code.{exchanged, readWord, readLong}
 use Rattle.words.specs.Says.{saysLongRead}
@@ -20,7 +19,7 @@ use Rattle.words.proofs.Answers.{refused}
 use Rattle.words.proofs.Told.{told}
 use Rattle.words.proofs.Determined.{longRead, longRead-back}
 use Rattle.printed.specs.Listed.{list, passed, readBy}
-use Rattle.printed.specs.Alike.{ByChecks, Printed}
+use Rattle.printed.specs.Alike.{Printed}
 use Rattle.printed.proofs.Entries.{list-length}
 use Rattle.printed.proofs.Law.{listed-reads, read-listed, not-listed}
 use Rattle.printed.proofs.ByHand.{met-or-not}

@@ -10,7 +10,6 @@ use native.Mathlib.Omega.{arith}
 use lib.Dec.{eqb}
 use lib.ListN.{length, getD}
 use borrow.Author.Tests.{eqb-true, eqb-false}
-use Rattle.words.specs.Answer.{pick}
 use Rattle.printed.specs.Listed.{passed}
 
 -- The word is met at a figure of the list.

@@ -7,7 +7,7 @@ use native.Mathlib.Omega.{arith}
 use lib.ListN.{getD}
 use Rattle.words.specs.Answer.{gives}
 use Rattle.words.specs.Plain.{isCheck, isCode, figure, carriers}
-use Rattle.words.specs.Code.{exchanged, sent, readLong}
+use Rattle.words.specs.Code.{exchanged, readLong}
 use Rattle.words.proofs.Answers.{accepted}
 use Rattle.words.proofs.Laws.{reads-back, writes-back, figure-small}
 use Rattle.words.proofs.Widths.{long}

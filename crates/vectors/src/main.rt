@@ -1,5 +1,5 @@
-// Holds the two codes and the printed list against table NR of source 000, whose file is its first argument, every word against
-// itself, and every long word against the list.
+// Compares the two codes and the printed list with table NR of source 000, whose file is its first argument, every word with itself,
+// and every long word as the list reads it with what the checks read.
 // Promises: it is safe and it ends; it writes its counts and a line for each difference, compared with the file stdout beside it.
 // Specification: none of its own; the table as the scan shows it.
 mod alike;

@@ -13,9 +13,6 @@ use Rattle.printed.specs.Listed.{list}
 use Rattle.printed.proofs.Law.{listed-reads, not-listed}
 use Rattle.printed.proofs.read_long.Statement.{statement}
 use Rattle.printed.proofs.read_long.Tie as tie
-use Rattle.printed.proofs.read_long.Reads as reads
-use Rattle.printed.proofs.read_long.Lts as lts
-use Rattle.printed.proofs.list.Reads as list-reads
 
 -- The word stands at none of the figures passed.
 abbrev Inv-loop : tie.InvT-loop
