@@ -12,8 +12,8 @@ use Rattle.telegram.specs.Telegram.{Letter, X, Y as WordY, Z as WordZ, YZ, Rece
 use Rattle.group.specs.Balise.{then, partOf, partHeard, readAll}
 use Rattle.group.specs.declared.Balise.{Balise}
 use Rattle.group.specs.declared.Heard.{Heard}
-use Rattle.group.specs.declared.Part.{Part}
-use Rattle.group.specs.declared.Placed.{Placed}
+use Rattle.walk.specs.declared.Part.{Part}
+use Rattle.walk.specs.declared.Placed.{Placed}
 use Rattle.demands.specs.Table.{notCode, fifteen, isNumber, isBad, wordsRefused, isUnread, someUnread}
 use Rattle.demands.proofs.Answers.{isRefusal, Only, or-false}
 

@@ -8,17 +8,17 @@ use native.Mathlib.Omega.{arith}
 use lib.Dec.{eqb, ltb, leb}
 use Rattle.words.specs.Answer.{Outcome, gives, refuses, pick}
 use Rattle.group.specs.Balise.{balises, then, readAll}
-use Rattle.group.specs.Row.{Figures, all, _to_, Asked, category, M, any, A, Member, Row, row, isCategory, isOneOf, within, Y, Z, meets, fits, Found, none, found, first, calledA, Fit, misfit, fit, fitWith, fitRow, orElse, fitRows}
-use Rattle.group.specs.Rows.{signal, warning, annulled, line, route, present, nineThen, nineTwo, markerTwo, markerThree, opposite, howMany, fitIn}
+use Rattle.walk.specs.Row.{Figures, all, _to_, Asked, category, M, any, A, Member, Row, row, isCategory, isOneOf, within, Y, Z, meets, fits, Found, none, found, first, calledA, Fit, misfit, fit, fitWith, fitRow, orElse, fitRows}
+use Rattle.walk.specs.Rows.{signal, warning, annulled, line, route, present, nineThen, nineTwo, markerTwo, markerThree, opposite, howMany, fitIn}
 use Rattle.group.specs.Message.{Content, Message, nothing}
 use Rattle.group.specs.Judge.{contentOf, messageOf, decide, judgeRead, judge}
 use Rattle.group.specs.Says.{saysMessage}
-use Rattle.group.specs.declared.Direction.{Direction}
+use Rattle.walk.specs.declared.Direction.{Direction}
 use Rattle.group.specs.declared.Group.{Group}
-use Rattle.group.specs.declared.Kind.{Kind}
+use Rattle.walk.specs.declared.Kind.{Kind}
 use Rattle.group.specs.declared.Message.{Message as Said}
-use Rattle.group.specs.declared.Part.{Part}
-use Rattle.group.specs.declared.Placed.{Placed}
+use Rattle.walk.specs.declared.Part.{Part}
+use Rattle.walk.specs.declared.Placed.{Placed}
 use Rattle.demands.specs.Table.{listOf, partsOf}
 use Rattle.demands.specs.Said.{asA, Its-A}
 use Rattle.line.proofs.Places.{and-parts, or-left, or-right}

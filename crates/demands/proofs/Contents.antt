@@ -8,7 +8,7 @@ use Rattle.group.specs.Message.{Content as Says, ofSignal, ofWarning, ofRoute, 
 use Rattle.group.specs.Says.{saysContent, saysMessage}
 use Rattle.group.specs.declared.Content.{Content}
 use Rattle.group.specs.declared.Message.{Message}
-use Rattle.group.specs.declared.Placed.{Placed}
+use Rattle.walk.specs.declared.Placed.{Placed}
 use Rattle.demands.specs.Said.{Content-of, of-signal, of-warning, of-route, of-other}
 use Rattle.demands.proofs.Messages.{View, signal, warning, route, plain}
 

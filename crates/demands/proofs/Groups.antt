@@ -7,16 +7,16 @@ use Prim.Native.Nat.{ℕ}
 use lib.Dec.{ltb}
 use Rattle.words.specs.Answer.{Outcome, gives, refuses, pick}
 use Rattle.group.specs.Balise.{balises, then, readAll}
-use Rattle.group.specs.Row.{Y, Z, Fit, misfit, fit}
-use Rattle.group.specs.Rows.{present, opposite, fitIn}
+use Rattle.walk.specs.Row.{Y, Z, Fit, misfit, fit}
+use Rattle.walk.specs.Rows.{present, opposite, fitIn}
 use Rattle.group.specs.Distance.{isPreset}
 use Rattle.group.specs.Speed.{signalSpeed, targetFigure}
 use Rattle.group.specs.Message.{ofSignal, ofWarning, nothing}
 use Rattle.group.specs.Judge.{yOf, zOf, B, P, C, distanceOf, contentOf, messageOf, decide, judgeRead, judge}
-use Rattle.group.specs.declared.Direction.{Direction}
+use Rattle.walk.specs.declared.Direction.{Direction}
 use Rattle.group.specs.declared.Group.{Group}
-use Rattle.group.specs.declared.Kind.{Kind}
-use Rattle.group.specs.declared.Placed.{Placed}
+use Rattle.walk.specs.declared.Kind.{Kind}
+use Rattle.walk.specs.declared.Placed.{Placed}
 use Rattle.demands.specs.Rules.{row, Decided, Given}
 use Rattle.demands.specs.Table.{oneBalise, moreThanFive, unread, listOf, partsOf, isMisfit, noRow, bothWays, judgedKind, isJudged, notAllowed, noLink}
 use Rattle.demands.specs.Lists.{groupRules}

@@ -10,13 +10,14 @@ use Rattle.words.specs.Plain.{isCheck, covers, count, even, isCode, onwards, fi
 use Rattle.words.specs.Code.{other, exchanged, readWord}
 use Rattle.telegram.specs.Telegram.{shortWord, longWord, telegram}
 use Rattle.group.specs.Balise.{balises, readAll}
-use Rattle.group.specs.Row.{fits, first, fitRow, fitRows}
-use Rattle.group.specs.Rows.{howMany, fitIn}
+use Rattle.walk.specs.Row.{fits, first, fitRow, fitRows}
+use Rattle.walk.specs.Rows.{howMany, fitIn}
 use Rattle.group.specs.Distance.{distance}
-use Rattle.group.specs.Speed.{signalSpeed, targetFigure, routeSpeed}
+use Rattle.group.specs.Speed.{signalSpeed, targetFigure}
+use Rattle.walk.specs.Fitting.{routeSpeed}
 use Rattle.group.specs.Judge.{distanceOf, judgeRead, judge}
-use Rattle.group.specs.declared.Direction.{Direction}
-use Rattle.group.specs.declared.Kind.{Kind}
+use Rattle.walk.specs.declared.Direction.{Direction}
+use Rattle.walk.specs.declared.Kind.{Kind}
 use Rattle.group.specs.declared.Told.{Told}
 use Rattle.ride.specs.Record.{odometerOf, passedOf, inOrder, check}
 use Rattle.ride.specs.State.{noGroup, nothingKnown, freshRide}

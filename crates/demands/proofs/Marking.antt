@@ -12,11 +12,11 @@ use Rattle.group.specs.Judge.{judge}
 use Rattle.group.specs.Message.{Content}
 use Rattle.group.specs.Says.{saysTold, saysContent, saysMessage}
 use Rattle.group.specs.declared.Content.{Content as Said}
-use Rattle.group.specs.declared.Direction.{Direction}
+use Rattle.walk.specs.declared.Direction.{Direction}
 use Rattle.group.specs.declared.Group.{Group}
-use Rattle.group.specs.declared.Kind.{Kind}
+use Rattle.walk.specs.declared.Kind.{Kind}
 use Rattle.group.specs.declared.Message.{Message}
-use Rattle.group.specs.declared.Placed.{Placed}
+use Rattle.walk.specs.declared.Placed.{Placed}
 use Rattle.group.specs.declared.Told.{Told}
 use Rattle.ride.specs.Linking.{markAt, markOf}
 use Rattle.ride.specs.Closing.{targetFrom, knownFrom, markFrom}

@@ -9,16 +9,17 @@ use native.Mathlib.Omega.{arith}
 use lib.Dec.{eqb, ltb}
 use Rattle.words.specs.Answer.{Outcome, gives, refuses, pick}
 use Rattle.group.specs.Balise.{balises, then, readAll}
-use Rattle.group.specs.Row.{Y, Z, Fit, misfit, fit}
-use Rattle.group.specs.Rows.{present, opposite, fitIn}
+use Rattle.walk.specs.Row.{Y, Z, Fit, misfit, fit}
+use Rattle.walk.specs.Rows.{present, opposite, fitIn}
 use Rattle.group.specs.Distance.{isPreset}
-use Rattle.group.specs.Speed.{signalSpeed, targetFigure, routeSpeed}
+use Rattle.group.specs.Speed.{signalSpeed, targetFigure}
+use Rattle.walk.specs.Fitting.{routeSpeed}
 use Rattle.group.specs.Message.{Content, ofSignal, ofWarning, ofRoute, nothing, Message}
 use Rattle.group.specs.Judge.{yOf, zOf, B, P, distanceOf, messageOf, decide, judgeRead, judge}
-use Rattle.group.specs.declared.Direction.{Direction}
+use Rattle.walk.specs.declared.Direction.{Direction}
 use Rattle.group.specs.declared.Group.{Group}
-use Rattle.group.specs.declared.Kind.{Kind}
-use Rattle.group.specs.declared.Placed.{Placed}
+use Rattle.walk.specs.declared.Kind.{Kind}
+use Rattle.walk.specs.declared.Placed.{Placed}
 use Rattle.demands.specs.Table.{listOf, partsOf}
 
 -- A message that says no more than its kind.

@@ -8,10 +8,11 @@ use Rattle.words.specs.Plain.{isCheck, covers, count, even, isCode, onwards, fi
 use Rattle.words.specs.Code.{other, exchanged, readWord}
 use Rattle.telegram.specs.Telegram.{shortWord, longWord, telegram}
 use Rattle.group.specs.Balise.{balises, readAll}
-use Rattle.group.specs.Row.{fits, first, fitRow, fitRows}
-use Rattle.group.specs.Rows.{howMany, fitIn}
+use Rattle.walk.specs.Row.{fits, first, fitRow, fitRows}
+use Rattle.walk.specs.Rows.{howMany, fitIn}
 use Rattle.group.specs.Distance.{distance}
-use Rattle.group.specs.Speed.{signalSpeed, targetFigure, routeSpeed}
+use Rattle.group.specs.Speed.{signalSpeed, targetFigure}
+use Rattle.walk.specs.Fitting.{routeSpeed}
 use Rattle.group.specs.Message.{Message}
 use Rattle.group.specs.Judge.{distanceOf, judgeRead, judge}
 use Rattle.demands.specs.RowCases.{RowCase, groupOf, presentCases, oppositeCases, outsideCases, AllJudged}

@@ -12,16 +12,17 @@ use borrow.Author.Tests.{le-leb, leb-true}
 use Rattle.words.specs.Answer.{Outcome, gives, refuses, pick}
 use Rattle.words.proofs.Told.{told}
 use Rattle.group.specs.Balise.{balises, then, readAll}
-use Rattle.group.specs.Row.{Found, none, found, Y}
+use Rattle.walk.specs.Row.{Found, none, found, Y}
 use Rattle.group.specs.Distance.{columns, inColumn, inTable, distance, linkDistance, isPreset}
-use Rattle.group.specs.Speed.{signalSpeed, targetFigure, routeSpeed}
+use Rattle.group.specs.Speed.{signalSpeed, targetFigure}
+use Rattle.walk.specs.Fitting.{routeSpeed}
 use Rattle.group.specs.Judge.{yOf, zOf, B, C, P, distanceOf, judgeRead, judge}
 use Rattle.group.specs.Says.{saysMeasured, saysTold, saysContent, saysMessage}
 use Rattle.group.specs.declared.Content.{Content}
 use Rattle.group.specs.declared.Group.{Group}
 use Rattle.group.specs.declared.Measured.{Measured}
 use Rattle.group.specs.declared.Message.{Message}
-use Rattle.group.specs.declared.Placed.{Placed}
+use Rattle.walk.specs.declared.Placed.{Placed}
 use Rattle.group.specs.declared.Told.{Told}
 use Rattle.group.proofs.Determined as group-is
 use Rattle.group.proofs.Entries.{speed-in, speed-out}

@@ -7,9 +7,9 @@ use mathlib.Core.Bool.{Bool, true, false}
 use mathlib.Core.List.{List, [], _∷_, _++_}
 use lib.ListN.{length}
 use Rattle.group.specs.declared.Content.{Content}
-use Rattle.group.specs.declared.Direction.{Direction}
+use Rattle.walk.specs.declared.Direction.{Direction}
 use Rattle.group.specs.declared.Judged.{Judged}
-use Rattle.group.specs.declared.Kind.{Kind}
+use Rattle.walk.specs.declared.Kind.{Kind}
 use Rattle.group.specs.declared.Message.{Message}
 use Rattle.group.specs.declared.Told.{Told}
 use Rattle.ride.specs.State.{noGroup, isOpen}

@@ -12,11 +12,11 @@ use Rattle.group.specs.Message.{Content, ofSignal, ofWarning, ofRoute, nothing,
 use Rattle.group.specs.Speed.{kmh, noInformation}
 use Rattle.group.specs.Says.{saysJudged}
 use Rattle.group.specs.declared.Balise.{Balise}
-use Rattle.group.specs.declared.Direction.{Direction}
+use Rattle.walk.specs.declared.Direction.{Direction}
 use Rattle.group.specs.declared.Group.{Group}
 use Rattle.group.specs.declared.Heard.{Heard}
 use Rattle.group.specs.declared.Judged.{Judged}
-use Rattle.group.specs.declared.Kind.{Kind}
+use Rattle.walk.specs.declared.Kind.{Kind}
 use Rattle.demands.specs.Cases.{M8}
 use Rattle.demands.specs.Contracts.{JudgeGroup}
 

@@ -17,14 +17,14 @@ use Rattle.contact.specs.History.{after, zeroes}
 use Rattle.contact.specs.Judge.{allAlike, onesAtEnd, allZero}
 use Rattle.contact.specs.declared.Search.{Search}
 use Rattle.group.specs.Balise.{balises, readAll}
-use Rattle.group.specs.Row.{Found, none, found, Y, Fit, misfit, fit}
-use Rattle.group.specs.Rows.{present, opposite, fitIn}
+use Rattle.walk.specs.Row.{Found, none, found, Y, Fit, misfit, fit}
+use Rattle.walk.specs.Rows.{present, opposite, fitIn}
 use Rattle.group.specs.Judge.{yOf, zOf, B, C}
 use Rattle.group.specs.declared.Balise.{Balise}
 use Rattle.group.specs.declared.Group.{Group}
 use Rattle.group.specs.declared.Heard.{Heard}
-use Rattle.group.specs.declared.Kind.{Kind}
-use Rattle.group.specs.declared.Placed.{Placed}
+use Rattle.walk.specs.declared.Kind.{Kind}
+use Rattle.walk.specs.declared.Placed.{Placed}
 use Rattle.ride.specs.Record.{odometerOf}
 
 -- 1: "not a code word", of n bits

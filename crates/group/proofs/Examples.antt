@@ -11,18 +11,19 @@ use Rattle.words.specs.Bits.{word}
 use Rattle.words.specs.Plain.{isCheck, covers, count, even, isCode, onwards, figure}
 use Rattle.words.specs.Code.{other, exchanged, readWord}
 use Rattle.telegram.specs.Telegram.{shortWord, longWord, telegram}
-use Rattle.group.specs.declared.Direction.{Direction}
-use Rattle.group.specs.declared.Kind.{Kind}
+use Rattle.walk.specs.declared.Direction.{Direction}
+use Rattle.walk.specs.declared.Kind.{Kind}
 use Rattle.group.specs.declared.Heard.{Heard}
 use Rattle.group.specs.declared.Balise.{Balise}
 use Rattle.group.specs.declared.Group.{Group}
-use Rattle.group.specs.declared.Part.{Part}
-use Rattle.group.specs.declared.Placed.{Placed}
+use Rattle.walk.specs.declared.Part.{Part}
+use Rattle.walk.specs.declared.Placed.{Placed}
 use Rattle.group.specs.Balise.{balises, readAll}
-use Rattle.group.specs.Row.{fits, first, fitRow, fitRows}
-use Rattle.group.specs.Rows.{howMany, fitIn}
+use Rattle.walk.specs.Row.{fits, first, fitRow, fitRows}
+use Rattle.walk.specs.Rows.{howMany, fitIn}
+use Rattle.walk.specs.Fitting.{routeSpeed}
 use Rattle.group.specs.Distance.{distance}
-use Rattle.group.specs.Speed.{kmh, signalSpeed, targetFigure, routeSpeed}
+use Rattle.group.specs.Speed.{kmh, signalSpeed, targetFigure}
 use Rattle.group.specs.Message.{ofSignal, ofRoute, nothing}
 use Rattle.group.specs.Judge.{distanceOf, judgeRead, judge}
 

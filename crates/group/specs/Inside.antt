@@ -5,20 +5,14 @@ use mathlib.Core.List.{List}
 use lib.ListN.{take}
 use Rattle.words.specs.Answer.{Outcome, gives, refuses, pick}
 use Rattle.group.specs.declared.contents.Contained.{Contained}
-use Rattle.group.specs.declared.rows.Fitting.{Fitting}
-use Rattle.group.specs.declared.Part.{Part}
-use Rattle.group.specs.declared.Placed.{Placed}
+use Rattle.walk.specs.declared.Part.{Part}
+use Rattle.walk.specs.declared.Placed.{Placed}
 use Rattle.group.specs.declared.reading.PartRead.{PartRead}
 use Rattle.group.specs.declared.reading.AllRead.{AllRead}
 use Rattle.group.specs.declared.parts.Sought.{Sought}
-use Rattle.group.specs.Row.{Fit, misfit, fit, Found, none, found}
+use Rattle.walk.specs.Row.{Found, none, found}
 use Rattle.group.specs.Message.{Content}
 use Rattle.group.specs.Says.{saysContent}
-
--- How balises fit the rows of a direction.
-abbrev pub saysFitting : Fitting → Fit
-saysFitting (Fitting.Is kind a) = fit kind a
-saysFitting Fitting.Misfit = misfit
 
 -- A balise that was looked for.
 abbrev pub saysSought : Sought → Found

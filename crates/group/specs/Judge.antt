@@ -5,15 +5,16 @@ use Prim.Native.Nat.{ℕ}
 use mathlib.Core.List.{List}
 use lib.Dec.{eqb, ltb}
 use Rattle.words.specs.Answer.{Outcome, gives, refuses, pick}
-use Rattle.group.specs.declared.Direction.{Direction}
-use Rattle.group.specs.declared.Kind.{Kind}
-use Rattle.group.specs.declared.Placed.{Placed}
+use Rattle.walk.specs.declared.Direction.{Direction}
+use Rattle.walk.specs.declared.Kind.{Kind}
+use Rattle.walk.specs.declared.Placed.{Placed}
 use Rattle.group.specs.declared.Group.{Group}
 use Rattle.group.specs.Balise.{balises, then, readAll}
-use Rattle.group.specs.Row.{any, Y, Z, Found, none, found, first, Fit, misfit, fit}
-use Rattle.group.specs.Rows.{present, opposite, fitIn}
+use Rattle.walk.specs.Row.{any, Y, Z, Found, none, found, first, Fit, misfit, fit}
+use Rattle.walk.specs.Rows.{present, opposite, fitIn}
 use Rattle.group.specs.Distance.{linkDistance, isPreset}
-use Rattle.group.specs.Speed.{signalSpeed, targetFigure, routeSpeed}
+use Rattle.walk.specs.Fitting.{routeSpeed}
+use Rattle.group.specs.Speed.{signalSpeed, targetFigure}
 use Rattle.group.specs.Message.{Content, ofSignal, ofWarning, ofRoute, nothing, Message}
 
 -- The figure Y of a balise that was looked for; 0 if there is none.

@@ -1,6 +1,4 @@
 pub mod Balise
-pub mod Row
-pub mod Rows
 pub mod Distance
 pub mod Speed
 pub mod Message

@@ -2,8 +2,8 @@
 -- Assumes nothing.
 use Prim.Native.Nat.{ℕ}
 use mathlib.Core.Bool.{Bool}
-use Rattle.group.specs.declared.Direction.{Direction}
-use Rattle.group.specs.declared.Kind.{Kind}
+use Rattle.walk.specs.declared.Direction.{Direction}
+use Rattle.walk.specs.declared.Kind.{Kind}
 use Rattle.group.specs.Speed.{Told}
 
 -- What a group says beyond its kind. A present signal: its distance, whether it is a preset point, what it gives as

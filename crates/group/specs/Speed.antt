@@ -1,6 +1,6 @@
--- Speeds in km/h (document 01, "Signal speeds"; tables HS and FS of source 000; the route board's row).
+-- Speeds in km/h (document 01, "Signal speeds"; tables HS and FS of source 000).
 -- Assumes nothing.
-use Prim.Native.Nat.{ℕ, zero, suc, _*_}
+use Prim.Native.Nat.{ℕ, zero, suc}
 use mathlib.Core.Bool.{not, _&&_, _||_}
 use mathlib.Core.List.{List, [], _∷_}
 use lib.Dec.{eqb, leb}
@@ -30,7 +30,3 @@ signalSpeed figure = nth speeds figure
 unfoldable pub targetFigure : ℕ → ℕ → ℕ → ℕ → ℕ
 targetFigure ay az py pz =
     pick ((leb 7 py && leb py 14) && not (eqb pz 0) && eqb az 1 && ((leb 1 ay && leb ay 12) || eqb ay 14)) 0 az
-
--- The speed of a route board: "AY 2 (speed 10 x AZ km/h), or AY 4 and AZ 10 (140 km/h)".
-unfoldable pub routeSpeed : ℕ → ℕ → ℕ
-routeSpeed ay az = pick (eqb ay 4) 140 (10 * az)

@@ -3,16 +3,17 @@ ghost use mathlib.Core.Path.{_≡_};
 ghost use Prim.Native.Nat.{_≤_};
 ghost use lib.ListN.{take};
 ghost use Rattle.group.specs.Distance.{linkDistance};
-ghost use Rattle.group.specs.Speed.{targetFigure, routeSpeed};
+ghost use Rattle.walk.specs.Fitting.{routeSpeed};
+ghost use Rattle.group.specs.Speed.{targetFigure};
 ghost use Rattle.group.specs.Judge.{yOf, zOf, distanceOf, contentOf};
 ghost use Rattle.group.specs.Says.{saysMeasured};
 ghost use Rattle.group.specs.Inside.{saysContained, saysSought};
 use crate::Content;
-use crate::Kind;
 use crate::Measured;
-use crate::Placed;
 use crate::parts;
 use crate::parts::Sought;
+use walk::Kind;
+use walk::Placed;
 
 // What a present group says beyond its kind, or that its distance is not allowed.
 pub enum Contained {
@@ -88,16 +89,6 @@ fn target_figure(ay: u8, az: u8, py: u8, pz: u8) -> u8
     }
 }
 
-// The speed of a route board.
-fn route_speed(ay: u8, az: u8) -> u16
-    ensures { λ r. ⌜ r ≡ routeSpeed ay az ⌝ }
-{
-    match ay {
-        4 => 140,
-        _ => 10 * az as u16,
-    }
-}
-
 // What a present signal says.
 fn of_signal(ay: u8, az: u8, p: [Placed; 5], n: usize) -> Contained
     requires { ⌜ n ≤ 5 ⌝ }
@@ -136,9 +127,9 @@ fn of_warning(ay: u8, az: u8, p: [Placed; 5], n: usize) -> Contained
     }
 }
 
-// What a present group says beyond its kind, or that its distance is not allowed.
-pub fn of_present(kind: Kind, ay: u8, az: u8, p: [Placed; 5], n: usize) -> Contained
-    requires { ⌜ n ≤ 5 ⌝ }
+// What a present group says beyond its kind, or that its distance is not allowed; speed is the route board's.
+pub fn of_present(kind: Kind, speed: u16, ay: u8, az: u8, p: [Placed; 5], n: usize) -> Contained
+    requires { ⌜ (n ≤ 5) × (kind ≡ Kind.Route → speed ≡ routeSpeed ay az) ⌝ }
     ensures { λ r. ⌜ saysContained r ≡ contentOf kind ay az (take n p) ⌝ }
 {
     match kind {
@@ -146,6 +137,6 @@ pub fn of_present(kind: Kind, ay: u8, az: u8, p: [Placed; 5], n: usize) -> Conta
         Kind::Warning => of_warning(ay, az, p, n),
         Kind::Annulled => Contained::Is(Content::Nothing),
         Kind::Line => Contained::Is(Content::Nothing),
-        Kind::Route => Contained::Is(Content::Route(route_speed(ay, az))),
+        Kind::Route => Contained::Is(Content::Route(speed)),
     }
 }

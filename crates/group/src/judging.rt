@@ -2,26 +2,29 @@
 ghost use mathlib.Core.Path.{_≡_};
 ghost use Prim.Native.Nat.{_≤_};
 ghost use lib.ListN.{take};
-ghost use Rattle.group.specs.Row.{misfit, fit};
+ghost use Rattle.walk.specs.Row.{misfit, fit};
+ghost use Rattle.walk.specs.Fitting.{speedOf};
 ghost use Rattle.group.specs.Judge.{messageOf, decide, judgeRead};
 ghost use Rattle.group.specs.Says.{saysContent, saysJudged, saysMessage};
 use crate::Content;
-use crate::Direction;
 use crate::Judged;
-use crate::Kind;
 use crate::Message;
-use crate::Placed;
 use crate::contents;
 use crate::contents::Contained;
 use crate::parts;
-use crate::rows;
-use crate::rows::Fitting;
+use walk::Direction;
+use walk::Fitted;
+use walk::Picked;
+use walk::Placed;
 
-// The message of a group with this direction, kind, balise A and content.
-fn message(direction: Direction, kind: Kind, a: Placed, content: Content) -> Message
-    ensures { λ r. ⌜ saysMessage r ≡ messageOf direction kind a (saysContent content) ⌝ }
+// The message of a group with what its row says, and this content.
+fn message(row: Picked, content: Content) -> Message
+    ensures { λ r. ⌜ saysMessage r ≡ messageOf (row .direction) (row .kind) (row .a) (saysContent content) ⌝ }
 {
+    let a = row.a;
     let part = a.part;
+    let direction = row.direction;
+    let kind = row.kind;
     Message {
         direction,
         kind,
@@ -32,14 +35,16 @@ fn message(direction: Direction, kind: Kind, a: Placed, content: Content) -> Mes
     }
 }
 
-// The judgement of a group that fits the present rows as this kind, with this balise as A.
-fn as_present(kind: Kind, a: Placed, p: [Placed; 5], n: usize) -> Judged
-    requires { ⌜ n ≤ 5 ⌝ }
-    ensures { λ r. ⌜ saysJudged r ≡ decide (fit kind a) misfit (take n p) ⌝ }
+// The judgement of a group that fits a present row.
+fn as_present(row: Picked, p: [Placed; 5], n: usize) -> Judged
+    requires { ⌜ (n ≤ 5) × (row .direction ≡ Direction.Present) × (row .speed ≡ speedOf (row .kind) (row .a)) ⌝ }
+    ensures { λ r. ⌜ saysJudged r ≡ decide (fit (row .kind) (row .a)) misfit (take n p) ⌝ }
 {
+    let a = row.a;
     let part = a.part;
-    match contents::of_present(kind, parts::y_of(part), parts::z_of(part), p, n) {
-        Contained::Is(more) => Judged::Accepted(message(Direction::Present, kind, a, more)),
+    let kind = row.kind;
+    match contents::of_present(kind, row.speed, parts::y_of(part), parts::z_of(part), p, n) {
+        Contained::Is(more) => Judged::Accepted(message(row, more)),
         Contained::NotAllowed => Judged::NoDistance,
     }
 }
@@ -49,20 +54,14 @@ pub fn read(p: [Placed; 5], n: usize) -> Judged
     requires { ⌜ n ≤ 5 ⌝ }
     ensures { λ r. ⌜ saysJudged r ≡ judgeRead (take n p) ⌝ }
 {
-    if parts::how_many(p, n, 12) > 1 {
-        return Judged::NoRow;
-    }
-    let back = rows::opposite(p, n);
-    match rows::present(p, n) {
-        Fitting::Is(kind, a) => match back {
-            Fitting::Is(_, _) => Judged::BothWays,
-            Fitting::Misfit => as_present(kind, a, p, n),
-        },
-        Fitting::Misfit => match back {
-            Fitting::Is(kind, a) => {
-                Judged::Accepted(message(Direction::Opposite, kind, a, Content::Nothing))
+    match walk::fit(p, n) {
+        Fitted::Is(row) => {
+            let direction = row.direction;
+            match direction {
+                Direction::Present => as_present(row, p, n),
+                Direction::Opposite => Judged::Accepted(message(row, Content::Nothing)),
             }
-            Fitting::Misfit => Judged::NoRow,
-        },
+        }
+        Fitted::NoRow => Judged::NoRow,
     }
 }

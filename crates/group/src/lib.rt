@@ -1,6 +1,6 @@
 // Balises as received, and the judgement of a closed group: rows, distances, speeds.
 // Promises: a group is its message, or refused with 10 to 15, exactly as document 01's rows and tables say.
-// Specification: specs/Rows.antt (the rows), specs/Judge.antt (the judgement), specs/Distance.antt, specs/Speed.antt, specs/Says.antt.
+// Specification: walk's specs/Rows.antt (the rows), specs/Judge.antt (the judgement), specs/Distance.antt, specs/Speed.antt, specs/Says.antt.
 ghost use mathlib.Core.Path.{_≡_};
 ghost use Rattle.group.specs.Distance.{distance};
 ghost use Rattle.group.specs.Speed.{signalSpeed};
@@ -11,8 +11,10 @@ mod contents;
 mod judging;
 mod parts;
 mod reading;
-mod rows;
 mod tables;
+
+use walk::Direction;
+use walk::Kind;
 
 // What was heard at a balise: three received words, a marker, or nothing readable.
 pub enum Heard {
@@ -32,34 +34,6 @@ pub struct Group {
     pub kept: [Balise; 5],
     pub count: u8,
     pub last: u32,
-}
-
-// A balise as read: the figures of X, Y and Z, the number of a number balise (12), or a marker.
-pub enum Part {
-    Figures(u8, u8, u8),
-    Number(u16),
-    Marker,
-}
-
-// A balise as read, with its place.
-pub struct Placed {
-    pub place: u32,
-    pub part: Part,
-}
-
-// The kinds of groups.
-pub enum Kind {
-    Signal,
-    Warning,
-    Annulled,
-    Line,
-    Route,
-}
-
-// The direction of a group.
-pub enum Direction {
-    Present,
-    Opposite,
 }
 
 // What a figure tells of a speed.

@@ -7,10 +7,10 @@ ghost use Rattle.group.specs.Balise.{partSaid, partHeard, readAll};
 ghost use Rattle.group.specs.Inside.{saysPartRead, saysAllRead};
 use crate::Balise;
 use crate::Heard;
-use crate::Part;
-use crate::Placed;
 use telegram::Telegram;
 use telegram::TelegramRead;
+use walk::Part;
+use walk::Placed;
 
 // What reading a balise answers: it as read, or refusal 12.
 pub enum PartRead {

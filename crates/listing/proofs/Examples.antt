@@ -4,8 +4,8 @@ use mathlib.Core.Path.{_≡_, refl}
 use mathlib.Core.List.{List, _++_}
 use Prim.Native.Nat.{ℕ}
 use lib.ListN.{replicate}
-use Rattle.group.specs.declared.Direction.{Direction}
-use Rattle.group.specs.declared.Kind.{Kind}
+use Rattle.walk.specs.declared.Direction.{Direction}
+use Rattle.walk.specs.declared.Kind.{Kind}
 use Rattle.ride.specs.declared.Mark.{Mark}
 use Rattle.ride.specs.declared.Line.{Line}
 use Rattle.listing.specs.Text.{codes, digits, decimal, seen, text}

@@ -8,11 +8,11 @@ ghost use Rattle.listing.specs.Text.{codes, decimal, direction, kind, ma
 ghost use Rattle.listing.specs.Put.{placed};
 use crate::pieces::put;
 use crate::pieces::put_decimal;
-use group::Direction;
-use group::Kind;
 use ride::Line;
 use ride::Mark;
 use ride::Seen;
+use walk::Direction;
+use walk::Kind;
 
 // The word for a direction.
 fn put_direction(way: Direction, buf: &mut [u8], at: usize) -> usize

@@ -7,12 +7,12 @@ use Rattle.words.specs.Bits.{word}
 use Rattle.words.specs.Plain.{isCheck, covers, count, even, isCode, onwards, figure}
 use Rattle.words.specs.Code.{other, exchanged, readWord}
 use Rattle.telegram.specs.Telegram.{shortWord, longWord, telegram}
-use Rattle.group.specs.declared.Direction.{Direction}
-use Rattle.group.specs.declared.Kind.{Kind}
+use Rattle.walk.specs.declared.Direction.{Direction}
+use Rattle.walk.specs.declared.Kind.{Kind}
 use Rattle.group.specs.declared.Told.{Told}
 use Rattle.group.specs.Balise.{balises, readAll}
-use Rattle.group.specs.Row.{fits, first, fitRow, fitRows}
-use Rattle.group.specs.Rows.{howMany, fitIn}
+use Rattle.walk.specs.Row.{fits, first, fitRow, fitRows}
+use Rattle.walk.specs.Rows.{howMany, fitIn}
 use Rattle.group.specs.Distance.{distance}
 use Rattle.group.specs.Speed.{signalSpeed, targetFigure}
 use Rattle.group.specs.Judge.{distanceOf, judgeRead, judge}

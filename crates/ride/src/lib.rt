@@ -16,10 +16,8 @@ mod stepping;
 mod trace;
 mod treating;
 
-use group::Direction;
 use group::Group;
 use group::Heard;
-use group::Kind;
 use group::Told;
 pub use joining::allowed;
 pub use records::check_record;
@@ -27,6 +25,8 @@ pub use trace::Given;
 pub use trace::Reply;
 pub use trace::Treated;
 pub use trace::treat_at;
+use walk::Direction;
+use walk::Kind;
 
 // Linking: not set, or set with a distance in dm from a place.
 pub enum Linking {

@@ -1,10 +1,10 @@
 // What judging a group answers, as text into a lent buffer: each function puts its text at `at` and answers the next place.
 use group::Content;
-use group::Direction;
 use group::Judged;
-use group::Kind;
 use group::Message;
 use group::Told;
+use walk::Direction;
+use walk::Kind;
 
 // One byte, if there is room.
 fn byte(out: &mut [u8], at: usize, b: u8) -> usize {

@@ -1,6 +1,9 @@
--- By the kind.
+-- By the kind; the speed of a route board is what its row gives.
 -- Assumes nothing.
-use mathlib.Core.Path.{_∙_}
+use Prim.Native.Nat.{ℕ}
+use mathlib.Core.Path.{ap, _∙_}
+use Rattle.words.specs.Answer.{gives}
+use Rattle.group.specs.Message.{ofRoute}
 use borrow.Author.Needs.{needs}
 use Rattle.group.proofs.contents.of_present.Statement.{statement}
 use Rattle.group.proofs.contents.of_present.Tie as tie
@@ -26,9 +29,6 @@ enum-told-4 c = search needs
 enum-told-5 : tie.Need-enum-told-5
 enum-told-5 c = search needs
 
-route-speed-requires : tie.Need-route-speed-requires
-route-speed-requires c κs = search needs
-
 returns : tie.Need-returns
 returns c = c .of-signal .ensures ∙ rw (c .before .enum-told .given .1)
 
@@ -42,7 +42,9 @@ returns-4 : tie.Need-returns-4
 returns-4 c = rw (c .enum-told4 .given .1)
 
 returns-5 : tie.Need-returns-5
-returns-5 c = rw (c .before .enum-told5 .given .1, c .route-speed .ensures)
+returns-5 c =
+    let told = c .enum-told5 .given .1 in
+    rw told (ap (λ (v : ℕ). gives (ofRoute v)) (c .before .before .pre .1 told))
 
 pub of-present-spec : {M : Type 1} → statement M
 of-present-spec =
@@ -55,7 +57,6 @@ of-present-spec =
     enum-told-3
     enum-told-4
     enum-told-5
-    route-speed-requires
     returns
     returns-2
     returns-3

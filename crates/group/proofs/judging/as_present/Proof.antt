@@ -3,8 +3,11 @@
 use mathlib.Core.Path.{_≡_, sym, ap, _∙_}
 use lib.ListN.{take}
 use Rattle.words.specs.Answer.{gives, refuses}
-use Rattle.group.specs.Row.{Y, Z}
-use Rattle.group.specs.Judge.{contentOf}
+use Rattle.walk.specs.declared.Direction.{Direction}
+use Rattle.walk.specs.declared.Kind.{Kind}
+use Rattle.walk.specs.Row.{Y, Z}
+use Rattle.walk.specs.Fitting.{speedOf, routeSpeed}
+use Rattle.group.specs.Judge.{contentOf, messageOf}
 use Rattle.group.specs.Says.{saysContent}
 use Rattle.group.specs.Inside.{saysContained}
 use borrow.Author.Needs.{needs}
@@ -18,7 +21,12 @@ z-of-requires : tie.Need-z-of-requires
 z-of-requires c κs = search needs
 
 of-present-requires : tie.Need-of-present-requires
-of-present-requires c κs = search needs
+of-present-requires c κs =
+    let s = c .before .before .before in
+    let row = s .args .row in (
+      s .pre .0,
+      λ e. s .pre .2 ∙ ap (λ (k : Kind). speedOf k (row .a)) e ∙ rw (c .before .y-of .ensures, c .z-of .ensures),
+    )
 
 enum-known-more : tie.Need-enum-known-more
 enum-known-more c = search needs
@@ -33,16 +41,18 @@ returns : tie.Need-returns
 returns c =
     let m = c .before .before in
     let f = m .before .before in
-    let s = f .before .before .before in
-    let e : contentOf (s .args .kind) (Y (s .args .a .part)) (Z (s .args .a .part)) (take (s .args .n) (s .args .p)) ≡ gives (saysContent (m .more .given .0 .0)) =
+    let s = f .before .before .before .before in
+    let row = s .args .row in
+    let e : contentOf (row .kind) (Y (row .a .part)) (Z (row .a .part)) (take (s .args .n) (s .args .p)) ≡ gives (saysContent (m .more .given .0 .0)) =
     rw (← f .before .before .y-of .ensures, ← f .before .z-of .ensures) (sym (f .of-present .ensures) ∙ ap saysContained (m .more .given .1)) in
-    rw e (ap gives (c .message .ensures))
+    rw e (ap gives (c .message .ensures ∙ ap (λ (d : Direction). messageOf d (row .kind) (row .a) (saysContent (m .more .given .0 .0))) (s .pre .1)))
 
 returns-2 : tie.Need-returns-2
 returns-2 c =
     let f = c .before .before in
-    let s = f .before .before .before in
-    let e : contentOf (s .args .kind) (Y (s .args .a .part)) (Z (s .args .a .part)) (take (s .args .n) (s .args .p)) ≡ refuses 15 =
+    let s = f .before .before .before .before in
+    let row = s .args .row in
+    let e : contentOf (row .kind) (Y (row .a .part)) (Z (row .a .part)) (take (s .args .n) (s .args .p)) ≡ refuses 15 =
     rw (← f .before .before .y-of .ensures, ← f .before .z-of .ensures) (sym (f .of-present .ensures) ∙ ap saysContained (c .enum-told .given .1)) in
     rw e
 

@@ -4,8 +4,8 @@ use Prim.Native.Nat.{_≤_, _-_}
 use mathlib.Core.Path.{_≡_, refl, sym, _∙_}
 use native.Mathlib.Omega.{arith}
 use lib.ListN.{take, drop}
-use Rattle.group.specs.Row.{any, first}
-use Rattle.group.proofs.Walk.{first-yes, first-no, first-none}
+use Rattle.walk.specs.Row.{any, first}
+use Rattle.group.proofs.Looking.{first-yes, first-no, first-none}
 use borrow.Author.Needs.{needs}
 use Rattle.group.proofs.parts.first_of.Statement.{statement}
 use Rattle.group.proofs.parts.first_of.Tie as tie

@@ -1,0 +1,13 @@
+pub mod Bools
+pub mod Apart
+pub mod Unique
+pub mod Laws
+pub mod Whole
+pub mod Figures
+pub mod Leads
+pub mod Speeds
+pub mod Finish
+pub mod Ends
+pub mod Runs
+pub mod OneWay
+pub mod Determined

@@ -1,0 +1,68 @@
+-- By the category of the balise, and AZ of a 2.
+-- Assumes nothing.
+use mathlib.Core.Path.{_∙_}
+use Prim.Native.Nat.{_≤_, _<_}
+use native.Mathlib.Omega.{arith}
+use lib.Dec.{leb·zero}
+use borrow.Author.Tests.{le-leb, lt-leb, ne-eqb}
+use borrow.Author.Needs.{needs}
+use Rattle.walk.proofs.before.after_eight.Statement.{statement}
+use Rattle.walk.proofs.before.after_eight.Tie as tie
+
+enum-known-part : tie.Need-enum-known-part
+enum-known-part c = search needs
+
+present-requires : tie.Need-present-requires
+present-requires c κs = search needs
+
+after-both-requires : tie.Need-after-both-requires
+after-both-requires c κs = search needs
+
+enum-told : tie.Need-enum-told
+enum-told c = search needs
+
+enum-told-2 : tie.Need-enum-told-2
+enum-told-2 c = search needs
+
+returns : tie.Need-returns
+returns c =
+    let k = c .before .before in
+    let g = k .before .before .part .given in
+    let z = g .0 .1 .1 .0 in
+    let h : z ≤ 13 = omega arith in
+    c .present .ensures ∙ rw (g .1, k .match2 .keys1) (simp (le-leb z 13 h, leb·zero))
+
+returns-2 : tie.Need-returns-2
+returns-2 c =
+    let k = c .before in
+    let g = k .before .before .part .given in
+    let z = g .0 .1 .1 .0 in
+    let h : 13 < z = omega arith in
+    rw (g .1, k .match2 .keys1) (simp (lt-leb z 13 h, leb·zero))
+
+returns-3 : tie.Need-returns-3
+returns-3 c =
+    let k = c .before in
+    let g = k .before .before .part .given in
+    simp (g .1, ne-eqb (g .0 .0) 2 (k .match2 .rest .1)) (simp (g .1) at (c .after-both .ensures))
+
+returns-4 : tie.Need-returns-4
+returns-4 c = search needs
+
+returns-5 : tie.Need-returns-5
+returns-5 c = search needs
+
+pub after-eight-spec : {M : Type 1} → statement M
+after-eight-spec =
+    tie.close
+    (tie.spec
+    enum-known-part
+    present-requires
+    after-both-requires
+    enum-told
+    enum-told-2
+    returns
+    returns-2
+    returns-3
+    returns-4
+    returns-5)

@@ -1,0 +1,40 @@
+-- The balise is a c, a 12 or neither; it is not both.
+-- Assumes nothing.
+use mathlib.Core.Path.{sym, _∙_}
+use Rattle.walk.specs.declared.stands.May.{May}
+use Rattle.walk.specs.Row.{any, meets}
+use Rattle.walk.specs.Stands.{mayBe, withRest}
+use Rattle.walk.proofs.Laws.{left-if}
+use Rattle.walk.proofs.Figures.{meets-any, not-number}
+use borrow.Author.Needs.{needs}
+use Rattle.walk.proofs.tails.optional.Statement.{statement}
+use Rattle.walk.proofs.tails.optional.Tie as tie
+
+is-category-requires : tie.Need-is-category-requires
+is-category-requires c κs = search needs
+
+returns : tie.Need-returns
+returns c =
+    let s = c .before .before in
+    let is = sym (c .before .is-category .ensures) ∙ c .if1 .taken in
+    rw (is, not-number (s .args .c) (s .args .b .part) (s .pre) is)
+
+is-category-requires-2 : tie.Need-is-category-requires-2
+is-category-requires-2 c κs = search needs
+
+to-if-requires : tie.Need-to-if-requires
+to-if-requires c κs = search needs
+
+returns-2 : tie.Need-returns-2
+returns-2 c =
+    let f = c .before .before .before in
+    let s = f .before .args in
+    c .to-if .ensures
+    ∙ rw (sym (f .is-category .ensures) ∙ c .before .before .if1 .left)
+    (left-if (c .before .is-category2 .result) (meets (any 12) (s .b .part)) (withRest (s .picked) (mayBe May.Nothing))
+    (c .before .is-category2 .ensures ∙ sym (meets-any 12 (s .b .part))))
+
+pub optional-spec : {M : Type 1} → statement M
+optional-spec =
+    tie.close
+    (tie.spec is-category-requires returns is-category-requires-2 to-if-requires returns-2)
