@@ -1,6 +1,6 @@
 -- The record at an index: 19 for the gap, no record behind the last, and else what its step answers.
 -- Assumes nothing.
-use mathlib.Core.Path.{_≡_, refl, sym, ap, _∙_}
+use mathlib.Core.Path.{_≡_, refl, sym, ap, subst, _∙_}
 use mathlib.Core.Bool.{Bool, true, false, not}
 use mathlib.Core.List.{List, [], _∷_}
 use Prim.Native.Nat.{ℕ, _/_, _≤_, _<_}
@@ -21,6 +21,7 @@ use Rattle.demands.specs.Rules.{row, Decided, Given}
 use Rattle.demands.specs.Table.{badGap}
 use Rattle.demands.specs.Contracts.{StepOf, TreatAt}
 use Rattle.demands.proofs.Rules.{not-false, if-not, given}
+use Rattle.demands.proofs.Spelled.{bad-gap}
 use Rattle.demands.proofs.Rides.{gives-not}
 
 -- what a contract's answer says
@@ -33,8 +34,9 @@ there ride gap trace i b = pick b (byStep (treat ride gap (recordAt trace i))) (
 
 -- 19 is the only refusal.
 pub treating : (ride : Ride) (gap : ℕ) (trace : List ℕ) (i : ℕ) → Decided Given (row 19 (badGap gap) ∷ []) (treatAt ride gap trace i .reply)
-unfolding treatAt badGap
-treating ride gap trace i = go (allowed gap) (ltb i (length trace / 8))
+unfolding treatAt
+treating ride gap trace i =
+    subst (λ (t : Bool). Decided Given (row 19 t ∷ []) (treatAt ride gap trace i .reply)) (sym (bad-gap gap)) (go (allowed gap) (ltb i (length trace / 8)))
   where
     replied : (t : Bool) (r : Treatment) → Given (r .reply) → Decided Given (row 19 (not t) ∷ []) (pick t r (stays ride (refuses 19)) .reply)
     replied true r g = if-not Given [] (refuses 19) (r .reply) g true
@@ -60,14 +62,16 @@ treat-untouched ride gap trace i r n c e =
     go true true q = absurd (gives-not q)
     go true false q = absurd (gives-not q)
 
+-- a gap that is not bad is allowed
+good-gap : (gap : ℕ) → badGap gap ≡ false → allowed gap ≡ true
+good-gap gap good = not-false (allowed gap) (sym (bad-gap gap) ∙ good)
+
 pub treats-as : (ride : Ride) (gap : ℕ) (trace : List ℕ) (i : ℕ) (s : Stepped) (t : Treated) → badGap gap ≡ false → i < length trace / 8
     → StepOf ride gap (recordAt trace i) s → TreatAt ride gap trace i t → saysTreated t ≡ byStep (saysStepped s)
-unfolding badGap
 treats-as ride gap trace i s t good h stepped c =
-    let a = not-false (allowed gap) good in
+    let a = good-gap gap good in
     treated-is ride gap trace i t c ∙ sym (at-record ride gap trace i a h) ∙ ap byStep (sym (stepped .1 ∙ step-allowed ride gap (recordAt trace i) a))
 
 pub treats-nothing : (ride : Ride) (gap : ℕ) (trace : List ℕ) (i : ℕ) (t : Treated) → badGap gap ≡ false → length trace / 8 ≤ i
     → TreatAt ride gap trace i t → saysTreated t ≡ stays ride (gives noRecord)
-unfolding badGap
-treats-nothing ride gap trace i t good h c = treated-is ride gap trace i t c ∙ sym (at-none ride gap trace i (not-false (allowed gap) good) h)
+treats-nothing ride gap trace i t good h c = treated-is ride gap trace i t c ∙ sym (at-none ride gap trace i (good-gap gap good) h)
