@@ -4,11 +4,12 @@
 use mathlib.Core.Path.{_≡_, refl, sym, ap, ap₂, _∙_, subst}
 use mathlib.Core.Bool.{Bool, true, false, not}
 use mathlib.Core.List.{List, [], _∷_}
-use Prim.Native.Nat.{ℕ, zero, suc, _+_, _-_, _≤_, _<_}
+use Prim.Native.Nat.{ℕ, zero, suc, _-_, _≤_, _<_}
 use native.Mathlib.Omega.{arith}
-use lib.Dec.{T, leb, ltb, leb→le}
+use denote.Floats.{is-true}
+use lib.Dec.{leb, ltb, leb→le}
 use lib.ListN.{getD}
-use borrow.Author.Tests.{ltb-true}
+use borrow.Author.Tests.{ltb-true, not-true}
 use Rattle.words.specs.Answer.{refuses, pick}
 use Rattle.words.specs.Bits.{word}
 use Rattle.words.specs.Plain.{isCheck, covers, count, even, isCode, onwards, figure}
@@ -44,14 +45,6 @@ line i =
     (getD (0x2a ∷ 0x8c ∷ 0x1f ∷ 0x0f ∷ 0x07 ∷ 0x03 ∷ 0xcc ∷ 0xaa ∷ []) i 0)
     (getD (31 ∷ 30 ∷ 1 ∷ 1 ∷ 1 ∷ 1 ∷ 34 ∷ 33 ∷ []) i 0)
 
-is-true : (b : Bool) → T b → b ≡ true
-is-true true t = refl
-is-true false t = absurd t
-
-is-false : (b : Bool) → T (not b) → b ≡ false
-is-false true t = absurd t
-is-false false t = refl
-
 -- ---- what is computed of the eight lines
 
 bytes : (i : ℕ) → i < 8 → (line i .s < 256) × (line i .t < 256)
@@ -79,7 +72,7 @@ place-is i l =
 
 not-there : (i : ℕ) → i < 8 → sentAt (line i) 0 ≡ false
 unfolding sentAt lineBit
-not-there i l = is-false (sentAt (line i) 0) (below (λ i. not (sentAt (line i) 0)) 8 tt i l)
+not-there i l = not-true (sentAt (line i) 0) (is-true (not (sentAt (line i) 0)) (below (λ i. not (sentAt (line i) 0)) 8 tt i l))
 
 -- ---- the false place
 

@@ -1,7 +1,7 @@
 -- Noise on the sync words: a line that meets the hypothesis and hands out its unflipped telegrams, and one that meets it only from the true places on,
 -- of which a false place comes.
 -- Assumes nothing.
-use mathlib.Core.Path.{_≡_, refl, sym, ap, _∙_, subst}
+use mathlib.Core.Path.{_≡_, refl, ap, _∙_, subst}
 use mathlib.Core.Bool.{Bool, true, false}
 use mathlib.Core.List.{List, [], _∷_}
 use Prim.Native.Nat.{ℕ, _+_, _≤_}
