@@ -5,6 +5,8 @@ use mathlib.Core.List.{List}
 use Prim.Native.Nat.{ℕ}
 use Rattle.words.specs.Says.{saysShortRead, saysShortWritten, saysLongRead, saysLongWritten}
 use Rattle.telegram.specs.Says.{saysPair, saysTelegramRead, saysFound, saysSurveyed}
+use Rattle.writer.specs.Write.{Writing, write}
+use Rattle.writer.specs.Says.{saysAnswer}
 use Rattle.contact.specs.Says.{saysBegun, saysNext, saysJudged}
 use Rattle.group.specs.Says.{saysMeasured, saysJudged as saysGroup}
 use Rattle.ride.specs.Says.{saysChecked, saysReport, saysReply, saysWay}
@@ -17,6 +19,7 @@ use Rattle.listing.specs.Says.{saysDone}
 use Rattle.words.proofs.Told.{told}
 use Rattle.words.proofs.Determined as words-are
 use Rattle.telegram.proofs.Determined as telegram-is
+use Rattle.writer.proofs.Determined as writer-is
 use Rattle.contact.proofs.Determined as contact-is
 use Rattle.group.proofs.Determined as group-is
 use Rattle.ride.proofs.Determined as ride-is
@@ -25,6 +28,7 @@ use Rattle.demands.specs.Demand1.{Untouched}
 use Rattle.demands.proofs.Rides.{step-untouched, run-untouched}
 use Rattle.demands.proofs.Treats.{treat-untouched}
 use Rattle.demands.proofs.Steps.{group-refused, end-refused}
+use Rattle.demands.proofs.Writes.{write-untouched}
 use Rattle.demands.proofs.Listings.{list-untouched, put-untouched}
 
 pub untouched : Untouched
@@ -46,6 +50,9 @@ untouched = record {
   put-line = λ line before at r after c e.
       let is = c .5 ∙ ap (λ (v : List ℕ). put (text line) v at) (c .3) in
       sym (c .4) ∙ ap (λ (f : Filled). f .buffer) is ∙ put-untouched (text line) before at (sym (ap (λ (f : Filled). f .ends) is) ∙ e);
+  write = λ x y z s t n before r after k c e.
+      let is = c .5 ∙ ap (write x y z s t n) (c .3) in
+      sym (c .4) ∙ ap (λ (w : Writing). w .buffer) is ∙ write-untouched x y z s t n before k (sym (ap (λ (w : Writing). w .answer) is) ∙ e);
   group = group-refused;
   end = end-refused;
   short-read = λ n r r′ p q. told saysShortRead words-are.shortRead words-are.shortRead-back r r′ p q;
@@ -56,6 +63,7 @@ untouched = record {
   telegram-read = λ n at r r′ p q. told saysTelegramRead telegram-is.readOf telegram-is.read-back r r′ p q;
   found = λ n r r′ p q. told saysFound telegram-is.foundOf telegram-is.found-back r r′ p q;
   surveyed = λ n r r′ p q. told saysSurveyed telegram-is.surveyedOf telegram-is.surveyed-back r r′ p q;
+  written = λ n r r′ p q. told saysAnswer writer-is.writtenOf writer-is.written-back r r′ p q;
   begun = λ n r r′ p q. told saysBegun contact-is.begunOf contact-is.begun-back r r′ p q;
   next = λ n r r′ p q. told saysNext contact-is.nextOf contact-is.next-back r r′ p q;
   contact-judged = λ n r r′ p q. told saysJudged contact-is.judgedOf contact-is.judged-back r r′ p q;

@@ -5,6 +5,7 @@ use mathlib.Core.List.{List}
 use Prim.Native.Nat.{ℕ}
 use Rattle.telegram.specs.Place.{found}
 use Rattle.telegram.specs.Survey.{surveyed}
+use Rattle.writer.specs.Write.{Writing, write}
 use Rattle.contact.specs.Contacts.{begun, nextContact}
 use Rattle.contact.specs.Judge.{judged}
 use Rattle.ride.specs.Step.{Step}
@@ -13,6 +14,7 @@ use Rattle.ride.specs.Over.{Run, run}
 use Rattle.listing.specs.List.{Listing, list}
 use Rattle.demands.specs.Demand1.{Demand1}
 use Rattle.demands.proofs.Refusals.{reading, writing, pairing, wording, finding, surveying}
+use Rattle.demands.proofs.Writes.{writing-test}
 use Rattle.demands.proofs.Contacts.{beginning, nexting, judging}
 use Rattle.demands.proofs.Distances.{measuring}
 use Rattle.demands.proofs.Groups.{grouping}
@@ -30,6 +32,9 @@ demand1 = record {
   read-telegram = λ x y z r c. rw (c .1) (wording x y z);
   find = λ b start len s t r c. let e = c .4 ∙ ap (λ (v : List ℕ). found v start len s t) (c .3) in rw e (finding b start len s t);
   survey = λ b start len s t r c. let e = c .4 ∙ ap (λ (v : List ℕ). surveyed v start len s t) (c .3) in rw e (surveying b start len s t);
+  write = λ x y z s t n before r after c.
+      let e = ap (λ (w : Writing). w .answer) (c .5 ∙ ap (write x y z s t n) (c .3)) in
+      rw e (writing-test x y z s t n before);
   begin = λ b start len r c. let e = c .4 ∙ ap (λ (v : List ℕ). begun v start len) (c .3) in rw e (beginning b start len);
   next-contact = λ b search r c. let e = c .4 ∙ ap (λ (v : List ℕ). nextContact v search) (c .3) in rw e (nexting b search);
   judge-contact = λ b start len s t r c. let e = c .4 ∙ ap (λ (v : List ℕ). judged v start len s t) (c .3) in rw e (judging b start len s t);

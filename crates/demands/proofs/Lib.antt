@@ -16,6 +16,7 @@ pub mod Treats
 pub mod Runs
 pub mod Riding
 pub mod Listings
+pub mod Writes
 pub mod Bare
 pub mod Spelled
 pub mod Demand1
@@ -36,6 +37,7 @@ pub mod Demand2
 pub mod Together
 pub mod JudgedAlike
 pub mod Clean
+pub mod Writing
 pub mod Noise
 pub mod Demand3
 pub mod FalsePlaces
@@ -43,6 +45,7 @@ pub mod SyncNoise
 pub mod SyncWitnesses
 pub mod Witnesses
 pub mod CallsMet
+pub mod WritingMet
 pub mod Needed
 pub mod MarksMet
 pub mod RidesMet

@@ -18,6 +18,7 @@ use Rattle.telegram.specs.declared.Pair.{Pair}
 use Rattle.telegram.specs.declared.TelegramRead.{TelegramRead}
 use Rattle.telegram.specs.declared.Found.{Found}
 use Rattle.telegram.specs.declared.Surveyed.{Surveyed}
+use Rattle.writer.specs.declared.Written.{Written}
 use Rattle.contact.specs.declared.Search.{Search}
 use Rattle.contact.specs.declared.Begun.{Begun}
 use Rattle.contact.specs.declared.Next.{Next}
@@ -51,6 +52,8 @@ use Rattle.telegram.proofs.find.Kinds as find-kinds
 use Rattle.telegram.proofs.find.Reads as find-reads
 use Rattle.telegram.proofs.survey.Kinds as survey-kinds
 use Rattle.telegram.proofs.survey.Reads as survey-reads
+use Rattle.writer.proofs.write.Kinds as write-kinds
+use Rattle.writer.proofs.write.Reads as write-reads
 use Rattle.contact.proofs.begin.Kinds as begin-kinds
 use Rattle.contact.proofs.begin.Reads as begin-reads
 use Rattle.contact.proofs.next_contact.Kinds as next-kinds
@@ -115,6 +118,13 @@ abbrev pub Survey : List ℕ → ℕ → ℕ → ℕ → ℕ → Surveyed → Ty
 Survey b start len s t r =
     (κs : Lfts 1) × (buf : RefT (List ℕ)) × (e : AtExit (endedOf 1 survey-kinds.ps survey-kinds.r) κs)
     × (now buf ≡ b) × survey-reads.Post κs (buf, (start, (len, (s, (t, tt))))) r e
+
+-- The contract of `write` allows the answer r for these figures, sync words and this number, and that the lent buffer, which held `before`,
+-- holds `after` then.
+abbrev pub Write : ℕ → ℕ → ℕ → ℕ → ℕ → ℕ → List ℕ → Written → List ℕ → Type 0
+Write x y z s t n before r after =
+    (κs : Lfts 1) × (out : RefT (List ℕ)) × (e : AtExit (endedOf 1 write-kinds.ps write-kinds.r) κs)
+    × (now out ≡ before) × (now (e .1 .1 .1 .1 .1 .1 .0) ≡ after) × write-reads.Post κs (x, (y, (z, (s, (t, (n, (out, tt))))))) r e
 
 -- The contract of `begin` allows the answer r for this stretch of the buffer.
 abbrev pub Begin : List ℕ → ℕ → ℕ → Begun → Type 0

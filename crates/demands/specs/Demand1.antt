@@ -7,7 +7,7 @@
 -- document 01 has no number; `telegram::inside` says whether row 5's condition does not hold, and `ride::allowed` whether row 19's does not. Those of the
 -- face for C (crates/abi) have contracts of their own over the same definitions.
 -- Assumes nothing.
-use Prim.Native.Nat.{ℕ}
+use Prim.Native.Nat.{ℕ, _+_, _*_}
 use mathlib.Core.Bool.{true}
 use mathlib.Core.Path.{_≡_}
 use mathlib.Core.List.{List, [], _∷_}
@@ -26,6 +26,8 @@ use Rattle.telegram.specs.declared.Pair.{Pair}
 use Rattle.telegram.specs.declared.TelegramRead.{TelegramRead}
 use Rattle.telegram.specs.declared.Found.{Found}
 use Rattle.telegram.specs.declared.Surveyed.{Surveyed}
+use Rattle.writer.specs.Says.{saysAnswer}
+use Rattle.writer.specs.declared.Written.{Written}
 use Rattle.contact.specs.Contacts.{fromStart}
 use Rattle.contact.specs.Says.{saysBegun, saysNext, saysJudged}
 use Rattle.contact.specs.declared.Search.{Search}
@@ -55,8 +57,8 @@ use Rattle.listing.specs.declared.Put.{Put}
 use Rattle.listing.specs.declared.Listed.{Listed}
 use Rattle.demands.specs.Rules.{row, Decided, Given, Is}
 use Rattle.demands.specs.Table.{notCode, above, notSeven, beyond, noDistance, badGap}
-use Rattle.demands.specs.Contracts.{ReadShort, WriteShort, ReadLong, WriteLong, GoodPair, ReadTelegram, Find, Survey, Begin, NextContact, JudgeContact, Distance, JudgeGroup, CheckRecord, StepOf, TreatAt, EndOf, RunOver, PutLine, ListInto}
-use Rattle.demands.specs.Lists.{IsTelegram, telegramRules, findRules, surveyRules, nextRules, judgeRules, groupRules, recordRules, stepRules, runRules, findReads, surveyReads, JudgeReads, NextReads}
+use Rattle.demands.specs.Contracts.{ReadShort, WriteShort, ReadLong, WriteLong, GoodPair, ReadTelegram, Find, Survey, Write, Begin, NextContact, JudgeContact, Distance, JudgeGroup, CheckRecord, StepOf, TreatAt, EndOf, RunOver, PutLine, ListInto}
+use Rattle.demands.specs.Lists.{IsTelegram, telegramRules, findRules, surveyRules, writeRules, nextRules, judgeRules, groupRules, recordRules, stepRules, runRules, findReads, surveyReads, JudgeReads, NextReads}
 use Rattle.demands.specs.Steps.{OneStep, LeavesBehind}
 
 -- A refusal carries no figure: two answers that refuse with the same number are the same answer, whatever was asked.
@@ -80,6 +82,8 @@ pub record Demand1 : Type 0 where
       → Decided (Is (findReads b start len s t)) (findRules b start len s t) (saysFound r)
   pub survey : (b : List ℕ) (start len s t : ℕ) (r : Surveyed) → Survey b start len s t r
       → Decided (Is (surveyReads b start len s t)) (surveyRules b start len s t) (saysSurveyed r)
+  pub write : (x y z s t n : ℕ) (before : List ℕ) (r : Written) (after : List ℕ) → Write x y z s t n before r after
+      → Decided (Is (4 * n + 1)) (writeRules x y z s t n before) (saysAnswer r)
   pub begin : (b : List ℕ) (start len : ℕ) (r : Begun) → Begin b start len r
       → Decided (Is (fromStart start len)) (row 5 (beyond b start len) ∷ []) (saysBegun r)
   pub next-contact : (b : List ℕ) (search : Search) (r : Next) → NextContact b search r → Decided (NextReads b search) (nextRules b search) (saysNext r)
@@ -100,7 +104,7 @@ pub record Demand1 : Type 0 where
       → Decided Given (runRules gap trace) (saysDone (r .done))
 
 -- "A refusal hands out no figure, and lent memory and state stay untouched unless the table says otherwise."
--- Of the libraries only `listing` is lent memory that it may write; a search is given by value, and a refusal of `next_contact` gives
+-- Of the libraries only `listing` and `writer` are lent memory that they may write; a search is given by value, and a refusal of `next_contact` gives
 -- none back. (The face for C leaves every lent array as it was where it refuses: `left` of crates/abi/specs/Face.antt.)
 pub record Untouched : Type 0 where
   -- a refused step closes no group, and it and a refused run leave the ride as it was
@@ -115,6 +119,8 @@ pub record Untouched : Type 0 where
       → (r .ride ≡ ride) × (r .number ≡ number) × (after ≡ before)
   pub put-line : (line : Line) (before : List ℕ) (at : ℕ) (r : Put) (after : List ℕ) → PutLine line before at r after
       → saysPut r ≡ noRoom → after ≡ before
+  -- so does a refused writing
+  pub write : (x y z s t n : ℕ) (before : List ℕ) (r : Written) (after : List ℕ) (k : ℕ) → Write x y z s t n before r after → saysAnswer r ≡ refuses k → after ≡ before
   -- "but for the group refusals": a group that is left behind and refused with n, 10 to 15, gives the fault line, is handed out as
   -- the one that closed, and leaves nothing known and no group but what the record itself takes up
   pub group : (o : OneStep) (j : GroupJudged) (n : ℕ) → LeavesBehind o → JudgeGroup (o .ride .group) j → saysGroup j ≡ refuses n
@@ -142,6 +148,7 @@ pub record Untouched : Type 0 where
   pub telegram-read : BareWords saysTelegramRead
   pub found : Bare saysFound
   pub surveyed : Bare saysSurveyed
+  pub written : Bare saysAnswer
   pub begun : Bare saysBegun
   pub next : Bare saysNext
   pub contact-judged : Bare saysJudged

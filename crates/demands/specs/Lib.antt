@@ -1,5 +1,6 @@
 pub mod Rules
 pub mod Table
+pub mod Table02
 pub mod Contracts
 pub mod Steps
 pub mod Lists
@@ -13,3 +14,4 @@ pub mod Said
 pub mod Demand2
 pub mod Demand3
 pub mod SyncNoise
+pub mod Writing

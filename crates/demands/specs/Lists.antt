@@ -16,6 +16,7 @@ use Rattle.contact.specs.Judge.{firstPlace, Contact, read, marker}
 use Rattle.group.specs.declared.Group.{Group}
 use Rattle.ride.specs.declared.Ride.{Ride}
 use Rattle.demands.specs.Table.{notCode, fifteen, notSeven, beyond, noPlace, placesDiffer, isRead, neither, some, historyAfter, zeroesWith, toEight, laterToFour, cut, oneBalise, moreThanFive, isNumber, unread, partsOf, noRow, bothWays, notAllowed, badLength, badRecord, wentBack, tooFar, badGap}
+use Rattle.demands.specs.Table02.{someAbove, someFifteen, badCount, shortBuffer}
 use Rattle.demands.specs.Rules.{Rule, row}
 
 -- A row of the table at the word of a telegram that this letter names.
@@ -45,6 +46,11 @@ findRules b start len s t = row 4 (notSeven s t) ∷ row 5 (beyond b start len) 
 abbrev pub surveyRules : {A : Type 0} → List ℕ → ℕ → ℕ → ℕ → ℕ → List (Rule (Outcome A))
 surveyRules b start len s t =
     row 4 (notSeven s t) ∷ row 5 (beyond b start len) ∷ row 6 (noPlace b start len s t) ∷ row 7 (placesDiffer b start len s t) ∷ []
+
+-- `write`: 2, 3, 4, 20, 21.
+abbrev pub writeRules : {A : Type 0} → ℕ → ℕ → ℕ → ℕ → ℕ → ℕ → List ℕ → List (Rule (Outcome A))
+writeRules x y z s t n out =
+    row 2 (someAbove x y z) ∷ row 3 (someFifteen x y z) ∷ row 4 (notSeven s t) ∷ row 20 (badCount n) ∷ row 21 (shortBuffer n out) ∷ []
 
 -- `next_contact`: 5, 9, for the search's own stretch.
 abbrev pub nextRules : {A : Type 0} → List ℕ → Search → List (Rule (Outcome A))

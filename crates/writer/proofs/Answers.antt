@@ -4,14 +4,13 @@ use mathlib.Core.Path.{_≡_, refl, sym, ap, ap₂, _∙_}
 use mathlib.Core.Bool.{Bool, true, false, not, _&&_, _||_}
 use mathlib.Core.List.{List, _++_}
 use Prim.Native.Nat.{ℕ, _+_, _*_, _≤_, _<_}
-use native.Mathlib.Omega.{arith}
 use lib.Dec.{leb, ltb}
 use lib.ListN.{length, drop}
 use borrow.Author.Tests.{ltb-true, ltb-false, le-leb, lt-leb}
-use Rattle.words.specs.Answer.{Outcome, gives, refuses, pick}
-use Rattle.telegram.specs.Sync.{isGood, Good, good, pairOf}
+use Rattle.words.specs.Answer.{gives, refuses, pick}
+use Rattle.telegram.specs.Sync.{isGood, good, pairOf}
 use Rattle.writer.specs.Words.{Words}
-use Rattle.writer.specs.Write.{telegrams, inRange, bytesOf, Writing, onto}
+use Rattle.writer.specs.Write.{telegrams, inRange, bytesOf, onto}
 use Rattle.writer.proofs.Bytes.{telegrams-length}
 
 module _ (s t : ℕ) where

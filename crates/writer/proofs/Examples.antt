@@ -9,7 +9,7 @@ use Rattle.words.specs.Plain.{isCheck, covers, count, carriers, carried, madeEv
 use Rattle.words.specs.Code.{other, exchanged, sent}
 use Rattle.telegram.specs.Sync.{differing, isGood}
 use Rattle.writer.specs.Words.{asked, tooLarge, hasFifteen, wordsOf, spelt}
-use Rattle.writer.specs.Write.{telegrams, inRange, bytesOf, Writing, write}
+use Rattle.writer.specs.Write.{telegrams, inRange, bytesOf, write}
 
 -- A buffer of ten bytes.
 abbrev ten : List ℕ

@@ -1,12 +1,12 @@
 -- From what writing a word answers to what a telegram's words are, or why there are none.
 -- Assumes nothing.
-use mathlib.Core.Path.{_≡_, refl, sym, ap, _∙_}
+use mathlib.Core.Path.{_≡_, refl}
 use mathlib.Core.Bool.{Bool, true, false, _||_}
 use Prim.Native.Nat.{ℕ, _≤_, _<_}
 use native.Mathlib.Omega.{arith}
 use lib.Dec.{eqb, leb, ltb}
 use borrow.Author.Tests.{leb-true, leb-false, lt-ltb, le-ltb}
-use Rattle.words.specs.Answer.{Outcome, gives, refuses, pick}
+use Rattle.words.specs.Answer.{gives, refuses, pick}
 use Rattle.words.specs.Code.{writeWord, sent}
 use Rattle.telegram.specs.declared.Telegram.{Telegram}
 use Rattle.writer.specs.Words.{tooLarge, hasFifteen, wordsOf, spelt}

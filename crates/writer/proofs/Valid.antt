@@ -8,7 +8,7 @@ use native.Mathlib.Omega.{arith}
 use lib.Dec.{eqb, ltb}
 use lib.ListN.{length}
 use borrow.Author.Tests.{ltb-false, le-leb, lt-ltb}
-use Rattle.words.specs.Answer.{Outcome, gives, refuses, pick}
+use Rattle.words.specs.Answer.{gives, refuses, pick}
 use Rattle.words.specs.Plain.{isCheck, carriers}
 use Rattle.words.specs.Code.{readShort, readLong, sent}
 use Rattle.words.proofs.Widths.{short, long}

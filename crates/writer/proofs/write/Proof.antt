@@ -1,10 +1,10 @@
 -- `write` spells the words, and goes on to the bytes if there are words.
-use mathlib.Core.Path.{_≡_, sym, ap, _∙_}
+use mathlib.Core.Path.{sym, ap, _∙_}
 use mathlib.Core.List.{List}
 use Prim.Native.Nat.{ℕ}
 use lib.ListN.{length}
 use Rattle.words.specs.Answer.{Outcome}
-use Rattle.writer.specs.Words.{asked, Words, spelt}
+use Rattle.writer.specs.Words.{Words}
 use Rattle.writer.specs.Write.{bytesOf, Writing, onto, withWords, write}
 use Rattle.writer.specs.Says.{saysSpelt}
 use borrow.Author.Needs.{needs}

@@ -1,8 +1,8 @@
 -- `fill` writes one byte a turn: those before it are the eight bytes in turn, those from it on the old ones.
 use mathlib.Core.Path.{_≡_, refl, _∙_}
-use Prim.Native.Nat.{ℕ, _+_, _-_, _%_, _≤_, _<_}
+use Prim.Native.Nat.{ℕ, _-_, _%_, _≤_, _<_}
 use native.Mathlib.Omega.{arith}
-use lib.ListN.{length, getD, set, length-set}
+use lib.ListN.{length, getD, length-set}
 use Rattle.writer.proofs.Bytes.{first-more, others-less}
 use Rattle.writer.proofs.filling.fill.Statement.{statement}
 use Rattle.writer.proofs.filling.fill.Tie as tie

@@ -1,14 +1,13 @@
 -- `number` writes the number as one long word, whose two bytes are Y and Z.
 use mathlib.Core.Path.{_≡_, refl, sym, ap, ap₂, _∙_}
-use Prim.Native.Nat.{ℕ, _/_, _%_, _≤_}
+use Prim.Native.Nat.{ℕ, _/_, _%_}
 use borrow.Author.Needs.{needs}
-use Rattle.words.specs.Answer.{Outcome, gives}
+use Rattle.words.specs.Answer.{gives}
 use Rattle.words.specs.Bits.{word}
 use Rattle.words.specs.Plain.{isCheck, covers, count, carriers, carried, madeEven, plainWord}
 use Rattle.words.specs.Code.{other, exchanged, sent}
 use Rattle.words.specs.Says.{saysLongWritten}
-use Rattle.telegram.specs.declared.Telegram.{Telegram}
-use Rattle.writer.specs.Words.{Words, wordsOf}
+use Rattle.writer.specs.Words.{wordsOf}
 use Rattle.writer.proofs.Spelt.{written, unwritten, large-number, number-out}
 use Rattle.writer.proofs.spelling.number.Statement.{statement}
 use Rattle.writer.proofs.spelling.number.Tie as tie

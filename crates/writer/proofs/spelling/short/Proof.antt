@@ -1,5 +1,4 @@
 -- `short` refuses what is no byte by itself, as the writer of words does what is above 15.
-use mathlib.Core.Path.{_≡_}
 use Prim.Native.Nat.{_<_}
 use native.Mathlib.Omega.{arith}
 use borrow.Author.Needs.{needs}
