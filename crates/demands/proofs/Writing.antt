@@ -19,6 +19,7 @@ use Rattle.contact.specs.Judge.{allAlike, firstPlace, isMarker, read, marker, j
 use Rattle.contact.specs.Says.{saysJudged}
 use Rattle.contact.specs.declared.Judged.{Judged}
 use Rattle.line.specs.Line.{OneBalise, Proper, placesOf}
+use Rattle.line.proofs.TooFew.{few-flips-few}
 use Rattle.line.proofs.Stretch.{all-sent}
 use Rattle.line.proofs.Clean.{clean-few, true-places}
 use Rattle.writer.specs.Words.{asked, tooLarge, hasFifteen, wordsOf, spelt}
@@ -122,7 +123,7 @@ module _ (m : Telegram) (s t n : ℕ) (rest : List ℕ) (most : 2 ≤ n) where
 
     judge-back : (r : Judged) → JudgeContact b 0 (8 * (4 * n + 1)) s t r → r ≡ Judged.Read m 0 n
     judge-back r k =
-        let sent = judge-sent o proper (all-sent o proper (clean-few o (is-clean m s t n rest))) in
+        let sent = judge-sent o proper (all-sent o proper (few-flips-few o (clean-few o (is-clean m s t n rest)))) in
         let q = sent .enough (subst (λ (v : ℕ). 2 ≤ v) (sym as-many) most) r k in
         let is : r ≡ Judged.Read (q .0) (q .1) (q .2) = q .3 in
         let k′ : JudgeContact b 0 (8 * (4 * n + 1)) s t (Judged.Read (q .0) (q .1) (q .2)) = subst (JudgeContact b 0 (8 * (4 * n + 1)) s t) is k in
