@@ -1,11 +1,15 @@
 // A line of table NR's file: the figure, a tab, the cell as the scan shows it, a tab, and the four hexadecimal digits
-// read off the cell or `-`. A line that begins with # is a comment.
+// read off the cell or `-`; of a cell that was put right, a tab, the four digits put right, a tab, and why. A line that begins
+// with # is a comment.
 ghost use Prim.Native.Nat.{_≤_};
 ghost use lib.ListN.{length};
 
-// What a line holds: a figure with its word, a figure whose cell is unreadable, a comment, or none of these.
+// What a line holds: a figure with the word that its cell shows; one whose cell shows no word, with the word put right; one whose
+// cell shows a wrong word, with that word and the word put right; one whose cell is unreadable; a comment, or none of these.
 pub enum Cell {
     Word(u16, u16),
+    Right(u16, u16),
+    Misread(u16, u16, u16),
     Unreadable(u16),
     Comment,
     Unknown,
@@ -92,6 +96,32 @@ fn held(figure: u16, shown: &[u8]) -> Cell {
     Cell::Word(figure, y * 256 + z)
 }
 
+// What the cell of a figure holds that was put right: by what was read off it, and by the digits put right.
+fn put_right(figure: u16, shown: &[u8], right: &[u8]) -> Cell {
+    let Cell::Word(_, word) = held(figure, right) else {
+        return Cell::Unknown;
+    };
+    match held(figure, shown) {
+        Cell::Unreadable(_) => Cell::Right(figure, word),
+        Cell::Word(_, wrong) => Cell::Misread(figure, wrong, word),
+        _ => Cell::Unknown,
+    }
+}
+
+// What the cell of a figure holds, by the columns after the cell.
+fn columns(figure: u16, text: &[u8]) -> Cell {
+    let first = next_of(text, 0, b'\t');
+    if text.len() <= first {
+        return held(figure, text);
+    }
+    let after = first + 1;
+    let second = next_of(text, after, b'\t');
+    if text.len() <= second {
+        return Cell::Unknown;
+    }
+    put_right(figure, &text[0..first], &text[after..second])
+}
+
 // What a line holds.
 pub fn read(line: &[u8]) -> Cell {
     if line.len() == 0 {
@@ -114,5 +144,5 @@ pub fn read(line: &[u8]) -> Cell {
         return Cell::Unknown;
     }
     let last = second + 1;
-    held(figure, &line[last..])
+    columns(figure, &line[last..])
 }

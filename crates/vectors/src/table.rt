@@ -1,21 +1,13 @@
-// Table NR, cell by cell: a readable one is written, and read by the checks and by the printed list; one that the scan misreads
-// is refused by both; an unreadable one is counted.
+// Table NR, cell by cell: the word of each is written, and read by the checks and by the printed list, as it is shown or as it was
+// put right; what the scan shows in its place is refused by both.
 use crate::cells;
 use crate::cells::Cell;
 use crate::counts;
 use crate::counts::Counts;
+use crate::counts::Found;
 use crate::say;
 use words::LongRead;
 use words::LongWritten;
-
-// The figures whose cells the scan misreads: the words that it shows there are no code words.
-fn is_misread(figure: u16) -> bool {
-    match figure {
-        25 | 40 | 82 | 166 | 168 | 939 | 980 => true,
-        1429 | 1485 | 1590 | 1592 | 1686 | 2040 => true,
-        _ => false,
-    }
-}
 
 // Begins the line of a difference.
 fn begin(figure: u16, word: u16) {
@@ -78,18 +70,20 @@ fn is_refused(figure: u16, word: u16, read: LongRead, by: &[u8]) -> bool {
     }
 }
 
-// A word shown, by both readers.
-fn word_shown(before: Counts, figure: u16, word: u16) -> Counts {
-    let by_checks = words::read_long(word);
-    let by_list = printed::read_long(word);
-    if is_misread(figure) {
-        let first = is_refused(figure, word, by_checks, b", by the checks");
-        let second = is_refused(figure, word, by_list, b", by the list");
-        return counts::misread(before, first, second);
+// How the word of a figure is found.
+fn find(figure: u16, word: u16) -> Found {
+    Found {
+        written: is_written(figure, word),
+        by_checks: is_read(figure, word, words::read_long(word), b", by the checks"),
+        by_list: is_read(figure, word, printed::read_long(word), b", by the list"),
     }
-    let first = is_read(figure, word, by_checks, b", by the checks");
-    let second = is_read(figure, word, by_list, b", by the list");
-    counts::readable(before, is_written(figure, word), first, second)
+}
+
+// A word that the scan shows by mistake, counted.
+fn mistaken(before: Counts, figure: u16, word: u16) -> Counts {
+    let by_checks = is_refused(figure, word, words::read_long(word), b", by the checks");
+    let by_list = is_refused(figure, word, printed::read_long(word), b", by the list");
+    counts::misread(before, by_checks, by_list)
 }
 
 // Whether the figure is the one that stands next; if not, a line says so.
@@ -120,7 +114,15 @@ fn line(before: Counts, text: &[u8]) -> Counts {
         }
         Cell::Word(figure, word) => {
             let c = counts::cell(before, figure, is_next(figure, before.next));
-            word_shown(c, figure, word)
+            counts::readable(c, find(figure, word))
+        }
+        Cell::Right(figure, word) => {
+            let c = counts::cell(before, figure, is_next(figure, before.next));
+            counts::right(c, find(figure, word))
+        }
+        Cell::Misread(figure, wrong, word) => {
+            let c = counts::cell(before, figure, is_next(figure, before.next));
+            counts::right(mistaken(c, figure, wrong), find(figure, word))
         }
     }
 }
