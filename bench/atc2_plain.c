@@ -412,13 +412,11 @@ static int judge_group(const struct plain_group *group, struct seen *seen)
     int a = a_balise(seen->b, n);
     if (numbers > 1 || a == n)
         return 13;
-    bool present = fits_present(seen->b, n, a), opposite = fits_opposite(seen->b, n, a);
-    if (!present && !opposite)
+    bool present = fits_present(seen->b, n, a);
+    if (!present && !fits_opposite(seen->b, n, a))
         return 13;
-    if (present && opposite)
-        return 14;
     seen->kind = kind_of(seen->b[a].x);
-    seen->opposite = opposite;
+    seen->opposite = !present;
     seen->a = a;
     seen->distance = 0;
     if (present && (seen->kind == SIGNAL || seen->kind == WARNING))

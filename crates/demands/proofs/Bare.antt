@@ -8,6 +8,7 @@ use Rattle.telegram.specs.Says.{saysPair, saysTelegramRead, saysFound, saysSurv
 use Rattle.writer.specs.Write.{Writing, write}
 use Rattle.writer.specs.Says.{saysAnswer}
 use Rattle.contact.specs.Says.{saysBegun, saysNext, saysJudged}
+use Rattle.walk.specs.Fitting.{saysFitted}
 use Rattle.group.specs.Says.{saysMeasured, saysJudged as saysGroup}
 use Rattle.ride.specs.Says.{saysChecked, saysReport, saysReply, saysWay}
 use Rattle.ride.specs.Step.{Step, step}
@@ -21,6 +22,7 @@ use Rattle.words.proofs.Determined as words-are
 use Rattle.telegram.proofs.Determined as telegram-is
 use Rattle.writer.proofs.Determined as writer-is
 use Rattle.contact.proofs.Determined as contact-is
+use Rattle.walk.proofs.Determined as walk-is
 use Rattle.group.proofs.Determined as group-is
 use Rattle.ride.proofs.Determined as ride-is
 use Rattle.listing.proofs.Determined as listing-is
@@ -68,6 +70,7 @@ untouched = record {
   next = λ n r r′ p q. told saysNext contact-is.nextOf contact-is.next-back r r′ p q;
   contact-judged = λ n r r′ p q. told saysJudged contact-is.judgedOf contact-is.judged-back r r′ p q;
   measured = λ n r r′ p q. told saysMeasured group-is.measured group-is.measured-back r r′ p q;
+  fitted = λ n r r′ p q. told saysFitted walk-is.fitted walk-is.fitted-back r r′ p q;
   group-judged = λ n r r′ p q. told saysGroup group-is.judged group-is.judged-back r r′ p q;
   checked = λ n r r′ p q. told saysChecked ride-is.checkedOf ride-is.checked-back r r′ p q;
   report = λ n r r′ p q. told saysReport ride-is.reportOf ride-is.report-back r r′ p q;

@@ -11,7 +11,9 @@ use Rattle.group.specs.Balise.{balises, then, readAll}
 use Rattle.walk.specs.Row.{Figures, all, _to_, Asked, category, M, any, A, Member, Row, row, isCategory, isOneOf, within, Y, Z, meets, fits, Found, none, found, first, calledA, Fit, misfit, fit, fitWith, fitRow, orElse, fitRows}
 use Rattle.walk.specs.Rows.{signal, warning, annulled, line, route, present, nineThen, nineTwo, markerTwo, markerThree, opposite, howMany, fitIn}
 use Rattle.group.specs.Message.{Content, Message, nothing}
-use Rattle.group.specs.Judge.{contentOf, messageOf, decide, judgeRead, judge}
+use Rattle.group.specs.Judge.{contentOf, messageOf, judgeRead, judge}
+use Rattle.walk.specs.Fitting.{speedOf, fitting}
+use Rattle.demands.proofs.Fits.{said, decide}
 use Rattle.group.specs.Says.{saysMessage}
 use Rattle.walk.specs.declared.Direction.{Direction}
 use Rattle.group.specs.declared.Group.{Group}
@@ -119,7 +121,7 @@ never n e = let z : _≡_ {A = ℕ} 0 1 = cc in omega arith
 
 -- a message that takes its place, AY and AZ from this balise
 from-a : (bs : List Placed) (direction : Direction) (k : Kind) (a : Placed) (c : Content) (m : Said) → CanBeA bs k a → (direction ≡ Direction.Present → Board k → Head bs a)
-    → messageOf direction k a c ≡ saysMessage m → Its-A bs m
+    → messageOf (said direction k a) c ≡ saysMessage m → Its-A bs m
 from-a bs direction k a c m can heads e =
     record {
       a = a;
@@ -134,18 +136,17 @@ from-a bs direction k a c m can heads e =
 decided-a : (bs : List Placed) (m : Said) (p o : Fit) → ((k : Kind) (a : Placed) → p ≡ fit k a → CanBeA bs k a) → ((k : Kind) (a : Placed) → o ≡ fit k a → CanBeA bs k a)
     → ((k : Kind) (a : Placed) → p ≡ fit k a → Board k → Head bs a) → decide p o bs ≡ gives (saysMessage m) → Its-A bs m
 decided-a bs m misfit misfit here there heads e = absurd (never 13 e)
-decided-a bs m (fit k a) (fit k′ a′) here there heads e = absurd (never 14 e)
 decided-a bs m misfit (fit k a) here there heads e =
-    let is : messageOf Direction.Opposite k a nothing ≡ saysMessage m = cc in from-a bs Direction.Opposite k a nothing m (there k a refl) (λ q. absurd (let z : _≡_ {A = ℕ} 0 1 = cc in omega arith)) is
-decided-a bs m (fit k a) misfit here there heads e = go (contentOf k (Y (a .part)) (Z (a .part)) bs) e
+    let is : messageOf (said Direction.Opposite k a) nothing ≡ saysMessage m = cc in from-a bs Direction.Opposite k a nothing m (there k a refl) (λ q. absurd (let z : _≡_ {A = ℕ} 0 1 = cc in omega arith)) is
+decided-a bs m (fit k a) o here there heads e = go (contentOf k (speedOf k a) (Y (a .part)) (Z (a .part)) bs) e
   where
-    go : (c : Outcome Content) → then c (λ more. gives (messageOf Direction.Present k a more)) ≡ gives (saysMessage m) → Its-A bs m
+    go : (c : Outcome Content) → then c (λ more. gives (messageOf (said Direction.Present k a) more)) ≡ gives (saysMessage m) → Its-A bs m
     go (refuses n) q = absurd (never n q)
-    go (gives c) q = let is : messageOf Direction.Present k a c ≡ saysMessage m = cc in from-a bs Direction.Present k a c m (here k a refl) (λ q. heads k a refl) is
+    go (gives c) q = let is : messageOf (said Direction.Present k a) c ≡ saysMessage m = cc in from-a bs Direction.Present k a c m (here k a refl) (λ q. heads k a refl) is
 
 -- Every accepted group has an A.
 pub has-a : (g : Group) (m : Said) → judge g ≡ gives (saysMessage m) → Its-A (partsOf g) m
-unfolding judge judgeRead partsOf
+unfolding judge judgeRead fitting partsOf
 has-a g m e = go (eqb (g .count) 1) (ltb 5 (g .count)) (readAll (balises g)) e
   where
     go : (t u : Bool) (o : Outcome (List Placed)) → pick t (refuses 10) (pick u (refuses 11) (then o judgeRead)) ≡ gives (saysMessage m) → Its-A (listOf o) m

@@ -3,6 +3,7 @@
 use mathlib.Core.Path.{ap, ap₂, _∙_}
 use mathlib.Core.List.{List}
 use Prim.Native.Nat.{ℕ}
+use lib.ListN.{take}
 use Rattle.telegram.specs.Place.{found}
 use Rattle.telegram.specs.Survey.{surveyed}
 use Rattle.writer.specs.Write.{Writing, write}
@@ -17,7 +18,7 @@ use Rattle.demands.proofs.Refusals.{reading, writing, pairing, wording,
 use Rattle.demands.proofs.Writes.{writing-test}
 use Rattle.demands.proofs.Contacts.{beginning, nexting, judging}
 use Rattle.demands.proofs.Distances.{measuring}
-use Rattle.demands.proofs.Groups.{grouping}
+use Rattle.demands.proofs.Groups.{fitting-to, grouping}
 use Rattle.demands.proofs.Rides.{checking, stepping, running}
 use Rattle.demands.proofs.Treats.{treated-is, treating}
 use Rattle.demands.proofs.Listings.{listing}
@@ -38,6 +39,7 @@ demand1 = record {
   begin = λ b start len r c. let e = c .4 ∙ ap (λ (v : List ℕ). begun v start len) (c .3) in rw e (beginning b start len);
   next-contact = λ b search r c. let e = c .4 ∙ ap (λ (v : List ℕ). nextContact v search) (c .3) in rw e (nexting b search);
   judge-contact = λ b start len s t r c. let e = c .4 ∙ ap (λ (v : List ℕ). judged v start len s t) (c .3) in rw e (judging b start len s t);
+  fit-row = λ p n r c. rw (c .1) (fitting-to (take n p));
   distance = λ by figure r c. rw (c .1) (measuring by figure);
   judge-group = λ g r c. rw (c .1) (grouping g);
   check-record = λ ride bytes r c. rw (c .1) (checking ride bytes);

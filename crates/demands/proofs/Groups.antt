@@ -1,7 +1,7 @@
 -- The judgement of a group refuses as document 01's table says.
 -- Assumes nothing.
 use mathlib.Core.Path.{_≡_, refl, sym, _∙_, subst}
-use mathlib.Core.Bool.{Bool, not, _&&_}
+use mathlib.Core.Bool.{Bool, _&&_}
 use mathlib.Core.List.{List, [], _∷_}
 use Prim.Native.Nat.{ℕ}
 use lib.Dec.{ltb}
@@ -12,14 +12,16 @@ use Rattle.walk.specs.Rows.{present, opposite, fitIn}
 use Rattle.group.specs.Distance.{isPreset}
 use Rattle.group.specs.Speed.{signalSpeed, targetFigure}
 use Rattle.group.specs.Message.{ofSignal, ofWarning, nothing}
-use Rattle.group.specs.Judge.{yOf, zOf, B, P, C, distanceOf, contentOf, messageOf, decide, judgeRead, judge}
+use Rattle.group.specs.Judge.{yOf, zOf, B, P, C, distanceOf, contentOf, messageOf, judgeRead, judge}
 use Rattle.walk.specs.declared.Direction.{Direction}
 use Rattle.group.specs.declared.Group.{Group}
 use Rattle.walk.specs.declared.Kind.{Kind}
 use Rattle.walk.specs.declared.Placed.{Placed}
 use Rattle.demands.specs.Rules.{row, Decided, Given}
-use Rattle.demands.specs.Table.{oneBalise, moreThanFive, unread, listOf, partsOf, isMisfit, noRow, bothWays, judgedKind, isJudged, notAllowed, noLink}
+use Rattle.demands.specs.Table.{oneBalise, moreThanFive, unread, listOf, partsOf, isMisfit, noRow, judgedKind, isJudged, notAllowed, noLink}
 use Rattle.demands.specs.Lists.{groupRules}
+use Rattle.walk.specs.Fitting.{speedOf, asOr, fitting}
+use Rattle.demands.proofs.Fits.{said, decide}
 use Rattle.demands.proofs.Rules.{true-not-false, if-so}
 use Rattle.demands.proofs.Answers.{isRefusal, Only, lone}
 use Rattle.demands.proofs.Distances.{link-fifteen, link-refused}
@@ -44,62 +46,67 @@ unfolding distanceOf
 distanceOf-refused bs = link-refused (yOf (B bs)) (zOf (B bs)) (C bs)
 
 -- what a group of the present direction says can only be refused with 15, and is if its distance is judged and not allowed
-content-fifteen : (kind : Kind) (ay az : ℕ) (bs : List Placed) → Only 15 (contentOf kind ay az bs)
+content-fifteen : (kind : Kind) (v ay az : ℕ) (bs : List Placed) → Only 15 (contentOf kind v ay az bs)
 unfolding Only
-content-fifteen Kind.Signal ay az bs =
+content-fifteen Kind.Signal v ay az bs =
     only-then 15 (distanceOf bs) (λ d. ofSignal d (isPreset (yOf (B bs))) (signalSpeed ay) (signalSpeed (targetFigure ay az (yOf (P bs)) (zOf (P bs)))))
     (distanceOf-fifteen bs)
-content-fifteen Kind.Warning ay az bs = only-then 15 (distanceOf bs) (λ d. ofWarning d (isPreset (yOf (B bs)))) (distanceOf-fifteen bs)
-content-fifteen Kind.Annulled ay az bs = tt
-content-fifteen Kind.Line ay az bs = tt
-content-fifteen Kind.Route ay az bs = tt
+content-fifteen Kind.Warning v ay az bs = only-then 15 (distanceOf bs) (λ d. ofWarning d (isPreset (yOf (B bs)))) (distanceOf-fifteen bs)
+content-fifteen Kind.Annulled v ay az bs = tt
+content-fifteen Kind.Line v ay az bs = tt
+content-fifteen Kind.Route v ay az bs = tt
 
-content-refused : (kind : Kind) (ay az : ℕ) (bs : List Placed) → isRefusal (contentOf kind ay az bs) ≡ (judgedKind kind && isRefusal (distanceOf bs))
-content-refused Kind.Signal ay az bs =
+content-refused : (kind : Kind) (v ay az : ℕ) (bs : List Placed) → isRefusal (contentOf kind v ay az bs) ≡ (judgedKind kind && isRefusal (distanceOf bs))
+content-refused Kind.Signal v ay az bs =
     refusal-then (distanceOf bs) (λ d. ofSignal d (isPreset (yOf (B bs))) (signalSpeed ay) (signalSpeed (targetFigure ay az (yOf (P bs)) (zOf (P bs)))))
-content-refused Kind.Warning ay az bs = refusal-then (distanceOf bs) (λ d. ofWarning d (isPreset (yOf (B bs))))
-content-refused Kind.Annulled ay az bs = refl
-content-refused Kind.Line ay az bs = refl
-content-refused Kind.Route ay az bs = refl
+content-refused Kind.Warning v ay az bs = refusal-then (distanceOf bs) (λ d. ofWarning d (isPreset (yOf (B bs))))
+content-refused Kind.Annulled v ay az bs = refl
+content-refused Kind.Line v ay az bs = refl
+content-refused Kind.Route v ay az bs = refl
 
--- 13, 14 and 15, from how the balises fit the rows of both directions
+-- 13 and 15, from how the balises fit the rows of each direction
 decided : (p o : Fit) (bs : List Placed)
-    → Decided Given
-    (row 13 (isMisfit p && isMisfit o) ∷ row 14 (not (isMisfit p) && not (isMisfit o)) ∷ row 15 (isJudged p && isRefusal (distanceOf bs)) ∷ [])
-    (decide p o bs)
+    → Decided Given (row 13 (isMisfit p && isMisfit o) ∷ row 15 (isJudged p && isRefusal (distanceOf bs)) ∷ []) (decide p o bs)
 decided misfit misfit bs = (λ q. refl, λ q. absurd (true-not-false q))
-decided (fit k a) (fit k′ a′) bs = (λ q. absurd (true-not-false (sym q)), λ q. (λ r. refl, λ r. absurd (true-not-false r)))
 decided misfit (fit k a) bs = (
   λ q. absurd (true-not-false (sym q)),
-  λ q. (λ r. absurd (true-not-false (sym r)), λ r. (λ t. absurd (true-not-false (sym t)), λ t. (messageOf Direction.Opposite k a nothing, refl))),
+  λ q. (λ t. absurd (true-not-false (sym t)), λ t. (messageOf (said Direction.Opposite k a) nothing, refl)),
 )
-decided (fit k a) misfit bs = (
+decided (fit k a) o bs = (
   λ q. absurd (true-not-false (sym q)),
-  λ q. (
-    λ r. absurd (true-not-false (sym r)),
-    λ r. lone 15 (judgedKind k && isRefusal (distanceOf bs)) (decide (fit k a) misfit bs)
-        (only-then 15 (contentOf k (Y (a .part)) (Z (a .part)) bs) (messageOf Direction.Present k a) (content-fifteen k (Y (a .part)) (Z (a .part)) bs))
-        (refusal-then (contentOf k (Y (a .part)) (Z (a .part)) bs) (messageOf Direction.Present k a) ∙ content-refused k (Y (a .part)) (Z (a .part)) bs),
-  ),
+  λ q. lone 15 (judgedKind k && isRefusal (distanceOf bs)) (decide (fit k a) o bs)
+      (only-then 15 (contentOf k (speedOf k a) (Y (a .part)) (Z (a .part)) bs) (messageOf (said Direction.Present k a)) (content-fifteen k (speedOf k a) (Y (a .part)) (Z (a .part)) bs))
+      (refusal-then (contentOf k (speedOf k a) (Y (a .part)) (Z (a .part)) bs) (messageOf (said Direction.Present k a))
+      ∙ content-refused k (speedOf k a) (Y (a .part)) (Z (a .part)) bs),
 )
+
+-- 13 alone, for the row that balises fit
+pub fitting-to : (bs : List Placed) → Decided Given (row 13 (noRow bs) ∷ []) (fitting bs)
+unfolding fitting noRow
+fitting-to bs = go (fitIn present bs) (fitIn opposite bs)
+  where
+    go : (p o : Fit) → Decided Given (row 13 (isMisfit p && isMisfit o) ∷ []) (asOr Direction.Present p (asOr Direction.Opposite o (refuses 13)))
+    go misfit misfit = (λ q. refl, λ q. absurd (true-not-false q))
+    go misfit (fit k a) = (λ q. absurd (true-not-false (sym q)), λ q. (said Direction.Opposite k a, refl))
+    go (fit k a) o = (λ q. absurd (true-not-false (sym q)), λ q. (said Direction.Present k a, refl))
 
 -- 12 to 15, from whether a balise is not read
 from-twelve : (u : Bool) (o : Outcome (List Placed)) → Read u o
-    → Decided Given (row 12 u ∷ row 13 (noRow (listOf o)) ∷ row 14 (bothWays (listOf o)) ∷ row 15 (notAllowed (listOf o)) ∷ []) (then o judgeRead)
-unfolding judgeRead noRow bothWays notAllowed
+    → Decided Given (row 12 u ∷ row 13 (noRow (listOf o)) ∷ row 15 (notAllowed (listOf o)) ∷ []) (then o judgeRead)
+unfolding judgeRead fitting noRow notAllowed
 from-twelve u o bad = (λ q. refl, λ q. absurd (true-not-false q))
 from-twelve u o (all ps) = (
   λ q. absurd (true-not-false (sym q)),
-  λ q. subst (λ (t : Bool). Decided Given (row 13 (noRow ps) ∷ row 14 (bothWays ps) ∷ row 15 (isJudged (fitIn present ps) && t) ∷ []) (judgeRead ps))
+  λ q. subst (λ (t : Bool). Decided Given (row 13 (noRow ps) ∷ row 15 (isJudged (fitIn present ps) && t) ∷ []) (judgeRead ps))
       (distanceOf-refused ps) (decided (fitIn present ps) (fitIn opposite ps) ps),
 )
 
--- The judgement of a group: 10, 11, 12, 13, 14, 15.
+-- The judgement of a group: 10, 11, 12, 13, 15.
 pub grouping : (g : Group) → Decided Given (groupRules g) (judge g)
 unfolding judge unread partsOf
 grouping g =
     let ps = partsOf g in
-    let twelve = row 12 (unread g) ∷ row 13 (noRow ps) ∷ row 14 (bothWays ps) ∷ row 15 (notAllowed ps) ∷ [] in
+    let twelve = row 12 (unread g) ∷ row 13 (noRow ps) ∷ row 15 (notAllowed ps) ∷ [] in
     let o = then (readAll (balises g)) judgeRead in
     if-so Given (row 11 (moreThanFive g) ∷ twelve) (refuses 10) (pick (ltb 5 (g .count)) (refuses 11) o)
     (if-so Given twelve (refuses 11) o (from-twelve (unread g) (readAll (balises g)) (read-is (balises g))) (moreThanFive g)) (oneBalise g)

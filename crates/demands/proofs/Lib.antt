@@ -7,6 +7,7 @@ pub mod Contacts
 pub mod Answers
 pub mod Distances
 pub mod Balises
+pub mod Fits
 pub mod Groups
 pub mod Rides
 pub mod Messages

@@ -13,14 +13,15 @@ use Rattle.walk.specs.Row.{Y, Z, Fit, misfit, fit}
 use Rattle.walk.specs.Rows.{present, opposite, fitIn}
 use Rattle.group.specs.Distance.{isPreset}
 use Rattle.group.specs.Speed.{signalSpeed, targetFigure}
-use Rattle.walk.specs.Fitting.{routeSpeed}
+use Rattle.walk.specs.Fitting.{routeSpeed, fitting}
 use Rattle.group.specs.Message.{Content, ofSignal, ofWarning, ofRoute, nothing, Message}
-use Rattle.group.specs.Judge.{yOf, zOf, B, P, distanceOf, messageOf, decide, judgeRead, judge}
+use Rattle.group.specs.Judge.{yOf, zOf, B, P, distanceOf, messageOf, judgeAs, judgeRead, judge}
 use Rattle.walk.specs.declared.Direction.{Direction}
 use Rattle.group.specs.declared.Group.{Group}
 use Rattle.walk.specs.declared.Kind.{Kind}
 use Rattle.walk.specs.declared.Placed.{Placed}
 use Rattle.demands.specs.Table.{listOf, partsOf}
+use Rattle.demands.proofs.Fits.{said, decide}
 
 -- A message that says no more than its kind.
 abbrev pub Other : Message → Type 0
@@ -50,36 +51,35 @@ on-distance : (o : Outcome ℕ) (f : ℕ → Content) (g : Content → Message) 
 on-distance (gives d) f g m e = (d, refl, cc)
 on-distance (refuses n) f g m e = absurd (never n e)
 
-present-view : (kind : Kind) (a : Placed) (bs : List Placed) (m : Message) → decide (fit kind a) misfit bs ≡ gives m → View bs m
+present-view : (kind : Kind) (a : Placed) (bs : List Placed) (m : Message) → judgeAs Direction.Present (said Direction.Present kind a) bs ≡ gives m → View bs m
 present-view Kind.Signal a bs m e =
     let r = on-distance (distanceOf bs)
     (λ d. ofSignal d (isPreset (yOf (B bs))) (signalSpeed (Y (a .part))) (signalSpeed (targetFigure (Y (a .part)) (Z (a .part)) (yOf (P bs)) (zOf (P bs)))))
-    (messageOf Direction.Present Kind.Signal a) m e in
+    (messageOf (said Direction.Present Kind.Signal a)) m e in
     subst (View bs) (r .2) (signal refl refl (r .0) (r .1) refl)
 present-view Kind.Warning a bs m e =
-    let r = on-distance (distanceOf bs) (λ d. ofWarning d (isPreset (yOf (B bs)))) (messageOf Direction.Present Kind.Warning a) m e in
+    let r = on-distance (distanceOf bs) (λ d. ofWarning d (isPreset (yOf (B bs)))) (messageOf (said Direction.Present Kind.Warning a)) m e in
     subst (View bs) (r .2) (warning refl refl (r .0) (r .1) refl)
 present-view Kind.Annulled a bs m e =
-    let is : messageOf Direction.Present Kind.Annulled a nothing ≡ m = cc in
+    let is : messageOf (said Direction.Present Kind.Annulled a) nothing ≡ m = cc in
     subst (View bs) is (plain (inr (inl refl)) refl)
 present-view Kind.Line a bs m e =
-    let is : messageOf Direction.Present Kind.Line a nothing ≡ m = cc in
+    let is : messageOf (said Direction.Present Kind.Line a) nothing ≡ m = cc in
     subst (View bs) is (plain (inr (inr refl)) refl)
 present-view Kind.Route a bs m e =
-    let is : messageOf Direction.Present Kind.Route a (ofRoute (routeSpeed (Y (a .part)) (Z (a .part)))) ≡ m = cc in
+    let is : messageOf (said Direction.Present Kind.Route a) (ofRoute (routeSpeed (Y (a .part)) (Z (a .part)))) ≡ m = cc in
     subst (View bs) is (route refl refl refl)
 
 decided-view : (p o : Fit) (bs : List Placed) (m : Message) → decide p o bs ≡ gives m → View bs m
 decided-view misfit misfit bs m e = absurd (never 13 e)
-decided-view (fit k a) (fit k′ a′) bs m e = absurd (never 14 e)
 decided-view misfit (fit k a) bs m e =
-    let is : messageOf Direction.Opposite k a nothing ≡ m = cc in
+    let is : messageOf (said Direction.Opposite k a) nothing ≡ m = cc in
     subst (View bs) is (plain (inl refl) refl)
-decided-view (fit k a) misfit bs m e = present-view k a bs m e
+decided-view (fit k a) o bs m e = present-view k a bs m e
 
 -- The message of an accepted group.
 pub view : (g : Group) (m : Message) → judge g ≡ gives m → View (partsOf g) m
-unfolding judge judgeRead partsOf
+unfolding judge judgeRead fitting partsOf
 view g m e = go (eqb (g .count) 1) (ltb 5 (g .count)) (readAll (balises g)) e
   where
     go : (t u : Bool) (o : Outcome (List Placed)) → pick t (refuses 10) (pick u (refuses 11) (then o judgeRead)) ≡ gives m → View (listOf o) m

@@ -16,6 +16,7 @@ use Rattle.walk.specs.Row.{Found, none, found, Y}
 use Rattle.group.specs.Distance.{columns, inColumn, inTable, distance, linkDistance, isPreset}
 use Rattle.group.specs.Speed.{signalSpeed, targetFigure}
 use Rattle.walk.specs.Fitting.{routeSpeed}
+use Rattle.walk.proofs.OneWay.{one-way}
 use Rattle.group.specs.Judge.{yOf, zOf, B, C, P, distanceOf, judgeRead, judge}
 use Rattle.group.specs.Says.{saysMeasured, saysTold, saysContent, saysMessage}
 use Rattle.group.specs.declared.Content.{Content}
@@ -153,6 +154,7 @@ pub groups : Groups
 unfolding routeSpeed
 groups = record {
   by-rows = λ g r c one five u. c .1 ∙ rows-judge g one five u;
+  one-way = one-way;
   its-a = λ g m c. has-a g m (sym (c .1));
   content = λ g m c. content-so (partsOf g) m (m .content) refl (view g (saysMessage m) (sym (c .1)));
   signal = λ g m d preset main target c e. signal-so (partsOf g) m d preset main target e (view g (saysMessage m) (sym (c .1)));

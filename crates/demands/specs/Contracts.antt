@@ -23,6 +23,8 @@ use Rattle.contact.specs.declared.Search.{Search}
 use Rattle.contact.specs.declared.Begun.{Begun}
 use Rattle.contact.specs.declared.Next.{Next}
 use Rattle.contact.specs.declared.Judged.{Judged}
+use Rattle.walk.specs.declared.Placed.{Placed}
+use Rattle.walk.specs.declared.Fitted.{Fitted}
 use Rattle.group.specs.declared.Group.{Group}
 use Rattle.group.specs.declared.Measured.{Measured}
 use Rattle.group.specs.declared.Told.{Told}
@@ -64,6 +66,8 @@ use Rattle.group.proofs.distance.Kinds as distance-kinds
 use Rattle.group.proofs.distance.Reads as distance-reads
 use Rattle.group.proofs.speed.Kinds as speed-kinds
 use Rattle.group.proofs.speed.Reads as speed-reads
+use Rattle.walk.proofs.fit.Kinds as fit-kinds
+use Rattle.walk.proofs.fit.Reads as fit-reads
 use Rattle.group.proofs.judge.Kinds as judge-group-kinds
 use Rattle.group.proofs.judge.Reads as judge-group-reads
 use Rattle.ride.proofs.fresh.Kinds as fresh-kinds
@@ -143,6 +147,10 @@ abbrev pub JudgeContact : List ℕ → ℕ → ℕ → ℕ → ℕ → Judged �
 JudgeContact b start len s t r =
     (κs : Lfts 1) × (buf : RefT (List ℕ)) × (e : AtExit (endedOf 1 judge-kinds.ps judge-kinds.r) κs)
     × (now buf ≡ b) × judge-reads.Post κs (buf, (start, (len, (s, (t, tt))))) r e
+
+-- The contract of `walk::fit` allows the answer r for the first n of these five balises.
+abbrev pub FitRow : List Placed → ℕ → Fitted → Type 0
+FitRow p n r = (e : AtExit (endedOf 0 fit-kinds.ps fit-kinds.r) tt) × fit-reads.Post tt (p, (n, tt)) r e
 
 -- The contract of `distance` allows the answer r for column BY and this figure.
 abbrev pub Distance : ℕ → ℕ → Measured → Type 0

@@ -11,6 +11,7 @@ use Prim.Native.Nat.{ℕ, _+_, _*_}
 use mathlib.Core.Bool.{true}
 use mathlib.Core.Path.{_≡_}
 use mathlib.Core.List.{List, [], _∷_}
+use lib.ListN.{take}
 use Rattle.words.specs.Answer.{Outcome, gives, refuses}
 use Rattle.words.specs.Plain.{figure}
 use Rattle.words.specs.Code.{exchanged, sent}
@@ -35,6 +36,9 @@ use Rattle.contact.specs.declared.Begun.{Begun}
 use Rattle.contact.specs.declared.Next.{Next}
 use Rattle.contact.specs.declared.Judged.{Judged}
 use Rattle.group.specs.Says.{saysMeasured, saysJudged as saysGroup}
+use Rattle.walk.specs.declared.Placed.{Placed}
+use Rattle.walk.specs.declared.Fitted.{Fitted}
+use Rattle.walk.specs.Fitting.{saysFitted}
 use Rattle.group.specs.declared.Group.{Group}
 use Rattle.group.specs.declared.Measured.{Measured}
 use Rattle.group.specs.declared.Judged.{Judged as GroupJudged}
@@ -56,8 +60,8 @@ use Rattle.listing.specs.Says.{saysPut, saysDone}
 use Rattle.listing.specs.declared.Put.{Put}
 use Rattle.listing.specs.declared.Listed.{Listed}
 use Rattle.demands.specs.Rules.{row, Decided, Given, Is}
-use Rattle.demands.specs.Table.{notCode, above, notSeven, beyond, noDistance, badGap}
-use Rattle.demands.specs.Contracts.{ReadShort, WriteShort, ReadLong, WriteLong, GoodPair, ReadTelegram, Find, Survey, Write, Begin, NextContact, JudgeContact, Distance, JudgeGroup, CheckRecord, StepOf, TreatAt, EndOf, RunOver, PutLine, ListInto}
+use Rattle.demands.specs.Table.{notCode, above, notSeven, beyond, noRow, noDistance, badGap}
+use Rattle.demands.specs.Contracts.{ReadShort, WriteShort, ReadLong, WriteLong, GoodPair, ReadTelegram, Find, Survey, Write, Begin, NextContact, JudgeContact, FitRow, Distance, JudgeGroup, CheckRecord, StepOf, TreatAt, EndOf, RunOver, PutLine, ListInto}
 use Rattle.demands.specs.Lists.{IsTelegram, telegramRules, findRules, surveyRules, writeRules, nextRules, judgeRules, groupRules, recordRules, stepRules, runRules, findReads, surveyReads, JudgeReads, NextReads}
 use Rattle.demands.specs.Steps.{OneStep, LeavesBehind}
 
@@ -89,6 +93,7 @@ pub record Demand1 : Type 0 where
   pub next-contact : (b : List ℕ) (search : Search) (r : Next) → NextContact b search r → Decided (NextReads b search) (nextRules b search) (saysNext r)
   pub judge-contact : (b : List ℕ) (start len s t : ℕ) (r : Judged) → JudgeContact b start len s t r
       → Decided (JudgeReads b start len s t) (judgeRules b start len s t) (saysJudged r)
+  pub fit-row : (p : List Placed) (n : ℕ) (r : Fitted) → FitRow p n r → Decided Given (row 13 (noRow (take n p)) ∷ []) (saysFitted r)
   pub distance : (by figure : ℕ) (r : Measured) → Distance by figure r
       → Decided Given (row 15 (noDistance by figure) ∷ []) (saysMeasured r)
   pub judge-group : (g : Group) (r : GroupJudged) → JudgeGroup g r → Decided Given (groupRules g) (saysGroup r)
@@ -121,7 +126,7 @@ pub record Untouched : Type 0 where
       → saysPut r ≡ noRoom → after ≡ before
   -- so does a refused writing
   pub write : (x y z s t n : ℕ) (before : List ℕ) (r : Written) (after : List ℕ) (k : ℕ) → Write x y z s t n before r after → saysAnswer r ≡ refuses k → after ≡ before
-  -- "but for the group refusals": a group that is left behind and refused with n, 10 to 15, gives the fault line, is handed out as
+  -- "but for the group refusals": a group that is left behind and refused with n, 10 to 13 or 15, gives the fault line, is handed out as
   -- the one that closed, and leaves nothing known and no group but what the record itself takes up
   pub group : (o : OneStep) (j : GroupJudged) (n : ℕ) → LeavesBehind o → JudgeGroup (o .ride .group) j → saysGroup j ≡ refuses n
       → saysStepped (o .answer)
@@ -153,6 +158,7 @@ pub record Untouched : Type 0 where
   pub next : Bare saysNext
   pub contact-judged : Bare saysJudged
   pub measured : Bare saysMeasured
+  pub fitted : Bare saysFitted
   pub group-judged : Bare saysGroup
   pub checked : Bare saysChecked
   pub report : Bare saysReport

@@ -27,6 +27,7 @@ use Rattle.telegram.specs.declared.Telegram.{Telegram}
 use Rattle.telegram.specs.declared.TelegramRead.{TelegramRead}
 use Rattle.group.specs.Distance.{columns, Column, column, plus, inColumn}
 use Rattle.group.specs.Speed.{speeds, kmh, noInformation}
+use Rattle.walk.specs.OneWay.{OneWay}
 use Rattle.group.specs.Judge.{judgeRead}
 use Rattle.group.specs.Says.{saysMeasured, saysTold, saysJudged}
 use Rattle.group.specs.declared.Content.{Content}
@@ -115,6 +116,8 @@ pub record Groups : Type 0 where
   -- two to five balises that were all read are judged by the rows (a group of none, which no ride makes, gets 13 by them)
   pub by-rows : (g : Group) (r : Judged) → JudgeGroup g r → oneBalise g ≡ false → moreThanFive g ≡ false → unread g ≡ false
       → saysJudged r ≡ judgeRead (partsOf g)
+  -- no group fits a row of each direction: the first balise that is no 12 tells it
+  pub one-way : OneWay
   -- every accepted group has an A, and says what its kind says
   pub its-a : (g : Group) (m : Message) → JudgeGroup g (Judged.Accepted m) → Its-A (partsOf g) m
   pub content : (g : Group) (m : Message) → JudgeGroup g (Judged.Accepted m) → Content-of m

@@ -15,7 +15,7 @@ use Rattle.contact.specs.Contacts.{Handed, handed, noFurther}
 use Rattle.contact.specs.Judge.{firstPlace, Contact, read, marker}
 use Rattle.group.specs.declared.Group.{Group}
 use Rattle.ride.specs.declared.Ride.{Ride}
-use Rattle.demands.specs.Table.{notCode, fifteen, notSeven, beyond, noPlace, placesDiffer, isRead, neither, some, historyAfter, zeroesWith, toEight, laterToFour, cut, oneBalise, moreThanFive, isNumber, unread, partsOf, noRow, bothWays, notAllowed, badLength, badRecord, wentBack, tooFar, badGap}
+use Rattle.demands.specs.Table.{notCode, fifteen, notSeven, beyond, noPlace, placesDiffer, isRead, neither, some, historyAfter, zeroesWith, toEight, laterToFour, cut, oneBalise, moreThanFive, isNumber, unread, partsOf, noRow, notAllowed, badLength, badRecord, wentBack, tooFar, badGap}
 use Rattle.demands.specs.Table02.{someAbove, someFifteen, badCount, shortBuffer}
 use Rattle.demands.specs.Rules.{Rule, row}
 
@@ -61,11 +61,11 @@ abbrev pub judgeRules : {A : Type 0} → List ℕ → ℕ → ℕ → ℕ → �
 judgeRules b start len s t =
     row 4 (notSeven s t) ∷ row 5 (beyond b start len) ∷ row 7 (placesDiffer b start len s t) ∷ row 8 (neither b start len s t) ∷ []
 
--- `group::judge`: 10, 11, 12, 13, 14, 15.
+-- `group::judge`: 10, 11, 12, 13, 15.
 abbrev pub groupRules : {A : Type 0} → Group → List (Rule (Outcome A))
 groupRules g =
     row 10 (oneBalise g) ∷ row 11 (moreThanFive g) ∷ row 12 (unread g)
-    ∷ row 13 (noRow (partsOf g)) ∷ row 14 (bothWays (partsOf g)) ∷ row 15 (notAllowed (partsOf g)) ∷ []
+    ∷ row 13 (noRow (partsOf g)) ∷ row 15 (notAllowed (partsOf g)) ∷ []
 
 -- `check_record`: "16, 18, 17 in this order".
 abbrev pub recordRules : {A : Type 0} → Ride → List ℕ → List (Rule (Outcome A))

@@ -1,6 +1,5 @@
 -- The rows of document 01's groups, each in its shortest form and with all its optional members, and just outside: what is
--- judged of each. The balises lie 30 dm apart, the first at 1000 dm, and are given as they are received. (There is no case of
--- 14: none was found that fits rows of both directions.)
+-- judged of each. The balises lie 30 dm apart, the first at 1000 dm, and are given as they are received.
 -- Assumes nothing.
 use Prim.Native.Nat.{ℕ, _+_, _*_}
 use mathlib.Core.Path.{_≡_}

@@ -153,9 +153,8 @@ isMisfit (fit kind a) = false
 unfoldable pub noRow : List Placed → Bool
 noRow bs = isMisfit (fitIn present bs) && isMisfit (fitIn opposite bs)
 
--- 14: "rows of both directions fit" (whether a group can do so is not said here)
-unfoldable pub bothWays : List Placed → Bool
-bothWays bs = not (isMisfit (fitIn present bs)) && not (isMisfit (fitIn opposite bs))
+-- 14 is not used, and never will be again: no group fits a row of each direction (`OneWay`, of walk's specs/OneWay.antt, which demand 2
+-- cites).
 
 -- Whether a distance is judged: "for present signals and present warning boards only".
 abbrev pub judgedKind : Kind → Bool

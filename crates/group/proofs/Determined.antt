@@ -68,8 +68,7 @@ judged (refuses n) =
     pick (eqb n 10) Judged.One
     (pick (eqb n 11) Judged.Many
     (pick (eqb n 12) Judged.Unread
-    (pick (eqb n 13) Judged.NoRow
-    (pick (eqb n 14) Judged.BothWays Judged.NoDistance))))
+    (pick (eqb n 13) Judged.NoRow Judged.NoDistance)))
 
 pub judged-back : (r : Judged) → judged (saysJudged r) ≡ r
 unfolding judged
@@ -78,7 +77,6 @@ judged-back Judged.One = refl
 judged-back Judged.Many = refl
 judged-back Judged.Unread = refl
 judged-back Judged.NoRow = refl
-judged-back Judged.BothWays = refl
 judged-back Judged.NoDistance = refl
 
 pub distance-determined : (κs : Lfts 0) (a : Dens κs distance-kinds.ps) (r r′ : Measured)

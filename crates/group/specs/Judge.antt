@@ -1,5 +1,5 @@
--- The judgement of a closed group (document 01, "Groups" and "Refusal numbers"): 10, 11, 12, 13, 14, 15 in this order,
--- or the group's message.
+-- The judgement of a closed group (document 01, "Groups" and "Refusal numbers"): 10, 11, 12, 13, 15 in this order, or the
+-- group's message. 14 is not used: no group fits a row of each direction (walk's specs/OneWay.antt).
 -- Assumes nothing.
 use Prim.Native.Nat.{ℕ}
 use mathlib.Core.List.{List}
@@ -8,12 +8,12 @@ use Rattle.words.specs.Answer.{Outcome, gives, refuses, pick}
 use Rattle.walk.specs.declared.Direction.{Direction}
 use Rattle.walk.specs.declared.Kind.{Kind}
 use Rattle.walk.specs.declared.Placed.{Placed}
+use Rattle.walk.specs.declared.Picked.{Picked}
 use Rattle.group.specs.declared.Group.{Group}
 use Rattle.group.specs.Balise.{balises, then, readAll}
-use Rattle.walk.specs.Row.{any, Y, Z, Found, none, found, first, Fit, misfit, fit}
-use Rattle.walk.specs.Rows.{present, opposite, fitIn}
+use Rattle.walk.specs.Row.{any, Y, Z, Found, none, found, first}
 use Rattle.group.specs.Distance.{linkDistance, isPreset}
-use Rattle.walk.specs.Fitting.{routeSpeed}
+use Rattle.walk.specs.Fitting.{fitting}
 use Rattle.group.specs.Speed.{signalSpeed, targetFigure}
 use Rattle.group.specs.Message.{Content, ofSignal, ofWarning, ofRoute, nothing, Message}
 
@@ -43,34 +43,32 @@ C bs = first (any 14) bs
 unfoldable pub distanceOf : List Placed → Outcome ℕ
 distanceOf bs = linkDistance (yOf (B bs)) (zOf (B bs)) (C bs)
 
--- What a group of the present direction says beyond its kind, from AY, AZ and its balises. "Distance, judged for
--- present signals and present warning boards only."
-abbrev pub contentOf : Kind → ℕ → ℕ → List Placed → Outcome Content
-contentOf Kind.Signal ay az bs =
+-- What a group of the present direction says beyond its kind, from the speed that its row gives, AY, AZ and its balises.
+-- "Distance, judged for present signals and present warning boards only."
+abbrev pub contentOf : Kind → ℕ → ℕ → ℕ → List Placed → Outcome Content
+contentOf Kind.Signal v ay az bs =
     then (distanceOf bs) λ d.
     gives (ofSignal d (isPreset (yOf (B bs))) (signalSpeed ay)
     (signalSpeed (targetFigure ay az (yOf (P bs)) (zOf (P bs)))))
-contentOf Kind.Warning ay az bs = then (distanceOf bs) λ d. gives (ofWarning d (isPreset (yOf (B bs))))
-contentOf Kind.Annulled ay az bs = gives nothing
-contentOf Kind.Line ay az bs = gives nothing
-contentOf Kind.Route ay az bs = gives (ofRoute (routeSpeed ay az))
+contentOf Kind.Warning v ay az bs = then (distanceOf bs) λ d. gives (ofWarning d (isPreset (yOf (B bs))))
+contentOf Kind.Annulled v ay az bs = gives nothing
+contentOf Kind.Line v ay az bs = gives nothing
+contentOf Kind.Route v ay az bs = gives (ofRoute v)
 
--- The message of a group with this direction, kind, balise A and content.
-abbrev pub messageOf : Direction → Kind → Placed → Content → Message
-messageOf direction kind a content =
-    record { direction = direction; kind = kind; place = a .place; ay = Y (a .part); az = Z (a .part); content = content }
+-- The message of a group with what its row says, and this content.
+abbrev pub messageOf : Picked → Content → Message
+messageOf row content =
+    record { direction = row .direction; kind = row .kind; place = row .a .place; ay = Y (row .a .part); az = Z (row .a .part); content = content }
 
--- From how the balises fit the present and the opposite rows: "no row fits" is 13, "rows of both directions fit" is 14.
-abbrev pub decide : Fit → Fit → List Placed → Outcome Message
-decide misfit misfit bs = refuses 13
-decide (fit kind a) (fit kind′ a′) bs = refuses 14
-decide (fit kind a) misfit bs =
-    then (contentOf kind (Y (a .part)) (Z (a .part)) bs) λ more. gives (messageOf Direction.Present kind a more)
-decide misfit (fit kind a) bs = gives (messageOf Direction.Opposite kind a nothing)
+-- The judgement of balises that fit a row of this direction.
+abbrev pub judgeAs : Direction → Picked → List Placed → Outcome Message
+judgeAs Direction.Present row bs =
+    then (contentOf (row .kind) (row .speed) (Y (row .a .part)) (Z (row .a .part)) bs) λ more. gives (messageOf row more)
+judgeAs Direction.Opposite row bs = gives (messageOf row nothing)
 
--- The judgement of balises that were read.
+-- The judgement of balises that were read: "no row fits" is 13.
 unfoldable pub judgeRead : List Placed → Outcome Message
-judgeRead bs = decide (fitIn present bs) (fitIn opposite bs) bs
+judgeRead bs = then (fitting bs) λ row. judgeAs (row .direction) row bs
 
 -- The judgement of a group: "group of one balise" is 10, "group of more than five" is 11, then its balises are read (12).
 unfoldable pub judge : Group → Outcome Message

@@ -32,12 +32,11 @@ abbrev pub saysMessage : Said → Message
 saysMessage m =
     record { direction = m .direction; kind = m .kind; place = m .place; ay = m .ay; az = m .az; content = saysContent (m .content) }
 
--- The judgement of a group: its message, or 10 to 15 of document 01's table.
+-- The judgement of a group: its message, or 10, 11, 12, 13 or 15 of document 01's table.
 abbrev pub saysJudged : Judged → Outcome Message
 saysJudged (Judged.Accepted m) = gives (saysMessage m)
 saysJudged Judged.One = refuses 10
 saysJudged Judged.Many = refuses 11
 saysJudged Judged.Unread = refuses 12
 saysJudged Judged.NoRow = refuses 13
-saysJudged Judged.BothWays = refuses 14
 saysJudged Judged.NoDistance = refuses 15

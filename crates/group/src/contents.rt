@@ -3,7 +3,6 @@ ghost use mathlib.Core.Path.{_≡_};
 ghost use Prim.Native.Nat.{_≤_};
 ghost use lib.ListN.{take};
 ghost use Rattle.group.specs.Distance.{linkDistance};
-ghost use Rattle.walk.specs.Fitting.{routeSpeed};
 ghost use Rattle.group.specs.Speed.{targetFigure};
 ghost use Rattle.group.specs.Judge.{yOf, zOf, distanceOf, contentOf};
 ghost use Rattle.group.specs.Says.{saysMeasured};
@@ -92,7 +91,7 @@ fn target_figure(ay: u8, az: u8, py: u8, pz: u8) -> u8
 // What a present signal says.
 fn of_signal(ay: u8, az: u8, p: [Placed; 5], n: usize) -> Contained
     requires { ⌜ n ≤ 5 ⌝ }
-    ensures { λ r. ⌜ saysContained r ≡ contentOf Kind.Signal ay az (take n p) ⌝ }
+    ensures { λ r. ⌜ saysContained r ≡ contentOf Kind.Signal 0 ay az (take n p) ⌝ }
 {
     match distance_of(p, n) {
         Measured::Dm(distance) => {
@@ -113,7 +112,7 @@ fn of_signal(ay: u8, az: u8, p: [Placed; 5], n: usize) -> Contained
 // What a present warning board says.
 fn of_warning(ay: u8, az: u8, p: [Placed; 5], n: usize) -> Contained
     requires { ⌜ n ≤ 5 ⌝ }
-    ensures { λ r. ⌜ saysContained r ≡ contentOf Kind.Warning ay az (take n p) ⌝ }
+    ensures { λ r. ⌜ saysContained r ≡ contentOf Kind.Warning 0 ay az (take n p) ⌝ }
 {
     match distance_of(p, n) {
         Measured::Dm(distance) => {
@@ -129,8 +128,8 @@ fn of_warning(ay: u8, az: u8, p: [Placed; 5], n: usize) -> Contained
 
 // What a present group says beyond its kind, or that its distance is not allowed; speed is the route board's.
 pub fn of_present(kind: Kind, speed: u16, ay: u8, az: u8, p: [Placed; 5], n: usize) -> Contained
-    requires { ⌜ (n ≤ 5) × (kind ≡ Kind.Route → speed ≡ routeSpeed ay az) ⌝ }
-    ensures { λ r. ⌜ saysContained r ≡ contentOf kind ay az (take n p) ⌝ }
+    requires { ⌜ n ≤ 5 ⌝ }
+    ensures { λ r. ⌜ saysContained r ≡ contentOf kind speed ay az (take n p) ⌝ }
 {
     match kind {
         Kind::Signal => of_signal(ay, az, p, n),

@@ -2,9 +2,7 @@
 ghost use mathlib.Core.Path.{_≡_};
 ghost use Prim.Native.Nat.{_≤_};
 ghost use lib.ListN.{take};
-ghost use Rattle.walk.specs.Row.{misfit, fit};
-ghost use Rattle.walk.specs.Fitting.{speedOf};
-ghost use Rattle.group.specs.Judge.{messageOf, decide, judgeRead};
+ghost use Rattle.group.specs.Judge.{messageOf, judgeAs, judgeRead};
 ghost use Rattle.group.specs.Says.{saysContent, saysJudged, saysMessage};
 use crate::Content;
 use crate::Judged;
@@ -19,7 +17,7 @@ use walk::Placed;
 
 // The message of a group with what its row says, and this content.
 fn message(row: Picked, content: Content) -> Message
-    ensures { λ r. ⌜ saysMessage r ≡ messageOf (row .direction) (row .kind) (row .a) (saysContent content) ⌝ }
+    ensures { λ r. ⌜ saysMessage r ≡ messageOf row (saysContent content) ⌝ }
 {
     let a = row.a;
     let part = a.part;
@@ -37,8 +35,8 @@ fn message(row: Picked, content: Content) -> Message
 
 // The judgement of a group that fits a present row.
 fn as_present(row: Picked, p: [Placed; 5], n: usize) -> Judged
-    requires { ⌜ (n ≤ 5) × (row .direction ≡ Direction.Present) × (row .speed ≡ speedOf (row .kind) (row .a)) ⌝ }
-    ensures { λ r. ⌜ saysJudged r ≡ decide (fit (row .kind) (row .a)) misfit (take n p) ⌝ }
+    requires { ⌜ n ≤ 5 ⌝ }
+    ensures { λ r. ⌜ saysJudged r ≡ judgeAs Direction.Present row (take n p) ⌝ }
 {
     let a = row.a;
     let part = a.part;

@@ -1,5 +1,5 @@
 // Balises as received, and the judgement of a closed group: rows, distances, speeds.
-// Promises: a group is its message, or refused with 10 to 15, exactly as document 01's rows and tables say.
+// Promises: a group is its message, or refused with 10, 11, 12, 13 or 15, exactly as document 01's rows and tables say.
 // Specification: walk's specs/Rows.antt (the rows), specs/Judge.antt (the judgement), specs/Distance.antt, specs/Speed.antt, specs/Says.antt.
 ghost use mathlib.Core.Path.{_≡_};
 ghost use Rattle.group.specs.Distance.{distance};
@@ -74,14 +74,13 @@ pub struct Message {
     pub content: Content,
 }
 
-// What judging a group answers: its message, or the refusals 10 to 15 in this order.
+// What judging a group answers: its message, or the refusals 10, 11, 12, 13 and 15 in this order. 14 is not used.
 pub enum Judged {
     Accepted(Message),
     One,
     Many,
     Unread,
     NoRow,
-    BothWays,
     NoDistance,
 }
 
@@ -113,7 +112,7 @@ pub fn speed(figure: u8) -> Told
     }
 }
 
-// The judgement of a closed group: its message, or refusal 10, 11, 12, 13, 14 or 15.
+// The judgement of a closed group: its message, or refusal 10, 11, 12, 13 or 15.
 pub fn judge(group: Group) -> Judged
     ensures { λ r. ⌜ saysJudged r ≡ judge group ⌝ }
 {

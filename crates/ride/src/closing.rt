@@ -141,7 +141,6 @@ pub fn judge(group: Group, known: Known) -> Verdict
         Judged::Many => faulty(group, known, 11),
         Judged::Unread => faulty(group, known, 12),
         Judged::NoRow => faulty(group, known, 13),
-        Judged::BothWays => faulty(group, known, 14),
         Judged::NoDistance => faulty(group, known, 15),
     }
 }

@@ -116,7 +116,6 @@ pub fn put(out: &mut [u8], j: Judged) -> usize {
         Judged::Many => text(out, 0, b"refused 11"),
         Judged::Unread => text(out, 0, b"refused 12"),
         Judged::NoRow => text(out, 0, b"refused 13"),
-        Judged::BothWays => text(out, 0, b"refused 14"),
         Judged::NoDistance => text(out, 0, b"refused 15"),
     }
 }

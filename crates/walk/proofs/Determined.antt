@@ -33,11 +33,11 @@ pub is-category-determined : (κs : Lfts 0) (a : Dens κs is-category-kinds.ps) 
 is-category-determined κs a r r′ x x′ p q = p ∙ sym q
 
 -- From what an answer says, the answer.
-fitted : Outcome Picked → Fitted
+pub fitted : Outcome Picked → Fitted
 fitted (gives p) = Fitted.Is p
 fitted (refuses n) = Fitted.NoRow
 
-fitted-back : (r : Fitted) → fitted (saysFitted r) ≡ r
+pub fitted-back : (r : Fitted) → fitted (saysFitted r) ≡ r
 unfolding fitted
 fitted-back (Fitted.Is p) = refl
 fitted-back Fitted.NoRow = refl

@@ -1,9 +1,6 @@
 -- By the kind; the speed of a route board is what its row gives.
 -- Assumes nothing.
-use Prim.Native.Nat.{ℕ}
-use mathlib.Core.Path.{ap, _∙_}
-use Rattle.words.specs.Answer.{gives}
-use Rattle.group.specs.Message.{ofRoute}
+use mathlib.Core.Path.{_∙_}
 use borrow.Author.Needs.{needs}
 use Rattle.group.proofs.contents.of_present.Statement.{statement}
 use Rattle.group.proofs.contents.of_present.Tie as tie
@@ -42,9 +39,7 @@ returns-4 : tie.Need-returns-4
 returns-4 c = rw (c .enum-told4 .given .1)
 
 returns-5 : tie.Need-returns-5
-returns-5 c =
-    let told = c .enum-told5 .given .1 in
-    rw told (ap (λ (v : ℕ). gives (ofRoute v)) (c .before .before .pre .1 told))
+returns-5 c = rw (c .enum-told5 .given .1)
 
 pub of-present-spec : {M : Type 1} → statement M
 of-present-spec =

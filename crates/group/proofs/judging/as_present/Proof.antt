@@ -3,11 +3,8 @@
 use mathlib.Core.Path.{_≡_, sym, ap, _∙_}
 use lib.ListN.{take}
 use Rattle.words.specs.Answer.{gives, refuses}
-use Rattle.walk.specs.declared.Direction.{Direction}
-use Rattle.walk.specs.declared.Kind.{Kind}
 use Rattle.walk.specs.Row.{Y, Z}
-use Rattle.walk.specs.Fitting.{speedOf, routeSpeed}
-use Rattle.group.specs.Judge.{contentOf, messageOf}
+use Rattle.group.specs.Judge.{contentOf}
 use Rattle.group.specs.Says.{saysContent}
 use Rattle.group.specs.Inside.{saysContained}
 use borrow.Author.Needs.{needs}
@@ -21,12 +18,7 @@ z-of-requires : tie.Need-z-of-requires
 z-of-requires c κs = search needs
 
 of-present-requires : tie.Need-of-present-requires
-of-present-requires c κs =
-    let s = c .before .before .before in
-    let row = s .args .row in (
-      s .pre .0,
-      λ e. s .pre .2 ∙ ap (λ (k : Kind). speedOf k (row .a)) e ∙ rw (c .before .y-of .ensures, c .z-of .ensures),
-    )
+of-present-requires c κs = search needs
 
 enum-known-more : tie.Need-enum-known-more
 enum-known-more c = search needs
@@ -43,16 +35,16 @@ returns c =
     let f = m .before .before in
     let s = f .before .before .before .before in
     let row = s .args .row in
-    let e : contentOf (row .kind) (Y (row .a .part)) (Z (row .a .part)) (take (s .args .n) (s .args .p)) ≡ gives (saysContent (m .more .given .0 .0)) =
+    let e : contentOf (row .kind) (row .speed) (Y (row .a .part)) (Z (row .a .part)) (take (s .args .n) (s .args .p)) ≡ gives (saysContent (m .more .given .0 .0)) =
     rw (← f .before .before .y-of .ensures, ← f .before .z-of .ensures) (sym (f .of-present .ensures) ∙ ap saysContained (m .more .given .1)) in
-    rw e (ap gives (c .message .ensures ∙ ap (λ (d : Direction). messageOf d (row .kind) (row .a) (saysContent (m .more .given .0 .0))) (s .pre .1)))
+    rw e (ap gives (c .message .ensures))
 
 returns-2 : tie.Need-returns-2
 returns-2 c =
     let f = c .before .before in
     let s = f .before .before .before .before in
     let row = s .args .row in
-    let e : contentOf (row .kind) (Y (row .a .part)) (Z (row .a .part)) (take (s .args .n) (s .args .p)) ≡ refuses 15 =
+    let e : contentOf (row .kind) (row .speed) (Y (row .a .part)) (Z (row .a .part)) (take (s .args .n) (s .args .p)) ≡ refuses 15 =
     rw (← f .before .before .y-of .ensures, ← f .before .z-of .ensures) (sym (f .of-present .ensures) ∙ ap saysContained (c .enum-told .given .1)) in
     rw e
 

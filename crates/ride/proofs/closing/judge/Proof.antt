@@ -45,12 +45,6 @@ enum-told-5 c = search needs
 faulty-requires-5 : tie.Need-faulty-requires-5
 faulty-requires-5 c κs = search needs
 
-enum-told-6 : tie.Need-enum-told-6
-enum-told-6 c = search needs
-
-faulty-requires-6 : tie.Need-faulty-requires-6
-faulty-requires-6 c κs = search needs
-
 returns : tie.Need-returns
 returns c =
     let s = c .before .before .before .before in
@@ -87,12 +81,6 @@ returns-6 c =
     let a = s .before .args in
     c .faulty5 .ensures ∙ ap (verdictOn (a .group) (a .known)) (sym (ap saysJudged (c .before .enum-told5 .given .1)) ∙ s .judge .ensures)
 
-returns-7 : tie.Need-returns-7
-returns-7 c =
-    let s = c .before .before .before in
-    let a = s .before .args in
-    c .faulty6 .ensures ∙ ap (verdictOn (a .group) (a .known)) (sym (ap saysJudged (c .before .enum-told6 .given .1)) ∙ s .judge .ensures)
-
 pub judge-spec : {M : Type 1} → statement M
 judge-spec =
     tie.close
@@ -110,12 +98,9 @@ judge-spec =
     faulty-requires-4
     enum-told-5
     faulty-requires-5
-    enum-told-6
-    faulty-requires-6
     returns
     returns-2
     returns-3
     returns-4
     returns-5
-    returns-6
-    returns-7)
+    returns-6)

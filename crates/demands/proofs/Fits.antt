@@ -1,0 +1,26 @@
+-- The judgement of balises that were read, from how they fit the rows of each direction.
+-- Assumes nothing.
+use mathlib.Core.Path.{_≡_, refl}
+use mathlib.Core.List.{List}
+use Rattle.words.specs.Answer.{Outcome, refuses}
+use Rattle.walk.specs.Row.{Fit}
+use Rattle.walk.specs.Rows.{present, opposite, fitIn}
+use Rattle.walk.specs.Fitting.{speedOf, asOr, fitting}
+use Rattle.walk.specs.declared.Direction.{Direction}
+use Rattle.walk.specs.declared.Kind.{Kind}
+use Rattle.walk.specs.declared.Placed.{Placed}
+use Rattle.walk.specs.declared.Picked.{Picked}
+use Rattle.group.specs.Balise.{then}
+use Rattle.group.specs.Message.{Message}
+use Rattle.group.specs.Judge.{judgeAs, judgeRead}
+
+-- What a row of this direction and kind says, with this balise as A.
+abbrev pub said : Direction → Kind → Placed → Picked
+said direction kind a = record { direction = direction; kind = kind; speed = speedOf kind a; a = a }
+
+abbrev pub decide : Fit → Fit → List Placed → Outcome Message
+decide p o bs = then (asOr Direction.Present p (asOr Direction.Opposite o (refuses 13))) (λ row. judgeAs (row .direction) row bs)
+
+pub decides : (bs : List Placed) → judgeRead bs ≡ decide (fitIn present bs) (fitIn opposite bs) bs
+unfolding judgeRead fitting
+decides bs = refl
