@@ -2,11 +2,11 @@
  * The balise bench checker's libraries for C and C++.
  *
  * Link with target/staticlib/libabi.a (rt staticlib abi; x86-64 Linux). Each function is total: whatever numbers and bytes are passed,
- * it returns one of the values listed, and a refusal, -N for document 01's number N, leaves every lent array as it was. Buffers are read
- * only while the call runs. The caller keeps: buf points to n bytes (and is not NULL, even where n is 0), search to a search, out to as many
- * numbers as it is declared with, and no two of them overlap.
+ * it returns one of the values listed, and a refusal, -N for the number N of documents 01 and 02, leaves every lent array as it was. A buffer
+ * is used only while the call runs. The caller keeps: buf points to n bytes (in atc2_write_balise to len) and is not NULL, even where there
+ * is none; search to a search, out to as many numbers as it is declared with; and no two of them overlap.
  *
- * Here are the codes, telegrams, contacts and table DF's distances. Groups, rides and their lines are not: for those there is the
+ * Here are the codes, telegrams, contacts, test balises and table DF's distances. Groups, rides and their lines are not: for those there is the
  * program checker (./run checker). tests/abi/calls.c is a small program that uses every function.
  */
 #ifndef ATC2_H
@@ -30,7 +30,9 @@ enum {
     ATC2_DIFFER = -7,       /* places differ */
     ATC2_NEITHER = -8,      /* contact neither telegram nor marker */
     ATC2_CUT = -9,          /* contact cut by the end of the record */
-    ATC2_NOT_ALLOWED = -15  /* distance not allowed */
+    ATC2_NOT_ALLOWED = -15, /* distance not allowed */
+    ATC2_COUNT = -20,       /* number of telegrams to write outside 2 to 1,000 */
+    ATC2_SHORT = -21        /* buffer too short for them */
 };
 
 /* What atc2_judge and atc2_next_contact answer where they do not refuse. */
@@ -83,6 +85,11 @@ int32_t atc2_begin(const uint8_t *buf, size_t n, size_t start, size_t len, struc
 /* The next contact of a search: 1, and out = start, length, and search moves on past its closing bit; 0: no further one opens, both as they were.
  * -5 as above; -9: a contact is cut by the end. A history above 65535 counts by its low sixteen bits. */
 int32_t atc2_next_contact(const uint8_t *buf, size_t n, struct atc2_search *search, uint64_t out[2]);
+
+/* A test balise: n telegrams, 2 to 1000, of the figures x, y, z (for x = 12: of the number y, and z is not looked at) into buf,
+ * S first, the sync words in turn, one to close: 4 * n + 1, the number of bytes written; bytes after them stay.
+ * -2: a figure above 15 or a number above 2047; -3: a figure of 15; -4: the pair; -20: n; -21: fewer than 4 * n + 1 bytes; in this order. */
+int32_t atc2_write_balise(uint8_t x, uint16_t y, uint8_t z, uint8_t s, uint8_t t, uint32_t n, uint8_t *buf, size_t len);
 
 /* The distance in decimetres of a figure 1 to 14 in column BY 0 to 14 of table DF.
  * -15 for any other column or figure. */

@@ -128,6 +128,34 @@ static void contacts(void)
     same("a search beyond", atc2_next_contact(line, 8, &search, out), ATC2_BEYOND);
 }
 
+static void balises(void)
+{
+    uint8_t buf[18] = {0};
+    static const uint8_t figures[9] = {S, 0x17, 0x8E, 0x5A, T, 0x17, 0x8E, 0x5A, S};
+    static const uint8_t number[9] = {S, 0xC3, 0xD1, 0xC6, T, 0xC3, 0xD1, 0xC6, S};
+    uint64_t out[3] = {0, 0, 0};
+    buf[9] = 77;
+    same("write_balise 1 8 5", atc2_write_balise(1, 8, 5, S, T, 2, buf, 9), 9);
+    for (int i = 0; i < 9; i++) same("its bytes", buf[i], figures[i]);
+    same("the byte after them", buf[9], 77);
+    same("judge of it", atc2_judge(buf, 9, 0, 72, S, T, out), ATC2_TELEGRAM);
+    same("its figures", (int64_t)out[0], 1 * 65536 + 8 * 256 + 5);
+    same("its first place", (int64_t)out[1], 0);
+    same("its places", (int64_t)out[2], 2);
+    same("write_balise number 1612", atc2_write_balise(12, 1612, 200, S, T, 2, buf, 18), 9);
+    for (int i = 0; i < 9; i++) same("its bytes", buf[i], number[i]);
+    same("the byte after them", buf[9], 77);
+    same("write_balise figure 16", atc2_write_balise(15, 16, 0, S, S, 1, buf, 8), ATC2_TOO_LARGE);
+    same("write_balise Y 256", atc2_write_balise(1, 256, 0, S, T, 2, buf, 18), ATC2_TOO_LARGE);
+    same("write_balise number 2048", atc2_write_balise(12, 2048, 0, S, T, 2, buf, 18), ATC2_TOO_LARGE);
+    same("write_balise figure 15", atc2_write_balise(15, 14, 0, S, S, 1, buf, 8), ATC2_FIFTEEN);
+    same("write_balise S twice", atc2_write_balise(14, 14, 0, S, S, 1, buf, 8), ATC2_NOT_SEVEN);
+    same("write_balise one telegram", atc2_write_balise(14, 14, 0, S, T, 1, buf, 8), ATC2_COUNT);
+    same("write_balise 1001 telegrams", atc2_write_balise(14, 14, 0, S, T, 1001, buf, 8), ATC2_COUNT);
+    same("write_balise into 8 bytes", atc2_write_balise(14, 14, 0, S, T, 2, buf, 8), ATC2_SHORT);
+    for (int i = 0; i < 9; i++) same("its bytes as they were", buf[i], number[i]);
+}
+
 static void distances(void)
 {
     same("distance 0, 1", atc2_distance(0, 1), 125);
@@ -146,6 +174,7 @@ int main(void)
     places();
     judging();
     contacts();
+    balises();
     distances();
     printf("%u passed, %u failed\n", passed, failed);
     return failed != 0;

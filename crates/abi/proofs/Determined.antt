@@ -24,6 +24,8 @@ use Rattle.abi.proofs.contacts.atc2_begin.Kinds as begin-kinds
 use Rattle.abi.proofs.contacts.atc2_begin.Reads as begin-reads
 use Rattle.abi.proofs.contacts.atc2_next_contact.Kinds as next-contact-kinds
 use Rattle.abi.proofs.contacts.atc2_next_contact.Reads as next-contact-reads
+use Rattle.abi.proofs.balises.atc2_write_balise.Kinds as write-balise-kinds
+use Rattle.abi.proofs.balises.atc2_write_balise.Reads as write-balise-reads
 use Rattle.abi.proofs.distances.atc2_distance.Kinds as distance-kinds
 use Rattle.abi.proofs.distances.atc2_distance.Reads as distance-reads
 
@@ -83,3 +85,10 @@ pub atc2-distance-determined : (κs : Lfts 0) (a : Dens κs distance-kinds.ps) (
     (x x′ : AtExit (endedOf 0 distance-kinds.ps distance-kinds.r) κs)
     → distance-reads.Post κs a r x → distance-reads.Post κs a r′ x′ → r ≡ r′
 atc2-distance-determined κs a r r′ x x′ p q = p ∙ sym q
+
+-- `out` is the seventh of the arguments of `atc2_write_balise`.
+pub atc2-write-balise-determined : (κs : Lfts 1) (a : Dens κs write-balise-kinds.ps) (r r′ : ℤ)
+    (x x′ : AtExit (endedOf 1 write-balise-kinds.ps write-balise-kinds.r) κs)
+    → write-balise-reads.Post κs a r x → write-balise-reads.Post κs a r′ x′
+    → (r ≡ r′) × (x .1 .1 .1 .1 .1 .1 .0 .now ≡ x′ .1 .1 .1 .1 .1 .1 .0 .now)
+atc2-write-balise-determined κs a r r′ x x′ p q = (p .0 ∙ sym (q .0), p .1 ∙ sym (q .1))

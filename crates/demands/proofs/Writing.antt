@@ -7,9 +7,7 @@ use Prim.Native.Nat.{ℕ, zero, suc, _+_, _*_, _≤_}
 use native.Mathlib.Omega.{arith}
 use lib.Dec.{leb}
 use lib.ListN.{length, drop, length-append, length-map}
-use borrow.Author.Tests.{leb-true}
 use Rattle.words.specs.Answer.{gives, refuses, pick}
-use Rattle.telegram.specs.Sync.{isGood}
 use Rattle.telegram.specs.Telegram.{Received, reads}
 use Rattle.telegram.specs.Place.{from, wordsAt}
 use Rattle.telegram.specs.Says.{saysTelegram}
@@ -22,63 +20,18 @@ use Rattle.line.specs.Line.{OneBalise, Proper, placesOf}
 use Rattle.line.proofs.TooFew.{few-flips-few}
 use Rattle.line.proofs.Stretch.{all-sent}
 use Rattle.line.proofs.Clean.{clean-few, true-places}
-use Rattle.writer.specs.Words.{asked, tooLarge, hasFifteen, wordsOf, spelt}
-use Rattle.writer.specs.Write.{telegrams, inRange, bytesOf, Writing, onto, withWords, write}
+use Rattle.writer.specs.Words.{wordsOf}
+use Rattle.writer.specs.Write.{telegrams, write}
 use Rattle.writer.specs.Sender.{sender}
 use Rattle.writer.proofs.Bytes.{telegrams-length}
+use Rattle.writer.proofs.Accepted.{accepted}
 use Rattle.writer.proofs.Heard.{is-clean, places-are}
 use Rattle.writer.proofs.Valid.{is-proper}
-use Rattle.line.proofs.Places.{and-parts}
 use Rattle.demands.specs.Contracts.{JudgeContact}
 use Rattle.demands.specs.Calls.{Comes}
 use Rattle.demands.specs.Writing.{telegramOf, WrittenIsRead}
 use Rattle.demands.proofs.JudgedAlike.{judge-sent}
 use Rattle.demands.proofs.Clean.{comes-all-sent}
-
--- What a call that was not refused shows.
-pub record Accepted (m : Telegram) (s t n : ℕ) (before : List ℕ) (bytes : ℕ) (after : List ℕ) : Type 0 where
-  pub figures : (tooLarge m ≡ false) × (hasFifteen m ≡ false)
-  pub pair : isGood s t ≡ true
-  pub count : (2 ≤ n) × (n ≤ 1000)
-  pub room : 4 * n + 1 ≤ length before
-  pub bytes-are : bytes ≡ 4 * n + 1
-  pub written : after ≡ telegrams s t (wordsOf m) n ++ drop (length (telegrams s t (wordsOf m) n)) before
-
--- what gives does not refuse
-no : {A : Type 0} {k bytes : ℕ} → gives bytes ≡ refuses k → A
-no e = absurd (let z : _≡_ {A = ℕ} 0 1 = cc in omega arith)
-
-accepted : (x y z s t n : ℕ) (before : List ℕ) (bytes : ℕ) (after : List ℕ)
-    → record { answer = gives bytes; buffer = after } ≡ write x y z s t n before → Accepted (asked x y z) s t n before bytes after
-unfolding write spelt bytesOf inRange
-accepted x y z s t n before bytes after e =
-    go (tooLarge m) (hasFifteen m) (isGood s t) (leb 2 n && leb n 1000) (leb (4 * n + 1) (length before)) refl refl refl refl refl e
-  where
-    m : Telegram
-    m = asked x y z
-
-    go : (a f g r l : Bool) → tooLarge m ≡ a → hasFifteen m ≡ f → isGood s t ≡ g → (leb 2 n && leb n 1000) ≡ r → leb (4 * n + 1) (length before) ≡ l
-        → record { answer = gives bytes; buffer = after }
-        ≡ onto before (withWords (pick a (refuses 2) (pick f (refuses 3) (gives (wordsOf m))))
-        (λ w. pick g (pick r (pick l (gives (telegrams s t w n)) (refuses 21)) (refuses 20)) (refuses 4)))
-        → Accepted m s t n before bytes after
-    go true f g r l ia ifs ig ir il e = no (ap (λ (w : Writing). w .answer) e)
-    go false true g r l ia ifs ig ir il e = no (ap (λ (w : Writing). w .answer) e)
-    go false false false r l ia ifs ig ir il e = no (ap (λ (w : Writing). w .answer) e)
-    go false false true false l ia ifs ig ir il e = no (ap (λ (w : Writing). w .answer) e)
-    go false false true true false ia ifs ig ir il e = no (ap (λ (w : Writing). w .answer) e)
-    go false false true true true ia ifs ig ir il e =
-        let given : gives bytes ≡ gives (length (telegrams s t (wordsOf m) n)) = ap (λ (w : Writing). w .answer) e in
-        let many : bytes ≡ length (telegrams s t (wordsOf m) n) = cc in
-        let range = and-parts (leb 2 n) (leb n 1000) ir in
-        record {
-          figures = (ia, ifs);
-          pair = ig;
-          count = (leb-true 2 n (range .0), leb-true n 1000 (range .1));
-          room = leb-true (4 * n + 1) (length before) il;
-          bytes-are = many ∙ telegrams-length s t (wordsOf m) n;
-          written = ap (λ (w : Writing). w .buffer) e;
-        }
 
 -- A judgement that reads has the first of the places.
 first-of : (b : List ℕ) (start len : ℕ) (ps : List ℕ) (m : Received) (first count : ℕ) → judgement b start len ps ≡ gives (read m first count) → first ≡ firstPlace ps

@@ -1,6 +1,7 @@
 pub mod Spelt
 pub mod Bytes
 pub mod Answers
+pub mod Accepted
 pub mod Heard
 pub mod Valid
 pub mod Determined
