@@ -370,10 +370,13 @@ static enum kind kind_of(uint8_t category)
     }
 }
 
-/* The distance of a present signal or warning board: A, then the 9, then perhaps a 14. */
+/* The distance of a present signal or warning board: A, then the 9, then perhaps a 14. A preset point, which only a signal can be, is
+ * refused with a target of 0 or 40 km/h. */
 static int32_t judged_distance(const struct reading *b, int n, int a)
 {
-    const struct reading *B = &b[a + 1];
+    const struct reading *A = &b[a], *B = &b[a + 1];
+    if (B->y == 14 && (A->z == 0 || A->z == 1 || A->z == 13))
+        return -15;
     bool has_14 = a + 2 < n && b[a + 2].x == 14;
     if (!has_14)
         return plain_distance(B->y, B->z);

@@ -511,7 +511,13 @@ static void test_opposite_rows(void)
 static void test_distances_judged(void)
 {
     CHECK(group_gives("1,0,0 9,0,0", "0 fault 15\n") && group_gives("2,0,0 9,0,0", "0 fault 15\n"));
-    CHECK(group_gives("1,0,0 9,14,0", "0 fault 15\n") && group_gives("1,0,0 9,14,14", "0 present signal first\n"));
+    CHECK(group_gives("1,0,2 9,14,0", "0 fault 15\n") && group_gives("1,0,2 9,14,14", "0 present signal first\n"));
+    /* a preset point with AZ 0, 1 or 13, with a 14 or without; a prefix does not come before it */
+    CHECK(group_gives("1,8,0 9,14,1", "0 fault 15\n") && group_gives("4,8,1 9,14,1", "0 fault 15\n"));
+    CHECK(group_gives("1,8,13 9,14,14", "0 fault 15\n") && group_gives("1,8,13 9,14,0 14,1,0", "0 fault 15\n"));
+    CHECK(group_gives("1,8,0 9,14,0 14,1,0", "0 fault 15\n") && group_gives("8,7,1 1,8,1 9,14,0 14,1,0", "0 fault 15\n"));
+    CHECK(group_gives("1,8,12 9,14,1", "0 present signal first\n") && group_gives("1,8,14 9,14,0 14,1,0", "0 present signal first\n"));
+    CHECK(group_gives("1,8,13 9,13,1", "0 present signal first\n") && group_gives("9,14,1 1,8,0", "10 opposite signal\n"));
     CHECK(group_gives("1,0,0 9,0,1 14,1,0", "0 fault 15\n") && group_gives("1,0,0 9,0,0 14,0,1", "0 fault 15\n"));
     CHECK(group_gives("1,0,0 9,0,0 14,14,14", "0 present signal first\n") && group_gives("2,0,0 9,0,0 14,0,0", "0 fault 15\n"));
     CHECK(ridden("0:1,0,0 9:9,2,0 18:14,4,0 999:-").distance == 4000);

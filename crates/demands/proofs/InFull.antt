@@ -15,7 +15,7 @@ use Rattle.walk.specs.Rows.{howMany, fitIn}
 use Rattle.group.specs.Distance.{distance}
 use Rattle.group.specs.Speed.{signalSpeed, targetFigure}
 use Rattle.walk.specs.Fitting.{routeSpeed, fitting}
-use Rattle.group.specs.Judge.{distanceOf, judgeRead, judge}
+use Rattle.group.specs.Judge.{distanceOf, signalDistance, judgeRead, judge}
 use Rattle.walk.specs.declared.Direction.{Direction}
 use Rattle.walk.specs.declared.Kind.{Kind}
 use Rattle.group.specs.declared.Told.{Told}
@@ -48,7 +48,7 @@ inFull =
     }
 
 ridden-is : ridden oneRide ≡ inFull
-unfolding readWord isCode even count covers figure onwards isCheck exchanged other word shortWord longWord telegram balises readAll fits first fitRow fitRows howMany fitIn fitting distance signalSpeed targetFigure routeSpeed distanceOf judgeRead judge odometerOf passedOf inOrder check noGroup nothingKnown freshRide join takeUp markAt close leave closeBehind missedLines afterMissed goOn treat firstRecords rideOver
+unfolding readWord isCode even count covers figure onwards isCheck exchanged other word shortWord longWord telegram balises readAll fits first fitRow fitRows howMany fitIn fitting distance signalSpeed targetFigure routeSpeed distanceOf signalDistance judgeRead judge odometerOf passedOf inOrder check noGroup nothingKnown freshRide join takeUp markAt close leave closeBehind missedLines afterMissed goOn treat firstRecords rideOver
 ridden-is = refl
 
 text-is : textOf (inFull .lines) ≡ itsLines

@@ -16,7 +16,7 @@ use Rattle.walk.specs.Rows.{howMany, fitIn}
 use Rattle.group.specs.Distance.{distance}
 use Rattle.group.specs.Speed.{signalSpeed, targetFigure}
 use Rattle.walk.specs.Fitting.{routeSpeed, fitting}
-use Rattle.group.specs.Judge.{distanceOf, judgeRead, judge}
+use Rattle.group.specs.Judge.{distanceOf, signalDistance, judgeRead, judge}
 use Rattle.group.specs.declared.Content.{Content}
 use Rattle.walk.specs.declared.Direction.{Direction}
 use Rattle.group.specs.declared.Group.{Group}
@@ -115,7 +115,7 @@ lent linking = (lastStep linking Mark.First .ride, (40, (last, tt)))
 -- D = 500: 4D is 5 x 400, 6D is 5 x 600. At 399 early, at 400 and 600 good, at 601 late; with no linking first.
 pub its-answers : JudgeGroup itsGroup (Judged.Accepted itsMessage) × Answered Linking.Unset Mark.First × Answered (Linking.Set 500 601) Mark.Early
     × Answered (Linking.Set 500 600) Mark.Good × Answered (Linking.Set 500 400) Mark.Good × Answered (Linking.Set 500 399) Mark.Late
-unfolding readWord isCode even count covers figure onwards isCheck exchanged other word shortWord longWord telegram balises readAll fits first fitRow fitRows howMany fitIn fitting distance signalSpeed targetFigure routeSpeed distanceOf judgeRead judge odometerOf passedOf inOrder check noGroup nothingKnown freshRide join takeUp markAt close leave closeBehind missedLines afterMissed goOn treat step badGap
+unfolding readWord isCode even count covers figure onwards isCheck exchanged other word shortWord longWord telegram balises readAll fits first fitRow fitRows howMany fitIn fitting distance signalSpeed targetFigure routeSpeed distanceOf signalDistance judgeRead judge odometerOf passedOf inOrder check noGroup nothingKnown freshRide join takeUp markAt close leave closeBehind missedLines afterMissed goOn treat step badGap
 its-answers = (
   ((itsGroup, tt), refl),
   (lent Linking.Unset, refl),

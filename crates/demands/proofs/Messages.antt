@@ -15,7 +15,7 @@ use Rattle.group.specs.Distance.{isPreset}
 use Rattle.group.specs.Speed.{signalSpeed, targetFigure}
 use Rattle.walk.specs.Fitting.{routeSpeed, fitting}
 use Rattle.group.specs.Message.{Content, ofSignal, ofWarning, ofRoute, nothing, Message}
-use Rattle.group.specs.Judge.{yOf, zOf, B, P, distanceOf, messageOf, judgeAs, judgeRead, judge}
+use Rattle.group.specs.Judge.{yOf, zOf, B, P, distanceOf, signalDistance, messageOf, judgeAs, judgeRead, judge}
 use Rattle.walk.specs.declared.Direction.{Direction}
 use Rattle.group.specs.declared.Group.{Group}
 use Rattle.walk.specs.declared.Kind.{Kind}
@@ -35,7 +35,7 @@ not-signal m (inr (inr o)) d k = let z : _≡_ {A = ℕ} 0 1 = cc in omega arith
 
 -- The content of a message of these balises, by its direction and kind.
 pub data View (bs : List Placed) (m : Message) : Type 0 where
-  signal : m .direction ≡ Direction.Present → m .kind ≡ Kind.Signal → (d : ℕ) → distanceOf bs ≡ gives d
+  signal : m .direction ≡ Direction.Present → m .kind ≡ Kind.Signal → (d : ℕ) → signalDistance (m .az) bs ≡ gives d
       → m .content ≡ ofSignal d (isPreset (yOf (B bs))) (signalSpeed (m .ay)) (signalSpeed (targetFigure (m .ay) (m .az) (yOf (P bs)) (zOf (P bs))))
       → View bs m
   warning : m .direction ≡ Direction.Present → m .kind ≡ Kind.Warning → (d : ℕ) → distanceOf bs ≡ gives d → m .content ≡ ofWarning d (isPreset (yOf (B bs))) → View bs m
@@ -53,7 +53,7 @@ on-distance (refuses n) f g m e = absurd (never n e)
 
 present-view : (kind : Kind) (a : Placed) (bs : List Placed) (m : Message) → judgeAs Direction.Present (said Direction.Present kind a) bs ≡ gives m → View bs m
 present-view Kind.Signal a bs m e =
-    let r = on-distance (distanceOf bs)
+    let r = on-distance (signalDistance (Z (a .part)) bs)
     (λ d. ofSignal d (isPreset (yOf (B bs))) (signalSpeed (Y (a .part))) (signalSpeed (targetFigure (Y (a .part)) (Z (a .part)) (yOf (P bs)) (zOf (P bs)))))
     (messageOf (said Direction.Present Kind.Signal a)) m e in
     subst (View bs) (r .2) (signal refl refl (r .0) (r .1) refl)

@@ -15,7 +15,7 @@ use Rattle.walk.specs.Rows.{howMany, fitIn}
 use Rattle.group.specs.Distance.{distance}
 use Rattle.group.specs.Speed.{signalSpeed, targetFigure}
 use Rattle.walk.specs.Fitting.{routeSpeed, fitting}
-use Rattle.group.specs.Judge.{distanceOf, judgeRead, judge}
+use Rattle.group.specs.Judge.{distanceOf, signalDistance, judgeRead, judge}
 use Rattle.group.specs.declared.Content.{Content}
 use Rattle.walk.specs.declared.Direction.{Direction}
 use Rattle.group.specs.declared.Group.{Group}
@@ -158,7 +158,7 @@ endedWith g line known = record { ride = record { odometer = 1030; group = noGro
 ends-met : EndOf (openRide itsGroup)
     (endedWith itsGroup (Line.Group (record { place = 1000; direction = Direction.Present; kind = Kind.Signal; mark = Mark.First }))
     (record { linking = Linking.Set 4000 1000; main = Told.Kmh 130; target = Told.Kmh 80 }))
-unfolding readWord isCode even count covers figure onwards isCheck exchanged other word shortWord longWord telegram balises readAll fits first fitRow fitRows howMany fitIn fitting distance signalSpeed targetFigure routeSpeed distanceOf judgeRead judge odometerOf passedOf inOrder check noGroup nothingKnown freshRide join takeUp markAt close leave closeBehind missedLines afterMissed goOn treat step badGap end
+unfolding readWord isCode even count covers figure onwards isCheck exchanged other word shortWord longWord telegram balises readAll fits first fitRow fitRows howMany fitIn fitting distance signalSpeed targetFigure routeSpeed distanceOf signalDistance judgeRead judge odometerOf passedOf inOrder check noGroup nothingKnown freshRide join takeUp markAt close leave closeBehind missedLines afterMissed goOn treat step badGap end
 ends-met = ((openRide itsGroup, tt), refl)
 
 ends-alone-met : EndOf (openRide alone) (endedWith alone (Line.Fault 1000 10) nothingKnown)
@@ -188,5 +188,5 @@ abbrev itsOther : Message
 itsOther = record { direction = Direction.Opposite; kind = Kind.Signal; place = 1030; ay = 8; az = 5; content = Content.Nothing }
 
 other-met : JudgeGroup backwards (Judged.Accepted itsOther) × IsMarked Linking.Unset itsOther Mark.Unmarked
-unfolding readWord isCode even count covers figure onwards isCheck exchanged other word shortWord longWord telegram balises readAll fits first fitRow fitRows howMany fitIn fitting distance signalSpeed targetFigure routeSpeed distanceOf judgeRead judge odometerOf passedOf inOrder check noGroup nothingKnown freshRide join takeUp markAt close leave closeBehind missedLines afterMissed goOn treat step badGap end
+unfolding readWord isCode even count covers figure onwards isCheck exchanged other word shortWord longWord telegram balises readAll fits first fitRow fitRows howMany fitIn fitting distance signalSpeed targetFigure routeSpeed distanceOf signalDistance judgeRead judge odometerOf passedOf inOrder check noGroup nothingKnown freshRide join takeUp markAt close leave closeBehind missedLines afterMissed goOn treat step badGap end
 other-met = (((backwards, tt), refl), unmarked (λ s. let e = s .0 in let z : _≡_ {A = ℕ} 0 1 = cc in omega arith))

@@ -14,7 +14,7 @@ use Rattle.group.specs.Distance.{distance}
 use Rattle.group.specs.Speed.{signalSpeed, targetFigure}
 use Rattle.walk.specs.Fitting.{routeSpeed, fitting}
 use Rattle.group.specs.Message.{Message}
-use Rattle.group.specs.Judge.{distanceOf, judgeRead, judge}
+use Rattle.group.specs.Judge.{distanceOf, signalDistance, judgeRead, judge}
 use Rattle.demands.specs.RowCases.{RowCase, groupOf, presentCases, oppositeCases, outsideCases, AllJudged}
 
 -- what the specification judges, and what must be judged
@@ -33,13 +33,13 @@ each (c ∷ cs) e =
     (λ r k. k .1 ∙ here, each cs rest)
 
 pub present-judged : AllJudged presentCases
-unfolding readWord isCode even count covers figure onwards isCheck exchanged other word shortWord longWord telegram balises readAll fits first fitRow fitRows howMany fitIn fitting distance signalSpeed targetFigure routeSpeed distanceOf judgeRead judge
+unfolding readWord isCode even count covers figure onwards isCheck exchanged other word shortWord longWord telegram balises readAll fits first fitRow fitRows howMany fitIn fitting distance signalSpeed targetFigure routeSpeed distanceOf signalDistance judgeRead judge
 present-judged = each presentCases refl
 
 pub opposite-judged : AllJudged oppositeCases
-unfolding readWord isCode even count covers figure onwards isCheck exchanged other word shortWord longWord telegram balises readAll fits first fitRow fitRows howMany fitIn fitting distance signalSpeed targetFigure routeSpeed distanceOf judgeRead judge
+unfolding readWord isCode even count covers figure onwards isCheck exchanged other word shortWord longWord telegram balises readAll fits first fitRow fitRows howMany fitIn fitting distance signalSpeed targetFigure routeSpeed distanceOf signalDistance judgeRead judge
 opposite-judged = each oppositeCases refl
 
 pub outside-judged : AllJudged outsideCases
-unfolding readWord isCode even count covers figure onwards isCheck exchanged other word shortWord longWord telegram balises readAll fits first fitRow fitRows howMany fitIn fitting distance signalSpeed targetFigure routeSpeed distanceOf judgeRead judge
+unfolding readWord isCode even count covers figure onwards isCheck exchanged other word shortWord longWord telegram balises readAll fits first fitRow fitRows howMany fitIn fitting distance signalSpeed targetFigure routeSpeed distanceOf signalDistance judgeRead judge
 outside-judged = each outsideCases refl

@@ -13,11 +13,11 @@ use Rattle.words.specs.Answer.{Outcome, gives, refuses, pick}
 use Rattle.words.proofs.Told.{told}
 use Rattle.group.specs.Balise.{balises, then, readAll}
 use Rattle.walk.specs.Row.{Found, none, found, Y}
-use Rattle.group.specs.Distance.{columns, inColumn, inTable, distance, linkDistance, isPreset}
+use Rattle.group.specs.Distance.{columns, inColumn, inTable, distance, linkDistance, isPreset, noIncrease}
 use Rattle.group.specs.Speed.{signalSpeed, targetFigure}
 use Rattle.walk.specs.Fitting.{routeSpeed}
 use Rattle.walk.proofs.OneWay.{one-way}
-use Rattle.group.specs.Judge.{yOf, zOf, B, C, P, distanceOf, judgeRead, judge}
+use Rattle.group.specs.Judge.{yOf, zOf, B, C, P, distanceOf, signalDistance, judgeRead, judge}
 use Rattle.group.specs.Says.{saysMeasured, saysTold, saysContent, saysMessage}
 use Rattle.group.specs.declared.Content.{Content}
 use Rattle.group.specs.declared.Group.{Group}
@@ -92,6 +92,15 @@ announces bs d preset e p =
       preset-is = p;
     }
 
+-- a distance that is given is table DF's, and no preset point's that cannot be
+given : (az : ℕ) (bs : List Placed) (d : ℕ) → signalDistance az bs ≡ gives d → (isPreset (yOf (B bs)) && noIncrease az ≡ false) × (distanceOf bs ≡ gives d)
+unfolding signalDistance
+given az bs d e = go (isPreset (yOf (B bs)) && noIncrease az) e
+  where
+    go : (t : Bool) → pick t (refuses 15) (distanceOf bs) ≡ gives d → (t ≡ false) × (distanceOf bs ≡ gives d)
+    go true q = absurd (never 15 q)
+    go false q = (refl, q)
+
 -- ---- speeds
 
 same-told : (v w : Told) → saysTold v ≡ saysTold w → v ≡ w
@@ -120,12 +129,27 @@ signal-so bs m d preset main target e (signal _ _ k far is) =
     let same-p : preset ≡ isPreset (yOf (B bs)) = cc in
     let same-m : saysTold main ≡ signalSpeed (m .ay) = cc in
     let same-t : saysTold target ≡ signalSpeed (targetFigure (m .ay) (m .az) (yOf (P bs)) (zOf (P bs))) = cc in
-    (announces bs d preset (far ∙ ap gives same-d) same-p, speeds-so bs m main target same-m same-t)
+    (announces bs d preset (given (m .az) bs k far .1 ∙ ap gives same-d) same-p, speeds-so bs m main target same-m same-t)
 signal-so bs m d preset main target e (warning _ _ k far is) =
     absurd (let both = sym (ap saysContent e) ∙ is in let z : _≡_ {A = ℕ} 0 1 = cc in omega arith)
 signal-so bs m d preset main target e (route _ _ is) =
     absurd (let both = sym (ap saysContent e) ∙ is in let z : _≡_ {A = ℕ} 0 1 = cc in omega arith)
 signal-so bs m d preset main target e (plain _ is) =
+    absurd (let both = sym (ap saysContent e) ∙ is in let z : _≡_ {A = ℕ} 0 1 = cc in omega arith)
+
+-- an accepted preset point has a target above 40
+preset-so : (bs : List Placed) (m : Message) (d : ℕ) (main target : Told) → m .content ≡ Content.Signal d true main target
+    → View bs (saysMessage m) → noIncrease (m .az) ≡ false
+preset-so bs m d main target e (signal _ _ k far is) =
+    let both = sym (ap saysContent e) ∙ is in
+    let so : true ≡ isPreset (yOf (B bs)) = cc in
+    let not-both = given (m .az) bs k far .0 in
+    ap (λ (t : Bool). t && noIncrease (m .az)) so ∙ not-both
+preset-so bs m d main target e (warning _ _ k far is) =
+    absurd (let both = sym (ap saysContent e) ∙ is in let z : _≡_ {A = ℕ} 0 1 = cc in omega arith)
+preset-so bs m d main target e (route _ _ is) =
+    absurd (let both = sym (ap saysContent e) ∙ is in let z : _≡_ {A = ℕ} 0 1 = cc in omega arith)
+preset-so bs m d main target e (plain _ is) =
     absurd (let both = sym (ap saysContent e) ∙ is in let z : _≡_ {A = ℕ} 0 1 = cc in omega arith)
 
 warning-so : (bs : List Placed) (m : Message) (d : ℕ) (preset : Bool) → m .content ≡ Content.Warning d preset → View bs (saysMessage m) → Announces bs d preset
@@ -158,6 +182,12 @@ groups = record {
   its-a = λ g m c. has-a g m (sym (c .1));
   content = λ g m c. content-so (partsOf g) m (m .content) refl (view g (saysMessage m) (sym (c .1)));
   signal = λ g m d preset main target c e. signal-so (partsOf g) m d preset main target e (view g (saysMessage m) (sym (c .1)));
+  preset-target = λ g m d main target c e.
+      let other = preset-so (partsOf g) m d main target e (view g (saysMessage m) (sym (c .1))) in (
+        λ z. true-not-false (ap noIncrease (sym z) ∙ other),
+        λ z. true-not-false (ap noIncrease (sym z) ∙ other),
+        λ z. true-not-false (ap noIncrease (sym z) ∙ other),
+      );
   warning = λ g m d preset c e. warning-so (partsOf g) m d preset e (view g (saysMessage m) (sym (c .1)));
   route = λ g m v c e.
       let is = route-so (partsOf g) m v e (view g (saysMessage m) (sym (c .1))) in

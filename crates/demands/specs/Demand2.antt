@@ -10,7 +10,7 @@
 -- Assumes nothing.
 use Prim.Native.Nat.{ℕ, _+_, _*_, _≤_, _<_}
 use mathlib.Core.Path.{_≡_}
-use mathlib.Core.Bool.{Bool, false}
+use mathlib.Core.Bool.{Bool, true, false}
 use mathlib.Core.List.{List, map, List·Memᴰ}
 use lib.ListN.{getD}
 use Rattle.words.specs.Answer.{gives}
@@ -124,6 +124,9 @@ pub record Groups : Type 0 where
   -- what present signals, present warning boards and route boards (10 x AZ km/h with AY 2, 140 km/h with AY 4) say
   pub signal : (g : Group) (m : Message) (d : ℕ) (preset : Bool) (main target : Told) → JudgeGroup g (Judged.Accepted m)
       → m .content ≡ Content.Signal d preset main target → Announces (partsOf g) d preset × Speeds (partsOf g) m main target
+  -- "a present signal with BY = 14 and AZ of 0, 1 or 13 is refused with 15": an accepted preset point has another target figure
+  pub preset-target : (g : Group) (m : Message) (d : ℕ) (main target : Told) → JudgeGroup g (Judged.Accepted m)
+      → m .content ≡ Content.Signal d true main target → (m .az ≡ 0 → ⊥) × (m .az ≡ 1 → ⊥) × (m .az ≡ 13 → ⊥)
   pub warning : (g : Group) (m : Message) (d : ℕ) (preset : Bool) → JudgeGroup g (Judged.Accepted m)
       → m .content ≡ Content.Warning d preset → Announces (partsOf g) d preset
   pub route : (g : Group) (m : Message) (v : ℕ) → JudgeGroup g (Judged.Accepted m) → m .content ≡ Content.Route v

@@ -78,6 +78,13 @@ presentCases =
     ∷ present (N ∷ f 8 7 1 ∷ f 1 8 1 ∷ f 9 2 0 ∷ f 14 4 0 ∷ []) Kind.Signal 1060 8 1 (ofSignal 4000 false (kmh 130) (kmh 0))
     ∷ present (f 8 7 0 ∷ f 1 8 1 ∷ f 9 2 0 ∷ f 14 4 0 ∷ N ∷ []) Kind.Signal 1030 8 1 (ofSignal 4000 false (kmh 130) (kmh 40))
     ∷ present (f 1 14 14 ∷ f 9 14 1 ∷ []) Kind.Signal 1000 14 14 (ofSignal 7000 true noInformation noInformation)
+    -- a preset point with AZ 2, 12 or 14, with a 14 and without; BY 13 with AZ 13
+    ∷ present (f 1 1 2 ∷ f 9 14 14 ∷ []) Kind.Signal 1000 1 2 (ofSignal 500 true (kmh 40) (kmh 50))
+    ∷ present (f 1 1 2 ∷ f 9 14 0 ∷ f 14 1 0 ∷ []) Kind.Signal 1000 1 2 (ofSignal 7000 true (kmh 40) (kmh 50))
+    ∷ present (f 1 1 12 ∷ f 9 14 1 ∷ []) Kind.Signal 1000 1 12 (ofSignal 7000 true (kmh 40) (kmh 270))
+    ∷ present (f 1 1 12 ∷ f 9 14 0 ∷ f 14 14 0 ∷ []) Kind.Signal 1000 1 12 (ofSignal 500 true (kmh 40) (kmh 270))
+    ∷ present (f 1 14 14 ∷ f 9 14 0 ∷ f 14 1 0 ∷ []) Kind.Signal 1000 14 14 (ofSignal 7000 true noInformation noInformation)
+    ∷ present (f 1 1 13 ∷ f 9 13 1 ∷ []) Kind.Signal 1000 1 13 (ofSignal 106000 false (kmh 40) (kmh 0))
     -- and the same with 4 for 1
     ∷ present (f 4 8 5 ∷ f 9 13 14 ∷ []) Kind.Signal 1000 8 5 (ofSignal 119000 false (kmh 130) (kmh 80))
     ∷ present (N ∷ f 8 14 14 ∷ f 4 14 1 ∷ f 9 0 0 ∷ f 14 1 0 ∷ []) Kind.Signal 1060 14 1 (ofSignal 125 false noInformation (kmh 0))
@@ -159,6 +166,13 @@ outsideCases =
     ∷ refusedAs 15 (f 1 8 5 ∷ f 9 2 5 ∷ f 14 4 0 ∷ [])
     ∷ refusedAs 15 (f 1 8 5 ∷ f 9 2 0 ∷ f 14 0 0 ∷ [])
     ∷ refusedAs 15 (f 2 0 0 ∷ f 9 2 0 ∷ [])
+    -- a preset point with AZ 0, 1 or 13, without a 14 and with one; a prefix does not come before it
+    ∷ refusedAs 15 (f 1 8 0 ∷ f 9 14 1 ∷ [])
+    ∷ refusedAs 15 (f 1 8 1 ∷ f 9 14 1 ∷ [])
+    ∷ refusedAs 15 (f 4 8 13 ∷ f 9 14 14 ∷ [])
+    ∷ refusedAs 15 (f 1 8 0 ∷ f 9 14 0 ∷ f 14 1 0 ∷ [])
+    ∷ refusedAs 15 (f 8 7 1 ∷ f 4 8 1 ∷ f 9 14 0 ∷ f 14 1 0 ∷ [])
+    ∷ refusedAs 15 (f 1 8 13 ∷ f 9 14 0 ∷ f 14 14 0 ∷ [])
     ∷ []
 
 -- Every case of a list is judged so, by every answer that the contract of `group::judge` allows.

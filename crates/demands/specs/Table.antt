@@ -17,7 +17,7 @@ use Rattle.contact.specs.History.{after, zeroes}
 use Rattle.contact.specs.Judge.{allAlike, onesAtEnd, allZero}
 use Rattle.contact.specs.declared.Search.{Search}
 use Rattle.group.specs.Balise.{balises, readAll}
-use Rattle.walk.specs.Row.{Found, none, found, Y, Fit, misfit, fit}
+use Rattle.walk.specs.Row.{Found, none, found, Y, Z, Fit, misfit, fit}
 use Rattle.walk.specs.Rows.{present, opposite, fitIn}
 use Rattle.group.specs.Judge.{yOf, zOf, B, C}
 use Rattle.group.specs.declared.Balise.{Balise}
@@ -179,9 +179,20 @@ abbrev pub noLink : ℕ → ℕ → Found → Bool
 noLink by bz none = noDistance by bz
 noLink by bz (found c) = not (eqb bz 0) || noDistance by (Y (c .part))
 
--- 15: "distance not allowed"
+-- Whether a group that so fits the present rows is a preset point at an aspect that cannot have it: "a present signal with BY = 14 and
+-- AZ of 0, 1 or 13". AZ is the figure as read.
+abbrev pub presetBarred : Fit → ℕ → Bool
+presetBarred misfit by = false
+presetBarred (fit Kind.Signal a) by = eqb by 14 && (eqb (Z (a .part)) 0 || eqb (Z (a .part)) 1 || eqb (Z (a .part)) 13)
+presetBarred (fit Kind.Warning a) by = false
+presetBarred (fit Kind.Annulled a) by = false
+presetBarred (fit Kind.Line a) by = false
+presetBarred (fit Kind.Route a) by = false
+
+-- 15: "distance not allowed", or a preset point that cannot be
 unfoldable pub notAllowed : List Placed → Bool
-notAllowed bs = isJudged (fitIn present bs) && noLink (yOf (B bs)) (zOf (B bs)) (C bs)
+notAllowed bs =
+    presetBarred (fitIn present bs) (yOf (B bs)) || (isJudged (fitIn present bs) && noLink (yOf (B bs)) (zOf (B bs)) (C bs))
 
 -- 16: "trace length not a multiple of 8"
 unfoldable pub badLength : List ℕ → Bool

@@ -25,7 +25,7 @@ use Rattle.walk.specs.Fitting.{routeSpeed, fitting}
 use Rattle.group.specs.Distance.{distance}
 use Rattle.group.specs.Speed.{kmh, signalSpeed, targetFigure}
 use Rattle.group.specs.Message.{ofSignal, ofRoute, nothing}
-use Rattle.group.specs.Judge.{distanceOf, judgeRead, judge}
+use Rattle.group.specs.Judge.{distanceOf, signalDistance, judgeRead, judge}
 
 -- "distances (BY,BZ) (0,1) 125, (13,14) 119000, (14,1) 7000, (14,14) 500, (0,0) refused without a 14"
 distances : List (Outcome ℕ)
@@ -59,7 +59,7 @@ ofTheRide =
 -- "Distance is 3500 + 4 x 125 = 4000 dm." "Main speed 130, target 80."
 judged-of-the-ride : judge ofTheRide
     ≡ gives (record { direction = Direction.Present; kind = Kind.Signal; place = 1000; ay = 8; az = 5; content = ofSignal 4000 false (kmh 130) (kmh 80) })
-unfolding ofTheRide empty judge balises readAll telegram shortWord longWord readWord isCode even count covers figure onwards isCheck exchanged other word judgeRead fitting fitIn howMany fitRows fitRow fits first distanceOf distance signalSpeed targetFigure
+unfolding ofTheRide empty judge balises readAll telegram shortWord longWord readWord isCode even count covers figure onwards isCheck exchanged other word judgeRead fitting fitIn howMany fitRows fitRow fits first distanceOf signalDistance distance signalSpeed targetFigure
 judged-of-the-ride = refl
 
 -- Balises read at the places 10, 20, 30 and so on.
@@ -71,7 +71,7 @@ judged-long : judgeRead
     (at 10 (Part.Number 1612) ∷ at 20 (Part.Figures 8 7 1) ∷ at 30 (Part.Figures 1 3 1) ∷ at 40 (Part.Figures 9 6 0)
     ∷ at 50 (Part.Figures 14 2 9) ∷ [])
     ≡ gives (record { direction = Direction.Present; kind = Kind.Signal; place = 30; ay = 3; az = 1; content = ofSignal 15000 false (kmh 60) (kmh 0) })
-unfolding at judgeRead fitting fitIn howMany fitRows fitRow fits first distanceOf distance signalSpeed targetFigure
+unfolding at judgeRead fitting fitIn howMany fitRows fitRow fits first distanceOf signalDistance distance signalSpeed targetFigure
 judged-long = refl
 
 -- 5 5 with AY 2 and AZ 9: a route board, 90 km/h, its A the first of the two.

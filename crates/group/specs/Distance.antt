@@ -1,7 +1,7 @@
 -- Distances (document 01, "Distance"; table DF of source 000), in decimetres.
 -- Assumes nothing.
 use Prim.Native.Nat.{ℕ, zero, suc, _+_, _-_, _*_}
-use mathlib.Core.Bool.{Bool, _&&_}
+use mathlib.Core.Bool.{Bool, _&&_, _||_}
 use mathlib.Core.List.{List, [], _∷_}
 use lib.Dec.{eqb, leb}
 use Rattle.words.specs.Answer.{Outcome, gives, refuses, pick}
@@ -59,3 +59,8 @@ linkDistance by bz (found c) = pick (eqb bz 0) (distance by (Y (c .part))) (refu
 -- "BY = 14 is a preset point and gives no linking distance."
 abbrev pub isPreset : ℕ → Bool
 isPreset by = eqb by 14
+
+-- A target figure that a preset point cannot have: 0, 1 or 13. "A preset increase needs a target above the main speed, and the main
+-- speed is at least 40", and these figures mean 0 or 40.
+abbrev pub noIncrease : ℕ → Bool
+noIncrease az = eqb az 0 || eqb az 1 || eqb az 13

@@ -2,6 +2,7 @@
 -- group's message. 14 is not used: no group fits a row of each direction (walk's specs/OneWay.antt).
 -- Assumes nothing.
 use Prim.Native.Nat.{ℕ}
+use mathlib.Core.Bool.{_&&_}
 use mathlib.Core.List.{List}
 use lib.Dec.{eqb, ltb}
 use Rattle.words.specs.Answer.{Outcome, gives, refuses, pick}
@@ -12,7 +13,7 @@ use Rattle.walk.specs.declared.Picked.{Picked}
 use Rattle.group.specs.declared.Group.{Group}
 use Rattle.group.specs.Balise.{balises, then, readAll}
 use Rattle.walk.specs.Row.{any, Y, Z, Found, none, found, first}
-use Rattle.group.specs.Distance.{linkDistance, isPreset}
+use Rattle.group.specs.Distance.{linkDistance, isPreset, noIncrease}
 use Rattle.walk.specs.Fitting.{fitting}
 use Rattle.group.specs.Speed.{signalSpeed, targetFigure}
 use Rattle.group.specs.Message.{Content, ofSignal, ofWarning, ofRoute, nothing, Message}
@@ -43,11 +44,16 @@ C bs = first (any 14) bs
 unfoldable pub distanceOf : List Placed → Outcome ℕ
 distanceOf bs = linkDistance (yOf (B bs)) (zOf (B bs)) (C bs)
 
+-- The distance of a present signal. "A present signal with BY = 14 and AZ of 0, 1 or 13 is refused with 15, judged with the distance";
+-- AZ is the figure as read, before a prefix changes it.
+unfoldable pub signalDistance : ℕ → List Placed → Outcome ℕ
+signalDistance az bs = pick (isPreset (yOf (B bs)) && noIncrease az) (refuses 15) (distanceOf bs)
+
 -- What a group of the present direction says beyond its kind, from the speed that its row gives, AY, AZ and its balises.
 -- "Distance, judged for present signals and present warning boards only."
 abbrev pub contentOf : Kind → ℕ → ℕ → ℕ → List Placed → Outcome Content
 contentOf Kind.Signal v ay az bs =
-    then (distanceOf bs) λ d.
+    then (signalDistance az bs) λ d.
     gives (ofSignal d (isPreset (yOf (B bs))) (signalSpeed ay)
     (signalSpeed (targetFigure ay az (yOf (P bs)) (zOf (P bs)))))
 contentOf Kind.Warning v ay az bs = then (distanceOf bs) λ d. gives (ofWarning d (isPreset (yOf (B bs))))

@@ -2,9 +2,9 @@
 ghost use mathlib.Core.Path.{_≡_};
 ghost use Prim.Native.Nat.{_≤_};
 ghost use lib.ListN.{take};
-ghost use Rattle.group.specs.Distance.{linkDistance};
+ghost use Rattle.group.specs.Distance.{linkDistance, noIncrease};
 ghost use Rattle.group.specs.Speed.{targetFigure};
-ghost use Rattle.group.specs.Judge.{yOf, zOf, distanceOf, contentOf};
+ghost use Rattle.group.specs.Judge.{yOf, zOf, B, distanceOf, signalDistance, contentOf};
 ghost use Rattle.group.specs.Says.{saysMeasured};
 ghost use Rattle.group.specs.Inside.{saysContained, saysSought};
 use crate::Content;
@@ -88,14 +88,35 @@ fn target_figure(ay: u8, az: u8, py: u8, pz: u8) -> u8
     }
 }
 
+// Whether AZ, as read, is a target that a preset point cannot have: 0 or 40 km/h.
+fn no_increase(az: u8) -> bool
+    ensures { λ r. ⌜ r ≡ noIncrease az ⌝ }
+{
+    (az == 0) | (az == 1) | (az == 13)
+}
+
+// The distance of a present signal with this B, which a preset point with such a target has not.
+fn signal_distance(az: u8, b: Sought, p: [Placed; 5], n: usize) -> Measured
+    requires { ⌜ (n ≤ 5) × (saysSought b ≡ B (take n p)) ⌝ }
+    ensures { λ r. ⌜ saysMeasured r ≡ signalDistance az (take n p) ⌝ }
+{
+    let by = y_sought(b);
+    let bz = z_sought(b);
+    if (by == 14) & no_increase(az) {
+        return Measured::NotAllowed;
+    }
+    let c = parts::first_of(p, n, 14);
+    link_distance(by, bz, c)
+}
+
 // What a present signal says.
 fn of_signal(ay: u8, az: u8, p: [Placed; 5], n: usize) -> Contained
     requires { ⌜ n ≤ 5 ⌝ }
     ensures { λ r. ⌜ saysContained r ≡ contentOf Kind.Signal 0 ay az (take n p) ⌝ }
 {
-    match distance_of(p, n) {
+    let b = parts::first_of(p, n, 9);
+    match signal_distance(az, b, p, n) {
         Measured::Dm(distance) => {
-            let b = parts::first_of(p, n, 9);
             let prefix = parts::first_of(p, n, 8);
             let figure = target_figure(ay, az, y_sought(prefix), z_sought(prefix));
             Contained::Is(Content::Signal {

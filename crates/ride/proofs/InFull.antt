@@ -16,7 +16,7 @@ use Rattle.walk.specs.Rows.{howMany, fitIn}
 use Rattle.walk.specs.Fitting.{fitting}
 use Rattle.group.specs.Distance.{distance}
 use Rattle.group.specs.Speed.{signalSpeed, targetFigure}
-use Rattle.group.specs.Judge.{distanceOf, judgeRead, judge}
+use Rattle.group.specs.Judge.{distanceOf, signalDistance, judgeRead, judge}
 use Rattle.ride.specs.declared.Linking.{Linking}
 use Rattle.ride.specs.declared.Mark.{Mark}
 use Rattle.ride.specs.declared.Line.{Line}
@@ -46,7 +46,7 @@ pub in-full : rideOver (λ odometer. 40) freshRide 1 (records trace)
       lines = Line.Group (record { place = 1000; direction = Direction.Present; kind = Kind.Signal; mark = Mark.First }) ∷ Line.Missed 5800 ∷ [];
       ride = after;
     }
-unfolding word isCheck covers count even isCode onwards figure other exchanged readWord shortWord longWord telegram balises readAll fits first fitRow fitRows howMany fitIn fitting distance signalSpeed targetFigure distanceOf judgeRead judge noGroup nothingKnown freshRide odometerOf passedOf inOrder check join takeUp close leave closeBehind missedLines afterMissed goOn treat firstRecords rideOver
+unfolding word isCheck covers count even isCode onwards figure other exchanged readWord shortWord longWord telegram balises readAll fits first fitRow fitRows howMany fitIn fitting distance signalSpeed targetFigure distanceOf signalDistance judgeRead judge noGroup nothingKnown freshRide odometerOf passedOf inOrder check join takeUp close leave closeBehind missedLines afterMissed goOn treat firstRecords rideOver
 in-full = refl
 
 -- its end closes no group, gives no line, and leaves the state

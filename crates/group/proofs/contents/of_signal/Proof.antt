@@ -6,14 +6,14 @@ use borrow.Author.Needs.{needs}
 use Rattle.group.proofs.contents.of_signal.Statement.{statement}
 use Rattle.group.proofs.contents.of_signal.Tie as tie
 
-distance-of-requires : tie.Need-distance-of-requires
-distance-of-requires c κs = search needs
+first-of-requires : tie.Need-first-of-requires
+first-of-requires c κs = search needs
+
+signal-distance-requires : tie.Need-signal-distance-requires
+signal-distance-requires c κs = search needs
 
 enum-known-distance : tie.Need-enum-known-distance
 enum-known-distance c = search needs
-
-first-of-requires : tie.Need-first-of-requires
-first-of-requires c κs = search needs
 
 first-of-requires-2 : tie.Need-first-of-requires-2
 first-of-requires-2 c κs = search needs
@@ -41,8 +41,9 @@ enum-told c = search needs
 
 returns : tie.Need-returns
 returns c =
-    let k = c .before .before .before .before .before .before .before .before in
-    let d = sym (k .before .before .before .distance-of .ensures) ∙ ap saysMeasured (k .before .distance .given .1) in
+    let k = c .before .before .before .before .before .before .before in
+    let m = k .before .before .before in
+    let d = sym (m .signal-distance .ensures) ∙ ap saysMeasured (k .before .distance .given .1) in
     rw (
       d,
       c .speed2 .ensures,
@@ -52,21 +53,21 @@ returns c =
       c .before .before .before .before .z-sought .ensures,
       c .before .before .before .before .before .y-sought .ensures,
       c .before .before .before .before .before .before .first-of2 .ensures,
-      c .before .before .before .before .before .before .before .first-of .ensures,
+      m .before .first-of .ensures,
     )
 
 returns-2 : tie.Need-returns-2
 returns-2 c =
-    let d = sym (c .before .before .distance-of .ensures) ∙ ap saysMeasured (c .enum-told .given .1) in
+    let d = sym (c .before .before .signal-distance .ensures) ∙ ap saysMeasured (c .enum-told .given .1) in
     rw d
 
 pub of-signal-spec : {M : Type 1} → statement M
 of-signal-spec =
     tie.close
     (tie.spec
-    distance-of-requires
-    enum-known-distance
     first-of-requires
+    signal-distance-requires
+    enum-known-distance
     first-of-requires-2
     y-sought-requires
     z-sought-requires
