@@ -47,7 +47,7 @@ distanceOf-refused bs = link-refused (yOf (B bs)) (zOf (B bs)) (C bs)
 
 -- so can a present signal's, which is refused too if it is a preset point that cannot be
 signal-fifteen : (az : ℕ) (bs : List Placed) → Only 15 (signalDistance az bs)
-unfolding signalDistance
+unfolding Only signalDistance
 signal-fifteen az bs = only-pick 15 (isPreset (yOf (B bs)) && noIncrease az) (refuses 15) (distanceOf bs) refl (distanceOf-fifteen bs)
 
 signal-refused : (az : ℕ) (bs : List Placed) → isRefusal (signalDistance az bs) ≡ ((isPreset (yOf (B bs)) && noIncrease az) || isRefusal (distanceOf bs))
