@@ -254,11 +254,13 @@ struct reading {
     uint8_t x, y, z;
 };
 
-/* A group that a row fits. a is the number of its A balise, distance that of a present signal or warning board. */
+/* A group that a row fits. a is the number of its A balise, number the figure of its number balise, distance that of a
+   present signal or warning board. */
 struct seen {
     enum kind kind;
     bool opposite;
     int a;
+    int number;
     int32_t distance;
     struct reading b[5];
 };
@@ -410,8 +412,12 @@ static int judge_group(const struct plain_group *group, struct seen *seen)
     if (!read_balises(group, seen->b))
         return 12;
     int numbers = 0;
+    seen->number = PLAIN_UNKNOWN;
     for (int i = 0; i < n; i++)
-        numbers += seen->b[i].x == 12;
+        if (seen->b[i].x == 12) {
+            numbers++;
+            seen->number = seen->b[i].y << 8 | seen->b[i].z;
+        }
     int a = a_balise(seen->b, n);
     if (numbers > 1 || a == n)
         return 13;
@@ -451,7 +457,7 @@ static char *put_number(char *out, uint64_t number)
 
 void plain_fresh(struct plain_ride *ride)
 {
-    *ride = (struct plain_ride){.main_speed = PLAIN_UNKNOWN, .target = PLAIN_UNKNOWN};
+    *ride = (struct plain_ride){.main_speed = PLAIN_UNKNOWN, .target = PLAIN_UNKNOWN, .number = PLAIN_UNKNOWN};
 }
 
 /* Tables HS and FS; 14 is no information. */
@@ -465,14 +471,14 @@ static int speed(uint8_t figure)
 static const char *mark(const struct plain_ride *ride, uint32_t place)
 {
     if (!ride->linked)
-        return " first\n";
+        return " first";
     uint64_t travelled = place - ride->from, distance = ride->distance;
     if (5 * travelled < 4 * distance)
-        return " early\n";
-    return 5 * travelled <= 6 * distance ? " good\n" : " late\n";
+        return " early";
+    return 5 * travelled <= 6 * distance ? " good" : " late";
 }
 
-/* A present signal sets linking anew, the main speed and the target. */
+/* A present signal sets linking anew, the main speed, the target and the number. */
 static void pass_signal(struct plain_ride *ride, const struct seen *seen, uint32_t place)
 {
     const struct reading *A = &seen->b[seen->a], *B = A + 1;
@@ -484,6 +490,7 @@ static void pass_signal(struct plain_ride *ride, const struct seen *seen, uint32
     const struct reading *P = seen->a > 0 && A[-1].x == 8 ? A - 1 : NULL;
     bool is_lowered = P != NULL && P->y >= 7 && P->z != 0 && A->z == 1 && A->y != 0 && A->y != 13;
     ride->target = speed(is_lowered ? 0 : A->z);
+    ride->number = seen->number;
 }
 
 /* Closes and judges the open group, and puts its line. */
@@ -498,7 +505,7 @@ static char *close_group(struct plain_ride *ride, char *out)
         out = put_number(out, (uint64_t)fault);
         *out++ = '\n';
         ride->linked = false;
-        ride->main_speed = ride->target = PLAIN_UNKNOWN;
+        ride->main_speed = ride->target = ride->number = PLAIN_UNKNOWN;
     } else {
         uint32_t place = ride->group.kept[seen.a].place;
         out = put_number(out, place);
@@ -507,9 +514,12 @@ static char *close_group(struct plain_ride *ride, char *out)
         if (seen.kind == SIGNAL && !seen.opposite) {
             out = put_text(out, mark(ride, place));
             pass_signal(ride, &seen, place);
-        } else {
-            *out++ = '\n';
         }
+        if (seen.kind == SIGNAL && seen.number != PLAIN_UNKNOWN) {
+            out = put_text(out, " n");
+            out = put_number(out, (uint64_t)seen.number);
+        }
+        *out++ = '\n';
     }
     ride->group.count = 0;
     return out;

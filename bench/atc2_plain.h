@@ -47,7 +47,7 @@ struct plain_group {
     uint32_t last; /* the last balise's place */
 };
 
-#define PLAIN_UNKNOWN (-1) /* a speed that is not known */
+#define PLAIN_UNKNOWN (-1) /* a speed that is not known, a number that is none */
 
 struct plain_ride {
     uint64_t records; /* how many it has been handed */
@@ -56,6 +56,7 @@ struct plain_ride {
     bool linked;
     uint32_t distance, from; /* where linked: D and a */
     int main_speed, target; /* km/h */
+    int number; /* of the last present signal */
 };
 
 /* No lines of one record, and none of the ending, take more bytes than this. */

@@ -425,7 +425,7 @@ static void test_group_sizes(void)
     CHECK(lists_at(1, "5:1,8,5 6:9,2,4", "5 present signal first\n"));
     CHECK(lists_at(200, "5:1,8,5 205:9,2,4", "5 present signal first\n"));
     CHECK(lists_at(200, "5:1,8,5 206:9,2,4", "5 fault 10\n206 fault 10\n"));
-    CHECK(lists("0:12,7 1:8,1,1 2:1,8,5 3:9,2,0 4:14,1,0", "2 present signal first\n")); /* five */
+    CHECK(lists("0:12,7 1:8,1,1 2:1,8,5 3:9,2,0 4:14,1,0", "2 present signal first n7\n")); /* five */
     CHECK(lists("0:12,7 1:8,1,1 2:1,8,5 3:9,2,0 4:14,1,0 5:12,7", "0 fault 11\n")); /* six */
     CHECK(lists("900:U 910:U 920:U 930:U 940:U 950:U 960:U", "900 fault 11\n")); /* 11 before 12 */
     CHECK(lists("900:U 910:U 920:U 930:U 940:U 980:M 1020:M 1061:M", "900 fault 11\n1061 fault 10\n"));
@@ -441,9 +441,9 @@ static void test_unreadable(void)
     CHECK(lists("1000:1,8,5 1030:U", "1000 fault 12\n") && lists("1000:U 1030:9,2,4", "1000 fault 12\n"));
     CHECK(lists("1000:#00188E5A 1030:9,2,4", "1000 fault 12\n"));
     CHECK(lists("1000:1,8,15 1030:9,2,4", "1000 fault 12\n")); /* a short word that reads 15 */
-    CHECK(lists("1000:12,1152 1010:1,8,5 1030:9,2,4", "1010 present signal first\n"));
+    CHECK(lists("1000:12,1152 1010:1,8,5 1030:9,2,4", "1010 present signal first n1152\n"));
     CHECK(lists("1000:#00C38807 1010:1,8,5 1030:9,2,4", "1000 fault 12\n"));
-    CHECK(lists("1000:12,2047 1010:1,8,5 1030:9,2,4", "1010 present signal first\n"));
+    CHECK(lists("1000:12,2047 1010:1,8,5 1030:9,2,4", "1010 present signal first n2047\n"));
 }
 
 /* The line that a group of balises 10 dm apart gives, the first at 0. */
@@ -462,9 +462,9 @@ static bool group_gives(const char *balises, const char *line)
 static void test_present_rows(void)
 {
     CHECK(group_gives("1,0,0 9,0,1", "0 present signal first\n") && group_gives("4,0,0 9,0,1", "0 present signal first\n"));
-    CHECK(group_gives("8,0,0 1,0,0 9,0,1 12,5", "10 present signal first\n"));
-    CHECK(group_gives("12,5 4,0,0 9,0,0 14,1,0", "10 present signal first\n"));
-    CHECK(group_gives("12,5 8,0,0 4,0,0 9,0,1", "20 present signal first\n"));
+    CHECK(group_gives("8,0,0 1,0,0 9,0,1 12,5", "10 present signal first n5\n"));
+    CHECK(group_gives("12,5 4,0,0 9,0,0 14,1,0", "10 present signal first n5\n"));
+    CHECK(group_gives("12,5 8,0,0 4,0,0 9,0,1", "20 present signal first n5\n"));
     CHECK(group_gives("8,0,0 12,5 4,0,0 9,0,1", "0 fault 13\n")); /* the order passed */
     CHECK(group_gives("1,0,0 9,0,0 12,5 14,1,0", "0 fault 13\n"));
     CHECK(group_gives("12,5 1,0,0 9,0,1 12,5", "0 fault 13\n")); /* 12 at most once */
@@ -491,8 +491,8 @@ static void test_present_rows(void)
 static void test_opposite_rows(void)
 {
     CHECK(group_gives("9,0,0 1,0,0", "10 opposite signal\n") && group_gives("9,0,0 4,0,0", "10 opposite signal\n"));
-    CHECK(group_gives("12,5 14,0,0 9,0,0 1,0,0 8,0,0", "30 opposite signal\n"));
-    CHECK(group_gives("14,0,0 9,0,0 1,0,0 8,0,0 12,5", "20 opposite signal\n"));
+    CHECK(group_gives("12,5 14,0,0 9,0,0 1,0,0 8,0,0", "30 opposite signal n5\n"));
+    CHECK(group_gives("14,0,0 9,0,0 1,0,0 8,0,0 12,5", "20 opposite signal n5\n"));
     CHECK(group_gives("9,0,0 10,0,0", "10 opposite annulled\n") && group_gives("9,0,0 10,0,0 12,5", "10 opposite annulled\n"));
     CHECK(group_gives("14,0,0 12,5 9,0,0 1,0,0", "0 fault 13\n") && group_gives("9,0,0 1,0,0 12,5 8,0,0", "0 fault 13\n"));
     CHECK(group_gives("12,5 9,0,0 1,0,0 12,5", "0 fault 13\n"));
@@ -581,6 +581,25 @@ static void test_speeds(void)
     CHECK(leaves("0:12,2047 9:1,8,1 18:9,2,4 99:-", true, 130, 40)); /* a number is no prefix */
 }
 
+/* The number that the records leave, before the ending. */
+static bool keeps(const char *records, int number)
+{
+    return ridden(records).number == number;
+}
+
+static void test_numbers(void)
+{
+    CHECK(keeps("", PLAIN_UNKNOWN) && keeps("0:1,8,5 9:9,2,4 99:-", PLAIN_UNKNOWN));
+    CHECK(keeps("0:12,17 9:1,8,5 18:9,2,4 99:-", 17) && keeps("0:4,8,5 9:9,2,4 18:12,0 99:-", 0));
+    CHECK(keeps("0:12,17 9:1,8,5 18:9,2,4 99:1,8,5 108:9,2,4 199:-", PLAIN_UNKNOWN)); /* a present signal without a 12 */
+    CHECK(keeps("0:12,17 9:1,8,5 18:9,2,4 99:12,5 108:9,2,4 117:1,8,5 199:-", 17)); /* an opposite one */
+    CHECK(keeps("0:12,17 9:1,8,5 18:9,2,4 99:2,1,1 108:9,2,4 117:12,5 199:-", 17)); /* a warning board */
+    CHECK(keeps("0:12,17 9:1,8,5 18:9,2,4 99:12,5 108:10,1,1 117:9,2,4 199:-", 17)); /* an annulled one */
+    CHECK(keeps("0:12,17 9:1,8,5 18:9,2,4 99:M 199:-", PLAIN_UNKNOWN)); /* a fault */
+    CHECK(keeps("0:12,17 9:1,8,5 18:9,2,4 9000:-", 17)); /* missed */
+    CHECK(lists("0:12,17 9:1,8,5 18:9,2,4 99:1,8,5 108:9,2,4", "9 present signal first n17\n99 present signal early\n"));
+}
+
 /* Lines come out the same whatever the room. */
 static void test_room(void)
 {
@@ -618,6 +637,7 @@ int main(void)
     test_distances_judged();
     test_marks();
     test_speeds();
+    test_numbers();
     test_room();
     printf("%d passed, %d failed\n", passed, failed);
     return failed != 0;

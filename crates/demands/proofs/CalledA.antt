@@ -11,6 +11,7 @@ use Rattle.group.specs.Balise.{balises, then, readAll}
 use Rattle.walk.specs.Row.{Figures, all, _to_, Asked, category, M, any, A, Member, Row, row, isCategory, isOneOf, within, Y, Z, meets, fits, Found, none, found, first, calledA, Fit, misfit, fit, fitWith, fitRow, orElse, fitRows}
 use Rattle.walk.specs.Rows.{signal, warning, annulled, line, route, present, nineThen, nineTwo, markerTwo, markerThree, opposite, howMany, fitIn}
 use Rattle.group.specs.Message.{Content, Message, nothing}
+use Rattle.group.specs.Numbers.{numberOf}
 use Rattle.group.specs.Judge.{contentOf, messageOf, judgeRead, judge}
 use Rattle.walk.specs.Fitting.{speedOf, fitting}
 use Rattle.demands.proofs.Fits.{said, decide}
@@ -121,7 +122,7 @@ never n e = let z : _≡_ {A = ℕ} 0 1 = cc in omega arith
 
 -- a message that takes its place, AY and AZ from this balise
 from-a : (bs : List Placed) (direction : Direction) (k : Kind) (a : Placed) (c : Content) (m : Said) → CanBeA bs k a → (direction ≡ Direction.Present → Board k → Head bs a)
-    → messageOf (said direction k a) c ≡ saysMessage m → Its-A bs m
+    → messageOf (said direction k a) (numberOf bs) c ≡ saysMessage m → Its-A bs m
 from-a bs direction k a c m can heads e =
     record {
       a = a;
@@ -137,12 +138,12 @@ decided-a : (bs : List Placed) (m : Said) (p o : Fit) → ((k : Kind) (a : Place
     → ((k : Kind) (a : Placed) → p ≡ fit k a → Board k → Head bs a) → decide p o bs ≡ gives (saysMessage m) → Its-A bs m
 decided-a bs m misfit misfit here there heads e = absurd (never 13 e)
 decided-a bs m misfit (fit k a) here there heads e =
-    let is : messageOf (said Direction.Opposite k a) nothing ≡ saysMessage m = cc in from-a bs Direction.Opposite k a nothing m (there k a refl) (λ q. absurd (let z : _≡_ {A = ℕ} 0 1 = cc in omega arith)) is
+    let is : messageOf (said Direction.Opposite k a) (numberOf bs) nothing ≡ saysMessage m = cc in from-a bs Direction.Opposite k a nothing m (there k a refl) (λ q. absurd (let z : _≡_ {A = ℕ} 0 1 = cc in omega arith)) is
 decided-a bs m (fit k a) o here there heads e = go (contentOf k (speedOf k a) (Y (a .part)) (Z (a .part)) bs) e
   where
-    go : (c : Outcome Content) → then c (λ more. gives (messageOf (said Direction.Present k a) more)) ≡ gives (saysMessage m) → Its-A bs m
+    go : (c : Outcome Content) → then c (λ more. gives (messageOf (said Direction.Present k a) (numberOf bs) more)) ≡ gives (saysMessage m) → Its-A bs m
     go (refuses n) q = absurd (never n q)
-    go (gives c) q = let is : messageOf (said Direction.Present k a) c ≡ saysMessage m = cc in from-a bs Direction.Present k a c m (here k a refl) (λ q. heads k a refl) is
+    go (gives c) q = let is : messageOf (said Direction.Present k a) (numberOf bs) c ≡ saysMessage m = cc in from-a bs Direction.Present k a c m (here k a refl) (λ q. heads k a refl) is
 
 -- Every accepted group has an A.
 pub has-a : (g : Group) (m : Said) → judge g ≡ gives (saysMessage m) → Its-A (partsOf g) m

@@ -12,6 +12,7 @@ use Rattle.walk.specs.Rows.{present, opposite, fitIn}
 use Rattle.group.specs.Distance.{isPreset, noIncrease}
 use Rattle.group.specs.Speed.{signalSpeed, targetFigure}
 use Rattle.group.specs.Message.{ofSignal, ofWarning, nothing}
+use Rattle.group.specs.Numbers.{numberOf}
 use Rattle.group.specs.Judge.{yOf, zOf, B, P, C, distanceOf, signalDistance, contentOf, messageOf, judgeRead, judge}
 use Rattle.walk.specs.declared.Direction.{Direction}
 use Rattle.group.specs.declared.Group.{Group}
@@ -88,13 +89,13 @@ decided : (p o : Fit) (bs : List Placed)
 decided misfit misfit bs = (λ q. refl, λ q. absurd (true-not-false q))
 decided misfit (fit k a) bs = (
   λ q. absurd (true-not-false (sym q)),
-  λ q. (λ t. absurd (true-not-false (sym t)), λ t. (messageOf (said Direction.Opposite k a) nothing, refl)),
+  λ q. (λ t. absurd (true-not-false (sym t)), λ t. (messageOf (said Direction.Opposite k a) (numberOf bs) nothing, refl)),
 )
 decided (fit k a) o bs = (
   λ q. absurd (true-not-false (sym q)),
   λ q. lone 15 (presetBarred (fit k a) (yOf (B bs)) || (judgedKind k && isRefusal (distanceOf bs))) (decide (fit k a) o bs)
-      (only-then 15 (contentOf k (speedOf k a) (Y (a .part)) (Z (a .part)) bs) (messageOf (said Direction.Present k a)) (content-fifteen k (speedOf k a) (Y (a .part)) (Z (a .part)) bs))
-      (refusal-then (contentOf k (speedOf k a) (Y (a .part)) (Z (a .part)) bs) (messageOf (said Direction.Present k a))
+      (only-then 15 (contentOf k (speedOf k a) (Y (a .part)) (Z (a .part)) bs) (messageOf (said Direction.Present k a) (numberOf bs)) (content-fifteen k (speedOf k a) (Y (a .part)) (Z (a .part)) bs))
+      (refusal-then (contentOf k (speedOf k a) (Y (a .part)) (Z (a .part)) bs) (messageOf (said Direction.Present k a) (numberOf bs))
       ∙ content-refused k (speedOf k a) a bs),
 )
 

@@ -18,6 +18,8 @@ use Rattle.walk.specs.Fitting.{routeSpeed, fitting}
 use Rattle.group.specs.Judge.{distanceOf, signalDistance, judgeRead, judge}
 use Rattle.walk.specs.declared.Direction.{Direction}
 use Rattle.walk.specs.declared.Kind.{Kind}
+use Rattle.group.specs.Numbers.{numberOf}
+use Rattle.group.specs.declared.Number.{Number}
 use Rattle.group.specs.declared.Told.{Told}
 use Rattle.ride.specs.Record.{odometerOf, passedOf, inOrder, check}
 use Rattle.ride.specs.State.{noGroup, nothingKnown, freshRide}
@@ -43,12 +45,12 @@ use Rattle.demands.proofs.Output.{allText, listed-so, output-whole}
 abbrev inFull : Ridden
 inFull =
     record {
-      lines = Line.Group (record { place = 1000; direction = Direction.Present; kind = Kind.Signal; mark = Mark.First }) ∷ Line.Missed 5800 ∷ [];
-      ride = record { odometer = 6000; group = noGroup; known = record { linking = Linking.Unset; main = Told.Kmh 130; target = Told.Kmh 80 } };
+      lines = Line.Group (record { place = 1000; direction = Direction.Present; kind = Kind.Signal; mark = Mark.First; number = Number.None }) ∷ Line.Missed 5800 ∷ [];
+      ride = record { odometer = 6000; group = noGroup; known = record { linking = Linking.Unset; main = Told.Kmh 130; target = Told.Kmh 80; number = Number.None } };
     }
 
 ridden-is : ridden oneRide ≡ inFull
-unfolding readWord isCode even count covers figure onwards isCheck exchanged other word shortWord longWord telegram balises readAll fits first fitRow fitRows howMany fitIn fitting distance signalSpeed targetFigure routeSpeed distanceOf signalDistance judgeRead judge odometerOf passedOf inOrder check noGroup nothingKnown freshRide join takeUp markAt close leave closeBehind missedLines afterMissed goOn treat firstRecords rideOver
+unfolding readWord isCode even count covers figure onwards isCheck exchanged other word shortWord longWord telegram balises readAll fits first fitRow fitRows howMany fitIn fitting distance signalSpeed targetFigure routeSpeed distanceOf signalDistance numberOf judgeRead judge odometerOf passedOf inOrder check noGroup nothingKnown freshRide join takeUp markAt close leave closeBehind missedLines afterMissed goOn treat firstRecords rideOver
 ridden-is = refl
 
 text-is : textOf (inFull .lines) ≡ itsLines
@@ -78,7 +80,7 @@ one-ride = record {
   writes = output-whole oneRide refl ∙ ap (λ (t : List ℕ). t ++ textOf (end (ridden oneRide .ride) .lines)) all-text ∙ ap (λ (ls : List Line). itsLines ++ textOf ls) none-more;
   known = λ f r fresh c.
       let is : r .ride .known ≡ inFull .ride .known = ap (λ (g : Ride). g .known) (run-is f r fresh c) in
-      (ap (λ (k : Known). k .main) is, ap (λ (k : Known). k .target) is, ap (λ (k : Known). k .linking) is);
+      (ap (λ (k : Known). k .main) is, ap (λ (k : Known). k .target) is, ap (λ (k : Known). k .linking) is, ap (λ (k : Known). k .number) is);
   listed = λ f l before after fresh enough c.
       listed-so f l oneRide before after refl (omega arith) enough fresh c .2 ∙ ap (λ (t : List ℕ). t ++ drop (length t) before) all-text;
   no-more = λ f r e fresh c ended. ap (λ (v : End). v .lines) (ended .1) ∙ ap (λ (g : Ride). end g .lines) (run-is f r fresh c) ∙ ended-is;

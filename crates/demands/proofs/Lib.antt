@@ -11,6 +11,7 @@ pub mod Fits
 pub mod Groups
 pub mod Rides
 pub mod Messages
+pub mod Numbering
 pub mod Steps
 pub mod Marking
 pub mod Treats
@@ -50,3 +51,4 @@ pub mod WritingMet
 pub mod Needed
 pub mod MarksMet
 pub mod RidesMet
+pub mod NumbersMet

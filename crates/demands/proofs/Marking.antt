@@ -31,16 +31,16 @@ use Rattle.demands.proofs.Messages.{not-signal, View, signal, warning, 
 abbrev Leaves : Message → Type 0
 Leaves m =
     ((linking : Linking) → markFrom (saysContent (m .content)) (m .place) linking ≡ Mark.Unmarked)
-    × ((k : Known) → knownFrom (saysContent (m .content)) (m .place) k ≡ k)
+    × ((k : Known) → knownFrom (saysContent (m .content)) (m .place) (m .number) k ≡ k)
 
 other-leaves : (bs : List Placed) (m : Message) → (IsSignal m → ⊥) → View bs (saysMessage m) → Leaves m
 other-leaves bs m other (signal d k distance _ e) = absurd (other (d, k))
 other-leaves bs m other (warning _ k d distance e) =
-    (λ l. ap (λ (v : Content). markFrom v (m .place) l) e, λ k. ap (λ (v : Content). knownFrom v (m .place) k) e)
+    (λ l. ap (λ (v : Content). markFrom v (m .place) l) e, λ k. ap (λ (v : Content). knownFrom v (m .place) (m .number) k) e)
 other-leaves bs m other (route _ k e) =
-    (λ l. ap (λ (v : Content). markFrom v (m .place) l) e, λ k. ap (λ (v : Content). knownFrom v (m .place) k) e)
+    (λ l. ap (λ (v : Content). markFrom v (m .place) l) e, λ k. ap (λ (v : Content). knownFrom v (m .place) (m .number) k) e)
 other-leaves bs m other (plain p e) =
-    (λ l. ap (λ (v : Content). markFrom v (m .place) l) e, λ k. ap (λ (v : Content). knownFrom v (m .place) k) e)
+    (λ l. ap (λ (v : Content). markFrom v (m .place) l) e, λ k. ap (λ (v : Content). knownFrom v (m .place) (m .number) k) e)
 
 -- A present signal is marked by the linking and its place.
 signal-marks : (bs : List Placed) (m : Message) (linking : Linking) → IsSignal m → View bs (saysMessage m)
@@ -74,14 +74,15 @@ module _ (g : Group) (m : Message) (judged : judge g ≡ gives (saysMessage m)) 
   target-is Told.Unknown = refl
 
   -- What is known after it is what document 01's sentences give.
-  pub becomes : (k : Known) → Becomes k m (knownFrom (saysContent (m .content)) (m .place) k)
+  pub becomes : (k : Known) → Becomes k m (knownFrom (saysContent (m .content)) (m .place) (m .number) k)
   becomes k =
       record {
-        main = λ d v preset target e. ap (λ (c : Said). knownFrom (saysContent c) (m .place) k .main) e;
-        main-stays = λ d preset target e. ap (λ (c : Said). knownFrom (saysContent c) (m .place) k .main) e;
-        target = λ d preset main target e. ap (λ (c : Said). knownFrom (saysContent c) (m .place) k .target) e ∙ target-is target;
-        anew = λ d main target e. ap (λ (c : Said). knownFrom (saysContent c) (m .place) k .linking) e;
-        ends = λ d main target e. ap (λ (c : Said). knownFrom (saysContent c) (m .place) k .linking) e;
+        main = λ d v preset target e. ap (λ (c : Said). knownFrom (saysContent c) (m .place) (m .number) k .main) e;
+        main-stays = λ d preset target e. ap (λ (c : Said). knownFrom (saysContent c) (m .place) (m .number) k .main) e;
+        target = λ d preset main target e. ap (λ (c : Said). knownFrom (saysContent c) (m .place) (m .number) k .target) e ∙ target-is target;
+        number = λ d preset main target e. ap (λ (c : Said). knownFrom (saysContent c) (m .place) (m .number) k .number) e;
+        anew = λ d main target e. ap (λ (c : Said). knownFrom (saysContent c) (m .place) (m .number) k .linking) e;
+        ends = λ d main target e. ap (λ (c : Said). knownFrom (saysContent c) (m .place) (m .number) k .linking) e;
         others = λ other. other-leaves (partsOf g) m other seen .1 k;
       }
 

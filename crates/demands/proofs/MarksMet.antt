@@ -16,6 +16,7 @@ use Rattle.walk.specs.Rows.{howMany, fitIn}
 use Rattle.group.specs.Distance.{distance}
 use Rattle.group.specs.Speed.{signalSpeed, targetFigure}
 use Rattle.walk.specs.Fitting.{routeSpeed, fitting}
+use Rattle.group.specs.Numbers.{numberOf}
 use Rattle.group.specs.Judge.{distanceOf, signalDistance, judgeRead, judge}
 use Rattle.group.specs.declared.Content.{Content}
 use Rattle.walk.specs.declared.Direction.{Direction}
@@ -24,6 +25,7 @@ use Rattle.group.specs.declared.Heard.{Heard}
 use Rattle.group.specs.declared.Judged.{Judged}
 use Rattle.walk.specs.declared.Kind.{Kind}
 use Rattle.group.specs.declared.Message.{Message}
+use Rattle.group.specs.declared.Number.{Number}
 use Rattle.group.specs.declared.Told.{Told}
 use Rattle.ride.specs.Record.{odometerOf, passedOf, inOrder, check}
 use Rattle.ride.specs.State.{noBalise, noGroup, nothingKnown, freshRide}
@@ -63,18 +65,18 @@ last = 0x00 ∷ 0x00 ∷ 0x17 ∷ 0x70 ∷ 0x03 ∷ 0x00 ∷ 0x00 ∷ 0x00 ∷ [
 abbrev lastStep : Linking → Mark → OneStep
 lastStep linking mark =
     record {
-      ride = record { odometer = 1030; group = itsGroup; known = record { linking = linking; main = Told.Unknown; target = Told.Unknown } };
+      ride = record { odometer = 1030; group = itsGroup; known = record { linking = linking; main = Told.Unknown; target = Told.Unknown; number = Number.None } };
       gap = 40;
       bytes = last;
       odometer = 6000;
       passed = Passed.Position;
       answer =
           record {
-            ride = record { odometer = 6000; group = noGroup; known = record { linking = Linking.Unset; main = Told.Kmh 130; target = Told.Kmh 80 } };
+            ride = record { odometer = 6000; group = noGroup; known = record { linking = Linking.Unset; main = Told.Kmh 130; target = Told.Kmh 80; number = Number.None } };
             closed = itsGroup;
             report =
                 Report.Lines
-                (Lines.Two (Line.Group (record { place = 1000; direction = Direction.Present; kind = Kind.Signal; mark = mark })) (Line.Missed 5800));
+                (Lines.Two (Line.Group (record { place = 1000; direction = Direction.Present; kind = Kind.Signal; mark = mark; number = Number.None })) (Line.Missed 5800));
           };
     }
 
@@ -87,6 +89,7 @@ itsMessage =
       place = 1000;
       ay = 8;
       az = 5;
+      number = Number.None;
       content = Content.Signal 4000 false (Told.Kmh 130) (Told.Kmh 80);
     }
 
@@ -115,7 +118,7 @@ lent linking = (lastStep linking Mark.First .ride, (40, (last, tt)))
 -- D = 500: 4D is 5 x 400, 6D is 5 x 600. At 399 early, at 400 and 600 good, at 601 late; with no linking first.
 pub its-answers : JudgeGroup itsGroup (Judged.Accepted itsMessage) × Answered Linking.Unset Mark.First × Answered (Linking.Set 500 601) Mark.Early
     × Answered (Linking.Set 500 600) Mark.Good × Answered (Linking.Set 500 400) Mark.Good × Answered (Linking.Set 500 399) Mark.Late
-unfolding readWord isCode even count covers figure onwards isCheck exchanged other word shortWord longWord telegram balises readAll fits first fitRow fitRows howMany fitIn fitting distance signalSpeed targetFigure routeSpeed distanceOf signalDistance judgeRead judge odometerOf passedOf inOrder check noGroup nothingKnown freshRide join takeUp markAt close leave closeBehind missedLines afterMissed goOn treat step badGap
+unfolding readWord isCode even count covers figure onwards isCheck exchanged other word shortWord longWord telegram balises readAll fits first fitRow fitRows howMany fitIn fitting distance signalSpeed targetFigure routeSpeed distanceOf signalDistance numberOf judgeRead judge odometerOf passedOf inOrder check noGroup nothingKnown freshRide join takeUp markAt close leave closeBehind missedLines afterMissed goOn treat step badGap
 its-answers = (
   ((itsGroup, tt), refl),
   (lent Linking.Unset, refl),

@@ -15,6 +15,7 @@ use Rattle.group.specs.Distance.{isPreset}
 use Rattle.group.specs.Speed.{signalSpeed, targetFigure}
 use Rattle.walk.specs.Fitting.{routeSpeed, fitting}
 use Rattle.group.specs.Message.{Content, ofSignal, ofWarning, ofRoute, nothing, Message}
+use Rattle.group.specs.Numbers.{numberOf}
 use Rattle.group.specs.Judge.{yOf, zOf, B, P, distanceOf, signalDistance, messageOf, judgeAs, judgeRead, judge}
 use Rattle.walk.specs.declared.Direction.{Direction}
 use Rattle.group.specs.declared.Group.{Group}
@@ -42,7 +43,7 @@ pub data View (bs : List Placed) (m : Message) : Type 0 where
   route : m .direction ≡ Direction.Present → m .kind ≡ Kind.Route → m .content ≡ ofRoute (routeSpeed (m .ay) (m .az)) → View bs m
   plain : Other m → m .content ≡ nothing → View bs m
 
-never : {A : Type 0} {m : A} (n : ℕ) → refuses n ≡ gives m → ⊥
+pub never : {A : Type 0} {m : A} (n : ℕ) → refuses n ≡ gives m → ⊥
 never n e = let z : _≡_ {A = ℕ} 0 1 = cc in omega arith
 
 -- what goes on from a distance
@@ -55,35 +56,41 @@ present-view : (kind : Kind) (a : Placed) (bs : List Placed) (m : Message) → j
 present-view Kind.Signal a bs m e =
     let r = on-distance (signalDistance (Z (a .part)) bs)
     (λ d. ofSignal d (isPreset (yOf (B bs))) (signalSpeed (Y (a .part))) (signalSpeed (targetFigure (Y (a .part)) (Z (a .part)) (yOf (P bs)) (zOf (P bs)))))
-    (messageOf (said Direction.Present Kind.Signal a)) m e in
+    (messageOf (said Direction.Present Kind.Signal a) (numberOf bs)) m e in
     subst (View bs) (r .2) (signal refl refl (r .0) (r .1) refl)
 present-view Kind.Warning a bs m e =
-    let r = on-distance (distanceOf bs) (λ d. ofWarning d (isPreset (yOf (B bs)))) (messageOf (said Direction.Present Kind.Warning a)) m e in
+    let r = on-distance (distanceOf bs) (λ d. ofWarning d (isPreset (yOf (B bs)))) (messageOf (said Direction.Present Kind.Warning a) (numberOf bs)) m e in
     subst (View bs) (r .2) (warning refl refl (r .0) (r .1) refl)
 present-view Kind.Annulled a bs m e =
-    let is : messageOf (said Direction.Present Kind.Annulled a) nothing ≡ m = cc in
+    let is : messageOf (said Direction.Present Kind.Annulled a) (numberOf bs) nothing ≡ m = cc in
     subst (View bs) is (plain (inr (inl refl)) refl)
 present-view Kind.Line a bs m e =
-    let is : messageOf (said Direction.Present Kind.Line a) nothing ≡ m = cc in
+    let is : messageOf (said Direction.Present Kind.Line a) (numberOf bs) nothing ≡ m = cc in
     subst (View bs) is (plain (inr (inr refl)) refl)
 present-view Kind.Route a bs m e =
-    let is : messageOf (said Direction.Present Kind.Route a) (ofRoute (routeSpeed (Y (a .part)) (Z (a .part)))) ≡ m = cc in
+    let is : messageOf (said Direction.Present Kind.Route a) (numberOf bs) (ofRoute (routeSpeed (Y (a .part)) (Z (a .part)))) ≡ m = cc in
     subst (View bs) is (route refl refl refl)
 
 decided-view : (p o : Fit) (bs : List Placed) (m : Message) → decide p o bs ≡ gives m → View bs m
 decided-view misfit misfit bs m e = absurd (never 13 e)
 decided-view misfit (fit k a) bs m e =
-    let is : messageOf (said Direction.Opposite k a) nothing ≡ m = cc in
+    let is : messageOf (said Direction.Opposite k a) (numberOf bs) nothing ≡ m = cc in
     subst (View bs) is (plain (inl refl) refl)
 decided-view (fit k a) o bs m e = present-view k a bs m e
 
--- The message of an accepted group.
-pub view : (g : Group) (m : Message) → judge g ≡ gives m → View (partsOf g) m
-unfolding judge judgeRead fitting partsOf
-view g m e = go (eqb (g .count) 1) (ltb 5 (g .count)) (readAll (balises g)) e
+-- What holds of the message of all balises that are accepted holds of the message of every accepted group.
+pub of-group : (Q : List Placed → Message → Type 0) → ((bs : List Placed) (m : Message) → judgeRead bs ≡ gives m → Q bs m)
+    → (g : Group) (m : Message) → judge g ≡ gives m → Q (partsOf g) m
+unfolding judge partsOf
+of-group Q accepted g m e = go (eqb (g .count) 1) (ltb 5 (g .count)) (readAll (balises g)) e
   where
-    go : (t u : Bool) (o : Outcome (List Placed)) → pick t (refuses 10) (pick u (refuses 11) (then o judgeRead)) ≡ gives m → View (listOf o) m
+    go : (t u : Bool) (o : Outcome (List Placed)) → pick t (refuses 10) (pick u (refuses 11) (then o judgeRead)) ≡ gives m → Q (listOf o) m
     go true u o q = absurd (never 10 q)
     go false true o q = absurd (never 11 q)
     go false false (refuses n) q = absurd (never n q)
-    go false false (gives bs) q = decided-view (fitIn present bs) (fitIn opposite bs) bs m q
+    go false false (gives bs) q = accepted bs m q
+
+-- The message of an accepted group.
+pub view : (g : Group) (m : Message) → judge g ≡ gives m → View (partsOf g) m
+unfolding judgeRead fitting
+view = of-group View (λ bs m e. decided-view (fitIn present bs) (fitIn opposite bs) bs m e)

@@ -15,6 +15,7 @@ use Rattle.walk.specs.Rows.{howMany, fitIn}
 use Rattle.group.specs.Distance.{distance}
 use Rattle.group.specs.Speed.{signalSpeed, targetFigure}
 use Rattle.walk.specs.Fitting.{routeSpeed, fitting}
+use Rattle.group.specs.Numbers.{numberOf}
 use Rattle.group.specs.Judge.{distanceOf, signalDistance, judgeRead, judge}
 use Rattle.group.specs.declared.Content.{Content}
 use Rattle.walk.specs.declared.Direction.{Direction}
@@ -23,6 +24,7 @@ use Rattle.group.specs.declared.Heard.{Heard}
 use Rattle.group.specs.declared.Judged.{Judged}
 use Rattle.walk.specs.declared.Kind.{Kind}
 use Rattle.group.specs.declared.Message.{Message}
+use Rattle.group.specs.declared.Number.{Number}
 use Rattle.group.specs.declared.Told.{Told}
 use Rattle.ride.specs.Record.{odometerOf, passedOf, inOrder, check}
 use Rattle.ride.specs.State.{noBalise, noGroup, nothingKnown, freshRide}
@@ -59,14 +61,14 @@ far = 0x00 ∷ 0x00 ∷ 0x16 ∷ 0xA9 ∷ 0x03 ∷ 0x00 ∷ 0x00 ∷ 0x00 ∷ []
 abbrev missedStep : OneStep
 missedStep =
     record {
-      ride = record { odometer = 5800; group = noGroup; known = record { linking = Linking.Set 4000 1000; main = Told.Kmh 130; target = Told.Kmh 80 } };
+      ride = record { odometer = 5800; group = noGroup; known = record { linking = Linking.Set 4000 1000; main = Told.Kmh 130; target = Told.Kmh 80; number = Number.None } };
       gap = 40;
       bytes = far;
       odometer = 5801;
       passed = Passed.Position;
       answer =
           record {
-            ride = record { odometer = 5801; group = noGroup; known = record { linking = Linking.Unset; main = Told.Kmh 130; target = Told.Kmh 80 } };
+            ride = record { odometer = 5801; group = noGroup; known = record { linking = Linking.Unset; main = Told.Kmh 130; target = Told.Kmh 80; number = Number.None } };
             closed = noGroup;
             report = Report.Lines (Lines.One (Line.Missed 5800));
           };
@@ -156,9 +158,9 @@ abbrev endedWith : Group → Line → Known → Ended
 endedWith g line known = record { ride = record { odometer = 1030; group = noGroup; known = known }; closed = g; lines = Lines.One line }
 
 ends-met : EndOf (openRide itsGroup)
-    (endedWith itsGroup (Line.Group (record { place = 1000; direction = Direction.Present; kind = Kind.Signal; mark = Mark.First }))
-    (record { linking = Linking.Set 4000 1000; main = Told.Kmh 130; target = Told.Kmh 80 }))
-unfolding readWord isCode even count covers figure onwards isCheck exchanged other word shortWord longWord telegram balises readAll fits first fitRow fitRows howMany fitIn fitting distance signalSpeed targetFigure routeSpeed distanceOf signalDistance judgeRead judge odometerOf passedOf inOrder check noGroup nothingKnown freshRide join takeUp markAt close leave closeBehind missedLines afterMissed goOn treat step badGap end
+    (endedWith itsGroup (Line.Group (record { place = 1000; direction = Direction.Present; kind = Kind.Signal; mark = Mark.First; number = Number.None }))
+    (record { linking = Linking.Set 4000 1000; main = Told.Kmh 130; target = Told.Kmh 80; number = Number.None }))
+unfolding readWord isCode even count covers figure onwards isCheck exchanged other word shortWord longWord telegram balises readAll fits first fitRow fitRows howMany fitIn fitting distance signalSpeed targetFigure routeSpeed distanceOf signalDistance numberOf judgeRead judge odometerOf passedOf inOrder check noGroup nothingKnown freshRide join takeUp markAt close leave closeBehind missedLines afterMissed goOn treat step badGap end
 ends-met = ((openRide itsGroup, tt), refl)
 
 ends-alone-met : EndOf (openRide alone) (endedWith alone (Line.Fault 1000 10) nothingKnown)
@@ -185,8 +187,8 @@ backwards =
 
 -- what it says
 abbrev itsOther : Message
-itsOther = record { direction = Direction.Opposite; kind = Kind.Signal; place = 1030; ay = 8; az = 5; content = Content.Nothing }
+itsOther = record { direction = Direction.Opposite; kind = Kind.Signal; place = 1030; ay = 8; az = 5; number = Number.None; content = Content.Nothing }
 
 other-met : JudgeGroup backwards (Judged.Accepted itsOther) × IsMarked Linking.Unset itsOther Mark.Unmarked
-unfolding readWord isCode even count covers figure onwards isCheck exchanged other word shortWord longWord telegram balises readAll fits first fitRow fitRows howMany fitIn fitting distance signalSpeed targetFigure routeSpeed distanceOf signalDistance judgeRead judge odometerOf passedOf inOrder check noGroup nothingKnown freshRide join takeUp markAt close leave closeBehind missedLines afterMissed goOn treat step badGap end
+unfolding readWord isCode even count covers figure onwards isCheck exchanged other word shortWord longWord telegram balises readAll fits first fitRow fitRows howMany fitIn fitting distance signalSpeed targetFigure routeSpeed distanceOf signalDistance numberOf judgeRead judge odometerOf passedOf inOrder check noGroup nothingKnown freshRide join takeUp markAt close leave closeBehind missedLines afterMissed goOn treat step badGap end
 other-met = (((backwards, tt), refl), unmarked (λ s. let e = s .0 in let z : _≡_ {A = ℕ} 0 1 = cc in omega arith))

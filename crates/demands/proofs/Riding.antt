@@ -1,19 +1,22 @@
 -- Steps 2 to 4, the end and the run do as document 01 says: each taken apart by its hypothesis.
 -- Assumes nothing.
-use mathlib.Core.Path.{_≡_, refl, sym, ap, _∙_, subst}
+use mathlib.Core.Path.{_≡_, refl, sym, ap, ap₂, _∙_, subst}
 use mathlib.Core.Bool.{Bool, true, false, not, _&&_}
 use mathlib.Core.List.{List, [], _∷_, _++_}
 use Prim.Native.Nat.{_+_, _-_, _*_}
 use borrow.Author.Tests.{lt-ltb, le-ltb}
 use Rattle.words.specs.Answer.{gives, pick}
+use Rattle.group.specs.Judge.{judge}
 use Rattle.group.specs.Says.{saysContent, saysMessage}
+use Rattle.group.specs.declared.Group.{Group}
 use Rattle.group.specs.declared.Judged.{Judged}
 use Rattle.group.specs.declared.Message.{Message}
+use Rattle.group.specs.declared.Number.{Number}
 use Rattle.group.specs.declared.Told.{Told}
 use Rattle.ride.specs.State.{noGroup, isOpen, nothingKnown, freshRide}
 use Rattle.ride.specs.Joining.{takeUp}
 use Rattle.ride.specs.Linking.{isOverdue, missedPlace}
-use Rattle.ride.specs.Closing.{knownFrom, closeAs, close, leave}
+use Rattle.ride.specs.Closing.{knownFrom, seenFrom, closeAs, close, leave}
 use Rattle.ride.specs.Step.{Step, missedLines, unlinked, afterMissed, afterClosing, goOn, End, ended, end}
 use Rattle.ride.specs.Says.{saysStepped, saysEnded}
 use Rattle.ride.specs.declared.Ended.{Ended}
@@ -24,11 +27,12 @@ use Rattle.ride.specs.declared.Mark.{Mark}
 use Rattle.ride.specs.declared.Ride.{Ride}
 use Rattle.demands.specs.Contracts.{EndOf, JudgeGroup}
 use Rattle.demands.specs.Steps.{OneStep, Accepts, LeavesBehind, StaysOpen, NoneOpen, before, after, Gives}
-use Rattle.demands.specs.Ride.{IsMarked, lineOf, Becomes, Step3, Riding}
+use Rattle.demands.specs.Ride.{IsMarked, IsNumbered, lineOf, Becomes, Step3, Riding}
 use Rattle.demands.proofs.Steps.{entry, goes-on, closes, stays-none, stays-open}
 use Rattle.demands.proofs.Treats.{treats-as, treats-nothing}
 use Rattle.demands.proofs.Runs.{runs-on, runs-nowhere}
 use Rattle.demands.proofs.Marking.{mark-of, mark-so, becomes}
+use Rattle.demands.proofs.Numbering.{number-so, number-on}
 
 -- ---- step 3
 
@@ -61,25 +65,32 @@ step3 o lines k given known =
 
 -- ---- a group closes
 
+-- Its line, with its mark and its number.
+line-so : (g : Group) (m : Message) → judge g ≡ gives (saysMessage m) → (linking : Linking) (mark : Mark) (number : Number) → IsMarked linking m mark → IsNumbered m number
+    → Line.Group (seenFrom (saysMessage m) linking) ≡ lineOf m mark number
+line-so g m judged linking mark number marked numbered =
+    ap₂ (λ (v : Mark) (n : Number). lineOf m v n) (mark-so g m judged linking mark marked) (number-so m number numbered)
+
 module _ (o : OneStep) (m : Message) (b : LeavesBehind o) (j : JudgeGroup (o .ride .group) (Judged.Accepted m)) where
   -- what is known after it, before step 3
   abbrev told : Known
-  told = knownFrom (saysContent (m .content)) (m .place) (before o)
+  told = knownFrom (saysContent (m .content)) (m .place) (m .number) (before o)
 
   closed-so : saysStepped (o .answer) ≡ afterClosing (entry o) (closeAs (o .ride .group) (before o) (gives (saysMessage m)))
   closed-so = closes o b (gives (saysMessage m)) (sym (j .1))
 
-  closed-step3 : (mark : Mark) → IsMarked (before o .linking) m mark → Step3 o (lineOf m mark ∷ []) told
-  unfolding missedLines afterMissed noGroup
-  closed-step3 mark marked =
-      step3 o (lineOf m mark ∷ []) told
-      (ap (λ (s : Step). s .lines) closed-so
-      ∙ ap (λ (v : Mark). gives (lineOf m v ∷ pick (isOverdue (told .linking) (o .odometer)) (missedLine told) []))
-      (mark-so (o .ride .group) m (sym (j .1)) (before o .linking) mark marked))
-      (ap (λ (s : Step). s .ride .known) closed-so)
+  module _ (mark : Mark) (number : Number) (marked : IsMarked (before o .linking) m mark) (numbered : IsNumbered m number) where
+    closed-step3 : Step3 o (lineOf m mark number ∷ []) told
+    unfolding missedLines afterMissed noGroup
+    closed-step3 =
+        step3 o (lineOf m mark number ∷ []) told
+        (ap (λ (s : Step). s .lines) closed-so
+        ∙ ap (λ (l : Line). gives (l ∷ pick (isOverdue (told .linking) (o .odometer)) (missedLine told) []))
+        (line-so (o .ride .group) m (sym (j .1)) (before o .linking) mark number marked numbered))
+        (ap (λ (s : Step). s .ride .known) closed-so)
 
-  pub closes-so : (mark : Mark) → IsMarked (before o .linking) m mark → (k : Known) × Becomes (before o) m k × Step3 o (lineOf m mark ∷ []) k
-  closes-so mark marked = (told, becomes (o .ride .group) m (sym (j .1)) (before o), closed-step3 mark marked)
+    pub closes-so : (k : Known) × Becomes (before o) m k × Step3 o (lineOf m mark number ∷ []) k
+    closes-so = (told, becomes (o .ride .group) m (sym (j .1)) (before o), closed-step3)
 
 -- ---- no group closes
 
@@ -121,16 +132,16 @@ moved o a = ap (λ (v : Step). v .ride .odometer) (goes-on o a)
 
 -- ---- the end
 
-ended-so : (ride : Ride) (r : Ended) (m : Message) (mark : Mark) → EndOf ride r → isOpen (ride .group) ≡ true → JudgeGroup (ride .group) (Judged.Accepted m)
-    → IsMarked (ride .known .linking) m mark
-    → (saysEnded r ≡ ended (ride .odometer) (record { lines = lineOf m mark ∷ []; closed = ride .group; group = noGroup; known = knownFrom (saysContent (m .content)) (m .place) (ride .known) }))
+ended-so : (ride : Ride) (r : Ended) (m : Message) (mark : Mark) (number : Number) → EndOf ride r → isOpen (ride .group) ≡ true → JudgeGroup (ride .group) (Judged.Accepted m)
+    → IsMarked (ride .known .linking) m mark → IsNumbered m number
+    → (saysEnded r ≡ ended (ride .odometer) (record { lines = lineOf m mark number ∷ []; closed = ride .group; group = noGroup; known = knownFrom (saysContent (m .content)) (m .place) (m .number) (ride .known) }))
 unfolding end close
-ended-so ride r m mark c is j marked =
+ended-so ride r m mark number c is j marked numbered =
     c .1
     ∙ ap (λ (t : Bool). ended (ride .odometer) (pick t (close (ride .group) (ride .known)) (leave (ride .group) (ride .known)))) is
     ∙ ap (λ (o : _). ended (ride .odometer) (closeAs (ride .group) (ride .known) o)) (sym (j .1))
-    ∙ ap (λ (v : Mark). ended (ride .odometer) (record { lines = lineOf m v ∷ []; closed = ride .group; group = noGroup; known = knownFrom (saysContent (m .content)) (m .place) (ride .known) }))
-    (mark-so (ride .group) m (sym (j .1)) (ride .known .linking) mark marked)
+    ∙ ap (λ (l : Line). ended (ride .odometer) (record { lines = l ∷ []; closed = ride .group; group = noGroup; known = knownFrom (saysContent (m .content)) (m .place) (m .number) (ride .known) }))
+    (line-so (ride .group) m (sym (j .1)) (ride .known .linking) mark number marked numbered)
 
 nothing-so : (ride : Ride) (r : Ended) → EndOf ride r → isOpen (ride .group) ≡ false → saysEnded r ≡ record { lines = []; closed = noGroup; ride = ride }
 unfolding end leave
@@ -138,13 +149,13 @@ nothing-so ride r c is =
     c .1 ∙ ap (λ (t : Bool). ended (ride .odometer) (pick t (close (ride .group) (ride .known)) (leave (ride .group) (ride .known)))) is
 
 fresh-so : (f : Ride) → f ≡ freshRide
-    → (f .known ≡ record { linking = Linking.Unset; main = Told.Unknown; target = Told.Unknown }) × (isOpen (f .group) ≡ false) × (f .odometer ≡ 0)
+    → (f .known ≡ record { linking = Linking.Unset; main = Told.Unknown; target = Told.Unknown; number = Number.None }) × (isOpen (f .group) ≡ false) × (f .odometer ≡ 0)
 unfolding freshRide noGroup nothingKnown
 fresh-so f e = (ap (λ (r : Ride). r .known) e, ap (λ (r : Ride). isOpen (r .group)) e, ap (λ (r : Ride). r .odometer) e)
 
 pub riding : Riding
 riding = record {
-  closes = λ o m mark b j marked. closes-so o m b j mark marked;
+  closes = λ o m mark number b j marked numbered. closes-so o m b j mark number marked numbered;
   none-open = none-step3;
   stays-open = open-stays;
   joins = λ o s. taken-up o (stays-open o (s .accepts) (s .is-open) (s .within));
@@ -152,8 +163,9 @@ riding = record {
   leaves = left;
   odometer = moved;
   marked = mark-of;
-  ended = λ ride r m mark c is j marked.
-      let e = ended-so ride r m mark c is j marked in (
+  numbered = number-on;
+  ended = λ ride r m mark number c is j marked numbered.
+      let e = ended-so ride r m mark number c is j marked numbered in (
         ap (λ (v : End). v .lines) e,
         subst (Becomes (ride .known) m) (sym (ap (λ (v : End). v .ride .known) e)) (becomes (ride .group) m (sym (j .1)) (ride .known)),
         ap (λ (v : End). v .ride .group) e,

@@ -33,6 +33,7 @@ use Rattle.demands.specs.Demand2.{noColumn, Groups}
 use Rattle.demands.proofs.Rules.{true-not-false}
 use Rattle.demands.proofs.Balises.{Read, bad, all, read-is}
 use Rattle.demands.proofs.Prefix.{target-prefixed, target-not}
+use Rattle.demands.proofs.Numbering.{has-number}
 use Rattle.demands.proofs.Messages.{View, signal, warning, route, plain, view}
 use Rattle.demands.proofs.CalledA.{has-a}
 use Rattle.demands.proofs.Contents.{content-so}
@@ -180,6 +181,7 @@ groups = record {
   by-rows = λ g r c one five u. c .1 ∙ rows-judge g one five u;
   one-way = one-way;
   its-a = λ g m c. has-a g m (sym (c .1));
+  its-number = λ g m c. has-number g (saysMessage m) (sym (c .1));
   content = λ g m c. content-so (partsOf g) m (m .content) refl (view g (saysMessage m) (sym (c .1)));
   signal = λ g m d preset main target c e. signal-so (partsOf g) m d preset main target e (view g (saysMessage m) (sym (c .1)));
   preset-target = λ g m d main target c e.

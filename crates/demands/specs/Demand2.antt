@@ -39,7 +39,7 @@ use Rattle.group.specs.declared.Told.{Told}
 use Rattle.demands.specs.Table.{notSeven, beyond, oneBalise, moreThanFive, unread, partsOf}
 use Rattle.demands.specs.Contracts.{ReadShort, WriteShort, ReadLong, WriteLong, ReadTelegram, Distance, Speed, JudgeGroup}
 use Rattle.demands.specs.Calls.{Comes}
-use Rattle.demands.specs.Said.{Announces, Speeds, Content-of, Its-A}
+use Rattle.demands.specs.Said.{Announces, Speeds, Content-of, Its-A, Its-number}
 use Rattle.demands.specs.Cases.{M8, AllHold, cases}
 use Rattle.demands.specs.RowCases.{presentCases, oppositeCases, outsideCases, AllJudged}
 use Rattle.demands.specs.Ride.{Riding}
@@ -118,8 +118,9 @@ pub record Groups : Type 0 where
       → saysJudged r ≡ judgeRead (partsOf g)
   -- no group fits a row of each direction: the first balise that is no 12 tells it
   pub one-way : OneWay
-  -- every accepted group has an A, and says what its kind says
+  -- every accepted group has an A, holds its number or none, and says what its kind says
   pub its-a : (g : Group) (m : Message) → JudgeGroup g (Judged.Accepted m) → Its-A (partsOf g) m
+  pub its-number : (g : Group) (m : Message) → JudgeGroup g (Judged.Accepted m) → Its-number (partsOf g) (m .number)
   pub content : (g : Group) (m : Message) → JudgeGroup g (Judged.Accepted m) → Content-of m
   -- what present signals, present warning boards and route boards (10 x AZ km/h with AY 2, 140 km/h with AY 4) say
   pub signal : (g : Group) (m : Message) (d : ℕ) (preset : Bool) (main target : Told) → JudgeGroup g (Judged.Accepted m)

@@ -9,6 +9,7 @@ use lib.ListN.{length, take, drop}
 use Rattle.words.specs.Answer.{pick}
 use Rattle.walk.specs.declared.Direction.{Direction}
 use Rattle.walk.specs.declared.Kind.{Kind}
+use Rattle.group.specs.declared.Number.{Number}
 use Rattle.group.specs.declared.Told.{Told}
 use Rattle.ride.specs.State.{freshRide}
 use Rattle.ride.specs.Step.{end}
@@ -49,14 +50,17 @@ pub record Quoted : Type 0 where
 -- "Other lines read": with either direction, each kind and each mark among them.
 abbrev pub quoted : List Quoted
 quoted =
-    record { line = Line.Group (record { place = 1000; direction = Direction.Opposite; kind = Kind.Signal; mark = Mark.Unmarked }); reads = codes "1000 opposite signal\n" }
-    ∷ record { line = Line.Group (record { place = 1000; direction = Direction.Present; kind = Kind.Route; mark = Mark.Unmarked }); reads = codes "1000 present route\n" }
-    ∷ record { line = Line.Group (record { place = 1000; direction = Direction.Present; kind = Kind.Warning; mark = Mark.Unmarked }); reads = codes "1000 present warning\n" }
-    ∷ record { line = Line.Group (record { place = 1000; direction = Direction.Opposite; kind = Kind.Annulled; mark = Mark.Unmarked }); reads = codes "1000 opposite annulled\n" }
-    ∷ record { line = Line.Group (record { place = 1000; direction = Direction.Opposite; kind = Kind.Line; mark = Mark.Unmarked }); reads = codes "1000 opposite line\n" }
-    ∷ record { line = Line.Group (record { place = 1000; direction = Direction.Present; kind = Kind.Signal; mark = Mark.Early }); reads = codes "1000 present signal early\n" }
-    ∷ record { line = Line.Group (record { place = 1000; direction = Direction.Present; kind = Kind.Signal; mark = Mark.Good }); reads = codes "1000 present signal good\n" }
-    ∷ record { line = Line.Group (record { place = 1000; direction = Direction.Present; kind = Kind.Signal; mark = Mark.Late }); reads = codes "1000 present signal late\n" }
+    record { line = Line.Group (record { place = 1000; direction = Direction.Opposite; kind = Kind.Signal; mark = Mark.Unmarked; number = Number.None }); reads = codes "1000 opposite signal\n" }
+    ∷ record { line = Line.Group (record { place = 1000; direction = Direction.Present; kind = Kind.Route; mark = Mark.Unmarked; number = Number.None }); reads = codes "1000 present route\n" }
+    ∷ record { line = Line.Group (record { place = 1000; direction = Direction.Present; kind = Kind.Warning; mark = Mark.Unmarked; number = Number.None }); reads = codes "1000 present warning\n" }
+    ∷ record { line = Line.Group (record { place = 1000; direction = Direction.Opposite; kind = Kind.Annulled; mark = Mark.Unmarked; number = Number.None }); reads = codes "1000 opposite annulled\n" }
+    ∷ record { line = Line.Group (record { place = 1000; direction = Direction.Opposite; kind = Kind.Line; mark = Mark.Unmarked; number = Number.None }); reads = codes "1000 opposite line\n" }
+    ∷ record { line = Line.Group (record { place = 1000; direction = Direction.Present; kind = Kind.Signal; mark = Mark.Early; number = Number.None }); reads = codes "1000 present signal early\n" }
+    ∷ record { line = Line.Group (record { place = 1000; direction = Direction.Present; kind = Kind.Signal; mark = Mark.Good; number = Number.None }); reads = codes "1000 present signal good\n" }
+    ∷ record { line = Line.Group (record { place = 1000; direction = Direction.Present; kind = Kind.Signal; mark = Mark.Late; number = Number.None }); reads = codes "1000 present signal late\n" }
+    -- "a signal line of either direction with a number ends like ` n1612`"
+    ∷ record { line = Line.Group (record { place = 6410; direction = Direction.Present; kind = Kind.Signal; mark = Mark.Late; number = Number.Figure 17 }); reads = codes "6410 present signal late n17\n" }
+    ∷ record { line = Line.Group (record { place = 11030; direction = Direction.Opposite; kind = Kind.Signal; mark = Mark.Unmarked; number = Number.Figure 1612 }); reads = codes "11030 opposite signal n1612\n" }
     ∷ record { line = Line.Trace 16; reads = codes "trace refused 16\n" }
     ∷ record { line = Line.Fault 1000 13; reads = codes "1000 fault 13\n" }
     ∷ record { line = Line.Record 3 17; reads = codes "record 3 refused 17\n" }
@@ -113,11 +117,13 @@ oneRide =
 abbrev pub itsLines : List ℕ
 itsLines = codes "1000 present signal first\n5800 missed\n"
 
--- What document 01 says of its ride: the lines, "Main speed 130, target 80", and that linking has ended with the missed signal.
+-- What document 01 says of its ride: the lines, "Main speed 130, target 80", and that linking has ended with the missed signal. Its
+-- signal has no number balise, so the number is none.
 pub record OneRide : Type 0 where
   pub writes : output oneRide ≡ itsLines
   pub known : (f : Ride) (r : Ran) → Fresh f → RunOver f 40 oneRide r
       → (r .ride .known .main ≡ Told.Kmh 130) × (r .ride .known .target ≡ Told.Kmh 80) × (r .ride .known .linking ≡ Linking.Unset)
+      × (r .ride .known .number ≡ Number.None)
   -- all its bytes come from `list`, and the end adds none
   pub listed : (f : Ride) (l : Listed) (before after : List ℕ) → Fresh f → 384 ≤ length before → ListInto f 40 1 oneRide before l after
       → after ≡ itsLines ++ drop (length itsLines) before

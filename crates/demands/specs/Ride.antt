@@ -11,6 +11,7 @@ use Rattle.walk.specs.declared.Direction.{Direction}
 use Rattle.group.specs.declared.Judged.{Judged}
 use Rattle.walk.specs.declared.Kind.{Kind}
 use Rattle.group.specs.declared.Message.{Message}
+use Rattle.group.specs.declared.Number.{Number}
 use Rattle.group.specs.declared.Told.{Told}
 use Rattle.ride.specs.State.{noGroup, isOpen}
 use Rattle.ride.specs.Joining.{takeUp}
@@ -46,9 +47,14 @@ pub data IsMarked (linking : Linking) (m : Message) : Mark → Type 0 where
   -- "a mark stands on present signals alone"
   unmarked : (IsSignal m → ⊥) → IsMarked linking m Mark.Unmarked
 
--- The line of an accepted group, with its mark.
-abbrev pub lineOf : Message → Mark → Line
-lineOf m mark = Line.Group (record { place = m .place; direction = m .direction; kind = m .kind; mark = mark })
+-- The number on the line of an accepted group: a signal of either direction shows its own, or none; all other lines have none.
+pub data IsNumbered (m : Message) : Number → Type 0 where
+  of-signal : m .kind ≡ Kind.Signal → IsNumbered m (m .number)
+  of-other : (m .kind ≡ Kind.Signal → ⊥) → IsNumbered m Number.None
+
+-- The line of an accepted group, with its mark and its number.
+abbrev pub lineOf : Message → Mark → Number → Line
+lineOf m mark number = Line.Group (record { place = m .place; direction = m .direction; kind = m .kind; mark = mark; number = number })
 
 -- What is known after an accepted group, k′, where k was known before it.
 pub record Becomes (k : Known) (m : Message) (k′ : Known) : Type 0 where
@@ -57,6 +63,8 @@ pub record Becomes (k : Known) (m : Message) (k′ : Known) : Type 0 where
   pub main-stays : (d : ℕ) (preset : Bool) (target : Told) → m .content ≡ Content.Signal d preset Told.Unknown target → k′ .main ≡ k .main
   -- "the target becomes AZ's, or none"
   pub target : (d : ℕ) (preset : Bool) (main target : Told) → m .content ≡ Content.Signal d preset main target → k′ .target ≡ target
+  -- "A present signal sets" the number, "to none if it has no 12"
+  pub number : (d : ℕ) (preset : Bool) (main target : Told) → m .content ≡ Content.Signal d preset main target → k′ .number ≡ m .number
   -- "It then sets linking anew", from its own place; "or ends it if BY = 14"
   pub anew : (d : ℕ) (main target : Told) → m .content ≡ Content.Signal d false main target → k′ .linking ≡ Linking.Set d (m .place)
   pub ends : (d : ℕ) (main target : Told) → m .content ≡ Content.Signal d true main target → k′ .linking ≡ Linking.Unset
@@ -64,20 +72,20 @@ pub record Becomes (k : Known) (m : Message) (k′ : Known) : Type 0 where
   pub others : (IsSignal m → ⊥) → k′ ≡ k
 
 -- Step 3, where no group is open, k is known, and these lines were given before: "linking is set with distance D from place a, and
--- 5 x (odometer - a) > 6 x D: report missed at a + 6D/5, and end linking." Only then; the speeds stay. (Every D of table DF is a
+-- 5 x (odometer - a) > 6 x D: report missed at a + 6D/5, and end linking." Only then; the speeds and the number stay. (Every D of table DF is a
 -- multiple of 5; of another that a caller lends, 6D/5 is rounded down.)
 pub record Step3 (o : OneStep) (lines : List Line) (k : Known) : Type 0 where
   pub missed : (D a : ℕ) → k .linking ≡ Linking.Set D a → 6 * D < 5 * (o .odometer - a)
-      → Gives o (lines ++ Line.Missed (a + 6 * D / 5) ∷ []) × (after o ≡ record { linking = Linking.Unset; main = k .main; target = k .target })
+      → Gives o (lines ++ Line.Missed (a + 6 * D / 5) ∷ []) × (after o ≡ record { linking = Linking.Unset; main = k .main; target = k .target; number = k .number })
   pub not-yet : (D a : ℕ) → k .linking ≡ Linking.Set D a → 5 * (o .odometer - a) ≤ 6 * D → Gives o lines × (after o ≡ k)
   pub not-set : k .linking ≡ Linking.Unset → Gives o lines × (after o ≡ k)
 
 -- What every step, the end and a run do.
 pub record Riding : Type 0 where
-  -- 2 and 3: a group that is left behind closes; if it is accepted, its line with its mark is given, and step 3 is done with what is
-  -- known then
-  pub closes : (o : OneStep) (m : Message) (mark : Mark) → LeavesBehind o → JudgeGroup (o .ride .group) (Judged.Accepted m)
-      → IsMarked (before o .linking) m mark → (k : Known) × Becomes (before o) m k × Step3 o (lineOf m mark ∷ []) k
+  -- 2 and 3: a group that is left behind closes; if it is accepted, its line with its mark and its number is given, and step 3 is done
+  -- with what is known then
+  pub closes : (o : OneStep) (m : Message) (mark : Mark) (number : Number) → LeavesBehind o → JudgeGroup (o .ride .group) (Judged.Accepted m)
+      → IsMarked (before o .linking) m mark → IsNumbered m number → (k : Known) × Becomes (before o) m k × Step3 o (lineOf m mark number ∷ []) k
   -- 3: no group is open
   pub none-open : (o : OneStep) → NoneOpen o → Step3 o [] (before o)
   -- while a group stays open, no line is given and what is known stays
@@ -89,18 +97,20 @@ pub record Riding : Type 0 where
       → (o .answer .ride .group ≡ takeUp noGroup (o .odometer) (o .passed)) × (o .answer .closed ≡ o .ride .group)
   -- the odometer is the last accepted one
   pub odometer : (o : OneStep) → Accepts o → o .answer .ride .odometer ≡ o .odometer
-  -- every group has a mark, or none
+  -- every group has a mark, or none, and its line a number, or none
   pub marked : (linking : Linking) (m : Message) → (mark : Mark) × IsMarked linking m mark
+  pub numbered : (m : Message) → (number : Number) × IsNumbered m number
   -- "Ending the ride closes an open group and does no step 3."
-  pub ended : (ride : Ride) (r : Ended) (m : Message) (mark : Mark) → EndOf ride r → isOpen (ride .group) ≡ true
-      → JudgeGroup (ride .group) (Judged.Accepted m) → IsMarked (ride .known .linking) m mark
-      → (saysLines (r .lines) ≡ lineOf m mark ∷ []) × Becomes (ride .known) m (r .ride .known)
+  pub ended : (ride : Ride) (r : Ended) (m : Message) (mark : Mark) (number : Number) → EndOf ride r → isOpen (ride .group) ≡ true
+      → JudgeGroup (ride .group) (Judged.Accepted m) → IsMarked (ride .known .linking) m mark → IsNumbered m number
+      → (saysLines (r .lines) ≡ lineOf m mark number ∷ []) × Becomes (ride .known) m (r .ride .known)
       × (r .ride .group ≡ noGroup) × (r .ride .odometer ≡ ride .odometer) × (r .closed ≡ ride .group)
   pub nothing-open : (ride : Ride) (r : Ended) → EndOf ride r → isOpen (ride .group) ≡ false
       → (saysLines (r .lines) ≡ []) × (r .ride ≡ ride) × (r .closed ≡ noGroup)
   -- "A fresh ride has none of them."
   pub fresh : (f : Ride) → Fresh f
-      → (f .known ≡ record { linking = Linking.Unset; main = Told.Unknown; target = Told.Unknown }) × (isOpen (f .group) ≡ false) × (f .odometer ≡ 0)
+      → (f .known ≡ record { linking = Linking.Unset; main = Told.Unknown; target = Told.Unknown; number = Number.None })
+      × (isOpen (f .group) ≡ false) × (f .odometer ≡ 0)
   -- the record at an index of a trace is treated as by its step, refused or not; behind the last there is none, and the state stays
   pub treats : (ride : Ride) (gap : ℕ) (trace : List ℕ) (i : ℕ) (s : Stepped) (t : Treated) → badGap gap ≡ false → i < length trace / 8
       → StepOf ride gap (recordAt trace i) s → TreatAt ride gap trace i t → saysTreated t ≡ byStep (saysStepped s)

@@ -16,6 +16,7 @@ use Rattle.group.specs.declared.Group.{Group}
 use Rattle.group.specs.declared.Heard.{Heard}
 use Rattle.group.specs.declared.Judged.{Judged}
 use Rattle.walk.specs.declared.Kind.{Kind}
+use Rattle.group.specs.declared.Number.{Number}
 use Rattle.demands.specs.Cases.{M8}
 use Rattle.demands.specs.Contracts.{JudgeGroup}
 
@@ -50,21 +51,28 @@ pub record RowCase : Type 0 where
   pub balises : List Heard
   pub judged : Outcome Message
 
--- A group in this direction: its kind, the place of its A, AY and AZ, and what more it says.
-abbrev pub is : Direction → List Heard → Kind → ℕ → ℕ → ℕ → Content → RowCase
-is direction hs kind place ay az content =
+-- A group in this direction: its kind, the place of its A, AY and AZ, its number, and what more it says.
+abbrev pub is : Direction → List Heard → Kind → ℕ → ℕ → ℕ → Number → Content → RowCase
+is direction hs kind place ay az number content =
     record {
       balises = hs;
-      judged = gives (record { direction = direction; kind = kind; place = place; ay = ay; az = az; content = content });
+      judged = gives (record { direction = direction; kind = kind; place = place; ay = ay; az = az; number = number; content = content });
     }
 
 -- A group in the present direction.
-abbrev pub present : List Heard → Kind → ℕ → ℕ → ℕ → Content → RowCase
+abbrev pub present : List Heard → Kind → ℕ → ℕ → ℕ → Number → Content → RowCase
 present = is Direction.Present
 
 -- A group in the opposite direction: it says nothing more.
-abbrev pub opposite : List Heard → Kind → ℕ → ℕ → ℕ → RowCase
-opposite hs kind place ay az = is Direction.Opposite hs kind place ay az nothing
+abbrev pub opposite : List Heard → Kind → ℕ → ℕ → ℕ → Number → RowCase
+opposite hs kind place ay az number = is Direction.Opposite hs kind place ay az number nothing
+
+-- The number of a group with N; that of a group without.
+abbrev pub n1612 : Number
+n1612 = Number.Figure 1612
+
+abbrev pub noN : Number
+noN = Number.None
 
 -- A group that is refused with this number.
 abbrev pub refusedAs : ℕ → List Heard → RowCase
@@ -74,63 +82,63 @@ refusedAs n hs = record { balises = hs; judged = refuses n }
 abbrev pub presentCases : List RowCase
 presentCases =
     -- signal: [12] [8] 1 9 [14] [12]; the prefix makes target figure 1 read 0; AY 14 and AZ 14 give no information; BY 14 is preset
-    present (f 1 8 5 ∷ f 9 2 4 ∷ []) Kind.Signal 1000 8 5 (ofSignal 4000 false (kmh 130) (kmh 80))
-    ∷ present (N ∷ f 8 7 1 ∷ f 1 8 1 ∷ f 9 2 0 ∷ f 14 4 0 ∷ []) Kind.Signal 1060 8 1 (ofSignal 4000 false (kmh 130) (kmh 0))
-    ∷ present (f 8 7 0 ∷ f 1 8 1 ∷ f 9 2 0 ∷ f 14 4 0 ∷ N ∷ []) Kind.Signal 1030 8 1 (ofSignal 4000 false (kmh 130) (kmh 40))
-    ∷ present (f 1 14 14 ∷ f 9 14 1 ∷ []) Kind.Signal 1000 14 14 (ofSignal 7000 true noInformation noInformation)
+    present (f 1 8 5 ∷ f 9 2 4 ∷ []) Kind.Signal 1000 8 5 noN (ofSignal 4000 false (kmh 130) (kmh 80))
+    ∷ present (N ∷ f 8 7 1 ∷ f 1 8 1 ∷ f 9 2 0 ∷ f 14 4 0 ∷ []) Kind.Signal 1060 8 1 n1612 (ofSignal 4000 false (kmh 130) (kmh 0))
+    ∷ present (f 8 7 0 ∷ f 1 8 1 ∷ f 9 2 0 ∷ f 14 4 0 ∷ N ∷ []) Kind.Signal 1030 8 1 n1612 (ofSignal 4000 false (kmh 130) (kmh 40))
+    ∷ present (f 1 14 14 ∷ f 9 14 1 ∷ []) Kind.Signal 1000 14 14 noN (ofSignal 7000 true noInformation noInformation)
     -- a preset point with AZ 2, 12 or 14, with a 14 and without; BY 13 with AZ 13
-    ∷ present (f 1 1 2 ∷ f 9 14 14 ∷ []) Kind.Signal 1000 1 2 (ofSignal 500 true (kmh 40) (kmh 50))
-    ∷ present (f 1 1 2 ∷ f 9 14 0 ∷ f 14 1 0 ∷ []) Kind.Signal 1000 1 2 (ofSignal 7000 true (kmh 40) (kmh 50))
-    ∷ present (f 1 1 12 ∷ f 9 14 1 ∷ []) Kind.Signal 1000 1 12 (ofSignal 7000 true (kmh 40) (kmh 270))
-    ∷ present (f 1 1 12 ∷ f 9 14 0 ∷ f 14 14 0 ∷ []) Kind.Signal 1000 1 12 (ofSignal 500 true (kmh 40) (kmh 270))
-    ∷ present (f 1 14 14 ∷ f 9 14 0 ∷ f 14 1 0 ∷ []) Kind.Signal 1000 14 14 (ofSignal 7000 true noInformation noInformation)
-    ∷ present (f 1 1 13 ∷ f 9 13 1 ∷ []) Kind.Signal 1000 1 13 (ofSignal 106000 false (kmh 40) (kmh 0))
+    ∷ present (f 1 1 2 ∷ f 9 14 14 ∷ []) Kind.Signal 1000 1 2 noN (ofSignal 500 true (kmh 40) (kmh 50))
+    ∷ present (f 1 1 2 ∷ f 9 14 0 ∷ f 14 1 0 ∷ []) Kind.Signal 1000 1 2 noN (ofSignal 7000 true (kmh 40) (kmh 50))
+    ∷ present (f 1 1 12 ∷ f 9 14 1 ∷ []) Kind.Signal 1000 1 12 noN (ofSignal 7000 true (kmh 40) (kmh 270))
+    ∷ present (f 1 1 12 ∷ f 9 14 0 ∷ f 14 14 0 ∷ []) Kind.Signal 1000 1 12 noN (ofSignal 500 true (kmh 40) (kmh 270))
+    ∷ present (f 1 14 14 ∷ f 9 14 0 ∷ f 14 1 0 ∷ []) Kind.Signal 1000 14 14 noN (ofSignal 7000 true noInformation noInformation)
+    ∷ present (f 1 1 13 ∷ f 9 13 1 ∷ []) Kind.Signal 1000 1 13 noN (ofSignal 106000 false (kmh 40) (kmh 0))
     -- and the same with 4 for 1
-    ∷ present (f 4 8 5 ∷ f 9 13 14 ∷ []) Kind.Signal 1000 8 5 (ofSignal 119000 false (kmh 130) (kmh 80))
-    ∷ present (N ∷ f 8 14 14 ∷ f 4 14 1 ∷ f 9 0 0 ∷ f 14 1 0 ∷ []) Kind.Signal 1060 14 1 (ofSignal 125 false noInformation (kmh 0))
-    ∷ present (f 8 6 1 ∷ f 4 13 1 ∷ f 9 0 0 ∷ f 14 14 0 ∷ N ∷ []) Kind.Signal 1030 13 1 (ofSignal 1750 false (kmh 0) (kmh 40))
+    ∷ present (f 4 8 5 ∷ f 9 13 14 ∷ []) Kind.Signal 1000 8 5 noN (ofSignal 119000 false (kmh 130) (kmh 80))
+    ∷ present (N ∷ f 8 14 14 ∷ f 4 14 1 ∷ f 9 0 0 ∷ f 14 1 0 ∷ []) Kind.Signal 1060 14 1 n1612 (ofSignal 125 false noInformation (kmh 0))
+    ∷ present (f 8 6 1 ∷ f 4 13 1 ∷ f 9 0 0 ∷ f 14 14 0 ∷ N ∷ []) Kind.Signal 1030 13 1 n1612 (ofSignal 1750 false (kmh 0) (kmh 40))
     -- warning board: [8] 2 9 [14] [12], AZ 0 to 13 and BY 0 to 13
-    ∷ present (f 2 0 0 ∷ f 9 0 1 ∷ []) Kind.Warning 1000 0 0 (ofWarning 125 false)
-    ∷ present (f 8 0 0 ∷ f 2 14 13 ∷ f 9 13 0 ∷ f 14 14 0 ∷ N ∷ []) Kind.Warning 1030 14 13 (ofWarning 119000 false)
+    ∷ present (f 2 0 0 ∷ f 9 0 1 ∷ []) Kind.Warning 1000 0 0 noN (ofWarning 125 false)
+    ∷ present (f 8 0 0 ∷ f 2 14 13 ∷ f 9 13 0 ∷ f 14 14 0 ∷ N ∷ []) Kind.Warning 1030 14 1 n16123 n1612 (ofWarning 119000 false)
     -- annulled: [12] [8] 10 9 [14] [12]; no distance is judged
-    ∷ present (f 10 0 0 ∷ f 9 0 0 ∷ []) Kind.Annulled 1000 0 0 nothing
-    ∷ present (N ∷ f 8 0 0 ∷ f 10 14 14 ∷ f 9 14 14 ∷ f 14 0 0 ∷ []) Kind.Annulled 1060 14 14 nothing
-    ∷ present (f 8 0 0 ∷ f 10 14 14 ∷ f 9 14 14 ∷ f 14 0 0 ∷ N ∷ []) Kind.Annulled 1030 14 14 nothing
+    ∷ present (f 10 0 0 ∷ f 9 0 0 ∷ []) Kind.Annulled 1000 0 0 noN nothing
+    ∷ present (N ∷ f 8 0 0 ∷ f 10 14 14 ∷ f 9 14 14 ∷ f 14 0 0 ∷ []) Kind.Annulled 1060 14 1 n16124 n1612 nothing
+    ∷ present (f 8 0 0 ∷ f 10 14 14 ∷ f 9 14 14 ∷ f 14 0 0 ∷ N ∷ []) Kind.Annulled 1030 14 1 n16124 n1612 nothing
     -- line speed board: 3 5 if AY is 0 to 8; 3 M if AY is 9 to 14; AZ 0 to 13
-    ∷ present (f 3 0 0 ∷ f 5 0 0 ∷ []) Kind.Line 1000 0 0 nothing
-    ∷ present (f 3 8 13 ∷ f 5 14 14 ∷ []) Kind.Line 1000 8 13 nothing
-    ∷ present (f 3 9 0 ∷ M ∷ []) Kind.Line 1000 9 0 nothing
-    ∷ present (f 3 14 13 ∷ M ∷ []) Kind.Line 1000 14 13 nothing
+    ∷ present (f 3 0 0 ∷ f 5 0 0 ∷ []) Kind.Line 1000 0 0 noN nothing
+    ∷ present (f 3 8 13 ∷ f 5 14 14 ∷ []) Kind.Line 1000 8 1 noN3 noN nothing
+    ∷ present (f 3 9 0 ∷ M ∷ []) Kind.Line 1000 9 0 noN nothing
+    ∷ present (f 3 14 13 ∷ M ∷ []) Kind.Line 1000 14 1 noN3 noN nothing
     -- route board: 5 followed by 3, 5 or 7, with AY 2 and AZ 0 to 13 (10 x AZ km/h), or AY 4 and AZ 10 (140 km/h)
-    ∷ present (f 5 2 0 ∷ f 3 0 0 ∷ []) Kind.Route 1000 2 0 (ofRoute 0)
-    ∷ present (f 5 2 13 ∷ f 5 2 12 ∷ []) Kind.Route 1000 2 13 (ofRoute 130)
-    ∷ present (f 5 2 9 ∷ f 7 0 0 ∷ []) Kind.Route 1000 2 9 (ofRoute 90)
-    ∷ present (f 5 4 10 ∷ f 3 0 0 ∷ []) Kind.Route 1000 4 10 (ofRoute 140)
-    ∷ present (f 5 4 10 ∷ f 5 4 10 ∷ []) Kind.Route 1000 4 10 (ofRoute 140)
-    ∷ present (f 5 4 10 ∷ f 7 0 0 ∷ []) Kind.Route 1000 4 10 (ofRoute 140)
+    ∷ present (f 5 2 0 ∷ f 3 0 0 ∷ []) Kind.Route 1000 2 0 noN (ofRoute 0)
+    ∷ present (f 5 2 13 ∷ f 5 2 12 ∷ []) Kind.Route 1000 2 1 noN3 noN (ofRoute 130)
+    ∷ present (f 5 2 9 ∷ f 7 0 0 ∷ []) Kind.Route 1000 2 9 noN (ofRoute 90)
+    ∷ present (f 5 4 10 ∷ f 3 0 0 ∷ []) Kind.Route 1000 4 1 noN0 noN (ofRoute 140)
+    ∷ present (f 5 4 10 ∷ f 5 4 10 ∷ []) Kind.Route 1000 4 1 noN0 noN (ofRoute 140)
+    ∷ present (f 5 4 10 ∷ f 7 0 0 ∷ []) Kind.Route 1000 4 1 noN0 noN (ofRoute 140)
     ∷ []
 
 -- "Opposite direction, in the order passed"
 abbrev pub oppositeCases : List RowCase
 oppositeCases =
     -- [12] [14] 9, then 1, 4 or 10, then [8] [12]
-    opposite (f 9 0 0 ∷ f 1 0 0 ∷ []) Kind.Signal 1030 0 0
-    ∷ opposite (N ∷ f 14 0 0 ∷ f 9 0 0 ∷ f 1 14 14 ∷ f 8 0 0 ∷ []) Kind.Signal 1090 14 14
-    ∷ opposite (f 14 0 0 ∷ f 9 0 0 ∷ f 1 14 14 ∷ f 8 0 0 ∷ N ∷ []) Kind.Signal 1060 14 14
-    ∷ opposite (f 9 0 0 ∷ f 4 0 0 ∷ []) Kind.Signal 1030 0 0
-    ∷ opposite (N ∷ f 14 0 0 ∷ f 9 0 0 ∷ f 4 14 14 ∷ f 8 0 0 ∷ []) Kind.Signal 1090 14 14
-    ∷ opposite (f 14 0 0 ∷ f 9 0 0 ∷ f 4 14 14 ∷ f 8 0 0 ∷ N ∷ []) Kind.Signal 1060 14 14
-    ∷ opposite (f 9 0 0 ∷ f 10 0 0 ∷ []) Kind.Annulled 1030 0 0
-    ∷ opposite (N ∷ f 14 0 0 ∷ f 9 0 0 ∷ f 10 14 14 ∷ f 8 0 0 ∷ []) Kind.Annulled 1090 14 14
-    ∷ opposite (f 14 0 0 ∷ f 9 0 0 ∷ f 10 14 14 ∷ f 8 0 0 ∷ N ∷ []) Kind.Annulled 1060 14 14
+    opposite (f 9 0 0 ∷ f 1 0 0 ∷ []) Kind.Signal 1030 0 0 noN
+    ∷ opposite (N ∷ f 14 0 0 ∷ f 9 0 0 ∷ f 1 14 14 ∷ f 8 0 0 ∷ []) Kind.Signal 1090 14 1 n16124 n1612
+    ∷ opposite (f 14 0 0 ∷ f 9 0 0 ∷ f 1 14 14 ∷ f 8 0 0 ∷ N ∷ []) Kind.Signal 1060 14 1 n16124 n1612
+    ∷ opposite (f 9 0 0 ∷ f 4 0 0 ∷ []) Kind.Signal 1030 0 0 noN
+    ∷ opposite (N ∷ f 14 0 0 ∷ f 9 0 0 ∷ f 4 14 14 ∷ f 8 0 0 ∷ []) Kind.Signal 1090 14 1 n16124 n1612
+    ∷ opposite (f 14 0 0 ∷ f 9 0 0 ∷ f 4 14 14 ∷ f 8 0 0 ∷ N ∷ []) Kind.Signal 1060 14 1 n16124 n1612
+    ∷ opposite (f 9 0 0 ∷ f 10 0 0 ∷ []) Kind.Annulled 1030 0 0 noN
+    ∷ opposite (N ∷ f 14 0 0 ∷ f 9 0 0 ∷ f 10 14 14 ∷ f 8 0 0 ∷ []) Kind.Annulled 1090 14 1 n16124 n1612
+    ∷ opposite (f 14 0 0 ∷ f 9 0 0 ∷ f 10 14 14 ∷ f 8 0 0 ∷ N ∷ []) Kind.Annulled 1060 14 1 n16124 n1612
     -- [12] [14] 9 2, or [12] M 2
-    ∷ opposite (f 9 14 0 ∷ f 2 0 14 ∷ []) Kind.Warning 1030 0 14
-    ∷ opposite (N ∷ f 14 0 0 ∷ f 9 0 0 ∷ f 2 0 0 ∷ []) Kind.Warning 1090 0 0
-    ∷ opposite (M ∷ f 2 0 14 ∷ []) Kind.Warning 1030 0 14
-    ∷ opposite (N ∷ M ∷ f 2 0 0 ∷ []) Kind.Warning 1060 0 0
+    ∷ opposite (f 9 14 0 ∷ f 2 0 14 ∷ []) Kind.Warning 1030 0 1 noN4 noN
+    ∷ opposite (N ∷ f 14 0 0 ∷ f 9 0 0 ∷ f 2 0 0 ∷ []) Kind.Warning 1090 0 0 n1612
+    ∷ opposite (M ∷ f 2 0 14 ∷ []) Kind.Warning 1030 0 1 noN4 noN
+    ∷ opposite (N ∷ M ∷ f 2 0 0 ∷ []) Kind.Warning 1060 0 0 n1612
     -- M 3 if AY is 9 to 14
-    ∷ opposite (M ∷ f 3 9 0 ∷ []) Kind.Line 1030 9 0
-    ∷ opposite (M ∷ f 3 14 14 ∷ []) Kind.Line 1030 14 14
+    ∷ opposite (M ∷ f 3 9 0 ∷ []) Kind.Line 1030 9 0 noN
+    ∷ opposite (M ∷ f 3 14 14 ∷ []) Kind.Line 1030 14 1 noN4 noN
     ∷ []
 
 -- Just outside.

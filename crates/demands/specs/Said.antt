@@ -1,4 +1,4 @@
--- What accepted groups say: their A, their distance, their speeds (document 01, "Groups").
+-- What accepted groups say: their A, their distance, their speeds (document 01, "Groups"), their number.
 -- Assumes nothing.
 use Prim.Native.Nat.{ℕ, _≤_}
 use mathlib.Core.Path.{_≡_}
@@ -14,6 +14,8 @@ use Rattle.walk.specs.declared.Kind.{Kind}
 use Rattle.group.specs.declared.Measured.{Measured}
 use Rattle.group.specs.declared.Message.{Message}
 use Rattle.walk.specs.declared.Placed.{Placed}
+use Rattle.group.specs.declared.Number.{Number}
+use Rattle.walk.specs.declared.Part.{Part}
 use Rattle.group.specs.declared.Told.{Told}
 use Rattle.demands.specs.Contracts.{Distance, Speed}
 use Rattle.demands.specs.Ride.{IsSignal}
@@ -68,3 +70,8 @@ pub record Its-A (bs : List Placed) (m : Message) : Type 0 where
   pub place-is : m .place ≡ a .place
   pub ay-is : m .ay ≡ YOf (a .part)
   pub az-is : m .az ≡ ZOf (a .part)
+
+-- The number of a group of these balises: "the figure of the number balise, or none" where it has no number balise.
+pub data Its-number (bs : List Placed) : Number → Type 0 where
+  figure : (b : Placed) (n : ℕ) → List·Memᴰ b bs → b .part ≡ Part.Number n → Its-number bs (Number.Figure n)
+  no-figure : ((b : Placed) (n : ℕ) → List·Memᴰ b bs → b .part ≡ Part.Number n → ⊥) → Its-number bs Number.None

@@ -56,7 +56,7 @@ more-back (More.Route v) = refl
 more-back More.Nothing = refl
 
 pub said : Message → Said
-said m = record { direction = m .direction; kind = m .kind; place = m .place; ay = m .ay; az = m .az; content = more (m .content) }
+said m = record { direction = m .direction; kind = m .kind; place = m .place; ay = m .ay; az = m .az; number = m .number; content = more (m .content) }
 
 pub said-back : (r : Said) → said (saysMessage r) ≡ r
 unfolding said

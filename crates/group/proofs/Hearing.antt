@@ -1,4 +1,4 @@
--- Reading balises one after the other: those read so far, and what is left.
+-- Reading balises one after the other: those read so far, their number, and what is left.
 -- Assumes nothing.
 use Prim.Native.Nat.{ℕ, _+_, _<_, _≤_}
 use mathlib.Core.Path.{_≡_, refl, sym, ap, _∙_}
@@ -12,7 +12,10 @@ use Rattle.group.specs.declared.Heard.{Heard}
 use Rattle.group.specs.declared.Balise.{Balise}
 use Rattle.walk.specs.declared.Part.{Part}
 use Rattle.walk.specs.declared.Placed.{Placed}
+use Rattle.group.specs.declared.Number.{Number}
 use Rattle.group.specs.Balise.{then, partHeard, readAll}
+use Rattle.group.specs.Numbers.{numberOr, numberOf}
+use Rattle.group.specs.Inside.{elseNumber}
 use Rattle.group.proofs.Lists.{from-next, from-end, long-take}
 
 -- What an array of balises holds where nothing was put.
@@ -35,6 +38,25 @@ after-one : (done : List Placed) (x : Placed) (left : Outcome (List Placed))
     → after done (then left λ ps. gives (x ∷ ps)) ≡ after (done ++ (x ∷ [])) left
 after-one done x (gives ps) = ap gives (sym (append-assoc done (x ∷ []) ps))
 after-one done x (refuses n) = refl
+
+-- The number of balises and one more: theirs, or else that of the one.
+number-after : (done : List Placed) (x : Placed) → numberOf (done ++ (x ∷ [])) ≡ elseNumber (numberOf done) (x .part)
+unfolding numberOf
+number-after [] x = refl
+number-after (b ∷ done) x = go (b .part) (number-after done x)
+  where
+    go : (p : Part) → numberOf (done ++ (x ∷ [])) ≡ elseNumber (numberOf done) (x .part)
+        → numberOr p (numberOf (done ++ (x ∷ []))) ≡ elseNumber (numberOr p (numberOf done)) (x .part)
+    go (Part.Number m) e = refl
+    go (Part.Figures f y z) e = e
+    go Part.Marker e = e
+
+-- It is that of the balises read so far, with the next one put behind them.
+pub number-next : (done : List Placed) (i : ℕ) (x : Placed) → i < length done
+    → elseNumber (numberOf (take i done)) (x .part) ≡ numberOf (take (i + 1) (set done i x))
+number-next done i x room =
+    sym (number-after (take i done) x)
+    ∙ ap numberOf (sym (take-suc-set done i x room) ∙ ap (λ (m : ℕ). take m (set done i x)) (sym (add-one i)))
 
 module _ (kept : List Balise) (n i : ℕ) (long : length kept ≡ 5) (few : n ≤ 5) where
   pub read-good : i < n → (p : Part) → partHeard (getD kept i unheard .heard) ≡ gives p

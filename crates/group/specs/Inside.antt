@@ -10,8 +10,10 @@ use Rattle.walk.specs.declared.Placed.{Placed}
 use Rattle.group.specs.declared.reading.PartRead.{PartRead}
 use Rattle.group.specs.declared.reading.AllRead.{AllRead}
 use Rattle.group.specs.declared.parts.Sought.{Sought}
+use Rattle.group.specs.declared.Number.{Number}
 use Rattle.walk.specs.Row.{Found, none, found}
 use Rattle.group.specs.Message.{Content}
+use Rattle.group.specs.Numbers.{numberOr}
 use Rattle.group.specs.Says.{saysContent}
 
 -- A balise that was looked for.
@@ -32,3 +34,8 @@ saysAllRead n r = pick (r .good) (gives (take n (r .parts))) (refuses 12)
 abbrev pub saysContained : Contained → Outcome Content
 saysContained (Contained.Is more) = gives (saysContent more)
 saysContained Contained.NotAllowed = refuses 15
+
+-- The number found among the balises so far, or else that of the next one.
+abbrev pub elseNumber : Number → Part → Number
+elseNumber (Number.Figure m) p = Number.Figure m
+elseNumber Number.None p = numberOr p Number.None

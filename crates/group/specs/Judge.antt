@@ -11,11 +11,13 @@ use Rattle.walk.specs.declared.Kind.{Kind}
 use Rattle.walk.specs.declared.Placed.{Placed}
 use Rattle.walk.specs.declared.Picked.{Picked}
 use Rattle.group.specs.declared.Group.{Group}
+use Rattle.group.specs.declared.Number.{Number}
 use Rattle.group.specs.Balise.{balises, then, readAll}
 use Rattle.walk.specs.Row.{any, Y, Z, Found, none, found, first}
 use Rattle.group.specs.Distance.{linkDistance, isPreset, noIncrease}
 use Rattle.walk.specs.Fitting.{fitting}
 use Rattle.group.specs.Speed.{signalSpeed, targetFigure}
+use Rattle.group.specs.Numbers.{numberOf}
 use Rattle.group.specs.Message.{Content, ofSignal, ofWarning, ofRoute, nothing, Message}
 
 -- The figure Y of a balise that was looked for; 0 if there is none.
@@ -61,16 +63,24 @@ contentOf Kind.Annulled v ay az bs = gives nothing
 contentOf Kind.Line v ay az bs = gives nothing
 contentOf Kind.Route v ay az bs = gives (ofRoute v)
 
--- The message of a group with what its row says, and this content.
-abbrev pub messageOf : Picked → Content → Message
-messageOf row content =
-    record { direction = row .direction; kind = row .kind; place = row .a .place; ay = Y (row .a .part); az = Z (row .a .part); content = content }
+-- The message of a group with what its row says, this number and this content.
+abbrev pub messageOf : Picked → Number → Content → Message
+messageOf row number content =
+    record {
+      direction = row .direction;
+      kind = row .kind;
+      place = row .a .place;
+      ay = Y (row .a .part);
+      az = Z (row .a .part);
+      number = number;
+      content = content;
+    }
 
 -- The judgement of balises that fit a row of this direction.
 abbrev pub judgeAs : Direction → Picked → List Placed → Outcome Message
 judgeAs Direction.Present row bs =
-    then (contentOf (row .kind) (row .speed) (Y (row .a .part)) (Z (row .a .part)) bs) λ more. gives (messageOf row more)
-judgeAs Direction.Opposite row bs = gives (messageOf row nothing)
+    then (contentOf (row .kind) (row .speed) (Y (row .a .part)) (Z (row .a .part)) bs) λ more. gives (messageOf row (numberOf bs) more)
+judgeAs Direction.Opposite row bs = gives (messageOf row (numberOf bs) nothing)
 
 -- The judgement of balises that were read: "no row fits" is 13.
 unfoldable pub judgeRead : List Placed → Outcome Message

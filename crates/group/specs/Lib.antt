@@ -1,6 +1,7 @@
 pub mod Balise
 pub mod Distance
 pub mod Speed
+pub mod Numbers
 pub mod Message
 pub mod Judge
 pub mod Says

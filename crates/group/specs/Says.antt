@@ -30,7 +30,15 @@ saysContent More.Nothing = nothing
 -- The message of a group.
 abbrev pub saysMessage : Said → Message
 saysMessage m =
-    record { direction = m .direction; kind = m .kind; place = m .place; ay = m .ay; az = m .az; content = saysContent (m .content) }
+    record {
+      direction = m .direction;
+      kind = m .kind;
+      place = m .place;
+      ay = m .ay;
+      az = m .az;
+      number = m .number;
+      content = saysContent (m .content);
+    }
 
 -- The judgement of a group: its message, or 10, 11, 12, 13 or 15 of document 01's table.
 abbrev pub saysJudged : Judged → Outcome Message

@@ -2,11 +2,13 @@
 ghost use mathlib.Core.Path.{_≡_};
 ghost use Prim.Native.Nat.{_≤_};
 ghost use lib.ListN.{take};
+ghost use Rattle.group.specs.Numbers.{numberOf};
 ghost use Rattle.group.specs.Judge.{messageOf, judgeAs, judgeRead};
 ghost use Rattle.group.specs.Says.{saysContent, saysJudged, saysMessage};
 use crate::Content;
 use crate::Judged;
 use crate::Message;
+use crate::Number;
 use crate::contents;
 use crate::contents::Contained;
 use crate::parts;
@@ -15,9 +17,9 @@ use walk::Fitted;
 use walk::Picked;
 use walk::Placed;
 
-// The message of a group with what its row says, and this content.
-fn message(row: Picked, content: Content) -> Message
-    ensures { λ r. ⌜ saysMessage r ≡ messageOf row (saysContent content) ⌝ }
+// The message of a group with what its row says, this number and this content.
+fn message(row: Picked, number: Number, content: Content) -> Message
+    ensures { λ r. ⌜ saysMessage r ≡ messageOf row number (saysContent content) ⌝ }
 {
     let a = row.a;
     let part = a.part;
@@ -29,35 +31,36 @@ fn message(row: Picked, content: Content) -> Message
         place: a.place,
         ay: parts::y_of(part),
         az: parts::z_of(part),
+        number,
         content,
     }
 }
 
 // The judgement of a group that fits a present row.
-fn as_present(row: Picked, p: [Placed; 5], n: usize) -> Judged
-    requires { ⌜ n ≤ 5 ⌝ }
+fn as_present(row: Picked, number: Number, p: [Placed; 5], n: usize) -> Judged
+    requires { ⌜ (n ≤ 5) × (number ≡ numberOf (take n p)) ⌝ }
     ensures { λ r. ⌜ saysJudged r ≡ judgeAs Direction.Present row (take n p) ⌝ }
 {
     let a = row.a;
     let part = a.part;
     let kind = row.kind;
     match contents::of_present(kind, row.speed, parts::y_of(part), parts::z_of(part), p, n) {
-        Contained::Is(more) => Judged::Accepted(message(row, more)),
+        Contained::Is(more) => Judged::Accepted(message(row, number, more)),
         Contained::NotAllowed => Judged::NoDistance,
     }
 }
 
-// The judgement of the first n balises.
-pub fn read(p: [Placed; 5], n: usize) -> Judged
-    requires { ⌜ n ≤ 5 ⌝ }
+// The judgement of the first n balises, whose number this is.
+pub fn read(p: [Placed; 5], n: usize, number: Number) -> Judged
+    requires { ⌜ (n ≤ 5) × (number ≡ numberOf (take n p)) ⌝ }
     ensures { λ r. ⌜ saysJudged r ≡ judgeRead (take n p) ⌝ }
 {
     match walk::fit(p, n) {
         Fitted::Is(row) => {
             let direction = row.direction;
             match direction {
-                Direction::Present => as_present(row, p, n),
-                Direction::Opposite => Judged::Accepted(message(row, Content::Nothing)),
+                Direction::Present => as_present(row, number, p, n),
+                Direction::Opposite => Judged::Accepted(message(row, number, Content::Nothing)),
             }
         }
         Fitted::NoRow => Judged::NoRow,

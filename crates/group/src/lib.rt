@@ -9,6 +9,7 @@ ghost use Rattle.group.specs.Says.{saysMeasured, saysTold, saysJudged};
 
 mod contents;
 mod judging;
+mod numbers;
 mod parts;
 mod reading;
 mod tables;
@@ -42,6 +43,12 @@ pub enum Told {
     Kmh(u16),
 }
 
+// The figure of a group's number balise (12), or none.
+pub enum Number {
+    None,
+    Figure(u16),
+}
+
 // What looking up a distance answers: decimetres, or refusal 15.
 pub enum Measured {
     Dm(u32),
@@ -71,6 +78,7 @@ pub struct Message {
     pub place: u32,
     pub ay: u8,
     pub az: u8,
+    pub number: Number,
     pub content: Content,
 }
 
@@ -128,7 +136,8 @@ pub fn judge(group: Group) -> Judged
     let all = reading::read_all(kept, n);
     if all.good {
         let parts = all.parts;
-        judging::read(parts, n)
+        let number = all.number;
+        judging::read(parts, n, number)
     } else {
         Judged::Unread
     }

@@ -3,10 +3,14 @@ ghost use mathlib.Core.Path.{_≡_};
 ghost use Prim.Native.Nat.{_≤_};
 ghost use lib.ListN.{take};
 ghost use Rattle.telegram.specs.Says.{saysTelegram};
+ghost use mathlib.Core.Bool.{true};
+ghost use Rattle.group.specs.Numbers.{numberOf};
 ghost use Rattle.group.specs.Balise.{partSaid, partHeard, readAll};
 ghost use Rattle.group.specs.Inside.{saysPartRead, saysAllRead};
 use crate::Balise;
 use crate::Heard;
+use crate::Number;
+use crate::numbers::else_number;
 use telegram::Telegram;
 use telegram::TelegramRead;
 use walk::Part;
@@ -18,9 +22,10 @@ pub enum PartRead {
     Refused,
 }
 
-// What reading the balises of a group answers: the balises and good, or refusal 12.
+// What reading the balises of a group answers: the balises, their number and good, or refusal 12.
 pub struct AllRead {
     pub parts: [Placed; 5],
+    pub number: Number,
     pub good: bool,
 }
 
@@ -59,20 +64,31 @@ const NO_PARTS: [Placed; 5] = [Placed {
 pub fn read_all(kept: [Balise; 5], n: usize) -> AllRead
     requires { ⌜ n ≤ 5 ⌝ }
     ensures { λ r. ⌜ saysAllRead n r ≡ readAll (take n kept) ⌝ }
+    ensures { λ r. ⌜ (r .good ≡ true → r .number ≡ numberOf (take n (r .parts))) ⌝ }
 {
     let mut parts = NO_PARTS;
+    let mut number = Number::None;
     let mut i = 0;
     while i < n {
         let b = kept[i];
         let heard = b.heard;
         let PartRead::Is(part) = part_heard(heard) else {
-            return AllRead { good: false, parts };
+            return AllRead {
+                good: false,
+                parts,
+                number,
+            };
         };
         parts[i] = Placed {
             place: b.place,
             part,
         };
+        number = else_number(number, part);
         i += 1;
     }
-    AllRead { good: true, parts }
+    AllRead {
+        good: true,
+        parts,
+        number,
+    }
 }

@@ -6,17 +6,26 @@ use Prim.Native.Nat.{ℕ}
 use lib.ListN.{replicate}
 use Rattle.walk.specs.declared.Direction.{Direction}
 use Rattle.walk.specs.declared.Kind.{Kind}
+use Rattle.group.specs.declared.Number.{Number}
 use Rattle.ride.specs.declared.Mark.{Mark}
 use Rattle.ride.specs.declared.Line.{Line}
 use Rattle.listing.specs.Text.{codes, digits, decimal, seen, text}
 
-first-signal : text (Line.Group (record { place = 1000; direction = Direction.Present; kind = Kind.Signal; mark = Mark.First })) ≡ codes "1000 present signal first\n"
+first-signal : text (Line.Group (record { place = 1000; direction = Direction.Present; kind = Kind.Signal; mark = Mark.First; number = Number.None })) ≡ codes "1000 present signal first\n"
 unfolding text seen decimal digits
 first-signal = refl
 
-opposite-signal : text (Line.Group (record { place = 1000; direction = Direction.Opposite; kind = Kind.Signal; mark = Mark.Unmarked })) ≡ codes "1000 opposite signal\n"
+opposite-signal : text (Line.Group (record { place = 1000; direction = Direction.Opposite; kind = Kind.Signal; mark = Mark.Unmarked; number = Number.None })) ≡ codes "1000 opposite signal\n"
 unfolding text seen decimal digits
 opposite-signal = refl
+
+late-with-number : text (Line.Group (record { place = 6410; direction = Direction.Present; kind = Kind.Signal; mark = Mark.Late; number = Number.Figure 17 })) ≡ codes "6410 present signal late n17\n"
+unfolding text seen decimal digits
+late-with-number = refl
+
+opposite-with-number : text (Line.Group (record { place = 11030; direction = Direction.Opposite; kind = Kind.Signal; mark = Mark.Unmarked; number = Number.Figure 1612 })) ≡ codes "11030 opposite signal n1612\n"
+unfolding text seen decimal digits
+opposite-with-number = refl
 
 missed : text (Line.Missed 5800) ≡ codes "5800 missed\n"
 unfolding text decimal digits

@@ -7,11 +7,12 @@ use native.Mathlib.Omega.{arith}
 use lib.ListN.{length, length-append}
 use Rattle.walk.specs.declared.Direction.{Direction}
 use Rattle.walk.specs.declared.Kind.{Kind}
+use Rattle.group.specs.declared.Number.{Number}
 use Rattle.ride.specs.declared.Mark.{Mark}
 use Rattle.ride.specs.declared.Seen.{Seen}
 use Rattle.ride.specs.declared.Line.{Line}
-use Rattle.listing.specs.Text.{codes, decimal, direction, kind, mark, seen, text}
-use Rattle.listing.proofs.Decimal.{decimal-length}
+use Rattle.listing.specs.Text.{codes, digits, decimal, direction, kind, mark, number, seen, text}
+use Rattle.listing.proofs.Decimal.{at-most, decimal-length}
 
 direction-length : (d : Direction) → length (direction d) ≤ 8
 direction-length Direction.Present = omega arith
@@ -31,11 +32,15 @@ mark-length Mark.Early = omega arith
 mark-length Mark.Good = omega arith
 mark-length Mark.Late = omega arith
 
+number-length : (n : Number) → length (number n) ≤ 7
+number-length Number.None = omega arith
+number-length (Number.Figure m) = simp length-append (omega (arith, at-most 5 m))
+
 seen-length : (s : Seen) → length (seen s) ≤ 64
 unfolding seen
 seen-length s =
     simp length-append
-    (omega (arith, decimal-length (s .place), direction-length (s .direction), kind-length (s .kind), mark-length (s .mark)))
+    (omega (arith, decimal-length (s .place), direction-length (s .direction), kind-length (s .kind), mark-length (s .mark), number-length (s .number)))
 
 pub longest : (l : Line) → length (text l) ≤ 64
 unfolding text

@@ -8,6 +8,7 @@ use lib.Dec.{ltb}
 use Rattle.words.specs.Answer.{pick}
 use Rattle.walk.specs.declared.Direction.{Direction}
 use Rattle.walk.specs.declared.Kind.{Kind}
+use Rattle.group.specs.declared.Number.{Number}
 use Rattle.ride.specs.declared.Mark.{Mark}
 use Rattle.ride.specs.declared.Seen.{Seen}
 use Rattle.ride.specs.declared.Line.{Line}
@@ -35,6 +36,10 @@ abbrev pub direction : Direction → List ℕ
 direction Direction.Present = codes "present"
 direction Direction.Opposite = codes "opposite"
 
+-- It stands between spaces.
+abbrev pub between : Direction → List ℕ
+between d = codes " " ++ direction d ++ codes " "
+
 -- The word for a kind.
 abbrev pub kind : Kind → List ℕ
 kind Kind.Signal = codes "signal"
@@ -51,9 +56,14 @@ mark Mark.Early = codes " early"
 mark Mark.Good = codes " good"
 mark Mark.Late = codes " late"
 
--- The text of an accepted group: `1000 present signal first`, `1000 opposite signal`.
+-- A number after its space and its `n`; a group without one ends before it. It is below 2^16 and has at most 5 digits.
+abbrev pub number : Number → List ℕ
+number Number.None = []
+number (Number.Figure m) = codes " n" ++ digits 5 m
+
+-- The text of an accepted group: `1000 present signal first`, `1000 opposite signal n1612`.
 unfoldable pub seen : Seen → List ℕ
-seen s = decimal (s .place) ++ codes " " ++ direction (s .direction) ++ codes " " ++ kind (s .kind) ++ mark (s .mark) ++ codes "\n"
+seen s = decimal (s .place) ++ between (s .direction) ++ kind (s .kind) ++ mark (s .mark) ++ number (s .number) ++ codes "\n"
 
 -- The text of a line: an accepted group; `1000 fault 13`; `5800 missed`; `record 3 refused 17`; `trace refused 16`.
 unfoldable pub text : Line → List ℕ

@@ -4,25 +4,26 @@ ghost use Prim.Native.Nat.{_+_, _≤_};
 ghost use mathlib.Core.List.{_++_};
 ghost use lib.ListN.{length};
 ghost use Rattle.ride.specs.declared.Line.{Line};
-ghost use Rattle.listing.specs.Text.{codes, decimal, direction, kind, mark, seen, text};
+ghost use Rattle.listing.specs.Text.{codes, decimal, between, kind, mark, number, seen, text};
 ghost use Rattle.listing.specs.Put.{placed};
 use crate::pieces::put;
 use crate::pieces::put_decimal;
+use group::Number;
 use ride::Line;
 use ride::Mark;
 use ride::Seen;
 use walk::Direction;
 use walk::Kind;
 
-// The word for a direction.
+// The word for a direction, between its spaces.
 fn put_direction(way: Direction, buf: &mut [u8], at: usize) -> usize
-    requires { ⌜ at + length (direction way) ≤ length (now buf) ⌝ }
-    ensures { λ r. ⌜ r ≡ at + length (direction way) ⌝ }
-    ensures { λ r. ⌜ now (buf .exit) ≡ placed (direction way) (now (buf .entry)) at ⌝ }
+    requires { ⌜ at + length (between way) ≤ length (now buf) ⌝ }
+    ensures { λ r. ⌜ r ≡ at + length (between way) ⌝ }
+    ensures { λ r. ⌜ now (buf .exit) ≡ placed (between way) (now (buf .entry)) at ⌝ }
 {
     match way {
-        Direction::Present => put(b"present", buf, at),
-        Direction::Opposite => put(b"opposite", buf, at),
+        Direction::Present => put(b" present ", buf, at),
+        Direction::Opposite => put(b" opposite ", buf, at),
     }
 }
 
@@ -56,6 +57,21 @@ fn put_mark(of: Mark, buf: &mut [u8], at: usize) -> usize
     }
 }
 
+// A number after its space and its `n`, if there is one.
+fn put_number(of: Number, buf: &mut [u8], at: usize) -> usize
+    requires { ⌜ at + length (number of) ≤ length (now buf) ⌝ }
+    ensures { λ r. ⌜ r ≡ at + length (number of) ⌝ }
+    ensures { λ r. ⌜ now (buf .exit) ≡ placed (number of) (now (buf .entry)) at ⌝ }
+{
+    match of {
+        Number::None => at,
+        Number::Figure(m) => {
+            let a = put(b" n", buf, at);
+            put_decimal(m as u64, buf, a)
+        }
+    }
+}
+
 // An accepted group.
 fn put_seen(of: Seen, buf: &mut [u8], at: usize) -> usize
     requires { ⌜ at + length (seen of) ≤ length (now buf) ⌝ }
@@ -65,13 +81,13 @@ fn put_seen(of: Seen, buf: &mut [u8], at: usize) -> usize
     let way = of.direction;
     let which = of.kind;
     let marked = of.mark;
+    let numbered = of.number;
     let a = put_decimal(of.place, buf, at);
-    let b = put(b" ", buf, a);
-    let c = put_direction(way, buf, b);
-    let d = put(b" ", buf, c);
-    let e = put_kind(which, buf, d);
-    let f = put_mark(marked, buf, e);
-    put(b"\n", buf, f)
+    let b = put_direction(way, buf, a);
+    let c = put_kind(which, buf, b);
+    let d = put_mark(marked, buf, c);
+    let e = put_number(numbered, buf, d);
+    put(b"\n", buf, e)
 }
 
 // Words, a number and a newline.

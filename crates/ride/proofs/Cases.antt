@@ -9,6 +9,8 @@ use lib.ListN.{getD}
 use Rattle.words.specs.Answer.{Outcome, refuses}
 use Rattle.group.specs.declared.Balise.{Balise}
 use Rattle.group.specs.declared.Group.{Group}
+use Rattle.walk.specs.declared.Kind.{Kind}
+use Rattle.group.specs.declared.Number.{Number}
 use Rattle.group.specs.declared.Told.{Told as Speed}
 use Rattle.group.specs.declared.Content.{Content as More}
 use Rattle.group.specs.Says.{saysTold, saysContent}
@@ -44,11 +46,14 @@ target-same Speed.Unknown = refl
 pub main-kmh : (t : Speed) (v : ℕ) (before : Speed) → t ≡ Speed.Kmh v → Speed.Kmh v ≡ mainFrom (saysTold t) before
 main-kmh t v before e = rw e
 
-pub known-signal : (more : More) (D : ℕ) (preset : Bool) (main target : Speed) (place : ℕ) (known : Known) → more ≡ More.Signal D preset main target
-    → _≡_ {A = Known} (record { linking = linkingFrom D preset place; main = mainFrom (saysTold main) (known .main); target = target })
-    (knownFrom (saysContent more) place known)
-known-signal more D preset main target place known e =
-    rw e (ap (λ (t : Speed). record { linking = linkingFrom D preset place; main = mainFrom (saysTold main) (known .main); target = t }) (target-same target))
+pub known-signal : (more : More) (D : ℕ) (preset : Bool) (main target : Speed) (place : ℕ) (number : Number) (known : Known)
+    → more ≡ More.Signal D preset main target
+    → _≡_ {A = Known} (record { linking = linkingFrom D preset place; main = mainFrom (saysTold main) (known .main); target = target; number = number })
+    (knownFrom (saysContent more) place number known)
+known-signal more D preset main target place number known e =
+    rw e
+    (ap (λ (t : Speed). record { linking = linkingFrom D preset place; main = mainFrom (saysTold main) (known .main); target = t; number = number })
+    (target-same target))
 
 pub mark-signal : (more : More) (D : ℕ) (preset : Bool) (main target : Speed) (place : ℕ) (l : Linking) → more ≡ More.Signal D preset main target
     → markOf l place ≡ markFrom (saysContent more) place l

@@ -6,6 +6,7 @@ use Rattle.words.specs.Answer.{gives, refuses}
 use Rattle.group.specs.declared.Heard.{Heard}
 use Rattle.group.specs.declared.Balise.{Balise}
 use Rattle.group.specs.declared.Group.{Group}
+use Rattle.group.specs.declared.Number.{Number}
 use Rattle.group.specs.declared.Told.{Told}
 use Rattle.ride.specs.declared.Linking.{Linking}
 use Rattle.ride.specs.declared.Known.{Known}
@@ -94,7 +95,7 @@ gap-wide = refl
 -- ---- linking with distance 4000 from place 1000
 
 abbrev linked : Known
-linked = record { linking = Linking.Set 4000 1000; main = Told.Kmh 130; target = Told.Kmh 80 }
+linked = record { linking = Linking.Set 4000 1000; main = Told.Kmh 130; target = Told.Kmh 80; number = Number.Figure 1612 }
 
 -- 5t equal to 4D and to 6D, and 1 dm off
 mark-4199 : markOf (linked .linking) 4199 ≡ Mark.Early
@@ -113,7 +114,7 @@ mark-5801 : markOf (linked .linking) 5801 ≡ Mark.Late
 unfolding markAt
 mark-5801 = refl
 
--- missed past 5800, at 5800, and the speeds stay
+-- missed past 5800, at 5800, and the speeds and the number stay
 not-missed : missedLines 5800 noGroup linked ≡ []
 unfolding missedLines noGroup
 not-missed = refl
@@ -122,7 +123,7 @@ missed : missedLines 5801 noGroup linked ≡ Line.Missed 5800 ∷ []
 unfolding missedLines noGroup
 missed = refl
 
-after : afterMissed 5801 noGroup linked ≡ record { linking = Linking.Unset; main = Told.Kmh 130; target = Told.Kmh 80 }
+after : afterMissed 5801 noGroup linked ≡ record { linking = Linking.Unset; main = Told.Kmh 130; target = Told.Kmh 80; number = Number.Figure 1612 }
 unfolding afterMissed noGroup
 after = refl
 

@@ -9,6 +9,7 @@ use Rattle.words.specs.Code.{other, exchanged, readWord}
 use Rattle.telegram.specs.Telegram.{shortWord, longWord, telegram}
 use Rattle.walk.specs.declared.Direction.{Direction}
 use Rattle.walk.specs.declared.Kind.{Kind}
+use Rattle.group.specs.declared.Number.{Number}
 use Rattle.group.specs.declared.Told.{Told}
 use Rattle.group.specs.Balise.{balises, readAll}
 use Rattle.walk.specs.Row.{fits, first, fitRow, fitRows}
@@ -16,6 +17,7 @@ use Rattle.walk.specs.Rows.{howMany, fitIn}
 use Rattle.walk.specs.Fitting.{fitting}
 use Rattle.group.specs.Distance.{distance}
 use Rattle.group.specs.Speed.{signalSpeed, targetFigure}
+use Rattle.group.specs.Numbers.{numberOf}
 use Rattle.group.specs.Judge.{distanceOf, signalDistance, judgeRead, judge}
 use Rattle.ride.specs.declared.Linking.{Linking}
 use Rattle.ride.specs.declared.Mark.{Mark}
@@ -36,17 +38,17 @@ trace =
     ∷ 0x00 ∷ 0x00 ∷ 0x17 ∷ 0x70 ∷ 0x03 ∷ 0x00 ∷ 0x00 ∷ 0x00
     ∷ []
 
--- "Main speed 130, target 80."
+-- "Main speed 130, target 80." The signal has no number.
 abbrev after : Ride
-after = record { odometer = 6000; group = noGroup; known = record { linking = Linking.Unset; main = Told.Kmh 130; target = Told.Kmh 80 } }
+after = record { odometer = 6000; group = noGroup; known = record { linking = Linking.Unset; main = Told.Kmh 130; target = Told.Kmh 80; number = Number.None } }
 
 -- "1000 present signal first", "5800 missed"
 pub in-full : rideOver (λ odometer. 40) freshRide 1 (records trace)
     ≡ record {
-      lines = Line.Group (record { place = 1000; direction = Direction.Present; kind = Kind.Signal; mark = Mark.First }) ∷ Line.Missed 5800 ∷ [];
+      lines = Line.Group (record { place = 1000; direction = Direction.Present; kind = Kind.Signal; mark = Mark.First; number = Number.None }) ∷ Line.Missed 5800 ∷ [];
       ride = after;
     }
-unfolding word isCheck covers count even isCode onwards figure other exchanged readWord shortWord longWord telegram balises readAll fits first fitRow fitRows howMany fitIn fitting distance signalSpeed targetFigure distanceOf signalDistance judgeRead judge noGroup nothingKnown freshRide odometerOf passedOf inOrder check join takeUp close leave closeBehind missedLines afterMissed goOn treat firstRecords rideOver
+unfolding word isCheck covers count even isCode onwards figure other exchanged readWord shortWord longWord telegram balises readAll fits first fitRow fitRows howMany fitIn fitting distance signalSpeed targetFigure distanceOf signalDistance numberOf judgeRead judge noGroup nothingKnown freshRide odometerOf passedOf inOrder check join takeUp close leave closeBehind missedLines afterMissed goOn treat firstRecords rideOver
 in-full = refl
 
 -- its end closes no group, gives no line, and leaves the state

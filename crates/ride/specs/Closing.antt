@@ -6,6 +6,8 @@ use mathlib.Core.List.{List, [], _∷_}
 use lib.ListN.{getD}
 use Rattle.words.specs.Answer.{Outcome, gives, refuses, pick}
 use Rattle.group.specs.declared.Group.{Group}
+use Rattle.walk.specs.declared.Kind.{Kind}
+use Rattle.group.specs.declared.Number.{Number}
 use Rattle.group.specs.declared.Told.{Told as Speed}
 use Rattle.group.specs.Speed.{Told, kmh, noInformation}
 use Rattle.group.specs.Message.{Content, ofSignal, ofWarning, ofRoute, nothing, Message}
@@ -13,6 +15,7 @@ use Rattle.group.specs.Judge.{judge}
 use Rattle.ride.specs.declared.Linking.{Linking}
 use Rattle.ride.specs.declared.Known.{Known}
 use Rattle.ride.specs.declared.Mark.{Mark}
+use Rattle.ride.specs.declared.Seen.{Seen}
 use Rattle.ride.specs.declared.Line.{Line}
 use Rattle.ride.specs.State.{noBalise, noGroup, nothingKnown}
 use Rattle.ride.specs.Linking.{markOf}
@@ -31,18 +34,18 @@ abbrev pub targetFrom : Told → Speed
 targetFrom (kmh v) = Speed.Kmh v
 targetFrom noInformation = Speed.Unknown
 
--- What is known after an accepted group that says this, with its A balise at place a. A present signal sets it; "all
--- other groups leave these as they were."
-abbrev pub knownFrom : Content → ℕ → Known → Known
-knownFrom (ofSignal D preset main target) a known =
-    record { linking = linkingFrom D preset a; main = mainFrom main (known .main); target = targetFrom target }
-knownFrom (ofWarning D preset) a known = known
-knownFrom (ofRoute v) a known = known
-knownFrom nothing a known = known
+-- What is known after an accepted group that says this, with its A balise at place a and this number or none. A present
+-- signal sets it, the number "to none if it has no 12"; "all other groups leave these as they were."
+abbrev pub knownFrom : Content → ℕ → Number → Known → Known
+knownFrom (ofSignal D preset main target) a number known =
+    record { linking = linkingFrom D preset a; main = mainFrom main (known .main); target = targetFrom target; number = number }
+knownFrom (ofWarning D preset) a number known = known
+knownFrom (ofRoute v) a number known = known
+knownFrom nothing a number known = known
 
--- What is known after a judgement. "A refused group ends linking and clears main speed and target."
+-- What is known after a judgement. "A refused group ends linking and clears main speed and target", and the number.
 abbrev pub knownAfter : Outcome Message → Known → Known
-knownAfter (gives m) known = knownFrom (m .content) (m .place) known
+knownAfter (gives m) known = knownFrom (m .content) (m .place) (m .number) known
 knownAfter (refuses n) known = nothingKnown
 
 -- The mark of an accepted group: "a mark stands on present signals alone".
@@ -52,16 +55,32 @@ markFrom (ofWarning D preset) a linking = Mark.Unmarked
 markFrom (ofRoute v) a linking = Mark.Unmarked
 markFrom nothing a linking = Mark.Unmarked
 
+-- The number on a group's line: a signal of either direction shows its own, all others none.
+abbrev pub numberOn : Kind → Number → Number
+numberOn Kind.Signal number = number
+numberOn Kind.Warning number = Number.None
+numberOn Kind.Annulled number = Number.None
+numberOn Kind.Line number = Number.None
+numberOn Kind.Route number = Number.None
+
+-- An accepted group as its line shows it, from the linking before it: "A group's line begins with the place of its A balise".
+abbrev pub seenFrom : Message → Linking → Seen
+seenFrom m linking =
+    record {
+      place = m .place;
+      direction = m .direction;
+      kind = m .kind;
+      mark = markFrom (m .content) (m .place) linking;
+      number = numberOn (m .kind) (m .number);
+    }
+
 -- The place of a group's first balise.
 abbrev pub firstPlace : Group → ℕ
 firstPlace g = getD (g .kept) 0 noBalise .place
 
--- The line of a group after its judgement, from the linking before it: "A group's line begins with the place of its A
--- balise"; a fault is shown "with the first balise's place".
+-- The line of a group after its judgement, from the linking before it; a fault is shown "with the first balise's place".
 abbrev pub lineOf : Group → Linking → Outcome Message → Line
-lineOf g linking (gives m) =
-    Line.Group
-    (record { place = m .place; direction = m .direction; kind = m .kind; mark = markFrom (m .content) (m .place) linking })
+lineOf g linking (gives m) = Line.Group (seenFrom m linking)
 lineOf g linking (refuses n) = Line.Fault (firstPlace g) n
 
 -- What closing leaves: the lines it gives, the group that closed, the group that is there then, and what is known then.

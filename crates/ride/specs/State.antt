@@ -7,6 +7,7 @@ use lib.ListN.{replicate}
 use Rattle.group.specs.declared.Heard.{Heard}
 use Rattle.group.specs.declared.Balise.{Balise}
 use Rattle.group.specs.declared.Group.{Group}
+use Rattle.group.specs.declared.Number.{Number}
 use Rattle.group.specs.declared.Told.{Told}
 use Rattle.ride.specs.declared.Linking.{Linking}
 use Rattle.ride.specs.declared.Known.{Known}
@@ -24,10 +25,10 @@ noGroup = record { kept = replicate 5 noBalise; count = 0; last = 0 }
 abbrev pub isOpen : Group → Bool
 isOpen g = ltb 0 (g .count)
 
--- Nothing is known: linking is not set, main speed and target are none. "A refused group ends linking and clears main
--- speed and target."
+-- Nothing is known: linking is not set; main speed, target and number are none. "A refused group ends linking and clears
+-- main speed and target", and the number.
 unfoldable pub nothingKnown : Known
-nothingKnown = record { linking = Linking.Unset; main = Told.Unknown; target = Told.Unknown }
+nothingKnown = record { linking = Linking.Unset; main = Told.Unknown; target = Told.Unknown; number = Number.None }
 
 -- A fresh ride. No odometer is below its last accepted one.
 unfoldable pub freshRide : Ride

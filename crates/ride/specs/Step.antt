@@ -30,9 +30,9 @@ isMissed odometer g known = not (isOpen g) && isOverdue (known .linking) odomete
 unfoldable pub missedLines : ℕ → Group → Known → List Line
 missedLines odometer g known = pick (isMissed odometer g known) (Line.Missed (missedPlace (known .linking)) ∷ []) []
 
--- "end linking": the speeds stay.
+-- "end linking": the speeds and the number stay.
 abbrev pub unlinked : Known → Known
-unlinked known = record { linking = Linking.Unset; main = known .main; target = known .target }
+unlinked known = record { linking = Linking.Unset; main = known .main; target = known .target; number = known .number }
 
 -- What is known after step 3: linking ends if the signal is missed.
 unfoldable pub afterMissed : ℕ → Group → Known → Known

@@ -14,13 +14,13 @@ use crate::Line;
 use crate::Lines;
 use crate::Linking;
 use crate::Ride;
-use crate::Seen;
 use crate::joining::no_group;
-use crate::marks::mark_from;
+use crate::shown::seen_from;
 use group::Content;
 use group::Group;
 use group::Judged;
 use group::Message;
+use group::Number;
 use group::Told;
 
 // What closing leaves: its lines, the group that closed, the group that is there then, and what is known then.
@@ -45,6 +45,7 @@ pub fn nothing_known() -> Known
         linking: Linking::Unset,
         main: Told::Unknown,
         target: Told::Unknown,
+        number: Number::None,
     }
 }
 
@@ -72,8 +73,8 @@ fn linking_from(distance: u32, preset: bool, place: u32) -> Linking
 }
 
 // What is known after an accepted group: a present signal sets it, all others leave it.
-fn known_from(content: Content, place: u32, known: Known) -> Known
-    ensures { λ r. ⌜ r ≡ knownFrom (saysContent content) place known ⌝ }
+fn known_from(content: Content, place: u32, number: Number, known: Known) -> Known
+    ensures { λ r. ⌜ r ≡ knownFrom (saysContent content) place number known ⌝ }
 {
     match content {
         Content::Signal {
@@ -87,6 +88,7 @@ fn known_from(content: Content, place: u32, known: Known) -> Known
                 linking: linking_from(distance, preset, place),
                 main: main_from(main, before),
                 target,
+                number,
             }
         }
         Content::Warning {
@@ -103,16 +105,10 @@ fn accepted(group: Group, known: Known, message: Message) -> Verdict
     ensures { λ r. ⌜ r ≡ record { line = lineOf group (known .linking) (gives (saysMessage message)); known = knownAfter (gives (saysMessage message)) known } ⌝ }
 {
     let content = message.content;
-    let direction = message.direction;
-    let kind = message.kind;
+    let number = message.number;
     let linking = known.linking;
-    let seen = Seen {
-        place: message.place as u64,
-        direction,
-        kind,
-        mark: mark_from(content, message.place, linking),
-    };
-    let after = known_from(content, message.place, known);
+    let seen = seen_from(message, linking);
+    let after = known_from(content, message.place, number, known);
     Verdict {
         line: Line::Group(seen),
         known: after,

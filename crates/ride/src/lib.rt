@@ -12,12 +12,14 @@ mod closing;
 mod joining;
 mod marks;
 mod records;
+mod shown;
 mod stepping;
 mod trace;
 mod treating;
 
 use group::Group;
 use group::Heard;
+use group::Number;
 use group::Told;
 pub use joining::allowed;
 pub use records::check_record;
@@ -34,11 +36,12 @@ pub enum Linking {
     Set { distance: u32, from: u32 },
 }
 
-// What is known on the way. A refused group takes it back to that of a fresh ride.
+// What is known on the way; number is that of the last present signal. A refused group takes it back to that of a fresh ride.
 pub struct Known {
     pub linking: Linking,
     pub main: Told,
     pub target: Told,
+    pub number: Number,
 }
 
 // The state of a ride: the last accepted odometer, the group (open if its count is above 0), and what is known.
@@ -76,12 +79,13 @@ pub enum Mark {
     Late,
 }
 
-// An accepted group as a line shows it; place is that of its A balise.
+// An accepted group as a line shows it; place is that of its A balise, number that of a signal.
 pub struct Seen {
     pub place: u64,
     pub direction: Direction,
     pub kind: Kind,
     pub mark: Mark,
+    pub number: Number,
 }
 
 // A line: an accepted group; a refused group's first place and number; a missed signal's place; a refused record's number in
@@ -139,12 +143,10 @@ pub struct Ran {
 pub fn fresh() -> Ride
     ensures { λ r. ⌜ r ≡ freshRide ⌝ }
 {
-    let group = joining::no_group();
-    let known = closing::nothing_known();
     Ride {
         odometer: 0,
-        group,
-        known,
+        group: joining::no_group(),
+        known: closing::nothing_known(),
     }
 }
 

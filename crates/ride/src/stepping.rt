@@ -66,10 +66,12 @@ fn unlinked(known: Known) -> Known
 {
     let main = known.main;
     let target = known.target;
+    let number = known.number;
     Known {
         linking: Linking::Unset,
         main,
         target,
+        number,
     }
 }
 

@@ -98,14 +98,24 @@ fn balise(out: &mut [u8], at: usize, place: u32, ay: u8, az: u8) -> usize {
     number(out, after_ay, b", AZ ", az as u32)
 }
 
+// The group's number, if it has one.
+fn numbered(out: &mut [u8], at: usize, n: group::Number) -> usize {
+    match n {
+        group::Number::None => at,
+        group::Number::Figure(m) => number(out, at, b", n", m as u32),
+    }
+}
+
 fn message(out: &mut [u8], m: Message) -> usize {
     let d = m.direction;
     let k = m.kind;
+    let n = m.number;
     let c = m.content;
     let after_direction = direction(out, 0, d);
     let after_kind = kind(out, after_direction, k);
     let after_balise = balise(out, after_kind, m.place, m.ay, m.az);
-    content(out, after_balise, c)
+    let after_number = numbered(out, after_balise, n);
+    content(out, after_number, c)
 }
 
 // The whole answer; answers how many bytes it has.

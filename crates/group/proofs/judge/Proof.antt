@@ -31,7 +31,7 @@ read-all-requires : tie.Need-read-all-requires
 read-all-requires c κs = search needs
 
 read-requires : tie.Need-read-requires
-read-requires c κs = search needs
+read-requires c κs = let r = c .before .before in (search needs, r .read-all .ensures .1 (c .before .if3 .taken))
 
 returns-3 : tie.Need-returns-3
 unfolding judge balises
@@ -40,7 +40,7 @@ returns-3 c =
     let g = r .before .before .before .before .args .group in
     let n = g .count in
     let e : readAll (take n (g .kept)) ≡ gives (take n (r .read-all .result .parts)) =
-    sym (r .read-all .ensures)
+    sym (r .read-all .ensures .0)
     ∙ ap (λ (b : Bool). pick b (gives (take n (r .read-all .result .parts))) (refuses 12)) (c .before .before .if3 .taken) in
     c .read .ensures ∙ sym (rw (ne-eqb n 1 (r .before .before .if1 .left), le-ltb 5 n (r .before .if2 .left), e))
 
@@ -51,7 +51,7 @@ returns-4 c =
     let g = r .before .before .before .before .args .group in
     let n = g .count in
     let e : readAll (take n (g .kept)) ≡ refuses 12 =
-    sym (r .read-all .ensures)
+    sym (r .read-all .ensures .0)
     ∙ ap (λ (b : Bool). pick b (gives (take n (r .read-all .result .parts))) (refuses 12)) (c .if3 .left) in
     rw (ne-eqb n 1 (r .before .before .if1 .left), le-ltb 5 n (r .before .if2 .left), e)
 

@@ -4,7 +4,8 @@ use mathlib.Core.Path.{_≡_, sym, ap, _∙_}
 use lib.ListN.{take}
 use Rattle.words.specs.Answer.{gives, refuses}
 use Rattle.walk.specs.Row.{Y, Z}
-use Rattle.group.specs.Judge.{contentOf}
+use Rattle.group.specs.declared.Number.{Number}
+use Rattle.group.specs.Judge.{contentOf, messageOf}
 use Rattle.group.specs.Says.{saysContent}
 use Rattle.group.specs.Inside.{saysContained}
 use borrow.Author.Needs.{needs}
@@ -37,7 +38,7 @@ returns c =
     let row = s .args .row in
     let e : contentOf (row .kind) (row .speed) (Y (row .a .part)) (Z (row .a .part)) (take (s .args .n) (s .args .p)) ≡ gives (saysContent (m .more .given .0 .0)) =
     rw (← f .before .before .y-of .ensures, ← f .before .z-of .ensures) (sym (f .of-present .ensures) ∙ ap saysContained (m .more .given .1)) in
-    rw e (ap gives (c .message .ensures))
+    rw e (ap gives (c .message .ensures ∙ ap (λ (n : Number). messageOf row n (saysContent (m .more .given .0 .0))) (s .pre .1)))
 
 returns-2 : tie.Need-returns-2
 returns-2 c =

@@ -9,9 +9,10 @@ use Rattle.walk.specs.declared.Placed.{Placed}
 use Rattle.walk.specs.declared.Picked.{Picked}
 use Rattle.walk.specs.declared.Fitted.{Fitted}
 use Rattle.walk.specs.Fitting.{fitting, saysFitted}
-use Rattle.group.specs.Message.{Message}
+use Rattle.group.specs.declared.Number.{Number}
+use Rattle.group.specs.Message.{Message, nothing}
 use Rattle.group.specs.Balise.{then}
-use Rattle.group.specs.Judge.{judgeAs, judgeRead}
+use Rattle.group.specs.Judge.{messageOf, judgeAs, judgeRead}
 use borrow.Author.Needs.{needs}
 use Rattle.group.proofs.judging.read.Statement.{statement}
 use Rattle.group.proofs.judging.read.Tie as tie
@@ -58,7 +59,10 @@ returns : tie.Need-returns
 returns c = c .as-present .ensures ∙ in-direction (c .before .before .before .before) (c .before .enum-told .given .1)
 
 returns-2 : tie.Need-returns-2
-returns-2 c = ap gives (c .message .ensures) ∙ in-direction (c .before .before .before .before) (c .before .enum-told2 .given .1)
+returns-2 c =
+    let k = c .before .before .before .before in
+    ap gives (c .message .ensures ∙ ap (λ (n : Number). messageOf (k .row .given .0 .0) n nothing) (k .before .before .before .pre .1))
+    ∙ in-direction k (c .before .enum-told2 .given .1)
 
 returns-3 : tie.Need-returns-3
 returns-3 c =

@@ -1,5 +1,5 @@
--- `put_direction` puts the word for each direction.
-use Rattle.listing.specs.Text.{direction}
+-- `put_direction` puts the word for each direction between spaces.
+use Rattle.listing.specs.Text.{between}
 use Rattle.listing.proofs.Words.{word-fits, word-put}
 use borrow.Author.Needs.{needs}
 use Rattle.listing.proofs.lines.put_direction.Statement.{statement}
@@ -14,7 +14,7 @@ slice-aggregate-put c = search needs
 put-requires : tie.Need-put-requires
 put-requires c κs =
     let a = c .before .before .before .before .before .args in
-    word-fits direction (a .buf .now) (a .at) (c .before .before .enum-told .given .1) (c .before .before .before .before .before .pre)
+    word-fits between (a .buf .now) (a .at) (c .before .before .enum-told .given .1) (c .before .before .before .before .before .pre)
 
 enum-told-2 : tie.Need-enum-told-2
 enum-told-2 c = search needs
@@ -25,7 +25,7 @@ slice-aggregate-put-2 c = search needs
 put-requires-2 : tie.Need-put-requires-2
 put-requires-2 c κs =
     let a = c .before .before .before .before .before .args in
-    word-fits direction (a .buf .now) (a .at) (c .before .before .enum-told2 .given .1) (c .before .before .before .before .before .pre)
+    word-fits between (a .buf .now) (a .at) (c .before .before .enum-told2 .given .1) (c .before .before .before .before .before .pre)
 
 same-length : tie.Need-same-length
 same-length c = search needs
@@ -34,7 +34,7 @@ returns : tie.Need-returns
 returns c =
     let p = c .before .before in
     let a = p .before .before .before .before .before .before .args in
-    word-put direction (a .buf .now) (a .at) (p .before .before .before .enum-told .given .1) (p .put .last .1 .0) (p .put .result) (p .put .ensures)
+    word-put between (a .buf .now) (a .at) (p .before .before .before .enum-told .given .1) (p .put .last .1 .0) (p .put .result) (p .put .ensures)
 
 same-length-2 : tie.Need-same-length-2
 same-length-2 c = search needs
@@ -43,7 +43,7 @@ returns-2 : tie.Need-returns-2
 returns-2 c =
     let p = c .before .before in
     let a = p .before .before .before .before .before .before .args in
-    word-put direction (a .buf .now) (a .at) (p .before .before .before .enum-told2 .given .1) (p .put2 .last .1 .0) (p .put2 .result) (p .put2 .ensures)
+    word-put between (a .buf .now) (a .at) (p .before .before .before .enum-told2 .given .1) (p .put2 .last .1 .0) (p .put2 .result) (p .put2 .ensures)
 
 pub put-direction-spec : {M : Type 1} → statement M
 put-direction-spec =

@@ -26,7 +26,7 @@ returns : tie.Need-returns
 returns c =
     let a = c .before .before .before .before .before .args in
     rw (c .before .linking-from .ensures, c .main-from .ensures)
-    (known-signal (a .content) _ _ _ _ (a .place) (a .known) (c .before .before .before .content .given .1))
+    (known-signal (a .content) _ _ _ _ (a .place) (a .number) (a .known) (c .before .before .before .content .given .1))
 
 returns-2 : tie.Need-returns-2
 returns-2 c = search needs
