@@ -35,6 +35,9 @@ pub mod Reading
 pub mod Room
 pub mod Output
 pub mod InFull
+pub mod Cards
+pub mod Blocks
+pub mod Sections
 pub mod Demand2
 pub mod Together
 pub mod JudgedAlike

@@ -19,6 +19,7 @@ use Rattle.ride.specs.Says.{saysLines}
 use Rattle.ride.specs.declared.Line.{Line}
 use Rattle.ride.specs.declared.Ride.{Ride}
 use Rattle.ride.specs.Joining.{allowed}
+use Rattle.ride.proofs.Cutting.{records-length}
 use Rattle.listing.specs.Text.{text, seen, decimal, digits}
 use Rattle.listing.specs.Put.{next, noRoom, Filled, filled, placed, put}
 use Rattle.listing.specs.List.{textOf, taken, Listing, listOf, listTaken, list, unlisted}
@@ -33,7 +34,7 @@ use Rattle.demands.specs.Contracts.{Fresh, PutLine, ListInto}
 use Rattle.demands.specs.Output.{ridden, output, recordsIn, Quoted, quoted, AllQuoted, Takes, Written}
 use Rattle.demands.proofs.Rules.{not-false}
 use Rattle.demands.proofs.Spelled.{bad-gap}
-use Rattle.demands.proofs.Room.{all-taken, few-taken, one-taken, records-many}
+use Rattle.demands.proofs.Room.{all-taken, few-taken, one-taken}
 
 -- ---- the listing
 
@@ -54,7 +55,7 @@ all-listed : (trace before : List ℕ) → badLength trace ≡ false → records
     → list freshRide 40 1 trace before ≡ listing trace before
 unfolding list listOf badLength
 all-listed trace before good small enough =
-    let many : length (records trace) ≡ recordsIn trace = records-many (recordsIn trace) trace in
+    let many : length (records trace) ≡ recordsIn trace = records-length (recordsIn trace) trace in
     let fit : 128 * length (records trace) ≤ length before = subst (λ (k : ℕ). 128 * k ≤ length before) (sym many) enough in
     let few : 1 + length (records trace) ≤ 18446744073709551615 = subst (λ (k : ℕ). 1 + k ≤ 18446744073709551615) (sym many) (omega arith) in
     ap (λ (t : Bool). pick t (listTaken 40 freshRide 1 (records trace) before) (unlisted freshRide 1 before 16)) (not-false (eqb (length trace % 8) 0) good)
@@ -137,7 +138,7 @@ all-quoted = each quoted refl
 
 -- ---- any listing
 
-takes-so : (ride : Ride) (gap number : ℕ) (trace before : List ℕ) (l : Listed) (after : List ℕ) → badGap gap ≡ false → badLength trace ≡ false
+pub takes-so : (ride : Ride) (gap number : ℕ) (trace before : List ℕ) (l : Listed) (after : List ℕ) → badGap gap ≡ false → badLength trace ≡ false
     → ListInto ride gap number trace before l after → Takes ride gap number trace before l after
 unfolding list listOf badLength
 takes-so ride gap number trace before l after good-gap good c =
@@ -147,13 +148,17 @@ takes-so ride gap number trace before l after good-gap good c =
     ∙ ap₂ (λ (t u : Bool). pick t (pick u (listTaken gap ride number (records trace) before) (unlisted ride number before 16)) (unlisted ride number before 19))
     (not-false (allowed gap) (sym (bad-gap gap) ∙ good-gap)) (not-false (eqb (length trace % 8) 0) good) in
     let holds : after ≡ w ++ drop (length w) before = sym (c .6) ∙ ap (λ (v : Listing). v .out) is ∙ at-first w before in
-    let many : length (records trace) ≡ recordsIn trace = records-many (recordsIn trace) trace in
+    let many : length (records trace) ≡ recordsIn trace = records-length (recordsIn trace) trace in
     record {
       n = n;
       bytes = length w;
       took = told saysDone listing-is.doneOf listing-is.done-back (l .done) (Done.Took n (length w)) (ap (λ (v : Listing). v .answer) is) refl;
       of-these = subst (λ (k : ℕ). n ≤ k) many (few-taken (records trace) gap ride number (length before));
       one-at-least = λ some room small. one-taken (records trace) gap ride number (length before) (subst (λ (k : ℕ). 1 ≤ k) (sym many) some) room small;
+      all-with-room = λ enough small.
+          all-taken (records trace) gap ride number (length before) (subst (λ (k : ℕ). 128 * k ≤ length before) (sym many) enough)
+          (subst (λ (k : ℕ). number + k ≤ 18446744073709551615) (sym many) small)
+          ∙ many;
       written = ap (take (length w)) holds ∙ take-at w (drop (length w) before) (length w) refl;
       rest-stays = ap (drop (length w)) holds ∙ drop-at w (drop (length w) before) (length w) refl;
       ridden-so = ap (λ (v : Listing). v .ride) is;

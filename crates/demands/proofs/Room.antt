@@ -15,7 +15,7 @@ use Rattle.group.specs.declared.Group.{Group}
 use Rattle.ride.specs.Linking.{missedPlace}
 use Rattle.ride.specs.Closing.{Closing, lineOf, close, leave}
 use Rattle.ride.specs.Step.{Step, isMissed, missedLines, closeBehind, goOn, refuseOr, treat}
-use Rattle.ride.specs.Over.{firstRecords, linesFor}
+use Rattle.ride.specs.Over.{linesFor}
 use Rattle.ride.specs.declared.Known.{Known}
 use Rattle.ride.specs.declared.Line.{Line}
 use Rattle.ride.specs.declared.Ride.{Ride}
@@ -76,11 +76,6 @@ all-taken (r ∷ rs) gap ride number room enough small =
     let on : suc number + length rs ≤ 18446744073709551615 = omega arith in
     ap₂ (λ (t u : Bool). pick (t && u) (suc (taken gap (s .ride) (suc number) left rs)) 0) (le-leb 128 room here) (lt-ltb number 18446744073709551615 next)
     ∙ ap suc (all-taken rs gap (s .ride) (suc number) left more on)
-
-pub records-many : (n : ℕ) (trace : List ℕ) → length (firstRecords n trace) ≡ n
-unfolding firstRecords
-records-many zero trace = refl
-records-many (suc n) trace = ap suc (records-many n (drop 8 trace))
 
 -- No more are taken than there are.
 pub few-taken : (rs : List (List ℕ)) (gap : ℕ) (ride : Ride) (number room : ℕ) → taken gap ride number room rs ≤ length rs

@@ -16,6 +16,7 @@ use Rattle.ride.specs.Joining.{allowed}
 use Rattle.ride.specs.Step.{Step, refused, treat, step}
 use Rattle.ride.specs.Over.{firstRecords, records, rideOver, through, Run, run}
 use Rattle.ride.specs.Says.{saysRan}
+use Rattle.ride.proofs.Sections.{unnumbered}
 use Rattle.ride.specs.declared.Ran.{Ran}
 use Rattle.ride.specs.declared.Ride.{Ride}
 use Rattle.ride.specs.declared.Stepped.{Stepped}
@@ -23,12 +24,6 @@ use Rattle.demands.specs.Table.{badLength, badGap}
 use Rattle.demands.specs.Contracts.{StepOf, RunOver}
 use Rattle.demands.proofs.Rules.{not-false}
 use Rattle.demands.proofs.Spelled.{bad-gap}
-
--- The state after some records, whatever the first one's number.
-unnumbered : (gaps : ℕ → ℕ) (rs : List (List ℕ)) (ride : Ride) (n k : ℕ) → rideOver gaps ride n rs .ride ≡ rideOver gaps ride k rs .ride
-unfolding rideOver
-unnumbered gaps [] ride n k = refl
-unnumbered gaps (r ∷ rs) ride n k = unnumbered gaps rs (treat ride (gaps (odometerOf r)) r .ride) (suc n) (suc k)
 
 -- The records of a trace that begins with these eight bytes.
 module _ (bytes rest : List ℕ) (eight : length bytes ≡ 8) where
@@ -48,14 +43,14 @@ module _ (bytes rest : List ℕ) (eight : length bytes ≡ 8) where
       eq-eqb (length (bytes ++ rest) % 8) 0 (ap (λ (k : ℕ). k % 8) long ∙ same)
 
 -- a run through all records, and one that is refused with 19
-abbrev over : Ride → ℕ → List ℕ → Run
+abbrev pub over : Ride → ℕ → List ℕ → Run
 over ride gap trace = record { answer = gives through; ride = rideOver (λ odometer. gap) ride 1 (records trace) .ride }
 
-abbrev kept : Ride → Run
+abbrev pub kept : Ride → Run
 kept ride = record { answer = refuses 19; ride = ride }
 
 -- a run over a trace of good length
-good-run : (ride : Ride) (gap : ℕ) (trace : List ℕ) → eqb (length trace % 8) 0 ≡ true → run ride gap trace ≡ pick (allowed gap) (over ride gap trace) (kept ride)
+pub good-run : (ride : Ride) (gap : ℕ) (trace : List ℕ) → eqb (length trace % 8) 0 ≡ true → run ride gap trace ≡ pick (allowed gap) (over ride gap trace) (kept ride)
 unfolding run
 good-run ride gap trace e =
     ap (λ (t : Bool). pick (allowed gap) (pick t (over ride gap trace) (record { answer = refuses 16; ride = ride })) (kept ride)) e
@@ -72,11 +67,11 @@ on-and-on ride gap bytes rest eight good =
     go : (t : Bool)
         → pick t (record { answer = gives through; ride = rideOver (λ odometer. gap) (treat ride gap bytes .ride) 2 (records rest) .ride }) (kept ride)
         ≡ pick t (over (pick t (treat ride gap bytes) (refused ride 19) .ride) gap rest) (kept (pick t (treat ride gap bytes) (refused ride 19) .ride))
-    go true = ap (λ (r : Ride). record { answer = gives through; ride = r }) (unnumbered (λ odometer. gap) (records rest) (treat ride gap bytes .ride) 2 1)
+    go true = ap (λ (r : Ride). record { answer = gives through; ride = r }) (unnumbered (λ odometer. gap) (treat ride gap bytes .ride) 2 1 (records rest))
     go false = refl
 
 -- what a run says
-ran : (ride : Ride) (gap : ℕ) (trace : List ℕ) (q : Ran) → RunOver ride gap trace q → saysRan q ≡ run ride gap trace
+pub ran : (ride : Ride) (gap : ℕ) (trace : List ℕ) (q : Ran) → RunOver ride gap trace q → saysRan q ≡ run ride gap trace
 ran ride gap trace q c = c .4 ∙ ap (λ (v : List ℕ). run ride gap v) (c .3)
 
 pub runs-on : (ride : Ride) (gap : ℕ) (bytes rest : List ℕ) (s : Stepped) (q q′ : Ran) → length bytes ≡ 8 → badLength rest ≡ false

@@ -9,6 +9,7 @@ pub mod Cases
 pub mod RowCases
 pub mod Ride
 pub mod Output
+pub mod Sections
 pub mod Calls
 pub mod Said
 pub mod Demand2

@@ -72,7 +72,7 @@ AllQuoted [] = Unit {0}
 AllQuoted (q ∷ qs) = (text (q .line) ≡ q .reads) × AllQuoted qs
 
 -- What `list` comes to, from any ride, gap, number and room: so many records are taken, one at least where there is one and room for
--- 128 bytes; the bytes that it says it wrote are the text of their lines; the ride and the number are those after them; the buffer's
+-- 128 bytes, and all where there is room for 128 bytes each; the bytes that it says it wrote are the text of their lines; the ride and the number are those after them; the buffer's
 -- other bytes stay.
 pub record Takes (ride : Ride) (gap number : ℕ) (trace before : List ℕ) (l : Listed) (after : List ℕ) : Type 0 where
   pub n : ℕ
@@ -80,13 +80,14 @@ pub record Takes (ride : Ride) (gap number : ℕ) (trace before : List ℕ) (l :
   pub took : l .done ≡ Done.Took n bytes
   pub of-these : n ≤ recordsIn trace
   pub one-at-least : 1 ≤ recordsIn trace → 128 ≤ length before → number < 18446744073709551615 → 1 ≤ n
+  pub all-with-room : 128 * recordsIn trace ≤ length before → number + recordsIn trace ≤ 18446744073709551615 → n ≡ recordsIn trace
   pub written : take bytes after ≡ textOf (rideOver (λ odometer. gap) ride number (take n (records trace)) .lines)
   pub rest-stays : drop bytes after ≡ drop bytes before
   pub ridden-so : l .ride ≡ rideOver (λ odometer. gap) ride number (take n (records trace)) .ride
   pub counted-on : l .number ≡ number + n
 
--- The library's functions come to what the program is to write. (The program lists block after block; that its blocks join to one
--- listing, and its reads and writes, are not proved here: docs/EXCEPTIONS.md.)
+-- The library's functions come to what the program is to write. (The program lists card after card and block after block: that these join
+-- to one listing is specs/Sections.antt. Its reads and writes are not proved: docs/EXCEPTIONS.md.)
 pub record Written : Type 0 where
   -- `put_line` puts a line's text where it has room, and says where it ends; else it leaves the buffer
   pub puts : (line : Line) (before : List ℕ) (at : ℕ) (r : Put) (after : List ℕ) → PutLine line before at r after

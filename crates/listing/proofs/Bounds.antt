@@ -14,7 +14,8 @@ use Rattle.words.specs.Answer.{Outcome, gives, refuses, pick}
 use Rattle.ride.specs.declared.Ride.{Ride}
 use Rattle.ride.specs.Joining.{allowed}
 use Rattle.ride.specs.Step.{treat}
-use Rattle.ride.specs.Over.{firstRecords, records, linesFor, rideOver}
+use Rattle.ride.specs.Over.{records, linesFor, rideOver}
+use Rattle.ride.proofs.Cutting.{records-length}
 use Rattle.listing.specs.declared.Put.{Put}
 use Rattle.listing.specs.declared.Done.{Done}
 use Rattle.listing.specs.declared.Listed.{Listed}
@@ -47,11 +48,6 @@ taken-within gap ride number room (r ∷ rs) =
     let left = room - length (textOf (linesFor number (treat ride gap r .lines))) in
     one-more (isTaken number room) (taken gap (treat ride gap r .ride) (suc number) left rs) (length rs)
     (taken-within gap (treat ride gap r .ride) (suc number) left rs)
-
-records-length : (n : ℕ) (trace : List ℕ) → length (firstRecords n trace) ≡ n
-unfolding firstRecords
-records-length zero trace = refl
-records-length (suc n) trace = ap suc (records-length n (drop 8 trace))
 
 -- a text from the buffer's start that leaves its length is not longer than it
 start-within : (t b : List ℕ) → length (placed t b 0) ≡ length b → length t ≤ length b

@@ -1,5 +1,5 @@
--- Laws of the ride that hold for every state: what a refusal leaves, how the odometer goes, what a ride over several records
--- is made of.
+-- Laws of the ride that hold for every state: what a refusal leaves, how the odometer goes, where a line
+-- comes from.
 -- Assumes nothing.
 use Prim.Native.Nat.{ℕ, zero, suc, _+_, _*_, _≤_}
 use native.Mathlib.Omega.{arith}
@@ -92,40 +92,6 @@ pub over-one : (gap : ℕ) (ride : Ride) (number : ℕ) (r : List ℕ) → allow
     ≡ record { lines = linesFor number (step ride gap r .lines); ride = step ride gap r .ride }
 unfolding rideOver step
 over-one gap ride number r e = rw (e, append-nil)
-
--- ---- riding on: the records of one card, then those of the next, with the numbers counted on
-
-pub ride-on : (gaps : ℕ → ℕ) (ride : Ride) (number : ℕ) (rs qs : List (List ℕ))
-    → rideOver gaps ride number (rs ++ qs)
-    ≡ before (rideOver gaps ride number rs .lines) (rideOver gaps (rideOver gaps ride number rs .ride) (number + length rs) qs)
-unfolding rideOver
-ride-on gaps ride number [] qs =
-    let same : number ≡ number + 0 = omega arith in
-    ap (λ (n : ℕ). rideOver gaps ride n qs) same
-ride-on gaps ride number (r ∷ rs) qs =
-    let s : Step = treat ride (gaps (odometerOf r)) r in
-    let first : List Line = linesFor number (s .lines) in
-    let rest : Ridden = rideOver gaps (s .ride) (suc number) rs in
-    let same : suc number + length rs ≡ number + suc (length rs) = omega arith in
-    ap (before first) (ride-on gaps (s .ride) (suc number) rs qs)
-    ∙ ap (λ (n : ℕ). before first (before (rest .lines) (rideOver gaps (rest .ride) n qs))) same
-    ∙ ap
-    (λ (ls : List Line). record { lines = ls; ride = rideOver gaps (rest .ride) (number + suc (length rs)) qs .ride })
-    (sym (append-assoc first (rest .lines) (rideOver gaps (rest .ride) (number + suc (length rs)) qs .lines)))
-
--- the first m + n records of a trace are its first m, and then the first n of what follows them
-pub more-records : (m n : ℕ) (trace : List ℕ) → firstRecords (m + n) trace ≡ firstRecords m trace ++ firstRecords n (drop (m * 8) trace)
-unfolding firstRecords
-more-records zero n trace =
-    let same : 0 + n ≡ n = omega arith in
-    ap (λ (k : ℕ). firstRecords k trace) same
-more-records (suc m) n trace =
-    let same : suc m + n ≡ suc (m + n) = omega arith in
-    let far : 8 + m * 8 ≡ suc m * 8 = omega arith in
-    ap (λ (k : ℕ). firstRecords k trace) same
-    ∙ ap (λ (rs : List (List ℕ)). take 8 trace ∷ rs)
-    (more-records m n (drop 8 trace)
-    ∙ ap (λ (t : List ℕ). firstRecords m (drop 8 trace) ++ firstRecords n t) (drop-drop (m * 8) 8 trace ∙ ap (λ (k : ℕ). drop k trace) far))
 
 -- ---- every line comes from one step or from the end
 

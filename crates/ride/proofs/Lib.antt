@@ -3,6 +3,8 @@ pub mod Steps
 pub mod At
 pub mod Turns
 pub mod Law
+pub mod Cutting
+pub mod Sections
 pub mod Examples
 pub mod Determined
 pub mod InFull
