@@ -1,6 +1,7 @@
-// The records of a file, block by block: in through `list`, out to standard output.
-ghost use Prim.Native.Nat.{_*_, _≤_};
+// The records of the cards, block by block: in through `list`, out to standard output.
+ghost use Prim.Native.Nat.{_≤_};
 ghost use lib.ListN.{length};
+use crate::cards::open_card;
 use crate::reading::fill;
 use libc::STDOUT_FILENO;
 use listing::Done;
@@ -12,23 +13,20 @@ use ride::Ride;
 // The program's gap in dm.
 const GAP: u32 = 40;
 
-// Bytes of a block.
+// Bytes of a block: 8,192 records.
 const BLOCK: u64 = 65536;
 
-// What a part of the trace leaves: the state, the next record's number, and how many bytes of it were taken; none where
-// writing failed.
-struct Part {
+// Where the ride stands: the state, the next record's number, and whether all reads and writes so far succeeded.
+pub struct Stand {
     ride: Ride,
     number: u64,
-    taken: usize,
+    is_good: bool,
 }
 
-// What a block leaves: the state, the next record's number, how many bytes were read, and whether to go on.
+// What a block leaves: where the ride stands then, and how many bytes were read.
 struct Block {
-    ride: Ride,
-    number: u64,
+    stand: Stand,
     read: usize,
-    is_good: bool,
 }
 
 // Writes a line.
@@ -40,125 +38,108 @@ pub fn write_line(line: Line) -> bool {
     io::write_all(STDOUT_FILENO, &out[..n])
 }
 
-// Lists as many of the records as surely have room in out, and writes their lines.
-fn list_some(ride: Ride, number: u64, records: &[u8], out: &mut [u8]) -> Part
-    ensures { λ r. ⌜ r .taken ≤ length (now (records .entry)) ⌝ }
-{
-    let listed = listing::list(ride, GAP, number, records, out);
+// Lists the records and writes their lines. Where out has 128 bytes for each of them, one call of `list` takes them all.
+fn write_records(from: Stand, records: &[u8], out: &mut [u8]) -> Stand {
+    let ride = from.ride;
+    let listed = listing::list(ride, GAP, from.number, records, out);
     let done = listed.done;
     let after = listed.ride;
-    let next = listed.number;
+    let number = listed.number;
     let Done::Took {
         records: count,
         bytes,
     } = done
     else {
-        return Part {
+        return Stand {
             ride: after,
-            number: next,
-            taken: 0,
+            number,
+            is_good: false,
         };
     };
-    if io::write_all(STDOUT_FILENO, &out[..bytes]) {
-        return Part {
-            ride: after,
-            number: next,
-            taken: count * 8,
-        };
-    }
-    Part {
+    let is_written = io::write_all(STDOUT_FILENO, &out[..bytes]);
+    Stand {
         ride: after,
-        number: next,
-        taken: 0,
+        number,
+        is_good: is_written & (count * 8 == records.len()),
     }
 }
 
-// Lists all of the records, by way of out.
-fn list_block(ride: Ride, number: u64, records: &[u8], out: &mut [u8]) -> Part
-    ensures { λ r. ⌜ r .taken ≤ length (now (records .entry)) ⌝ }
-{
-    let mut now = ride;
-    let mut next = number;
-    let mut at: usize = 0;
-    while at < records.len() {
-        let part = list_some(now, next, &records[at..], out);
-        let taken = part.taken;
-        if taken == 0 {
-            break;
-        }
-        now = part.ride;
-        next = part.number;
-        at += taken;
-    }
-    Part {
-        ride: now,
-        number: next,
-        taken: at,
-    }
-}
-
-// Reads the next bytes of the file into block, as many as `want`, and lists their records. A shorter file gives fewer.
-fn next_block(
-    fd: i32,
-    want: usize,
-    ride: Ride,
-    number: u64,
-    block: &mut [u8],
-    out: &mut [u8],
-) -> Block
+// Reads the next bytes of the card into block, as many as `want`, and lists their records. A card that is shorter by now gives fewer.
+fn next_block(fd: i32, want: usize, from: Stand, block: &mut [u8], out: &mut [u8]) -> Block
     requires { ⌜ want ≤ length (now block) ⌝ }
     ensures { λ r. ⌜ r .read ≤ want ⌝ }
 {
     let got = fill(fd, &mut block[..want]);
     let read = got.count - got.count % 8;
-    let part = list_block(ride, number, &block[..read], out);
-    let after = part.ride;
+    let listed = write_records(from, &block[..read], out);
+    let ride = listed.ride;
     Block {
-        ride: after,
-        number: part.number,
+        stand: Stand {
+            ride,
+            number: listed.number,
+            is_good: listed.is_good & !got.failed,
+        },
         read,
-        is_good: !got.failed & (part.taken == read),
     }
 }
 
-// Writes the line of a group that the end of the ride closes.
-fn write_end(ride: Ride) {
-    let ended = ride::end(ride);
-    let lines = ended.lines;
-    match lines {
-        Lines::None => {}
-        Lines::One(line) => {
-            write_line(line);
-        }
-        Lines::Two(first, second) => {
-            if write_line(first) {
-                write_line(second);
-            }
-        }
-    }
-}
-
-// The lines of all records of the file, of which there are so many bytes, and of the end. A file that is shorter by now
-// ends the ride where it ends; after a read or a write that failed there is no further line.
-pub fn list_file(fd: i32, bytes: u64, block: &mut [u8], out: &mut [u8])
+// Lists the records of a card, of which there are so many bytes. A card that is shorter by now ends where it ends.
+fn list_card(fd: i32, bytes: u64, from: Stand, block: &mut [u8], out: &mut [u8]) -> Stand
     requires { ⌜ 65536 ≤ length (now block) ⌝ }
 {
-    let mut ride = ride::fresh();
-    let mut number: u64 = 1;
+    let mut stand = from;
     let mut left = bytes;
     while left > 0 {
         let want = if left < BLOCK { left } else { BLOCK };
-        let listed = next_block(fd, want as usize, ride, number, block, out);
-        if !listed.is_good {
-            return;
-        }
-        ride = listed.ride;
-        number = listed.number;
+        let listed = next_block(fd, want as usize, stand, block, out);
+        stand = listed.stand;
         let read = listed.read as u64;
+        if !stand.is_good {
+            break;
+        }
         if read < want {
             break;
         }
         left -= read;
     }
-    write_end(ride);
+    stand
+}
+
+// Writes the line of a group that the end of the ride closes: it gives one line at most.
+fn write_end(ride: Ride) {
+    let ended = ride::end(ride);
+    let lines = ended.lines;
+    let Lines::One(line) = lines else {
+        return;
+    };
+    write_line(line);
+}
+
+// The lines of all records of the cards, whose lengths were kept, as one ride, and of its end. After a card that cannot be opened any
+// more, or a read or a write that failed, there is no further line.
+pub fn list_cards(count: usize, lengths: &[u64], block: &mut [u8])
+    requires { ⌜ (count ≤ length (now lengths)) × (count ≤ 8192) × (65536 ≤ length (now block)) ⌝ }
+{
+    let mut out = [0u8; 1048576];
+    let ride = ride::fresh();
+    let mut stand = Stand {
+        ride,
+        number: 1,
+        is_good: true,
+    };
+    let mut i: usize = 0;
+    while i < count {
+        let fd = open_card(i);
+        if fd < 0 {
+            return;
+        }
+        stand = list_card(fd, lengths[i], stand, block, &mut out);
+        libc::close(fd);
+        if !stand.is_good {
+            return;
+        }
+        i += 1;
+    }
+    let after = stand.ride;
+    write_end(after);
 }

@@ -20,9 +20,6 @@ slice-aggregate-fill c =
 fill-requires : tie.Need-fill-requires
 fill-requires c κs = search needs
 
-sub-read : tie.Need-sub-read
-sub-read c = search needs
-
 counted : (c : tie.After-fill) → c .fill .result .count ≤ c .before .before .before .before .args .want
 counted c =
     let s = c .before .before .before .before in
@@ -41,14 +38,17 @@ within c =
       length-append (c .fill .last .1 .0) (drop (s .args .want) (s .args .block .now)),
     )
 
-slice-reshare-prefix-list-block : tie.Need-slice-reshare-prefix-list-block
-slice-reshare-prefix-list-block c = within (c .before .before .before .before)
+sub-read : tie.Need-sub-read
+sub-read c = search needs
 
-slice-aggregate-list-block : tie.Need-slice-aggregate-list-block
-slice-aggregate-list-block c = sym (length-take-le _ _ (within (c .before .before .before .before .before)))
+slice-reshare-prefix-write-records : tie.Need-slice-reshare-prefix-write-records
+slice-reshare-prefix-write-records c = within (c .before .before .before .before)
 
-list-block-requires : tie.Need-list-block-requires
-list-block-requires c κs = search needs
+slice-aggregate-write-records : tie.Need-slice-aggregate-write-records
+slice-aggregate-write-records c = sym (length-take-le _ _ (within (c .before .before .before .before .before)))
+
+write-records-requires : tie.Need-write-records-requires
+write-records-requires c κs = search needs
 
 same-length : tie.Need-same-length
 same-length c = search needs
@@ -69,9 +69,9 @@ next-block-spec =
     slice-aggregate-fill
     fill-requires
     sub-read
-    slice-reshare-prefix-list-block
-    slice-aggregate-list-block
-    list-block-requires
+    slice-reshare-prefix-write-records
+    slice-aggregate-write-records
+    write-records-requires
     same-length
     same-length-2
     returns)

@@ -1,4 +1,4 @@
--- `list_some` writes what the listing wrote, which lies within the buffer, and takes no more than there is.
+-- `write_records` writes what the listing wrote, which lies within the buffer.
 use Prim.Native.Nat.{ℕ, _*_, _≤_}
 use mathlib.Core.Path.{_≡_, sym}
 use native.Mathlib.Omega.{arith}
@@ -6,8 +6,8 @@ use lib.ListN.{length, take}
 use lib.Seq.{length-take-le}
 use Rattle.listing.proofs.Bounds.{list-within}
 use borrow.Author.Needs.{needs}
-use Rattle.checker.proofs.blocks.list_some.Statement.{statement}
-use Rattle.checker.proofs.blocks.list_some.Tie as tie
+use Rattle.checker.proofs.blocks.write_records.Statement.{statement}
+use Rattle.checker.proofs.blocks.write_records.Tie as tie
 
 list-requires : tie.Need-list-requires
 list-requires c κs = search needs
@@ -24,13 +24,13 @@ returns c = search needs
 -- what was taken and what was written
 within : (c : tie.After-done) →
     let l = c .before .before .before .before .before in
-    (c .done .given .0 .0 * 8 ≤ length (l .before .before .before .before .args .records .now))
+    (c .done .given .0 .0 * 8 ≤ length (l .before .before .before .before .before .args .records .now))
     × (c .done .given .0 .1 .0 ≤ length (l .list .last .1 .1 .1 .1 .0))
 within c =
     let l = c .before .before .before .before .before in
-    let s = l .before .before .before .before in
+    let s = l .before .before .before .before .before in
     let w =
-    list-within (s .args .ride) 40 (s .args .number) (s .args .records .now) (s .args .out .now)
+    list-within (s .args .from .ride) 40 (s .args .from .number) (s .args .records .now) (s .args .out .now)
     (l .list .last .1 .1 .1 .1 .0) (l .list .result) (c .done .given .0 .0) (c .done .given .0 .1 .0)
     (l .list .ensures) (c .done .given .1) (l .list .kept .1 .1 .1 .1 .0) in
     (w .0, omega (arith, w .1, l .list .kept .1 .1 .1 .1 .0))
@@ -45,22 +45,16 @@ write-all-requires : tie.Need-write-all-requires
 write-all-requires c κs = search needs
 
 mul-t16 : tie.Need-mul-t16
-mul-t16 c = omega (arith, within (c .before .before .before .before) .0)
+mul-t16 c = omega (arith, within (c .before .before .before) .0)
 
 same-length-2 : tie.Need-same-length-2
 same-length-2 c = search needs
 
 returns-2 : tie.Need-returns-2
-returns-2 c = within (c .before .before .before .before) .0
+returns-2 c = search needs
 
-same-length-3 : tie.Need-same-length-3
-same-length-3 c = search needs
-
-returns-3 : tie.Need-returns-3
-returns-3 c = search needs
-
-pub list-some-spec : {M : Type 1} → statement M
-list-some-spec =
+pub write-records-spec : {M : Type 1} → statement M
+write-records-spec =
     tie.close
     (tie.spec
     list-requires
@@ -72,6 +66,4 @@ list-some-spec =
     write-all-requires
     mul-t16
     same-length-2
-    returns-2
-    same-length-3
-    returns-3)
+    returns-2)
