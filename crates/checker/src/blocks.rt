@@ -1,6 +1,8 @@
 // The records of the cards, block by block: in through `list`, out to standard output.
+ghost use mathlib.Core.Path.{_≡_};
 ghost use Prim.Native.Nat.{_≤_};
 ghost use lib.ListN.{length};
+use crate::cards::named;
 use crate::cards::open_card;
 use crate::reading::fill;
 use libc::STDOUT_FILENO;
@@ -15,6 +17,13 @@ const GAP: u32 = 40;
 
 // Bytes of a block: 8,192 records.
 const BLOCK: u64 = 65536;
+
+// Room for the lines of a block: 128 bytes for each of its records.
+pub fn room() -> [u8; 1048576]
+    ensures { λ r. ⌜ 1048576 ≡ length r ⌝ }
+{
+    [0; 1048576]
+}
 
 // Where the ride stands: the state, the next record's number, and whether all reads and writes so far succeeded.
 pub struct Stand {
@@ -115,12 +124,12 @@ fn write_end(ride: Ride) {
     write_line(line);
 }
 
-// The lines of all records of the cards, whose lengths were kept, as one ride, and of its end. After a card that cannot be opened any
-// more, or a read or a write that failed, there is no further line.
-pub fn list_cards(count: usize, lengths: &[u64], block: &mut [u8])
-    requires { ⌜ (count ≤ length (now lengths)) × (count ≤ 8192) × (65536 ≤ length (now block)) ⌝ }
+// The lines of all records of the cards, whose lengths were kept, as one ride, and of its end. After a card that cannot be opened
+// any more, or a read or a write that failed, there is no further line.
+pub fn list_cards(lengths: &[u64], block: &mut [u8], out: &mut [u8])
+    requires { ⌜ 65536 ≤ length (now block) ⌝ }
 {
-    let mut out = [0u8; 1048576];
+    let count = named(lengths.len());
     let ride = ride::fresh();
     let mut stand = Stand {
         ride,
@@ -129,11 +138,11 @@ pub fn list_cards(count: usize, lengths: &[u64], block: &mut [u8])
     };
     let mut i: usize = 0;
     while i < count {
-        let fd = open_card(i);
+        let fd = open_card(i + 1);
         if fd < 0 {
             return;
         }
-        stand = list_card(fd, lengths[i], stand, block, &mut out);
+        stand = list_card(fd, lengths[i], stand, block, out);
         libc::close(fd);
         if !stand.is_good {
             return;

@@ -1,13 +1,12 @@
 // The cards: the files that the arguments name. A card that cannot be opened or read, a name that is too long, and more cards than
 // lengths are kept count as nothing found.
 ghost use Prim.Native.Nat.{_≤_};
-ghost use lib.ListN.{length};
 use crate::reading::length_of;
 use libc::SEEK_SET;
 
-// What going over the cards for their lengths finds: so many of whole records; one of a bad length; or nothing to list.
+// What going over the cards for their lengths finds: cards of whole records; one of a bad length; or nothing to list.
 pub enum Found {
-    Cards(usize),
+    Cards,
     BadLength,
     Nothing,
 }
@@ -19,12 +18,10 @@ struct Card {
     is_again: bool,
 }
 
-// Opens the card that stands behind so many others; below 0 where that cannot be done.
-pub fn open_card(i: usize) -> i32
-    requires { ⌜ i ≤ 8192 ⌝ }
-{
+// Opens the card with this number, the first with 1; below 0 where that cannot be done.
+pub fn open_card(number: usize) -> i32 {
     let mut path = io::buffer();
-    let length = os::arg(i + 1, &mut path);
+    let length = os::arg(number, &mut path);
     if os::errno() != 0 {
         return -1;
     }
@@ -32,10 +29,8 @@ pub fn open_card(i: usize) -> i32
 }
 
 // Goes over a card for its length.
-fn measure(i: usize, block: &mut [u8]) -> Card
-    requires { ⌜ i ≤ 8192 ⌝ }
-{
-    let fd = open_card(i);
+fn measure(number: usize, block: &mut [u8]) -> Card {
+    let fd = open_card(number);
     if fd < 0 {
         return Card {
             bytes: 0,
@@ -54,7 +49,7 @@ fn measure(i: usize, block: &mut [u8]) -> Card
 }
 
 // How many cards are named; none where there are more than that many.
-fn named(most: usize) -> usize
+pub fn named(most: usize) -> usize
     ensures { λ r. ⌜ r ≤ most ⌝ }
 {
     let words = os::arg_count();
@@ -70,15 +65,13 @@ fn named(most: usize) -> usize
 
 // Goes over all cards for their lengths, and keeps them. One that cannot be opened or read decides before one of a bad length, and that
 // before one that cannot be gone over again.
-pub fn go_over(lengths: &mut [u64], block: &mut [u8]) -> Found
-    requires { ⌜ length (now lengths) ≤ 8192 ⌝ }
-{
+pub fn go_over(lengths: &mut [u64], block: &mut [u8]) -> Found {
     let count = named(lengths.len());
     let mut is_bad = false;
     let mut is_once = false;
     let mut i: usize = 0;
     while i < count {
-        let card = measure(i, block);
+        let card = measure(i + 1, block);
         if !card.is_read {
             return Found::Nothing;
         }
@@ -93,5 +86,5 @@ pub fn go_over(lengths: &mut [u64], block: &mut [u8]) -> Found
     if is_once {
         return Found::Nothing;
     }
-    Found::Cards(count)
+    Found::Cards
 }

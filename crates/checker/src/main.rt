@@ -16,7 +16,10 @@ fn main() {
     let mut block = io::large_buffer();
     let found = cards::go_over(&mut lengths, &mut block);
     match found {
-        Found::Cards(count) => blocks::list_cards(count, &lengths, &mut block),
+        Found::Cards => {
+            let mut out = blocks::room();
+            blocks::list_cards(&lengths, &mut block, &mut out);
+        }
         Found::BadLength => {
             blocks::write_line(Line::Trace(16));
         }

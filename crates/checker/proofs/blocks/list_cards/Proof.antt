@@ -1,90 +1,100 @@
+-- `list_cards` lists card after card, each with its own length. The two buffers keep their lengths.
+use Prim.Native.Nat.{ℕ, _-_, _≤_}
+use mathlib.Core.Path.{_≡_, refl, _∙_}
+use mathlib.Core.List.{List}
+use native.Mathlib.Omega.{arith}
+use lib.ListN.{length}
 use Rattle.checker.proofs.blocks.list_cards.Statement.{statement}
 use Rattle.checker.proofs.blocks.list_cards.Tie as tie
-use Rattle.checker.proofs.blocks.list_cards.Reads as reads
-use Rattle.checker.proofs.blocks.list_cards.Lts as lts
-use Rattle.checker.proofs.blocks.list_card.Reads as list-card-reads
-use Rattle.checker.proofs.blocks.write_end.Reads as write-end-reads
-use Rattle.checker.proofs.cards.open_card.Reads as open-card-reads
-use Rattle.libc.proofs.close.Reads as close-reads
-use Rattle.ride.proofs.fresh.Reads as fresh-reads
+
+-- a buffer has the length that it had
+abbrev same : List ℕ → List ℕ → Type 0
+same now before = length now ≡ length before
 
 abbrev Inv-loop : tie.InvT-loop
-Inv-loop count lengths block₀ out₀ stand₀ i₀ block out stand i = ?
+Inv-loop lengths block₀ out₀ count stand₀ i₀ block out stand i =
+    (i ≤ count) × (count ≤ length lengths) × (65536 ≤ length block) × same block block₀ × same out out₀
 
 abbrev μ-loop : tie.MeasureT-loop
-μ-loop count lengths block₀ out₀ stand₀ i₀ block out stand i = ?
+μ-loop lengths block₀ out₀ count stand₀ i₀ block out stand i = count - i
 
--- src/blocks.rt:124:9
+named-requires : tie.Need-named-requires Inv-loop μ-loop
+named-requires c κs = tt
+
 fresh-requires : tie.Need-fresh-requires Inv-loop μ-loop
-fresh-requires c κs = ?
+fresh-requires c κs = tt
 
--- src/blocks.rt:131:5
 loop-holds : tie.Need-loop-holds Inv-loop μ-loop
-loop-holds c = ?
+loop-holds c = (omega arith, c .before .named .ensures, c .before .before .before .before .before .pre, refl, refl)
 
--- src/blocks.rt:132:13
+add-open-card : tie.Need-add-open-card Inv-loop μ-loop
+add-open-card c = omega arith
+
 open-card-requires : tie.Need-open-card-requires Inv-loop μ-loop
-open-card-requires c κs = ?
+open-card-requires c κs = tt
 
--- src/blocks.rt:134:13
 same-length : tie.Need-same-length Inv-loop μ-loop
-same-length c = ?
+same-length c = c .before .before .before .loop .inv .3
 
--- src/blocks.rt:134:13
-returns : tie.Need-returns Inv-loop μ-loop
-returns c = ?
-
--- src/blocks.rt:136:31
-mul-list-card : tie.Need-mul-list-card Inv-loop μ-loop
-mul-list-card c = ?
-
--- src/blocks.rt:136:31
-shared-slice-read-list-card : tie.Need-shared-slice-read-list-card Inv-loop μ-loop
-shared-slice-read-list-card c = ?
-
--- src/blocks.rt:136:57
-slice-aggregate-list-card : tie.Need-slice-aggregate-list-card Inv-loop μ-loop
-slice-aggregate-list-card c = ?
-
--- src/blocks.rt:136:9
-list-card-requires : tie.Need-list-card-requires Inv-loop μ-loop
-list-card-requires c κs = ?
-
--- src/blocks.rt:137:9
-close-requires : tie.Need-close-requires Inv-loop μ-loop
-close-requires c κs = ?
-
--- src/blocks.rt:139:13
 same-length-2 : tie.Need-same-length-2 Inv-loop μ-loop
-same-length-2 c = ?
+same-length-2 c = c .before .before .before .loop .inv .4
 
--- src/blocks.rt:139:13
-returns-2 : tie.Need-returns-2 Inv-loop μ-loop
-returns-2 c = ?
+returns : tie.Need-returns Inv-loop μ-loop
+returns c = tt
 
--- src/blocks.rt:141:9
-add-i : tie.Need-add-i Inv-loop μ-loop
-add-i c = ?
+mul-list-card : tie.Need-mul-list-card Inv-loop μ-loop
+mul-list-card c = omega arith
 
--- src/blocks.rt:131:5
-loop-less : tie.Need-loop-less Inv-loop μ-loop
-loop-less c = ?
+shared-slice-read-list-card : tie.Need-shared-slice-read-list-card Inv-loop μ-loop
+shared-slice-read-list-card c = omega arith
 
--- src/blocks.rt:131:5
-loop-again : tie.Need-loop-again Inv-loop μ-loop
-loop-again c = ?
+list-card-requires : tie.Need-list-card-requires Inv-loop μ-loop
+list-card-requires c κs = c .before .before .before .before .before .before .loop .inv .2
 
--- src/blocks.rt:144:5
-write-end-requires : tie.Need-write-end-requires Inv-loop μ-loop
-write-end-requires c κs = ?
+-- the buffers after a card
+kept : (c : tie.After-list-card Inv-loop μ-loop) →
+    let l = c .before .before .before .before .before .before .before in
+    let a = l .before .before .before .before .before .before .args in
+    same (c .list-card .last .1 .1 .1 .0) (a .block .now) × same (c .list-card .last .1 .1 .1 .1 .0) (a .out .now)
+kept c =
+    let l = c .before .before .before .before .before .before .before in
+    (c .list-card .kept .1 .1 .1 .0 ∙ l .loop .inv .3, c .list-card .kept .1 .1 .1 .1 .0 ∙ l .loop .inv .4)
 
--- src/blocks.rt:120:1
+close-requires : tie.Need-close-requires Inv-loop μ-loop
+close-requires c κs = tt
+
 same-length-3 : tie.Need-same-length-3 Inv-loop μ-loop
-same-length-3 c = ?
+same-length-3 c = kept (c .before .before .before .before .before .before .before) .0
 
--- src/blocks.rt:120:1
+same-length-4 : tie.Need-same-length-4 Inv-loop μ-loop
+same-length-4 c = kept (c .before .before .before .before .before .before .before) .1
+
+returns-2 : tie.Need-returns-2 Inv-loop μ-loop
+returns-2 c = tt
+
+add-i : tie.Need-add-i Inv-loop μ-loop
+add-i c = omega arith
+
+loop-less : tie.Need-loop-less Inv-loop μ-loop
+loop-less c = omega arith
+
+loop-again : tie.Need-loop-again Inv-loop μ-loop
+loop-again c =
+    let n = c .before .before .before .before .before .before .before in
+    let l = n .before .before .before .before .before .before .before in
+    (omega arith, l .loop .inv .1, omega (arith, n .list-card .kept .1 .1 .1 .0, l .loop .inv .2), kept n .0, kept n .1)
+
+write-end-requires : tie.Need-write-end-requires Inv-loop μ-loop
+write-end-requires c κs = tt
+
+same-length-5 : tie.Need-same-length-5 Inv-loop μ-loop
+same-length-5 c = c .before .before .before .loop .inv .3
+
+same-length-6 : tie.Need-same-length-6 Inv-loop μ-loop
+same-length-6 c = c .before .before .before .loop .inv .4
+
 returns-3 : tie.Need-returns-3 Inv-loop μ-loop
-returns-3 c = ?
+returns-3 c = tt
 
 pub list-cards-spec : {M : Type 1} → statement M
 list-cards-spec =
@@ -92,21 +102,25 @@ list-cards-spec =
     (tie.spec
     Inv-loop
     μ-loop
+    named-requires
     fresh-requires
     loop-holds
+    add-open-card
     open-card-requires
     same-length
+    same-length-2
     returns
     mul-list-card
     shared-slice-read-list-card
-    slice-aggregate-list-card
     list-card-requires
     close-requires
-    same-length-2
+    same-length-3
+    same-length-4
     returns-2
     add-i
     loop-less
     loop-again
     write-end-requires
-    same-length-3
+    same-length-5
+    same-length-6
     returns-3)

@@ -19,8 +19,11 @@ named-requires c κs = tt
 loop-holds : tie.Need-loop-holds Inv-loop μ-loop
 loop-holds c = (omega arith, c .named .ensures, refl, refl)
 
+add-measure : tie.Need-add-measure Inv-loop μ-loop
+add-measure c = omega arith
+
 measure-requires : tie.Need-measure-requires Inv-loop μ-loop
-measure-requires c κs = omega arith
+measure-requires c κs = tt
 
 same-length : tie.Need-same-length Inv-loop μ-loop
 same-length c = (c .before .before .before .before .before .before .before) .loop .inv .2
@@ -86,6 +89,7 @@ go-over-spec =
     μ-loop
     named-requires
     loop-holds
+    add-measure
     measure-requires
     same-length
     same-length-2
