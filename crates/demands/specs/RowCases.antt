@@ -99,23 +99,23 @@ presentCases =
     ∷ present (f 8 6 1 ∷ f 4 13 1 ∷ f 9 0 0 ∷ f 14 14 0 ∷ N ∷ []) Kind.Signal 1030 13 1 n1612 (ofSignal 1750 false (kmh 0) (kmh 40))
     -- warning board: [8] 2 9 [14] [12], AZ 0 to 13 and BY 0 to 13
     ∷ present (f 2 0 0 ∷ f 9 0 1 ∷ []) Kind.Warning 1000 0 0 noN (ofWarning 125 false)
-    ∷ present (f 8 0 0 ∷ f 2 14 13 ∷ f 9 13 0 ∷ f 14 14 0 ∷ N ∷ []) Kind.Warning 1030 14 1 n16123 n1612 (ofWarning 119000 false)
+    ∷ present (f 8 0 0 ∷ f 2 14 13 ∷ f 9 13 0 ∷ f 14 14 0 ∷ N ∷ []) Kind.Warning 1030 14 13 n1612 (ofWarning 119000 false)
     -- annulled: [12] [8] 10 9 [14] [12]; no distance is judged
     ∷ present (f 10 0 0 ∷ f 9 0 0 ∷ []) Kind.Annulled 1000 0 0 noN nothing
-    ∷ present (N ∷ f 8 0 0 ∷ f 10 14 14 ∷ f 9 14 14 ∷ f 14 0 0 ∷ []) Kind.Annulled 1060 14 1 n16124 n1612 nothing
-    ∷ present (f 8 0 0 ∷ f 10 14 14 ∷ f 9 14 14 ∷ f 14 0 0 ∷ N ∷ []) Kind.Annulled 1030 14 1 n16124 n1612 nothing
+    ∷ present (N ∷ f 8 0 0 ∷ f 10 14 14 ∷ f 9 14 14 ∷ f 14 0 0 ∷ []) Kind.Annulled 1060 14 14 n1612 nothing
+    ∷ present (f 8 0 0 ∷ f 10 14 14 ∷ f 9 14 14 ∷ f 14 0 0 ∷ N ∷ []) Kind.Annulled 1030 14 14 n1612 nothing
     -- line speed board: 3 5 if AY is 0 to 8; 3 M if AY is 9 to 14; AZ 0 to 13
     ∷ present (f 3 0 0 ∷ f 5 0 0 ∷ []) Kind.Line 1000 0 0 noN nothing
-    ∷ present (f 3 8 13 ∷ f 5 14 14 ∷ []) Kind.Line 1000 8 1 noN3 noN nothing
+    ∷ present (f 3 8 13 ∷ f 5 14 14 ∷ []) Kind.Line 1000 8 13 noN nothing
     ∷ present (f 3 9 0 ∷ M ∷ []) Kind.Line 1000 9 0 noN nothing
-    ∷ present (f 3 14 13 ∷ M ∷ []) Kind.Line 1000 14 1 noN3 noN nothing
+    ∷ present (f 3 14 13 ∷ M ∷ []) Kind.Line 1000 14 13 noN nothing
     -- route board: 5 followed by 3, 5 or 7, with AY 2 and AZ 0 to 13 (10 x AZ km/h), or AY 4 and AZ 10 (140 km/h)
     ∷ present (f 5 2 0 ∷ f 3 0 0 ∷ []) Kind.Route 1000 2 0 noN (ofRoute 0)
-    ∷ present (f 5 2 13 ∷ f 5 2 12 ∷ []) Kind.Route 1000 2 1 noN3 noN (ofRoute 130)
+    ∷ present (f 5 2 13 ∷ f 5 2 12 ∷ []) Kind.Route 1000 2 13 noN (ofRoute 130)
     ∷ present (f 5 2 9 ∷ f 7 0 0 ∷ []) Kind.Route 1000 2 9 noN (ofRoute 90)
-    ∷ present (f 5 4 10 ∷ f 3 0 0 ∷ []) Kind.Route 1000 4 1 noN0 noN (ofRoute 140)
-    ∷ present (f 5 4 10 ∷ f 5 4 10 ∷ []) Kind.Route 1000 4 1 noN0 noN (ofRoute 140)
-    ∷ present (f 5 4 10 ∷ f 7 0 0 ∷ []) Kind.Route 1000 4 1 noN0 noN (ofRoute 140)
+    ∷ present (f 5 4 10 ∷ f 3 0 0 ∷ []) Kind.Route 1000 4 10 noN (ofRoute 140)
+    ∷ present (f 5 4 10 ∷ f 5 4 10 ∷ []) Kind.Route 1000 4 10 noN (ofRoute 140)
+    ∷ present (f 5 4 10 ∷ f 7 0 0 ∷ []) Kind.Route 1000 4 10 noN (ofRoute 140)
     ∷ []
 
 -- "Opposite direction, in the order passed"
@@ -123,22 +123,22 @@ abbrev pub oppositeCases : List RowCase
 oppositeCases =
     -- [12] [14] 9, then 1, 4 or 10, then [8] [12]
     opposite (f 9 0 0 ∷ f 1 0 0 ∷ []) Kind.Signal 1030 0 0 noN
-    ∷ opposite (N ∷ f 14 0 0 ∷ f 9 0 0 ∷ f 1 14 14 ∷ f 8 0 0 ∷ []) Kind.Signal 1090 14 1 n16124 n1612
-    ∷ opposite (f 14 0 0 ∷ f 9 0 0 ∷ f 1 14 14 ∷ f 8 0 0 ∷ N ∷ []) Kind.Signal 1060 14 1 n16124 n1612
+    ∷ opposite (N ∷ f 14 0 0 ∷ f 9 0 0 ∷ f 1 14 14 ∷ f 8 0 0 ∷ []) Kind.Signal 1090 14 14 n1612
+    ∷ opposite (f 14 0 0 ∷ f 9 0 0 ∷ f 1 14 14 ∷ f 8 0 0 ∷ N ∷ []) Kind.Signal 1060 14 14 n1612
     ∷ opposite (f 9 0 0 ∷ f 4 0 0 ∷ []) Kind.Signal 1030 0 0 noN
-    ∷ opposite (N ∷ f 14 0 0 ∷ f 9 0 0 ∷ f 4 14 14 ∷ f 8 0 0 ∷ []) Kind.Signal 1090 14 1 n16124 n1612
-    ∷ opposite (f 14 0 0 ∷ f 9 0 0 ∷ f 4 14 14 ∷ f 8 0 0 ∷ N ∷ []) Kind.Signal 1060 14 1 n16124 n1612
+    ∷ opposite (N ∷ f 14 0 0 ∷ f 9 0 0 ∷ f 4 14 14 ∷ f 8 0 0 ∷ []) Kind.Signal 1090 14 14 n1612
+    ∷ opposite (f 14 0 0 ∷ f 9 0 0 ∷ f 4 14 14 ∷ f 8 0 0 ∷ N ∷ []) Kind.Signal 1060 14 14 n1612
     ∷ opposite (f 9 0 0 ∷ f 10 0 0 ∷ []) Kind.Annulled 1030 0 0 noN
-    ∷ opposite (N ∷ f 14 0 0 ∷ f 9 0 0 ∷ f 10 14 14 ∷ f 8 0 0 ∷ []) Kind.Annulled 1090 14 1 n16124 n1612
-    ∷ opposite (f 14 0 0 ∷ f 9 0 0 ∷ f 10 14 14 ∷ f 8 0 0 ∷ N ∷ []) Kind.Annulled 1060 14 1 n16124 n1612
+    ∷ opposite (N ∷ f 14 0 0 ∷ f 9 0 0 ∷ f 10 14 14 ∷ f 8 0 0 ∷ []) Kind.Annulled 1090 14 14 n1612
+    ∷ opposite (f 14 0 0 ∷ f 9 0 0 ∷ f 10 14 14 ∷ f 8 0 0 ∷ N ∷ []) Kind.Annulled 1060 14 14 n1612
     -- [12] [14] 9 2, or [12] M 2
-    ∷ opposite (f 9 14 0 ∷ f 2 0 14 ∷ []) Kind.Warning 1030 0 1 noN4 noN
+    ∷ opposite (f 9 14 0 ∷ f 2 0 14 ∷ []) Kind.Warning 1030 0 14 noN
     ∷ opposite (N ∷ f 14 0 0 ∷ f 9 0 0 ∷ f 2 0 0 ∷ []) Kind.Warning 1090 0 0 n1612
-    ∷ opposite (M ∷ f 2 0 14 ∷ []) Kind.Warning 1030 0 1 noN4 noN
+    ∷ opposite (M ∷ f 2 0 14 ∷ []) Kind.Warning 1030 0 14 noN
     ∷ opposite (N ∷ M ∷ f 2 0 0 ∷ []) Kind.Warning 1060 0 0 n1612
     -- M 3 if AY is 9 to 14
     ∷ opposite (M ∷ f 3 9 0 ∷ []) Kind.Line 1030 9 0 noN
-    ∷ opposite (M ∷ f 3 14 14 ∷ []) Kind.Line 1030 14 1 noN4 noN
+    ∷ opposite (M ∷ f 3 14 14 ∷ []) Kind.Line 1030 14 14 noN
     ∷ []
 
 -- Just outside.
