@@ -43,6 +43,19 @@ enum {
     ATC2_MARKER = 2      /* judge: a marker */
 };
 
+/* What atc2_why_telegram puts together, and how its parts are taken out: w % 16, w / 16 % 16, w / 256. */
+enum {
+    ATC2_WHY_LETTER = 16,  /* times the letter of the bad word */
+    ATC2_WHY_PARITY = 256, /* times the parity of its ones */
+    ATC2_LETTER_X = 1,
+    ATC2_LETTER_Y = 2,
+    ATC2_LETTER_Z = 3,
+    ATC2_LETTER_YZ = 4, /* Y and Z as one long word */
+    ATC2_PARITY_NONE = 0,
+    ATC2_PARITY_ODD = 1,
+    ATC2_PARITY_EVEN = 2
+};
+
 /* A search for contacts, as atc2_begin makes it and atc2_next_contact moves it on: the next bit, the bits left, the latest sixteen bits. */
 struct atc2_search {
     uint64_t next;
@@ -69,6 +82,11 @@ int32_t atc2_write_long(uint16_t figure);
 /* Three received words as a telegram: X * 65536 + Y * 256 + Z as figures, or 12 * 65536 + the number if X reads 12.
  * -1 if the first bad word is not a code word, -3 if it is a short word that reads 15. */
 int32_t atc2_read_telegram(uint8_t x, uint8_t y, uint8_t z);
+
+/* Why three received words are refused: 0 if they read, else number + ATC2_WHY_LETTER * letter + ATC2_WHY_PARITY * parity of the first bad word.
+ * The number is document 01's, 1 or 3. With 1 goes the parity of the word's ones: every code word is even, so an odd word had an odd number
+ * of flipped bits. With 3 there is none. */
+int32_t atc2_why_telegram(uint8_t x, uint8_t y, uint8_t z);
 
 /* The first place in the stretch of len bits from bit start on, with the sync words s and t: 0, and out = place, telegram as above.
  * -4: the pair does not differ in seven bits; -5: the stretch is not inside the n bytes, or too long; -6: no place. */

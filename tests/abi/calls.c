@@ -40,6 +40,11 @@ static void words(void)
 
 /* ---- Telegrams */
 
+static int32_t why(int32_t number, int32_t letter, int32_t parity)
+{
+    return number + ATC2_WHY_LETTER * letter + ATC2_WHY_PARITY * parity;
+}
+
 static void telegrams(void)
 {
     same("read_telegram 1 8 5", atc2_read_telegram(0x17, 0x8E, 0x5A), 1 * 65536 + 8 * 256 + 5);
@@ -49,6 +54,19 @@ static void telegrams(void)
     same("read_telegram Y is 15, Z no code word", atc2_read_telegram(0x17, 0xFF, 0x18), ATC2_FIFTEEN);
     same("read_telegram Y no code word, Z is 15", atc2_read_telegram(0x17, 0x18, 0xFF), ATC2_NOT_CODE);
     same("read_telegram YZ no code word", atc2_read_telegram(0xC3, 0x88, 0x07), ATC2_NOT_CODE);
+
+    same("why_telegram 1 8 5", atc2_why_telegram(0x17, 0x8E, 0x5A), 0);
+    same("why_telegram number 1612", atc2_why_telegram(0xC3, 0xD1, 0xC6), 0);
+    same("why_telegram X even", atc2_why_telegram(0x18, 0x8E, 0x5A), why(1, ATC2_LETTER_X, ATC2_PARITY_EVEN));
+    same("why_telegram X odd, Y no code word", atc2_why_telegram(0x16, 0x18, 0x5A), why(1, ATC2_LETTER_X, ATC2_PARITY_ODD));
+    same("why_telegram X is 15", atc2_why_telegram(0xFF, 0x18, 0x18), why(3, ATC2_LETTER_X, ATC2_PARITY_NONE));
+    same("why_telegram Y odd", atc2_why_telegram(0x17, 0x8F, 0x5A), why(1, ATC2_LETTER_Y, ATC2_PARITY_ODD));
+    same("why_telegram Y is 15, Z no code word", atc2_why_telegram(0x17, 0xFF, 0x18), why(3, ATC2_LETTER_Y, ATC2_PARITY_NONE));
+    same("why_telegram Z odd", atc2_why_telegram(0x17, 0x8E, 0x5B), why(1, ATC2_LETTER_Z, ATC2_PARITY_ODD));
+    same("why_telegram Z even", atc2_why_telegram(0x17, 0x8E, 0x59), why(1, ATC2_LETTER_Z, ATC2_PARITY_EVEN));
+    same("why_telegram Z is 15", atc2_why_telegram(0x17, 0x8E, 0xFF), why(3, ATC2_LETTER_Z, ATC2_PARITY_NONE));
+    same("why_telegram YZ odd", atc2_why_telegram(0xC3, 0x88, 0x07), why(1, ATC2_LETTER_YZ, ATC2_PARITY_ODD));
+    same("why_telegram YZ even", atc2_why_telegram(0xC3, 0x89, 0x07), why(1, ATC2_LETTER_YZ, ATC2_PARITY_EVEN));
 }
 
 /* ---- Places. The pair 1E/E0 differs in seven bits. Two telegrams 1 8 5 that share a sync word, from bit 4 on. */

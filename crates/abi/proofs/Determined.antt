@@ -16,6 +16,8 @@ use Rattle.abi.proofs.codes.atc2_write_long.Kinds as write-long-kinds
 use Rattle.abi.proofs.codes.atc2_write_long.Reads as write-long-reads
 use Rattle.abi.proofs.telegrams.atc2_read_telegram.Kinds as read-telegram-kinds
 use Rattle.abi.proofs.telegrams.atc2_read_telegram.Reads as read-telegram-reads
+use Rattle.abi.proofs.why.atc2_why_telegram.Kinds as why-telegram-kinds
+use Rattle.abi.proofs.why.atc2_why_telegram.Reads as why-telegram-reads
 use Rattle.abi.proofs.telegrams.atc2_find.Kinds as find-kinds
 use Rattle.abi.proofs.telegrams.atc2_find.Reads as find-reads
 use Rattle.abi.proofs.contacts.atc2_judge.Kinds as judge-kinds
@@ -53,6 +55,11 @@ pub atc2-read-telegram-determined : (κs : Lfts 0) (a : Dens κs read-telegram-k
     (x x′ : AtExit (endedOf 0 read-telegram-kinds.ps read-telegram-kinds.r) κs)
     → read-telegram-reads.Post κs a r x → read-telegram-reads.Post κs a r′ x′ → r ≡ r′
 atc2-read-telegram-determined κs a r r′ x x′ p q = p ∙ sym q
+
+pub atc2-why-telegram-determined : (κs : Lfts 0) (a : Dens κs why-telegram-kinds.ps) (r r′ : ℤ)
+    (x x′ : AtExit (endedOf 0 why-telegram-kinds.ps why-telegram-kinds.r) κs)
+    → why-telegram-reads.Post κs a r x → why-telegram-reads.Post κs a r′ x′ → r ≡ r′
+atc2-why-telegram-determined κs a r r′ x x′ p q = p ∙ sym q
 
 -- `out` is the sixth of the arguments of `atc2_find` and of `atc2_judge`.
 pub atc2-find-determined : (κs : Lfts 2) (a : Dens κs find-kinds.ps) (r r′ : ℤ)

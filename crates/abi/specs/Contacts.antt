@@ -3,7 +3,7 @@
 use Prim.Native.Nat.{ℕ, _%_}
 use mathlib.Core.List.{List, [], _∷_}
 use lib.ListN.{getD}
-use Rattle.telegram.specs.Telegram.{reads, refused}
+use Rattle.words.specs.Answer.{gives, refuses}
 use Rattle.contact.specs.declared.Search.{Search}
 use Rattle.contact.specs.Contacts.{Handed, handed, noFurther}
 use Rattle.contact.specs.Judge.{Contact, read, marker}
@@ -48,6 +48,6 @@ judgedNumber marker = 2
 -- Into `out` go the telegram, the first place and the number of places. (A place's words are accepted: the second line is
 -- never met.)
 abbrev pub judgedPut : Contact → List ℕ → List ℕ
-judgedPut (read (reads m) first count) before = asOne m ∷ first ∷ count ∷ []
-judgedPut (read (refused n letter) first count) before = before
+judgedPut (read (gives m) first count) before = asOne m ∷ first ∷ count ∷ []
+judgedPut (read (refuses b) first count) before = before
 judgedPut marker before = before

@@ -1,5 +1,6 @@
 // The two codes: a word read, a figure written.
 ghost use mathlib.Core.Path.{_≡_};
+ghost use Rattle.words.specs.Why.{numbered};
 ghost use Rattle.words.specs.Code.{readShort, writeShort, readLong, writeLong};
 ghost use Rattle.abi.specs.Face.{returned, itself};
 use words::LongRead;
@@ -10,11 +11,11 @@ use words::ShortWritten;
 // The figure of a received short word, or -1.
 #[no_mangle]
 pub extern "C" fn atc2_read_short(word: u8) -> i32
-    ensures { λ r. ⌜ r ≡ returned itself (readShort word) ⌝ }
+    ensures { λ r. ⌜ r ≡ returned itself (numbered (readShort word)) ⌝ }
 {
     match words::read_short(word) {
         ShortRead::Figure(x) => x as i32,
-        ShortRead::NotCode => -1,
+        ShortRead::NotCode(_) => -1,
     }
 }
 
@@ -32,11 +33,11 @@ pub extern "C" fn atc2_write_short(figure: u8) -> i32
 // The figure of a received long word, or -1.
 #[no_mangle]
 pub extern "C" fn atc2_read_long(word: u16) -> i32
-    ensures { λ r. ⌜ r ≡ returned itself (readLong word) ⌝ }
+    ensures { λ r. ⌜ r ≡ returned itself (numbered (readLong word)) ⌝ }
 {
     match words::read_long(word) {
         LongRead::Figure(x) => x as i32,
-        LongRead::NotCode => -1,
+        LongRead::NotCode(_) => -1,
     }
 }
 

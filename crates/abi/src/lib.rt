@@ -7,3 +7,4 @@ pub mod contacts;
 pub mod distances;
 mod number;
 pub mod telegrams;
+pub mod why;

@@ -14,7 +14,7 @@ pub extern "C" fn atc2_read_telegram(x: u8, y: u8, z: u8) -> i32
 {
     match telegram::read(x, y, z) {
         TelegramRead::Is(t) => as_one(t) as i32,
-        TelegramRead::NotCode(_) => -1,
+        TelegramRead::NotCode(_, _) => -1,
         TelegramRead::Fifteen(_) => -3,
     }
 }

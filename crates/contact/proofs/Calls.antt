@@ -75,7 +75,7 @@ begun-start : (b : List ℕ) (start len : ℕ) (s : Search) → begun b start le
 unfolding begun
 begun-start b start len s e = go (inside b start len) e
   where
-    go : (t : Bool) → pick t (gives (fromStart start len)) (refuses 5) ≡ gives s → s ≡ fromStart start len
+    go : (t : Bool) → pick {A = Outcome Search} t (gives (fromStart start len)) (refuses 5) ≡ gives s → s ≡ fromStart start len
     go true e = cc
     go false e = cc
 

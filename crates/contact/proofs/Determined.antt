@@ -7,8 +7,7 @@ use borrow.Fn.Kinds.{Dens, endedOf}
 use denote.Triple.Clauses.{AtExit}
 use Rattle.words.specs.Answer.{Outcome, gives, refuses, pick}
 use Rattle.contact.specs.Contacts.{Handed, handed, noFurther}
-use Rattle.telegram.specs.declared.Telegram.{Telegram}
-use Rattle.telegram.proofs.Determined.{telegram-back, told}
+use Rattle.telegram.proofs.Determined.{told}
 use Rattle.contact.specs.Judge.{Contact, read, marker}
 use Rattle.contact.specs.Says.{saysBegun, saysNext, saysJudged}
 use Rattle.contact.specs.declared.Search.{Search}
@@ -49,7 +48,7 @@ judgedOf (refuses n) =
     pick (eqb n 4) Judged.NotSeven (pick (eqb n 5) Judged.Beyond (pick (eqb n 7) Judged.Differ Judged.Neither))
 
 pub judged-back : (r : Judged) → judgedOf (saysJudged r) ≡ r
-judged-back (Judged.Read t first count) = ap (λ (u : Telegram). Judged.Read u first count) (telegram-back t)
+judged-back (Judged.Read t first count) = refl
 judged-back Judged.Marker = refl
 judged-back Judged.NotSeven = refl
 judged-back Judged.Beyond = refl

@@ -8,7 +8,8 @@ use Rattle.words.specs.Plain.{isCheck, covers, count, even, isCode, onwards, fi
 use Rattle.words.specs.Code.{other, exchanged, readWord}
 use Rattle.telegram.specs.Stretch.{bitsAt, inside}
 use Rattle.telegram.specs.Sync.{differing, isGood}
-use Rattle.telegram.specs.Telegram.{reads, figures, shortWord, longWord, telegram}
+use Rattle.telegram.specs.Telegram.{shortWord, longWord, telegram}
+use Rattle.telegram.specs.declared.Telegram.{Telegram}
 use Rattle.telegram.specs.Place.{areSyncs, wordsAt, isPlace, from, those, places}
 use Rattle.telegram.specs.Survey.{sameWords, allAs}
 use Rattle.contact.specs.Judge.{onesAtEnd, allZero, isMarker, read, marker, judgement, judged}
@@ -33,7 +34,7 @@ twelve-ones = refl
 
 -- Two telegrams that share a sync word are read if they are alike; one alone is not, and two that differ are refused with 7.
 two-alike : judged (0x72 ∷ 0x17 ∷ 0x8e ∷ 0x5a ∷ 0x0d ∷ 0x17 ∷ 0x8e ∷ 0x5a ∷ 0x72 ∷ []) 0 72 0x72 0x0d
-    ≡ gives (read (reads (figures 1 8 5)) 0 2)
+    ≡ gives (read (gives (Telegram.Figures 1 8 5)) 0 2)
 unfolding judged judgement isMarker onesAtEnd allZero sameWords allAs isGood differing inside places those from isPlace areSyncs wordsAt bitsAt telegram shortWord longWord readWord isCode even count covers exchanged other word figure onwards isCheck
 two-alike = refl
 

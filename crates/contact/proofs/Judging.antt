@@ -33,7 +33,7 @@ several left m p n true = go (leb 2 n)
     go false = refl
 several left m p n false = go (leb 2 n)
   where
-    go : (y : Bool) → pick (y && false) (gives (read m p n)) (refuses 7) ≡ refuses 7
+    go : (y : Bool) → pick {A = Outcome Contact} (y && false) (gives (read m p n)) (refuses 7) ≡ refuses 7
     go true = refl
     go false = refl
 

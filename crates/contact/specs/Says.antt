@@ -1,8 +1,6 @@
 -- The number and the values of document 01 for each case of this crate's answers.
 -- Assumes nothing.
 use Rattle.words.specs.Answer.{Outcome, gives, refuses}
-use Rattle.telegram.specs.Telegram.{reads}
-use Rattle.telegram.specs.Says.{saysTelegram}
 use Rattle.contact.specs.Contacts.{Handed, handed, noFurther}
 use Rattle.contact.specs.Judge.{Contact, read, marker}
 use Rattle.contact.specs.declared.Search.{Search}
@@ -26,7 +24,7 @@ saysNext Next.Beyond = refuses 5
 -- What was read, with the first place and the number of places, or a marker; "sync pair doesn't differ in seven bits" is 4,
 -- "stretch beyond the buffer, or above 16,777,216 bits" is 5, "places differ" is 7, "contact neither telegram nor marker" is 8.
 abbrev pub saysJudged : Judged → Outcome Contact
-saysJudged (Judged.Read t first count) = gives (read (reads (saysTelegram t)) first count)
+saysJudged (Judged.Read t first count) = gives (read (gives t) first count)
 saysJudged Judged.Marker = gives marker
 saysJudged Judged.NotSeven = refuses 4
 saysJudged Judged.Beyond = refuses 5

@@ -1,6 +1,8 @@
 -- Document 01's proved cases hold: each is computed against the definitions.
 -- Assumes nothing.
+use mathlib.Core.Path.{ap}
 use Rattle.words.specs.Bits.{word}
+use Rattle.words.specs.Why.{numbered}
 use Rattle.words.specs.Plain.{isCheck, covers, count, even, isCode, onwards, figure, carriers, carried, madeEven, plainWord}
 use Rattle.words.specs.Code.{other, exchanged, sent, readWord, writeWord}
 use Rattle.group.specs.Distance.{distance}
@@ -15,7 +17,7 @@ cases-hold = (
     (
       (λ a c. c .1, λ r c. c .1),
       (
-        λ r c. c .1,
+        λ r c. ap numbered (c .1),
         (
           (λ a c. c .1, λ r c. c .1),
           (
@@ -23,7 +25,7 @@ cases-hold = (
             (
               (λ a c. c .1, λ r c. c .1),
               (
-                λ r c. c .1,
+                λ r c. ap numbered (c .1),
                 (
                   λ r c. c .1,
                   (

@@ -6,10 +6,9 @@ use mathlib.Core.List.{List, [], _∷_, map}
 use Prim.Native.Nat.{ℕ}
 use lib.Dec.{eqb}
 use borrow.Author.Tests.{eq-eqb}
+use Rattle.words.specs.Answer.{gives}
 use Rattle.words.specs.Plain.{among}
-use Rattle.telegram.specs.Telegram.{Said, reads}
 use Rattle.telegram.specs.Place.{wordsAt, from, those, at}
-use Rattle.telegram.specs.Says.{saysTelegram}
 use Rattle.telegram.specs.declared.Telegram.{Telegram}
 use Rattle.telegram.specs.declared.Found.{Found}
 use Rattle.telegram.proofs.Determined.{found-back}
@@ -24,13 +23,13 @@ use Rattle.line.proofs.Clean.{clean-few, true-places}
 use Rattle.demands.proofs.Handed.{answerOf, comes-is}
 
 -- The places listed read alike, each m.
-with-message : (b : List ℕ) (m : Said) (ps : List ℕ) → ((p : ℕ) → among p ps ≡ true → wordsAt b p ≡ reads m) → withTelegrams b ps ≡ map (λ p. at p (reads m)) ps
+with-message : (b : List ℕ) (m : Telegram) (ps : List ℕ) → ((p : ℕ) → among p ps ≡ true → wordsAt b p ≡ gives m) → withTelegrams b ps ≡ map (λ p. at p (gives m)) ps
 with-message b m [] all = refl
 with-message b m (p ∷ ps) all =
     ap₂ _∷_ (ap (at p) (all p (or-left (among p ps) (eq-eqb p p refl)))) (with-message b m ps (λ r there. all r (or-right (eqb r p) there)))
 
 -- The places listed, as `find` answers them.
-answers : (m : Telegram) (ps : List ℕ) → map answerOf (map (λ p. at p (reads (saysTelegram m))) ps) ≡ map (λ p. Found.At p m) ps
+answers : (m : Telegram) (ps : List ℕ) → map answerOf (map (λ p. at p (gives m)) ps) ≡ map (λ p. Found.At p m) ps
 answers m [] = refl
 answers m (p ∷ ps) = ap₂ _∷_ (found-back (Found.At p m)) (answers m ps)
 
@@ -38,7 +37,7 @@ pub comes-all-sent : (o : OneBalise) → Clean o → Proper o → (w : List Foun
 comes-all-sent o clean proper w c =
     comes-is o proper w c
     ∙ ap (map answerOf)
-    (with-message (o .buffer) (saysTelegram (o .telegram)) (placesOf o)
+    (with-message (o .buffer) (o .telegram) (placesOf o)
     (λ p there. read-as-sent o proper p (all-sent o proper (few-flips-few o (clean-few o clean)) p there))
-    ∙ ap (map (λ p. at p (reads (saysTelegram (o .telegram))))) (true-places o clean proper))
+    ∙ ap (map (λ p. at p (gives (o .telegram)))) (true-places o clean proper))
     ∙ answers (o .telegram) (those (sentAt o) (from (o .start) (o .len)))

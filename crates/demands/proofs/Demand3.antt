@@ -4,6 +4,7 @@ use Rattle.words.specs.Says.{saysShortRead, saysLongRead}
 use Rattle.line.specs.Line.{OneBalise, Proper}
 use Rattle.demands.specs.Contracts.{ReadShort, ReadLong}
 use Rattle.demands.specs.Demand3.{OnlyTheSent, Demand3}
+use Rattle.words.proofs.Widths.{short, long}
 use Rattle.demands.proofs.Noise.{noise-law}
 use Rattle.line.proofs.Sent.{AllSent}
 use Rattle.line.proofs.TooFew.{few-flips-few}
@@ -29,8 +30,8 @@ only-the-sent o proper every-place =
 pub demand-3 : Demand3
 demand-3 =
     record {
-      short-code = noise-law 8 saysShortRead ReadShort (λ w r called. called .1);
-      long-code = noise-law 16 saysLongRead ReadLong (λ w r called. called .1);
+      short-code = noise-law short saysShortRead ReadShort (λ w r called. called .1);
+      long-code = noise-law long saysLongRead ReadLong (λ w r called. called .1);
       stretch = λ o proper quiet. only-the-sent o proper (all-sent o proper (few-flips-few o quiet));
       ends = asking-ends;
       clean = λ o proper clean. comes-all-sent o clean proper;

@@ -10,12 +10,12 @@ use lib.Dec.{T, eqb}
 use borrow.Author.Tests.{eqb-true, eq-eqb}
 use Rattle.words.specs.Answer.{gives, refuses}
 use Rattle.words.specs.Plain.{among}
-use Rattle.telegram.specs.Telegram.{Received, reads}
+use Rattle.telegram.specs.Telegram.{Received}
 use Rattle.telegram.specs.Place.{wordsAt, places, Single, at, found}
-use Rattle.telegram.specs.Says.{saysTelegram, saysFound}
+use Rattle.telegram.specs.Says.{saysFound}
 use Rattle.telegram.specs.declared.Telegram.{Telegram}
 use Rattle.telegram.specs.declared.Found.{Found}
-use Rattle.telegram.proofs.Determined.{telegramOf, telegram-back, foundOf, found-back}
+use Rattle.telegram.proofs.Determined.{foundOf, found-back}
 use Rattle.telegram.proofs.Handed.{handed}
 use Rattle.telegram.proofs.Law.{Comes as Listed, further as listed-further, ends as listed-ends, withTelegrams, Specified, law, only}
 use Rattle.line.specs.Line.{OneBalise, Proper, sentAt, flipsAt, placesOf}
@@ -33,12 +33,12 @@ specified b start len s t r c = sym (c .4 ∙ ap (λ (v : List ℕ). found v sta
 
 -- What is handed out is a place of the stretch, with what is read there.
 pub handed-place : {b : List ℕ} {s t start len p : ℕ} {m : Telegram} → HandedOut b s t start len p m
-    → (among p (places b start len s t) ≡ true) × (reads (saysTelegram m) ≡ wordsAt b p)
+    → (among p (places b start len s t) ≡ true) × (gives m ≡ wordsAt b p)
 handed-place {b} {s} {t} {start} {len} {p} {m} (first k) =
-    let h = handed b start len s t p (reads (saysTelegram m)) (specified b start len s t (Found.At p m) k) in
+    let h = handed b start len s t p (gives m) (specified b start len s t (Found.At p m) k) in
     (ap (among p) (h .list) ∙ or-left (among p (h .rest)) (eq-eqb p p refl), h .says)
 handed-place {b} {s} {t} {start} {len} (later {q = q} p m k on) =
-    let h = handed b start len s t p (reads (saysTelegram m)) (specified b start len s t (Found.At p m) k) in
+    let h = handed b start len s t p (gives m) (specified b start len s t (Found.At p m) k) in
     let r = handed-place on in
     (ap (among q) (h .list) ∙ or-right (eqb q p) (ap (among q) (h .first .others) ∙ r .0), r .1)
 
@@ -57,7 +57,7 @@ pub comes-listed : {b : List ℕ} {s t start len : ℕ} {w : List Found} → Com
     → (v : List Single) × Listed (Specified b s t) start len v × (w ≡ map answerOf v) × (map placeOf w ≡ map singlePlace v)
 comes-listed {b} {s} {t} {start} {len} (further {p = p} {m = m} k c) =
     let r = comes-listed c in
-    (at p (reads (saysTelegram m)) ∷ r .0, listed-further (specified b start len s t (Found.At p m) k) (r .1), ap₂ _∷_ (sym (found-back (Found.At p m))) (r .2), ap (λ (ps : List ℕ). p ∷ ps) (r .3))
+    (at p (gives m) ∷ r .0, listed-further (specified b start len s t (Found.At p m) k) (r .1), ap₂ _∷_ (sym (found-back (Found.At p m))) (r .2), ap (λ (ps : List ℕ). p ∷ ps) (r .3))
 comes-listed {b} {s} {t} {start} {len} (ends k) = ([], listed-ends (specified b start len s t Found.NoPlace k), refl, refl)
 
 -- And what the specification lists comes, to one who is answered at every call that lies between bit `low` and bit `high`.
@@ -103,11 +103,9 @@ answered-with : (s : Single) (v : List Single) → List·Memᴰ s v → List·Me
 answered-with s (x ∷ v) (List·Memᴰ·head e) = List·Memᴰ·head (ap answerOf e)
 answered-with s (x ∷ v) (List·Memᴰ·tail m) = List·Memᴰ·tail (answered-with s v m)
 
--- A telegram is known by what it says.
-same-telegram : (m n : Telegram) → reads (saysTelegram m) ≡ reads (saysTelegram n) → m ≡ n
-same-telegram m n e =
-    let says : saysTelegram m ≡ saysTelegram n = cc in
-    sym (telegram-back m) ∙ ap telegramOf says ∙ telegram-back n
+-- A telegram is known by what is read.
+same-telegram : (m n : Telegram) (r : Received) → gives m ≡ r → r ≡ gives n → m ≡ n
+same-telegram m n r e f = cc
 
 module _ (o : OneBalise) (proper : Proper o) where
   -- The list of all that come of calling `find` until 6.
@@ -123,14 +121,14 @@ module _ (o : OneBalise) (proper : Proper o) where
       listed-comes (o .start) (o .start + o .len) ask (omega arith) (omega arith)
       (law (o .buffer) (o .s) (o .t) (proper .pair) (o .start) (o .len) (proper .taken))
 
-  pub the-sent : (p : ℕ) (m : Telegram) → Sent o p → reads (saysTelegram m) ≡ wordsAt (o .buffer) p → TheSent o p m
-  the-sent p m there says = record { true-place = there .at-true; as-sent = same-telegram m (o .telegram) (says ∙ read-as-sent o proper p there) }
+  pub the-sent : (p : ℕ) (m : Telegram) → Sent o p → gives m ≡ wordsAt (o .buffer) p → TheSent o p m
+  the-sent p m there says = record { true-place = there .at-true; as-sent = same-telegram m (o .telegram) (wordsAt (o .buffer) p) says (read-as-sent o proper p there) }
 
   module _ (every-place : AllSent o) where
     pub every-sent : (p : ℕ) (m : Telegram) → HandedOut (o .buffer) (o .s) (o .t) (o .start) (o .len) p m → TheSent o p m
     every-sent p m given = let h = handed-place given in the-sent p m (every-place p (h .0)) (h .1)
 
-    pub all-places-sent : (p : ℕ) → among p (placesOf o) ≡ true → (sentAt o p ≡ true) × (wordsAt (o .buffer) p ≡ reads (saysTelegram (o .telegram)))
+    pub all-places-sent : (p : ℕ) → among p (placesOf o) ≡ true → (sentAt o p ≡ true) × (wordsAt (o .buffer) p ≡ gives (o .telegram))
     all-places-sent p there = let sent = every-place p there in (sent .at-true, read-as-sent o proper p sent)
 
   -- Of what is unflipped, whatever else is flipped.

@@ -10,11 +10,10 @@ use lib.Dec.{leb}
 use lib.ListN.{length}
 use borrow.Author.Tests.{le-leb}
 use Rattle.words.specs.Answer.{Outcome, gives, refuses, pick}
-use Rattle.telegram.specs.Telegram.{Received, reads}
+use Rattle.telegram.specs.Telegram.{Received}
 use Rattle.telegram.specs.Survey.{Alike, surveyed}
-use Rattle.telegram.specs.Says.{saysTelegram}
 use Rattle.telegram.specs.declared.Telegram.{Telegram}
-use Rattle.contact.specs.Judge.{read, marker, isMarker, judged}
+use Rattle.contact.specs.Judge.{Contact, read, marker, isMarker, judged}
 use Rattle.contact.specs.Says.{saysJudged}
 use Rattle.contact.specs.declared.Judged.{Judged}
 use Rattle.contact.proofs.Judging.{markerOr, fromSurvey, by-survey}
@@ -42,11 +41,11 @@ module _ (o : OneBalise) (proper : Proper o) (every-place : AllSent o) where
           → fromSurvey (markerOr (o .buffer) (o .start) (o .len)) (surveyed (o .buffer) (o .start) (o .len) (o .s) (o .t)) ≡ saysJudged r
       by r k = sym (by-survey (o .buffer) (o .start) (o .len) (o .s) (o .t)) ∙ judge-says r k
 
-      never-left : (t : Bool) → pick t (gives marker) (refuses 8) ≡ refuses 7 → ⊥
+      never-left : (t : Bool) → pick {A = Outcome Contact} t (gives marker) (refuses 8) ≡ refuses 7 → ⊥
       never-left true e = let z : _≡_ {A = ℕ} 0 1 = cc in omega arith
       never-left false e = let z : _≡_ {A = ℕ} 8 7 = cc in omega arith
 
-      never-several : (t u : Bool) (m : Received) (first count : ℕ) → pick t (gives (read m first count)) (pick u (gives marker) (refuses 8)) ≡ refuses 7 → ⊥
+      never-several : (t u : Bool) (m : Received) (first count : ℕ) → pick {A = Outcome Contact} t (gives (read m first count)) (pick u (gives marker) (refuses 8)) ≡ refuses 7 → ⊥
       never-several true u m first count e = let z : _≡_ {A = ℕ} 0 1 = cc in omega arith
       never-several false u m first count e = never-left u e
 
@@ -56,12 +55,12 @@ module _ (o : OneBalise) (proper : Proper o) (every-place : AllSent o) where
           never-several (leb 2 (r .count)) (isMarker (o .buffer) (o .start) (o .len)) (r .message) (r .first) (r .count)
           (sym (ap (fromSurvey (markerOr (o .buffer) (o .start) (o .len))) (r .is)) ∙ e)
 
-      known-left : (t : Bool) (m : Received) (first count : ℕ) → pick t (gives marker) (refuses 8) ≡ gives (read m first count) → Known o proper every-place m first count
+      known-left : (t : Bool) (m : Received) (first count : ℕ) → pick {A = Outcome Contact} t (gives marker) (refuses 8) ≡ gives (read m first count) → Known o proper every-place m first count
       known-left true m first count e = absurd (let z : _≡_ {A = ℕ} 0 1 = cc in omega arith)
       known-left false m first count e = absurd (let z : _≡_ {A = ℕ} 0 1 = cc in omega arith)
 
       known-several : (t u : Bool) (n m : Received) (p q k l : ℕ) → Known o proper every-place n p k
-          → pick t (gives (read n p k)) (pick u (gives marker) (refuses 8)) ≡ gives (read m q l) → Known o proper every-place m q l
+          → pick {A = Outcome Contact} t (gives (read n p k)) (pick u (gives marker) (refuses 8)) ≡ gives (read m q l) → Known o proper every-place m q l
       known-several true u n m p q k l it e =
           let same-m : n ≡ m = cc in
           let same-p : p ≡ q = cc in
@@ -77,8 +76,8 @@ module _ (o : OneBalise) (proper : Proper o) (every-place : AllSent o) where
           known-several (leb 2 (r .count)) (isMarker (o .buffer) (o .start) (o .len)) (r .message) m (r .first) first (r .count) count (r .known)
           (sym (ap (fromSurvey (markerOr (o .buffer) (o .start) (o .len))) (r .is)) ∙ e)
 
-      of : (m : Telegram) (first count : ℕ) → JudgeContact (o .buffer) (o .start) (o .len) (o .s) (o .t) (Judged.Read m first count) → Known o proper every-place (reads (saysTelegram m)) first count
-      of m first count k = known (the-survey o proper every-place) (reads (saysTelegram m)) first count (by (Judged.Read m first count) k)
+      of : (m : Telegram) (first count : ℕ) → JudgeContact (o .buffer) (o .start) (o .len) (o .s) (o .t) (Judged.Read m first count) → Known o proper every-place (gives m) first count
+      of m first count k = known (the-survey o proper every-place) (gives m) first count (by (Judged.Read m first count) k)
 
       is-read : (r : Judged) {m : Received} {first count : ℕ} → gives (read m first count) ≡ saysJudged r → (m : Telegram) × (first : ℕ) × (count : ℕ) × (r ≡ Judged.Read m first count)
       is-read (Judged.Read m first count) e = (m, first, count, refl)

@@ -44,6 +44,7 @@ pub mod JudgedAlike
 pub mod Clean
 pub mod Writing
 pub mod Noise
+pub mod OddOrEven
 pub mod Demand3
 pub mod FalsePlaces
 pub mod SyncNoise

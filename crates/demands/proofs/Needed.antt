@@ -12,9 +12,9 @@ use Rattle.words.specs.Plain.{isCheck, covers, count, even, isCode, onwards, fi
 use Rattle.words.specs.Code.{other, exchanged, readWord}
 use Rattle.telegram.specs.Stretch.{bitsAt, inside}
 use Rattle.telegram.specs.Sync.{differing, isGood}
-use Rattle.telegram.specs.Telegram.{figures, reads, shortWord, longWord, telegram}
+use Rattle.telegram.specs.Telegram.{shortWord, longWord, telegram}
 use Rattle.telegram.specs.Place.{areSyncs, wordsAt, isPlace, from, those, places, at, found}
-use Rattle.telegram.specs.Says.{saysTelegram, saysFound}
+use Rattle.telegram.specs.Says.{saysFound}
 use Rattle.telegram.specs.declared.Telegram.{Telegram}
 use Rattle.telegram.specs.declared.Found.{Found}
 use Rattle.demands.specs.Contracts.{Find}
@@ -31,7 +31,7 @@ forty buffer s t x y z sent phase =
 abbrev apart : OneBalise
 apart = forty (0x08 ∷ 0x5a ∷ 0x8e ∷ 0x3c ∷ 0xe7 ∷ []) 0x08 0xe7 0x5a 0xd4 0x71 (Telegram.Figures 5 13 7) 5
 
-apart-sent : telegram (apart .x) (apart .y) (apart .z) ≡ reads (saysTelegram (apart .telegram))
+apart-sent : telegram (apart .x) (apart .y) (apart .z) ≡ gives (apart .telegram)
 unfolding telegram shortWord readWord isCode even count covers exchanged other word figure onwards isCheck
 apart-sent = refl
 
@@ -39,7 +39,7 @@ apart-flips : (syncFlips apart 0 ≡ 0) × (dataFlips apart 0 ≡ 2) × (syncFli
 unfolding syncFlips dataFlips flips sum flip inStretch unequal receivedBit sentBit
 apart-flips = (refl, refl, refl, refl)
 
-apart-found : (r : Found) → Find (apart .buffer) 0 40 (apart .s) (apart .t) r → saysFound r ≡ gives (at 0 (reads (figures 5 8 3)))
+apart-found : (r : Found) → Find (apart .buffer) 0 40 (apart .s) (apart .t) r → saysFound r ≡ gives (at 0 (gives (Telegram.Figures 5 8 3)))
 unfolding found isGood differing inside places those from isPlace areSyncs wordsAt bitsAt telegram shortWord longWord readWord isCode even count covers exchanged other word figure onwards isCheck
 apart-found r k = sym (specified (apart .buffer) (apart .start) (apart .len) (apart .s) (apart .t) r k)
 
@@ -52,7 +52,7 @@ apart-false = refl
 abbrev sync-flip : OneBalise
 sync-flip = forty (0 ∷ 0 ∷ 0 ∷ 0 ∷ 0x7f ∷ []) 0x00 0x7f 0 0 0 (Telegram.Figures 0 0 0) 1
 
-sync-flip-sent : telegram (sync-flip .x) (sync-flip .y) (sync-flip .z) ≡ reads (saysTelegram (sync-flip .telegram))
+sync-flip-sent : telegram (sync-flip .x) (sync-flip .y) (sync-flip .z) ≡ gives (sync-flip .telegram)
 unfolding telegram shortWord readWord isCode even count covers exchanged other word figure onwards isCheck
 sync-flip-sent = refl
 
@@ -60,7 +60,7 @@ sync-flip-flips : (syncFlips sync-flip 0 ≡ 0) × (dataFlips sync-flip 0 ≡ 0)
 unfolding syncFlips dataFlips flips sum flip inStretch unequal receivedBit sentBit
 sync-flip-flips = (refl, refl, refl, refl)
 
-sync-flip-found : (r : Found) → Find (sync-flip .buffer) 0 40 (sync-flip .s) (sync-flip .t) r → saysFound r ≡ gives (at 0 (reads (figures 0 0 0)))
+sync-flip-found : (r : Found) → Find (sync-flip .buffer) 0 40 (sync-flip .s) (sync-flip .t) r → saysFound r ≡ gives (at 0 (gives (Telegram.Figures 0 0 0)))
 unfolding found isGood differing inside places those from isPlace areSyncs wordsAt bitsAt telegram shortWord longWord readWord isCode even count covers exchanged other word figure onwards isCheck
 sync-flip-found r k = sym (specified (sync-flip .buffer) (sync-flip .start) (sync-flip .len) (sync-flip .s) (sync-flip .t) r k)
 
@@ -73,7 +73,7 @@ sync-flip-false = refl
 abbrev six : OneBalise
 six = forty (0x6d ∷ 0x2b ∷ 0x8e ∷ 0xa5 ∷ 0xb6 ∷ []) 0x6d 0xb6 0xa5 0x71 0xd4 (Telegram.Figures 10 7 13) 3
 
-six-sent : telegram (six .x) (six .y) (six .z) ≡ reads (saysTelegram (six .telegram))
+six-sent : telegram (six .x) (six .y) (six .z) ≡ gives (six .telegram)
 unfolding telegram shortWord readWord isCode even count covers exchanged other word figure onwards isCheck
 six-sent = refl
 
@@ -81,6 +81,6 @@ six-flips : (syncFlips six 0 ≡ 0) × (dataFlips six 0 ≡ 0) × (syncFlips six
 unfolding syncFlips dataFlips flips sum flip inStretch unequal receivedBit sentBit
 six-flips = (refl, refl, refl, refl)
 
-six-place : (places (six .buffer) 0 40 (six .s) (six .t) ≡ 0 ∷ []) × (wordsAt (six .buffer) 0 ≡ reads (figures 2 8 10))
+six-place : (places (six .buffer) 0 40 (six .s) (six .t) ≡ 0 ∷ []) × (wordsAt (six .buffer) 0 ≡ gives (Telegram.Figures 2 8 10))
 unfolding places those from isPlace areSyncs wordsAt bitsAt telegram shortWord longWord readWord isCode even count covers exchanged other word figure onwards isCheck
 six-place = (refl, refl)

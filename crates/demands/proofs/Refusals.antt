@@ -7,24 +7,27 @@ use Prim.Native.Nat.{ℕ, _+_, _*_, _^_}
 use lib.Dec.{eqb, leb, ltb}
 use lib.ListN.{length}
 use borrow.Author.Tests.{le-ltb, lt-ltb, le-leb, lt-leb, leb-true, leb-false, ltb-true, ltb-false}
-use Rattle.words.specs.Answer.{Outcome, gives, refuses, pick}
+use Rattle.words.specs.Answer.{Outcome, gives, refuses, then, pick}
+use Rattle.words.specs.Why.{Why, why, unsaid, notCodeWord}
 use Rattle.words.specs.Plain.{isCode, figure}
 use Rattle.words.specs.Code.{exchanged, readWord, sent, writeWord}
 use Rattle.telegram.specs.Sync.{good, isGood, pairOf}
-use Rattle.telegram.specs.Telegram.{figures, number, Letter, X, Y, Z, YZ, Received, reads, then, notFifteen, shortWord, longWord, telegram}
+use Rattle.telegram.specs.Telegram.{Received, badWord, named, notFifteen, shortWord, longWord, telegram}
+use Rattle.telegram.specs.declared.Telegram.{Telegram}
+use Rattle.telegram.specs.declared.Word.{Word}
 use Rattle.telegram.specs.Stretch.{inside}
 use Rattle.telegram.specs.Place.{at, firstOf, wordsAt, places, found}
 use Rattle.telegram.specs.Survey.{alike, allAs, together, surveyed}
 use Rattle.contact.specs.Judge.{allAlike, firstPlace}
-use Rattle.demands.specs.Rules.{Rule, row, Decided, Is}
+use Rattle.demands.specs.Rules.{Rule, rowOf, row, Decided, Given, Is}
 use Rattle.demands.specs.Table.{notCode, above, fifteen, notSeven, beyond, isEmpty, noPlace, placesDiffer, isNumber}
-use Rattle.demands.specs.Lists.{rowAt, IsTelegram, rulesAfterX, telegramRules, findRules, surveyRules, findReads, surveyReads}
+use Rattle.demands.specs.Lists.{noCode, is15, rulesAfterX, telegramRules, findRules, surveyRules, findReads, surveyReads}
 use Rattle.demands.proofs.Rules.{true-not-false, if-not}
 
 -- A received word of n bits: 1.
-pub reading : (n w : ℕ) → Decided (Is (figure n (exchanged n w))) (row 1 (notCode n w) ∷ []) (readWord n w)
+pub reading : (n w : ℕ) → Decided (Is (figure n (exchanged n w))) (rowOf (notCodeWord n w) (notCode n w) ∷ []) (readWord n w)
 unfolding notCode readWord
-reading n w = if-not (Is (figure n (exchanged n w))) [] (refuses 1) (gives (figure n (exchanged n w))) refl (isCode n (exchanged n w))
+reading n w = if-not (Is (figure n (exchanged n w))) [] (refuses (notCodeWord n w)) (gives (figure n (exchanged n w))) refl (isCode n (exchanged n w))
 
 -- no more is not above
 above-leb : (x largest : ℕ) → ltb largest x ≡ not (leb x largest)
@@ -55,55 +58,69 @@ unfolding notSeven pairOf isGood
 pairing s t = if-not (Is good) [] (refuses 4) (gives good) refl (isGood s t)
 
 -- A short word of a telegram, 1 and then 3, before what follows it.
-short-then : (letter : Letter) (w : ℕ) (rules : List (Rule Received)) (next : ℕ → Received)
-    → Decided IsTelegram rules (next (figure 8 (exchanged 8 w)))
-    → Decided IsTelegram (rowAt letter 1 (notCode 8 w) ∷ rowAt letter 3 (fifteen w) ∷ rules) (then letter (shortWord w) next)
+short-then : (word : Word) (w : ℕ) (rules : List (Rule Received)) (next : ℕ → Received)
+    → Decided Given rules (next (figure 8 (exchanged 8 w)))
+    → Decided Given (noCode word 8 w ∷ is15 word w ∷ rules) (then (named word (shortWord w)) next)
 unfolding notCode fifteen shortWord readWord
-short-then letter w rules next rest = go (isCode 8 (exchanged 8 w)) (eqb f 15) refl
+short-then word w rules next rest = go (isCode 8 (exchanged 8 w)) (eqb f 15) refl
   where
     f : ℕ
     f = figure 8 (exchanged 8 w)
 
+    -- the rows, and what the word comes to, where it is a code word or not and reads 15 or not
+    rows : Bool → Bool → List (Rule Received)
+    rows c u = rowOf (badWord word (notCodeWord 8 w)) (not c) ∷ rowOf (badWord word (why 3 unsaid)) u ∷ rules
+
+    fifteenth : Bool → Received
+    fifteenth u = then (named word (pick u (refuses (why 3 unsaid)) (gives f))) next
+
     go : (c t : Bool) → eqb f 15 ≡ t
-        → Decided IsTelegram (rowAt letter 1 (not c) ∷ rowAt letter 3 (c && eqb f 15) ∷ rules) (then letter (notFifteen (pick c (gives f) (refuses 1))) next)
+        → Decided Given (rows c (c && eqb f 15)) (then (named word (then (pick c (gives f) (refuses (notCodeWord 8 w))) notFifteen)) next)
     go false t e = (λ q. refl, λ q. absurd (true-not-false q))
     go true true e =
-        subst (λ (u : Bool). Decided IsTelegram (rowAt letter 1 false ∷ rowAt letter 3 u ∷ rules) (then letter (pick u (refuses 3) (gives f)) next)) (sym e)
+        subst (λ (u : Bool). Decided Given (rows true u) (fifteenth u)) (sym e)
         (λ q. absurd (true-not-false (sym q)), λ q. (λ p. refl, λ p. absurd (true-not-false p)))
     go true false e =
-        subst (λ (u : Bool). Decided IsTelegram (rowAt letter 1 false ∷ rowAt letter 3 u ∷ rules) (then letter (pick u (refuses 3) (gives f)) next)) (sym e)
+        subst (λ (u : Bool). Decided Given (rows true u) (fifteenth u)) (sym e)
         (λ q. absurd (true-not-false (sym q)), λ q. (λ p. absurd (true-not-false (sym p)), λ p. rest))
 
 -- Y and Z as one long word, 1.
-long-then : (y z : ℕ) → Decided IsTelegram (rowAt YZ 1 (notCode 16 (y * 256 + z)) ∷ []) (then YZ (longWord y z) (λ m. reads (number m)))
+long-then : (y z : ℕ) → Decided Given (noCode Word.YZ 16 (y * 256 + z) ∷ []) (then (named Word.YZ (longWord y z)) (λ m. gives (Telegram.Number m)))
 unfolding notCode longWord readWord
 long-then y z = go (isCode 16 (exchanged 16 (y * 256 + z)))
   where
     m : ℕ
     m = figure 16 (exchanged 16 (y * 256 + z))
 
-    go : (c : Bool) → Decided IsTelegram (rowAt YZ 1 (not c) ∷ []) (then YZ (pick c (gives m) (refuses 1)) (λ k. reads (number k)))
-    go true = (λ q. absurd (true-not-false (sym q)), λ q. (number m, refl))
+    b : Why
+    b = notCodeWord 16 (y * 256 + z)
+
+    go : (c : Bool) → Decided Given (rowOf (badWord Word.YZ b) (not c) ∷ []) (then (named Word.YZ (pick c (gives m) (refuses b))) (λ k. gives (Telegram.Number k)))
+    go true = (λ q. absurd (true-not-false (sym q)), λ q. (Telegram.Number m, refl))
     go false = (λ q. refl, λ q. absurd (true-not-false q))
 
 -- Three received words: word by word, each 1 and then 3.
-pub wording : (x y z : ℕ) → Decided IsTelegram (telegramRules x y z) (telegram x y z)
+pub wording : (x y z : ℕ) → Decided Given (telegramRules x y z) (telegram x y z)
 unfolding telegram
 wording x y z =
-    short-then X x (rulesAfterX x y z)
-    (λ a. pick (eqb a 12) (then YZ (longWord y z) (λ m. reads (number m))) (then Y (shortWord y) (λ b. then Z (shortWord z) (λ c. reads (figures a b c)))))
+    short-then Word.X x (rulesAfterX x y z)
+    (λ a. pick (eqb a 12) (then (named Word.YZ (longWord y z)) (λ m. gives (Telegram.Number m))) (yThenZ a))
     (go (isNumber x))
   where
+    yThenZ : ℕ → Received
+    yThenZ a = then (named Word.Y (shortWord y)) (λ b. then (named Word.Z (shortWord z)) (λ c. gives (Telegram.Figures a b c)))
+
     a : ℕ
     a = figure 8 (exchanged 8 x)
 
     go : (t : Bool)
-        → Decided IsTelegram
-        (pick t (rowAt YZ 1 (notCode 16 (y * 256 + z)) ∷ [])
-        (rowAt Y 1 (notCode 8 y) ∷ rowAt Y 3 (fifteen y) ∷ rowAt Z 1 (notCode 8 z) ∷ rowAt Z 3 (fifteen z) ∷ []))
-        (pick t (then YZ (longWord y z) (λ m. reads (number m))) (then Y (shortWord y) (λ b. then Z (shortWord z) (λ c. reads (figures a b c)))))
+        → Decided Given (pick t (noCode Word.YZ 16 (y * 256 + z) ∷ []) (noCode Word.Y 8 y ∷ is15 Word.Y y ∷ noCode Word.Z 8 z ∷ is15 Word.Z z ∷ []))
+        (pick t (then (named Word.YZ (longWord y z)) (λ m. gives (Telegram.Number m))) (yThenZ a))
     go true = long-then y z
-    go false = short-then Y y (rowAt Z 1 (notCode 8 z) ∷ rowAt Z 3 (fifteen z) ∷ []) (λ b. then Z (shortWord z) (λ c. reads (figures a b c))) (short-then Z z [] (λ c. reads (figures a (figure 8 (exchanged 8 y)) c)) (figures a (figure 8 (exchanged 8 y)) (figure 8 (exchanged 8 z)), refl))
+    go false =
+        short-then Word.Y y (noCode Word.Z 8 z ∷ is15 Word.Z z ∷ []) (λ b. then (named Word.Z (shortWord z)) (λ c. gives (Telegram.Figures a b c)))
+        (short-then Word.Z z [] (λ c. gives (Telegram.Figures a (figure 8 (exchanged 8 y)) c))
+        (Telegram.Figures a (figure 8 (exchanged 8 y)) (figure 8 (exchanged 8 z)), refl))
 
 -- beyond is not inside
 pub beyond-is : (b : List ℕ) (start len : ℕ) → beyond b start len ≡ not (inside b start len)

@@ -3,6 +3,7 @@
 use mathlib.Core.Path.{_≡_, refl, sym, subst}
 use mathlib.Core.Bool.{Bool, true, false, not}
 use mathlib.Core.List.{List, _∷_}
+use Prim.Native.Nat.{ℕ}
 use lib.Dec.{T}
 use Rattle.words.specs.Answer.{gives, pick}
 use Rattle.demands.specs.Rules.{Rule, Decided, Given}
@@ -26,5 +27,5 @@ module _ {A : Type 0} (Reading : A → Type 0) (rules : List (Rule A)) (answer o
   if-not false = (λ e. refl, λ e. absurd (true-not-false e))
 
 -- What gives something is a reading.
-pub given : {A : Type 0} (x : A) → Given (gives x)
+pub given : {A : Type 0} (x : A) → Given {R = ℕ} (gives x)
 given x = (x, refl)

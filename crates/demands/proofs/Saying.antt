@@ -67,7 +67,7 @@ preset-range : (f d : ℕ) → distance 14 f ≡ gives d → (500 ≤ d) × (d �
 unfolding distance
 preset-range f d e = go (leb 1 f) refl (leb f 14) refl e
   where
-    go : (t : Bool) → leb 1 f ≡ t → (u : Bool) → leb f 14 ≡ u → pick (t && u) (gives (7500 - 500 * f)) (refuses 15) ≡ gives d → (500 ≤ d) × (d ≤ 7000)
+    go : (t : Bool) → leb 1 f ≡ t → (u : Bool) → leb f 14 ≡ u → pick {A = Outcome ℕ} (t && u) (gives (7500 - 500 * f)) (refuses 15) ≡ gives d → (500 ≤ d) × (d ≤ 7000)
     go false h u k q = absurd (never 15 q)
     go true h false k q = absurd (never 15 q)
     go true h true k q =

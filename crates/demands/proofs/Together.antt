@@ -12,10 +12,10 @@ use borrow.Author.Tests.{eq-eqb}
 use Rattle.words.specs.Answer.{Outcome, gives, refuses, pick}
 use Rattle.words.specs.Plain.{among}
 use Rattle.telegram.specs.Stretch.{bitsAt}
-use Rattle.telegram.specs.Telegram.{Received, reads}
+use Rattle.telegram.specs.Telegram.{Received}
 use Rattle.telegram.specs.Place.{wordsAt}
 use Rattle.telegram.specs.Survey.{sameWords, allAs, Alike, alike, together, surveyed}
-use Rattle.telegram.specs.Says.{saysTelegram, saysSurveyed}
+use Rattle.telegram.specs.Says.{saysSurveyed}
 use Rattle.telegram.specs.declared.Telegram.{Telegram}
 use Rattle.telegram.specs.declared.Surveyed.{Surveyed}
 use Rattle.line.specs.Line.{OneBalise, Proper, placesOf}
@@ -96,7 +96,7 @@ module _ (o : OneBalise) (proper : Proper o) (every-place : AllSent o) where
   survey-says : (r : Surveyed) → SurveyAllows b (o .start) (o .len) (o .s) (o .t) r → surveyed b (o .start) (o .len) (o .s) (o .t) ≡ saysSurveyed r
   survey-says r c = sym (c .4 ∙ ap (λ (v : List ℕ). surveyed v (o .start) (o .len) (o .s) (o .t)) (c .3))
 
-  pub known-sent : (m : Telegram) (first count : ℕ) → Known (reads (saysTelegram m)) first count → TheSent o first m
+  pub known-sent : (m : Telegram) (first count : ℕ) → Known (gives m) first count → TheSent o first m
   known-sent m first count known = the-sent o proper first m (known .first-is) (known .read-there)
 
   pub same-known : {m n : Received} {p q k l : ℕ} → m ≡ n → p ≡ q → k ≡ l → Known m p k → Known n q l
@@ -137,5 +137,5 @@ module _ (o : OneBalise) (proper : Proper o) (every-place : AllSent o) where
           let same-k : r .count ≡ count = cc in
           same-known same-m same-p same-k (r .known)
 
-      of : (m : Telegram) (first count : ℕ) → SurveyAllows b (o .start) (o .len) (o .s) (o .t) (Surveyed.Alike m first count) → Known (reads (saysTelegram m)) first count
-      of m first count k = known the-survey (reads (saysTelegram m)) first count (survey-says (Surveyed.Alike m first count) k)
+      of : (m : Telegram) (first count : ℕ) → SurveyAllows b (o .start) (o .len) (o .s) (o .t) (Surveyed.Alike m first count) → Known (gives m) first count
+      of m first count k = known the-survey (gives m) first count (survey-says (Surveyed.Alike m first count) k)

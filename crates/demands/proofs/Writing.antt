@@ -7,13 +7,12 @@ use Prim.Native.Nat.{ℕ, zero, suc, _+_, _*_, _≤_}
 use native.Mathlib.Omega.{arith}
 use lib.Dec.{leb}
 use lib.ListN.{length, drop, length-append, length-map}
-use Rattle.words.specs.Answer.{gives, refuses, pick}
-use Rattle.telegram.specs.Telegram.{Received, reads}
+use Rattle.words.specs.Answer.{Outcome, gives, refuses, pick}
+use Rattle.telegram.specs.Telegram.{Received}
 use Rattle.telegram.specs.Place.{from, wordsAt}
-use Rattle.telegram.specs.Says.{saysTelegram}
 use Rattle.telegram.specs.declared.Telegram.{Telegram}
 use Rattle.telegram.specs.declared.Found.{Found}
-use Rattle.contact.specs.Judge.{allAlike, firstPlace, isMarker, read, marker, judgement, judged}
+use Rattle.contact.specs.Judge.{Contact, allAlike, firstPlace, isMarker, read, marker, judgement, judged}
 use Rattle.contact.specs.Says.{saysJudged}
 use Rattle.contact.specs.declared.Judged.{Judged}
 use Rattle.line.specs.Line.{OneBalise, Proper, placesOf}
@@ -38,7 +37,7 @@ first-of : (b : List ℕ) (start len : ℕ) (ps : List ℕ) (m : Received) (firs
 unfolding judgement
 first-of b start len ps m first count = go (leb 2 (length ps) && allAlike b ps) (not (allAlike b ps)) (isMarker b start len)
   where
-    go : (u v w : Bool) → pick u (gives (read (wordsAt b (firstPlace ps)) (firstPlace ps) (length ps))) (pick v (refuses 7) (pick w (gives marker) (refuses 8))) ≡ gives (read m first count)
+    go : (u v w : Bool) → pick {A = Outcome Contact} u (gives (read (wordsAt b (firstPlace ps)) (firstPlace ps) (length ps))) (pick v (refuses 7) (pick w (gives marker) (refuses 8))) ≡ gives (read m first count)
         → first ≡ firstPlace ps
     go true v w e = cc
     go false true w e = cc
@@ -84,7 +83,7 @@ module _ (m : Telegram) (s t n : ℕ) (rest : List ℕ) (most : 2 ≤ n) where
         sym judgement-is ∙ sym (k′ .4 ∙ ap (λ (v : List ℕ). judged v 0 (8 * (4 * n + 1)) s t) (k′ .3)) in
         let same : q .0 ≡ m = sent .first-sent (q .0) (q .1) (q .2) k′ .as-sent in
         let first : q .1 ≡ 0 =
-        first-of b 0 (8 * (4 * n + 1)) (placesOf o) (reads (saysTelegram (q .0))) (q .1) (q .2) says ∙ ap firstPlace (places-are m s t n rest proper) ∙ first-from n most in
+        first-of b 0 (8 * (4 * n + 1)) (placesOf o) (gives (q .0)) (q .1) (q .2) says ∙ ap firstPlace (places-are m s t n rest proper) ∙ first-from n most in
         let count : q .2 ≡ n = sent .counted (q .0) (q .1) (q .2) k′ ∙ as-many in
         cc
 

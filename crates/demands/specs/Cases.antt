@@ -6,6 +6,7 @@ use Prim.Native.Nat.{ℕ}
 use mathlib.Core.Path.{_≡_}
 use mathlib.Core.List.{List, [], _∷_}
 use Rattle.words.specs.Answer.{gives, refuses}
+use Rattle.words.specs.Why.{numbered}
 use Rattle.words.specs.Says.{saysShortRead, saysShortWritten, saysLongRead, saysLongWritten}
 use Rattle.words.specs.declared.ShortRead.{ShortRead}
 use Rattle.words.specs.declared.ShortWritten.{ShortWritten}
@@ -36,10 +37,10 @@ pub data Case : Type 0 where
 abbrev pub Holds : Case → Type 0
 Holds (short x w) =
     ((a : ShortWritten) → WriteShort x a → saysShortWritten a ≡ gives w) × ((r : ShortRead) → ReadShort w r → saysShortRead r ≡ gives x)
-Holds (notShort w) = (r : ShortRead) → ReadShort w r → saysShortRead r ≡ refuses 1
+Holds (notShort w) = (r : ShortRead) → ReadShort w r → numbered (saysShortRead r) ≡ refuses 1
 Holds (long x w) =
     ((a : LongWritten) → WriteLong x a → saysLongWritten a ≡ gives w) × ((r : LongRead) → ReadLong w r → saysLongRead r ≡ gives x)
-Holds (notLong w) = (r : LongRead) → ReadLong w r → saysLongRead r ≡ refuses 1
+Holds (notLong w) = (r : LongRead) → ReadLong w r → numbered (saysLongRead r) ≡ refuses 1
 Holds (far by bz d) = (r : Measured) → Distance by bz r → saysMeasured r ≡ gives d
 Holds (notFar by bz) = (r : Measured) → Distance by bz r → saysMeasured r ≡ refuses 15
 

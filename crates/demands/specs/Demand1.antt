@@ -12,7 +12,8 @@ use mathlib.Core.Bool.{true}
 use mathlib.Core.Path.{_≡_}
 use mathlib.Core.List.{List, [], _∷_}
 use lib.ListN.{take}
-use Rattle.words.specs.Answer.{Outcome, gives, refuses}
+use Rattle.words.specs.Answer.{Answer, gives, refuses}
+use Rattle.words.specs.Why.{notCodeWord}
 use Rattle.words.specs.Plain.{figure}
 use Rattle.words.specs.Code.{exchanged, sent}
 use Rattle.words.specs.Says.{saysShortRead, saysShortWritten, saysLongRead, saysLongWritten}
@@ -21,7 +22,6 @@ use Rattle.words.specs.declared.ShortWritten.{ShortWritten}
 use Rattle.words.specs.declared.LongRead.{LongRead}
 use Rattle.words.specs.declared.LongWritten.{LongWritten}
 use Rattle.telegram.specs.Sync.{good}
-use Rattle.telegram.specs.Telegram.{Letter, Received, refused}
 use Rattle.telegram.specs.Says.{saysPair, saysTelegramRead, saysFound, saysSurveyed}
 use Rattle.telegram.specs.declared.Pair.{Pair}
 use Rattle.telegram.specs.declared.TelegramRead.{TelegramRead}
@@ -59,29 +59,26 @@ use Rattle.listing.specs.Put.{noRoom}
 use Rattle.listing.specs.Says.{saysPut, saysDone}
 use Rattle.listing.specs.declared.Put.{Put}
 use Rattle.listing.specs.declared.Listed.{Listed}
-use Rattle.demands.specs.Rules.{row, Decided, Given, Is}
+use Rattle.demands.specs.Rules.{rowOf, row, Decided, Given, Is}
 use Rattle.demands.specs.Table.{notCode, above, notSeven, beyond, noRow, noDistance, badGap}
 use Rattle.demands.specs.Contracts.{ReadShort, WriteShort, ReadLong, WriteLong, GoodPair, ReadTelegram, Find, Survey, Write, Begin, NextContact, JudgeContact, FitRow, Distance, JudgeGroup, CheckRecord, StepOf, TreatAt, EndOf, RunOver, PutLine, ListInto}
-use Rattle.demands.specs.Lists.{IsTelegram, telegramRules, findRules, surveyRules, writeRules, nextRules, judgeRules, groupRules, recordRules, stepRules, runRules, findReads, surveyReads, JudgeReads, NextReads}
+use Rattle.demands.specs.Lists.{telegramRules, findRules, surveyRules, writeRules, nextRules, judgeRules, groupRules, recordRules, stepRules, runRules, findReads, surveyReads, JudgeReads, NextReads}
 use Rattle.demands.specs.Steps.{OneStep, LeavesBehind}
 
--- A refusal carries no figure: two answers that refuse with the same number are the same answer, whatever was asked.
-abbrev pub Bare : {A B : Type 0} → (A → Outcome B) → Type 0
-Bare {A} says = (n : ℕ) (r r′ : A) → says r ≡ refuses n → says r′ ≡ refuses n → r ≡ r′
-
--- The same of a telegram's words: a refusal says its number and the word's letter, and no more.
-abbrev pub BareWords : (TelegramRead → Received) → Type 0
-BareWords says = (n : ℕ) (at : Letter) (r r′ : TelegramRead) → says r ≡ refused n at → says r′ ≡ refused n at → r ≡ r′
+-- A refusal carries no figure: two answers with the same refusal are the same answer, whatever was asked. A refusal is a number; that of a
+-- word is its number and its parity, that of a telegram these and the letter of its first bad word.
+abbrev pub Bare : {R A B : Type 0} → (A → Answer R B) → Type 0
+Bare {R} {A} says = (refusal : R) (r r′ : A) → says r ≡ refuses refusal → says r′ ≡ refuses refusal → r ≡ r′
 
 -- Each public function refuses with the first number of its list whose condition holds, and reads exactly if none does. What the others
 -- (`Given`) read is demand 2's: `Groups` (specs/Demand2.antt), `Riding` (specs/Ride.antt), `Written` (specs/Output.antt).
 pub record Demand1 : Type 0 where
-  pub read-short : (w : ℕ) (r : ShortRead) → ReadShort w r → Decided (Is (figure 8 (exchanged 8 w))) (row 1 (notCode 8 w) ∷ []) (saysShortRead r)
+  pub read-short : (w : ℕ) (r : ShortRead) → ReadShort w r → Decided (Is (figure 8 (exchanged 8 w))) (rowOf (notCodeWord 8 w) (notCode 8 w) ∷ []) (saysShortRead r)
   pub write-short : (x : ℕ) (r : ShortWritten) → WriteShort x r → Decided (Is (sent 8 x)) (row 2 (above 15 x) ∷ []) (saysShortWritten r)
-  pub read-long : (w : ℕ) (r : LongRead) → ReadLong w r → Decided (Is (figure 16 (exchanged 16 w))) (row 1 (notCode 16 w) ∷ []) (saysLongRead r)
+  pub read-long : (w : ℕ) (r : LongRead) → ReadLong w r → Decided (Is (figure 16 (exchanged 16 w))) (rowOf (notCodeWord 16 w) (notCode 16 w) ∷ []) (saysLongRead r)
   pub write-long : (x : ℕ) (r : LongWritten) → WriteLong x r → Decided (Is (sent 16 x)) (row 2 (above 2047 x) ∷ []) (saysLongWritten r)
   pub good-pair : (s t : ℕ) (r : Pair) → GoodPair s t r → Decided (Is good) (row 4 (notSeven s t) ∷ []) (saysPair r)
-  pub read-telegram : (x y z : ℕ) (r : TelegramRead) → ReadTelegram x y z r → Decided IsTelegram (telegramRules x y z) (saysTelegramRead r)
+  pub read-telegram : (x y z : ℕ) (r : TelegramRead) → ReadTelegram x y z r → Decided Given (telegramRules x y z) (saysTelegramRead r)
   pub find : (b : List ℕ) (start len s t : ℕ) (r : Found) → Find b start len s t r
       → Decided (Is (findReads b start len s t)) (findRules b start len s t) (saysFound r)
   pub survey : (b : List ℕ) (start len s t : ℕ) (r : Surveyed) → Survey b start len s t r
@@ -150,7 +147,7 @@ pub record Untouched : Type 0 where
   pub long-read : Bare saysLongRead
   pub long-written : Bare saysLongWritten
   pub pair : Bare saysPair
-  pub telegram-read : BareWords saysTelegramRead
+  pub telegram-read : Bare saysTelegramRead
   pub found : Bare saysFound
   pub surveyed : Bare saysSurveyed
   pub written : Bare saysAnswer

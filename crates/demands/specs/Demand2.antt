@@ -13,15 +13,18 @@ use mathlib.Core.Path.{_≡_}
 use mathlib.Core.Bool.{Bool, true, false}
 use mathlib.Core.List.{List, map, List·Memᴰ}
 use lib.ListN.{getD}
-use Rattle.words.specs.Answer.{gives}
+use Rattle.words.specs.Answer.{gives, refuses}
+use Rattle.words.specs.Why.{Why, why, are, unsaid}
 use Rattle.words.specs.Says.{saysShortWritten}
+use Rattle.words.specs.declared.Parity.{Parity}
 use Rattle.words.specs.declared.ShortRead.{ShortRead}
 use Rattle.words.specs.declared.ShortWritten.{ShortWritten}
 use Rattle.words.specs.declared.LongRead.{LongRead}
 use Rattle.words.specs.declared.LongWritten.{LongWritten}
-use Rattle.telegram.specs.Telegram.{X, Y, Z, YZ, reads, refused}
+use Rattle.telegram.specs.Telegram.{badWord}
+use Rattle.telegram.specs.declared.Word.{Word}
 use Rattle.telegram.specs.Place.{wordsAt, places}
-use Rattle.telegram.specs.Says.{saysTelegram, saysTelegramRead}
+use Rattle.telegram.specs.Says.{saysTelegramRead}
 use Rattle.telegram.specs.declared.Found.{Found}
 use Rattle.telegram.specs.declared.Telegram.{Telegram}
 use Rattle.telegram.specs.declared.TelegramRead.{TelegramRead}
@@ -72,10 +75,11 @@ pub record Words : Type 0 where
 abbrev pub Good : ℕ → ℕ → Type 0
 Good w a = ReadShort w (ShortRead.Figure a) × (a ≡ 15 → ⊥)
 
--- A short word of a telegram is bad with this number: "not a code word" is 1, "a short word of a telegram reads 15" is 3.
-pub data Bad (w : ℕ) : ℕ → Type 0 where
-  no-code : ReadShort w ShortRead.NotCode → Bad w 1
-  is-15 : ReadShort w (ShortRead.Figure 15) → Bad w 3
+-- A short word of a telegram is bad for this reason: "not a code word" is 1, with the parity that the word says; "a short word of a telegram
+-- reads 15" is 3, with none.
+pub data Bad (w : ℕ) : Why → Type 0 where
+  no-code : {p : Parity} → ReadShort w (ShortRead.NotCode p) → Bad w (why 1 (are p))
+  is-15 : ReadShort w (ShortRead.Figure 15) → Bad w (why 3 unsaid)
 
 -- The place of an answer of `find` that hands one out.
 abbrev pub placeOf : Found → ℕ
@@ -92,18 +96,18 @@ pub record Telegrams : Type 0 where
   -- "otherwise each is M(8,4)"
   pub figures : (x y z a b c : ℕ) (r : TelegramRead) → ReadTelegram x y z r → Good x a → (a ≡ 12 → ⊥) → Good y b → Good z c
       → r ≡ TelegramRead.Is (Telegram.Figures a b c)
-  -- "X is judged before Y, Y before Z, and the first bad word decides whatever the numbers."
-  pub x-decides : (x y z n : ℕ) (r : TelegramRead) → ReadTelegram x y z r → Bad x n → saysTelegramRead r ≡ refused n X
-  pub y-decides : (x y z a n : ℕ) (r : TelegramRead) → ReadTelegram x y z r → Good x a → (a ≡ 12 → ⊥) → Bad y n → saysTelegramRead r ≡ refused n Y
-  pub z-decides : (x y z a b n : ℕ) (r : TelegramRead) → ReadTelegram x y z r → Good x a → (a ≡ 12 → ⊥) → Good y b → Bad z n
-      → saysTelegramRead r ≡ refused n Z
-  pub yz-decides : (x y z : ℕ) (r : TelegramRead) → ReadTelegram x y z r → ReadShort x (ShortRead.Figure 12) → ReadLong (y * 256 + z) LongRead.NotCode
-      → saysTelegramRead r ≡ refused 1 YZ
+  -- "X is judged before Y, Y before Z, and the first bad word decides whatever the numbers.", and the refusal passes on its letter and parity
+  pub x-decides : (x y z : ℕ) (b : Why) (r : TelegramRead) → ReadTelegram x y z r → Bad x b → saysTelegramRead r ≡ refuses (badWord Word.X b)
+  pub y-decides : (x y z a : ℕ) (b : Why) (r : TelegramRead) → ReadTelegram x y z r → Good x a → (a ≡ 12 → ⊥) → Bad y b → saysTelegramRead r ≡ refuses (badWord Word.Y b)
+  pub z-decides : (x y z a b : ℕ) (d : Why) (r : TelegramRead) → ReadTelegram x y z r → Good x a → (a ≡ 12 → ⊥) → Good y b → Bad z d
+      → saysTelegramRead r ≡ refuses (badWord Word.Z d)
+  pub yz-decides : (x y z : ℕ) (p : Parity) (r : TelegramRead) → ReadTelegram x y z r → ReadShort x (ShortRead.Figure 12) → ReadLong (y * 256 + z) (LongRead.NotCode p)
+      → saysTelegramRead r ≡ refuses (badWord Word.YZ (why 1 (are p)))
   -- "asked again from the bit after that place, it goes on, and so every place is handed out once", with what its words read
   pub handed-once : (b : List ℕ) (start len s t : ℕ) (w : List Found) → notSeven s t ≡ false → beyond b start len ≡ false
       → Comes b s t start len w → map placeOf w ≡ places b start len s t
   pub with-words : (b : List ℕ) (start len s t p : ℕ) (m : Telegram) (w : List Found) → Comes b s t start len w → List·Memᴰ (Found.At p m) w
-      → reads (saysTelegram m) ≡ wordsAt b p
+      → gives m ≡ wordsAt b p
 
 -- ---- groups, distances and speeds
 

@@ -15,13 +15,12 @@ use mathlib.Core.Bool.{true, false}
 use mathlib.Core.List.{List, List·Memᴰ, map}
 use lib.Bits.{bitXor}
 use lib.ListN.{length}
-use Rattle.words.specs.Answer.{Outcome, gives}
+use Rattle.words.specs.Answer.{Answer, gives}
+use Rattle.words.specs.Why.{Why}
 use Rattle.words.specs.Plain.{among, figure}
 use Rattle.words.specs.Code.{exchanged}
 use Rattle.words.specs.Says.{saysShortRead, saysLongRead}
-use Rattle.telegram.specs.Telegram.{reads}
 use Rattle.telegram.specs.Place.{wordsAt, from, those}
-use Rattle.telegram.specs.Says.{saysTelegram}
 use Rattle.telegram.specs.declared.Telegram.{Telegram}
 use Rattle.telegram.specs.declared.Found.{Found}
 use Rattle.telegram.specs.declared.Surveyed.{Surveyed}
@@ -32,18 +31,18 @@ use Rattle.demands.specs.Contracts.{ReadShort, ReadLong, Find, Survey, J
 use Rattle.demands.specs.Calls.{HandedOut, Comes}
 
 -- An answer that gives a figure.
-abbrev pub Accepted : Outcome ℕ → Type 0
+abbrev pub Accepted : Answer Why ℕ → Type 0
 Accepted a = (x : ℕ) × (a ≡ gives x)
 
 -- What the flips alone decide, where a word of n bits that reads x was sent, and the bits f flipped: the received word is accepted
 -- exactly if f is itself a code word, and then reads x with f's figure added bit by bit without carry.
-pub record ByFlipsAlone (n x f : ℕ) (received : Outcome ℕ) : Type 0 where
+pub record ByFlipsAlone (n x f : ℕ) (received : Answer Why ℕ) : Type 0 where
   pub exactly-if : Accepted received ↔ (notCode n f ≡ false)
   pub added : notCode n f ≡ false → received ≡ gives (bitXor x (figure n (exchanged n f)))
 
 -- The noise law of the code of n bits: `Reads w r` is that the contract of its reader allows the answer r for the word w, and r says
 -- `says r`. Whichever code word c was sent, and whichever bits f flipped, so that bitXor c f is received, the flips alone decide.
-abbrev pub NoiseLaw : {A : Type 0} → ℕ → (A → Outcome ℕ) → (ℕ → A → Type 0) → Type 0
+abbrev pub NoiseLaw : {A : Type 0} → ℕ → (A → Answer Why ℕ) → (ℕ → A → Type 0) → Type 0
 NoiseLaw {A} n says Reads =
     (c f x : ℕ) (sent received : A) → Reads c sent → Reads (bitXor c f) received → says sent ≡ gives x → ByFlipsAlone n x f (says received)
 
@@ -73,7 +72,7 @@ pub record OnlyTheSent (o : OneBalise) : Type 0 where
   pub every : (p : ℕ) (m : Telegram) → HandedOut (o .buffer) (o .s) (o .t) (o .start) (o .len) p m → TheSent o p m
   pub unflipped : (w : List Found) → ComesOf o w → (p : ℕ) → sentAt o p ≡ true → flipsAt o p ≡ 0
       → List·Memᴰ (Found.At p (o .telegram)) w
-  pub all-places : (p : ℕ) → among p (placesOf o) ≡ true → (sentAt o p ≡ true) × (wordsAt (o .buffer) p ≡ reads (saysTelegram (o .telegram)))
+  pub all-places : (p : ℕ) → among p (placesOf o) ≡ true → (sentAt o p ≡ true) × (wordsAt (o .buffer) p ≡ gives (o .telegram))
   pub unflipped-places : (p : ℕ) → sentAt o p ≡ true → flipsAt o p ≡ 0 → among p (placesOf o) ≡ true
   pub judge : TogetherTheSent o (JudgeContact (o .buffer) (o .start) (o .len) (o .s) (o .t)) 2 Judged.Differ Judged.Read
   pub survey : TogetherTheSent o (Survey (o .buffer) (o .start) (o .len) (o .s) (o .t)) 1 Surveyed.Differ Surveyed.Alike

@@ -14,5 +14,6 @@ pub mod Calls
 pub mod Said
 pub mod Demand2
 pub mod Demand3
+pub mod OddOrEven
 pub mod SyncNoise
 pub mod Writing

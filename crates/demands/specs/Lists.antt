@@ -7,7 +7,9 @@ use mathlib.Core.List.{List, [], _∷_}
 use lib.Dec.{leb}
 use lib.ListN.{length}
 use Rattle.words.specs.Answer.{Outcome, gives, pick}
-use Rattle.telegram.specs.Telegram.{Said, Letter, X, Y, Z, YZ, Received, reads, refused}
+use Rattle.words.specs.Why.{why, unsaid, notCodeWord}
+use Rattle.telegram.specs.Telegram.{Received, badWord}
+use Rattle.telegram.specs.declared.Word.{Word}
 use Rattle.telegram.specs.Place.{wordsAt, places, Single, at}
 use Rattle.telegram.specs.Survey.{Alike, alike}
 use Rattle.contact.specs.declared.Search.{Search}
@@ -17,26 +19,26 @@ use Rattle.group.specs.declared.Group.{Group}
 use Rattle.ride.specs.declared.Ride.{Ride}
 use Rattle.demands.specs.Table.{notCode, fifteen, notSeven, beyond, noPlace, placesDiffer, isRead, neither, some, historyAfter, zeroesWith, toEight, laterToFour, cut, oneBalise, moreThanFive, isNumber, unread, partsOf, noRow, notAllowed, badLength, badRecord, wentBack, tooFar, badGap}
 use Rattle.demands.specs.Table02.{someAbove, someFifteen, badCount, shortBuffer}
-use Rattle.demands.specs.Rules.{Rule, row}
+use Rattle.demands.specs.Rules.{Rule, rowOf, row}
 
--- A row of the table at the word of a telegram that this letter names.
-abbrev pub rowAt : Letter → ℕ → Bool → Rule Received
-rowAt letter n condition = record { holds = condition; answer = refused n letter }
+-- A word of a telegram, of n bits, is not a code word: 1, and the refusal passes on the word's letter and its parity.
+abbrev pub noCode : Word → ℕ → ℕ → Rule Received
+noCode word n w = rowOf (badWord word (notCodeWord n w)) (notCode n w)
 
--- A telegram was read.
-abbrev pub IsTelegram : Received → Type 0
-IsTelegram o = (m : Said) × (o ≡ reads m)
+-- A short word of a telegram reads 15: 3, with the letter; of its ones nothing is said.
+abbrev pub is15 : Word → ℕ → Rule Received
+is15 word w = rowOf (badWord word (why 3 unsaid)) (fifteen w)
 
 -- After X: if it reads 12, Y and Z as one long word, 1; else Y, then Z, each 1, then 3.
 abbrev pub rulesAfterX : ℕ → ℕ → ℕ → List (Rule Received)
 rulesAfterX x y z =
     pick (isNumber x)
-    (rowAt YZ 1 (notCode 16 (y * 256 + z)) ∷ [])
-    (rowAt Y 1 (notCode 8 y) ∷ rowAt Y 3 (fifteen y) ∷ rowAt Z 1 (notCode 8 z) ∷ rowAt Z 3 (fifteen z) ∷ [])
+    (noCode Word.YZ 16 (y * 256 + z) ∷ [])
+    (noCode Word.Y 8 y ∷ is15 Word.Y y ∷ noCode Word.Z 8 z ∷ is15 Word.Z z ∷ [])
 
 -- "X is judged before Y, Y before Z, and the first bad word decides whatever the numbers."
 abbrev pub telegramRules : ℕ → ℕ → ℕ → List (Rule Received)
-telegramRules x y z = rowAt X 1 (notCode 8 x) ∷ rowAt X 3 (fifteen x) ∷ rulesAfterX x y z
+telegramRules x y z = noCode Word.X 8 x ∷ is15 Word.X x ∷ rulesAfterX x y z
 
 -- `find`: 4, 5, 6.
 abbrev pub findRules : {A : Type 0} → List ℕ → ℕ → ℕ → ℕ → ℕ → List (Rule (Outcome A))

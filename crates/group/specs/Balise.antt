@@ -5,7 +5,9 @@
 use mathlib.Core.List.{List, [], _∷_}
 use lib.ListN.{take}
 use Rattle.words.specs.Answer.{Outcome, gives, refuses}
-use Rattle.telegram.specs.Telegram.{Said, figures, number, Received, reads, refused, telegram}
+pub use Rattle.words.specs.Answer.{then}
+use Rattle.telegram.specs.Telegram.{Received, telegram}
+use Rattle.telegram.specs.declared.Telegram.{Telegram}
 use Rattle.group.specs.declared.Heard.{Heard}
 use Rattle.group.specs.declared.Balise.{Balise}
 use Rattle.group.specs.declared.Group.{Group}
@@ -16,20 +18,15 @@ use Rattle.walk.specs.declared.Placed.{Placed}
 unfoldable pub balises : Group → List Balise
 balises g = take (g .count) (g .kept)
 
--- An answer goes on to what follows; its refusal decides.
-abbrev pub then : {A B : Type 0} → Outcome A → (A → Outcome B) → Outcome B
-then (gives x) next = next x
-then (refuses n) next = refuses n
-
 -- A telegram as a part of a group: the figures of X, Y and Z, or the number of a number balise (12).
-abbrev pub partSaid : Said → Part
-partSaid (figures x y z) = Part.Figures x y z
-partSaid (number m) = Part.Number m
+abbrev pub partSaid : Telegram → Part
+partSaid (Telegram.Figures x y z) = Part.Figures x y z
+partSaid (Telegram.Number m) = Part.Number m
 
 -- If its words are refused, so is the group, with 12.
 abbrev pub partOf : Received → Outcome Part
-partOf (reads t) = gives (partSaid t)
-partOf (refused n at) = refuses 12
+partOf (gives t) = gives (partSaid t)
+partOf (refuses b) = refuses 12
 
 -- What was heard, read: "a balise unreadable, or its words refused" is 12.
 abbrev pub partHeard : Heard → Outcome Part

@@ -2,7 +2,6 @@
 ghost use mathlib.Core.Path.{_≡_};
 ghost use Prim.Native.Nat.{_≤_};
 ghost use lib.ListN.{take};
-ghost use Rattle.telegram.specs.Says.{saysTelegram};
 ghost use mathlib.Core.Bool.{true};
 ghost use Rattle.group.specs.Numbers.{numberOf};
 ghost use Rattle.group.specs.Balise.{partSaid, partHeard, readAll};
@@ -31,7 +30,7 @@ pub struct AllRead {
 
 // A telegram as a part of a group.
 fn part_of(t: Telegram) -> Part
-    ensures { λ r. ⌜ r ≡ partSaid (saysTelegram t) ⌝ }
+    ensures { λ r. ⌜ r ≡ partSaid t ⌝ }
 {
     match t {
         Telegram::Figures(x, y, z) => Part::Figures(x, y, z),
@@ -46,7 +45,7 @@ pub fn part_heard(heard: Heard) -> PartRead
     match heard {
         Heard::Words(x, y, z) => match telegram::read(x, y, z) {
             TelegramRead::Is(t) => PartRead::Is(part_of(t)),
-            TelegramRead::NotCode(_) => PartRead::Refused,
+            TelegramRead::NotCode(_, _) => PartRead::Refused,
             TelegramRead::Fifteen(_) => PartRead::Refused,
         },
         Heard::Marker => PartRead::Is(Part::Marker),

@@ -5,11 +5,11 @@ use mathlib.Core.Bool.{true, _&&_}
 use Prim.Native.Nat.{ℕ, _+_, _%_, _≤_}
 use lib.Dec.{eqb, leb}
 use borrow.Author.Tests.{le-leb, leb-true, eqb-true, eq-eqb}
+use Rattle.words.specs.Answer.{gives}
 use Rattle.words.specs.Plain.{among}
 use Rattle.telegram.specs.Stretch.{bitsAt}
-use Rattle.telegram.specs.Telegram.{Received, reads, telegram}
+use Rattle.telegram.specs.Telegram.{Received, telegram}
 use Rattle.telegram.specs.Place.{wordsAt}
-use Rattle.telegram.specs.Says.{saysTelegram}
 use Rattle.line.specs.Line.{OneBalise, Proper, lineBit, sentAt, placesOf}
 use Rattle.line.proofs.Places.{and-parts, and-true}
 
@@ -42,5 +42,5 @@ pub same-words : (o : OneBalise) (p : ℕ) {x y z : ℕ} → bitsAt (o .buffer) 
 unfolding wordsAt
 same-words o p x-is y-is z-is = ap₂ (λ (f : ℕ → Received) (k : ℕ). f k) (ap₂ telegram x-is y-is) z-is
 
-pub read-as-sent : (o : OneBalise) → Proper o → (p : ℕ) → Sent o p → wordsAt (o .buffer) p ≡ reads (saysTelegram (o .telegram))
+pub read-as-sent : (o : OneBalise) → Proper o → (p : ℕ) → Sent o p → wordsAt (o .buffer) p ≡ gives (o .telegram)
 read-as-sent o proper p there = same-words o p (there .x-is) (there .y-is) (there .z-is) ∙ proper .valid

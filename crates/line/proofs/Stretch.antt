@@ -9,7 +9,6 @@ use Rattle.telegram.specs.Stretch.{bitAt, bitsAt}
 use Rattle.telegram.specs.Sync.{differing}
 use Rattle.telegram.specs.Telegram.{telegram}
 use Rattle.telegram.specs.Place.{wordsAt, accepted, isPlace, places}
-use Rattle.telegram.specs.Says.{saysTelegram}
 use Rattle.telegram.proofs.Window.{bits-lt, cut}
 use Rattle.line.specs.Line.{OneBalise, Proper, repeated, sentBit, unequal, flip, flips, lineBit}
 use Rattle.line.proofs.Sums.{sum-ext}
@@ -67,7 +66,7 @@ module _ (o : OneBalise) (proper : Proper o) (few : TooFew o) (p : ℕ) (after-s
       (subst (λ (k : ℕ). differing (bitsAt (o .buffer) (p + 16) 16) k 16 ≤ 3) (word-yz o proper) (near straight 16 16 (omega arith) (omega arith))) in
       let same = telegram-still (o .x) (o .y) (o .z) u v w (proper .bytes .2) (proper .bytes .3) (proper .bytes .4)
       (bits-lt (o .buffer) (p + 8) 8) (bits-lt (o .buffer) (p + 16) 8) (bits-lt (o .buffer) (p + 24) 8)
-      near-x near-y near-z near-yz (saysTelegram (o .telegram)) (r .0) (proper .valid) (r .1) in
+      near-x near-y near-z near-yz (o .telegram) (r .0) (proper .valid) (r .1) in
       record {
         at-true = parts-sent o p after-start before-end straight;
         x-is = same .0;

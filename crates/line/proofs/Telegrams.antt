@@ -6,14 +6,17 @@ use Prim.Native.Nat.{ℕ, zero, suc, _+_, _*_, _^_, _≤_, _<_}
 use native.Mathlib.Omega.{arith}
 use lib.Dec.{eqb}
 use lib.Bits.{bitXor, xor-lt, xor-comm}
-use Rattle.words.specs.Answer.{Outcome, gives, refuses, pick}
+use Rattle.words.specs.Answer.{Answer, gives, refuses, then, pick}
+use Rattle.words.specs.Why.{Why, why, unsaid, notCodeWord}
 use Rattle.words.specs.Code.{readWord, readShort}
 use Rattle.words.proofs.Digits.{xor-twice, xor-none}
 use Rattle.words.proofs.Weight.{no-ones-zero}
 use Rattle.words.proofs.Widths.{Width, short, long}
 use Rattle.words.proofs.Laws.{three-flips}
 use Rattle.telegram.specs.Sync.{differing}
-use Rattle.telegram.specs.Telegram.{Said, figures, number, Letter, X, Y, Z, YZ, Received, reads, refused, then, notFifteen, shortWord, longWord, telegram}
+use Rattle.telegram.specs.Telegram.{Received, named, notFifteen, shortWord, longWord, telegram}
+use Rattle.telegram.specs.declared.Telegram.{Telegram}
+use Rattle.telegram.specs.declared.Word.{Word}
 use Rattle.telegram.specs.Place.{accepted}
 use Rattle.line.proofs.Bits.{ones-differing}
 use Rattle.words.proofs.HowMany.{onesOf}
@@ -34,9 +37,9 @@ still {n} wide c w x y hc hw sent received few = go (onesOf f n) refl
     go : (k : ℕ) → onesOf f n ≡ k → w ≡ c
     go zero none = sym (xor-none n c w hc hw (no-ones-zero f n f-lt none))
     go (suc k) some =
-        let bad : readWord n (bitXor c f) ≡ refuses 1 = three-flips wide c f x sent f-lt (subst (λ (j : ℕ). 1 ≤ j) (sym some) (omega arith)) count in
+        let bad : readWord n (bitXor c f) ≡ refuses (notCodeWord n f) = three-flips wide c f x sent f-lt (subst (λ (j : ℕ). 1 ≤ j) (sym some) (omega arith)) count in
         let again : bitXor c f ≡ w = xor-twice n c w hc hw in
-        let same : gives y ≡ refuses 1 = sym received ∙ ap (readWord n) (sym again) ∙ bad in
+        let same : gives y ≡ refuses (notCodeWord n f) = sym received ∙ ap (readWord n) (sym again) ∙ bad in
         absurd (let z : _≡_ {A = ℕ} 0 1 = cc in omega arith)
 
 -- A short word of a telegram is accepted only as a code word.
@@ -44,30 +47,30 @@ as-short : (w a : ℕ) → shortWord w ≡ gives a → readShort w ≡ gives a
 unfolding shortWord
 as-short w a e = go (readShort w) e
   where
-    go : (o : Outcome ℕ) → notFifteen o ≡ gives a → o ≡ gives a
+    go : (o : Answer Why ℕ) → then o notFifteen ≡ gives a → o ≡ gives a
     go (refuses k) e = e
     go (gives v) e = by (eqb v 15) e
       where
-        by : (t : Bool) → pick t (refuses 3) (gives v) ≡ gives a → gives v ≡ gives a
+        by : (t : Bool) → pick t (refuses (why 3 unsaid)) (gives v) ≡ gives a → _≡_ {A = Answer Why ℕ} (gives v) (gives a)
         by true e = absurd (let z : _≡_ {A = ℕ} 0 1 = cc in omega arith)
         by false e = e
 
 -- A word whose answer goes on to a telegram gave a figure.
-onward : (l : Letter) (o : Outcome ℕ) (next : ℕ → Received) (m : Said) → then l o next ≡ reads m → (a : ℕ) × (o ≡ gives a) × (next a ≡ reads m)
+onward : (l : Word) (o : Answer Why ℕ) (next : ℕ → Received) (m : Telegram) → then (named l o) next ≡ gives m → (a : ℕ) × (o ≡ gives a) × (next a ≡ gives m)
 onward l (gives a) next m e = (a, refl, e)
 onward l (refuses k) next m e = absurd (let z : _≡_ {A = ℕ} 0 1 = cc in omega arith)
 
-pub taken : (r : Received) → accepted r ≡ true → (m : Said) × (r ≡ reads m)
-taken (reads m) e = (m, refl)
-taken (refused k l) e = absurd (let z : _≡_ {A = ℕ} 0 1 = cc in omega arith)
+pub taken : (r : Received) → accepted r ≡ true → (m : Telegram) × (r ≡ gives m)
+taken (gives m) e = (m, refl)
+taken (refuses b) e = absurd (let z : _≡_ {A = ℕ} 0 1 = cc in omega arith)
 
 -- what follows an X that reads a
 abbrev after : ℕ → ℕ → ℕ → Received
 after y z a =
-    pick (eqb a 12) (then YZ (longWord y z) (λ m. reads (number m)))
-    (then Y (shortWord y) (λ b. then Z (shortWord z) (λ c. reads (figures a b c))))
+    pick (eqb a 12) (then (named Word.YZ (longWord y z)) (λ m. gives (Telegram.Number m)))
+    (then (named Word.Y (shortWord y)) (λ b. then (named Word.Z (shortWord z)) (λ c. gives (Telegram.Figures a b c))))
 
-on-x : (x y z : ℕ) → telegram x y z ≡ then X (shortWord x) (after y z)
+on-x : (x y z : ℕ) → telegram x y z ≡ then (named Word.X (shortWord x)) (after y z)
 unfolding telegram
 on-x x y z = refl
 
@@ -78,30 +81,30 @@ module _ (x y z u v w : ℕ) (hx : x < 256) (hy : y < 256) (hz : z < 256) (hu : 
   short-still : (c k : ℕ) → c < 256 → k < 256 → (a d : ℕ) → shortWord c ≡ gives a → shortWord k ≡ gives d → differing k c 8 ≤ 3 → k ≡ c
   short-still c k hc hk a d sent received near = still short c k a d hc hk (as-short c a sent) (as-short k d received) near
 
-  rest-still : (a : ℕ) (m n : Said) → after y z a ≡ reads m → after v w a ≡ reads n → (v ≡ y) × (w ≡ z)
+  rest-still : (a : ℕ) (m n : Telegram) → after y z a ≡ gives m → after v w a ≡ gives n → (v ≡ y) × (w ≡ z)
   unfolding longWord
   rest-still a m n sent received = go (eqb a 12) sent received
     where
       go : (t : Bool)
-          → pick t (then YZ (longWord y z) (λ m. reads (number m))) (then Y (shortWord y) (λ b. then Z (shortWord z) (λ c. reads (figures a b c)))) ≡ reads m
-          → pick t (then YZ (longWord v w) (λ m. reads (number m))) (then Y (shortWord v) (λ b. then Z (shortWord w) (λ c. reads (figures a b c)))) ≡ reads n
+          → pick t (then (named Word.YZ (longWord y z)) (λ m. gives (Telegram.Number m))) (then (named Word.Y (shortWord y)) (λ b. then (named Word.Z (shortWord z)) (λ c. gives (Telegram.Figures a b c)))) ≡ gives m
+          → pick t (then (named Word.YZ (longWord v w)) (λ m. gives (Telegram.Number m))) (then (named Word.Y (shortWord v)) (λ b. then (named Word.Z (shortWord w)) (λ c. gives (Telegram.Figures a b c)))) ≡ gives n
           → (v ≡ y) × (w ≡ z)
       go true e f =
-          let s = onward YZ (longWord y z) (λ m. reads (number m)) m e in
-          let r = onward YZ (longWord v w) (λ m. reads (number m)) n f in
+          let s = onward Word.YZ (longWord y z) (λ m. gives (Telegram.Number m)) m e in
+          let r = onward Word.YZ (longWord v w) (λ m. gives (Telegram.Number m)) n f in
           let same : v * 256 + w ≡ y * 256 + z = still long (y * 256 + z) (v * 256 + w) (s .0) (r .0) (omega arith) (omega arith) (s .1) (r .1) near-yz in
           (omega arith, omega arith)
       go false e f =
-          let s = onward Y (shortWord y) (λ b. then Z (shortWord z) (λ c. reads (figures a b c))) m e in
-          let r = onward Y (shortWord v) (λ b. then Z (shortWord w) (λ c. reads (figures a b c))) n f in
-          let s′ = onward Z (shortWord z) (λ c. reads (figures a (s .0) c)) m (s .2) in
-          let r′ = onward Z (shortWord w) (λ c. reads (figures a (r .0) c)) n (r .2) in
+          let s = onward Word.Y (shortWord y) (λ b. then (named Word.Z (shortWord z)) (λ c. gives (Telegram.Figures a b c))) m e in
+          let r = onward Word.Y (shortWord v) (λ b. then (named Word.Z (shortWord w)) (λ c. gives (Telegram.Figures a b c))) n f in
+          let s′ = onward Word.Z (shortWord z) (λ c. gives (Telegram.Figures a (s .0) c)) m (s .2) in
+          let r′ = onward Word.Z (shortWord w) (λ c. gives (Telegram.Figures a (r .0) c)) n (r .2) in
           (short-still y v hy hv (s .0) (r .0) (s .1) (r .1) near-y, short-still z w hz hw (s′ .0) (r′ .0) (s′ .1) (r′ .1) near-z)
 
-  pub telegram-still : (m n : Said) → telegram x y z ≡ reads m → telegram u v w ≡ reads n → (u ≡ x) × (v ≡ y) × (w ≡ z)
+  pub telegram-still : (m n : Telegram) → telegram x y z ≡ gives m → telegram u v w ≡ gives n → (u ≡ x) × (v ≡ y) × (w ≡ z)
   telegram-still m n sent received =
-      let s = onward X (shortWord x) (after y z) m (sym (on-x x y z) ∙ sent) in
-      let r = onward X (shortWord u) (after v w) n (sym (on-x u v w) ∙ received) in
+      let s = onward Word.X (shortWord x) (after y z) m (sym (on-x x y z) ∙ sent) in
+      let r = onward Word.X (shortWord u) (after v w) n (sym (on-x u v w) ∙ received) in
       let same-x : u ≡ x = short-still x u hx hu (s .0) (r .0) (s .1) (r .1) near-x in
       let figure : gives (r .0) ≡ gives (s .0) = sym (r .1) ∙ ap shortWord same-x ∙ s .1 in
       let same-a : r .0 ≡ s .0 = cc in

@@ -6,11 +6,10 @@ use Prim.Native.Nat.{ℕ, _+_, _*_, _/_, _%_, _≤_, _<_}
 use native.Mathlib.Omega.{arith}
 use lib.Dec.{eqb}
 use borrow.Author.Tests.{eqb-true, eqb-false, eq-eqb}
+use Rattle.words.specs.Answer.{gives}
 use Rattle.words.specs.Plain.{among}
 use Rattle.telegram.specs.Stretch.{bitAt, bitsAt}
-use Rattle.telegram.specs.Telegram.{reads}
 use Rattle.telegram.specs.Place.{areSyncs, wordsAt, accepted, isPlace, places}
-use Rattle.telegram.specs.Says.{saysTelegram}
 use Rattle.line.specs.Line.{OneBalise, Proper, repeated, sentBit, flip, lineBit, sentAt, flipsAt, placesOf}
 use Rattle.line.proofs.Bits.{spelt-alike}
 use Rattle.line.proofs.Round.{data-sent, first-sync, second-sync, word-x, word-y, word-z}
@@ -42,7 +41,7 @@ module _ (o : OneBalise) (proper : Proper o) (p : ℕ) (after-start : o .start �
       let line : q + (d + i) ≡ 32 * (q / 32) + (d + i) = omega arith in
       ap (bitAt (o .buffer)) here ∙ received (d + i) (omega arith) ∙ ap (sentBit o) line ∙ data-sent o (q / 32) (d + i) (omega arith) (omega arith))
 
-  words-are : wordsAt (o .buffer) p ≡ reads (saysTelegram (o .telegram))
+  words-are : wordsAt (o .buffer) p ≡ gives (o .telegram)
   words-are =
       same-words o p (word-is 8 (omega arith) (omega arith) ∙ word-x o proper) (word-is 16 (omega arith) (omega arith) ∙ word-y o proper)
       (word-is 24 (omega arith) (omega arith) ∙ word-z o proper) ∙ proper .valid
@@ -87,7 +86,7 @@ unflipped-place o proper p sent none =
     is-a-place o proper p (h .0) (h .1) (h .2) (no-flip o (lineBit o p) 40 none)
 
 -- There the telegram sent is read.
-pub unflipped-words : (o : OneBalise) → Proper o → (p : ℕ) → sentAt o p ≡ true → flipsAt o p ≡ 0 → wordsAt (o .buffer) p ≡ reads (saysTelegram (o .telegram))
+pub unflipped-words : (o : OneBalise) → Proper o → (p : ℕ) → sentAt o p ≡ true → flipsAt o p ≡ 0 → wordsAt (o .buffer) p ≡ gives (o .telegram)
 unfolding flipsAt
 unflipped-words o proper p sent none =
     let h = sent-parts o p sent in

@@ -8,12 +8,11 @@ use mathlib.Core.Path.{_≡_}
 use mathlib.Core.Bool.{Bool, true, _&&_}
 use mathlib.Core.List.{List, [], _∷_}
 use lib.Dec.{eqb, leb, ltb}
-use Rattle.words.specs.Answer.{pick}
+use Rattle.words.specs.Answer.{pick, gives}
 use Rattle.telegram.specs.Stretch.{bitAt, inside}
 use Rattle.telegram.specs.Sync.{isGood}
-use Rattle.telegram.specs.Telegram.{reads, telegram}
+use Rattle.telegram.specs.Telegram.{telegram}
 use Rattle.telegram.specs.Place.{places}
-use Rattle.telegram.specs.Says.{saysTelegram}
 use Rattle.telegram.specs.declared.Telegram.{Telegram}
 
 -- One balise, heard over one stretch of a lent buffer.
@@ -37,7 +36,7 @@ pub record OneBalise : Type 0 where
 pub record Proper (o : OneBalise) : Type 0 where
   pub bytes : (o .s < 256) × (o .t < 256) × (o .x < 256) × (o .y < 256) × (o .z < 256)
   pub pair : isGood (o .s) (o .t) ≡ true
-  pub valid : telegram (o .x) (o .y) (o .z) ≡ reads (saysTelegram (o .telegram))
+  pub valid : telegram (o .x) (o .y) (o .z) ≡ gives (o .telegram)
   pub taken : inside (o .buffer) (o .start) (o .len) ≡ true
 
 -- The eight bytes that the balise repeats.

@@ -12,6 +12,7 @@ use borrow.Fn.Kinds.{endedOf}
 use denote.Triple.Clauses.{AtExit}
 use Rattle.words.specs.Answer.{gives, refuses, pick}
 use Rattle.words.specs.Plain.{isCode, figure}
+use Rattle.words.specs.Why.{parity, notCodeWord}
 use Rattle.words.specs.Code.{exchanged, readWord, readLong}
 use Rattle.words.specs.Says.{saysLongRead}
 use Rattle.words.specs.declared.LongRead.{LongRead}
@@ -41,19 +42,19 @@ an-answer : (w : ℕ) → (r : LongRead) × (saysLongRead r ≡ readLong w)
 unfolding readWord
 an-answer w = go (isCode 16 (exchanged 16 w))
   where
-    go : (t : Bool) → (r : LongRead) × (saysLongRead r ≡ pick t (gives (figure 16 (exchanged 16 w))) (refuses 1))
+    go : (t : Bool) → (r : LongRead) × (saysLongRead r ≡ pick t (gives (figure 16 (exchanged 16 w))) (refuses (notCodeWord 16 w)))
     go true = (LongRead.Figure (figure 16 (exchanged 16 w)), refl)
-    go false = (LongRead.NotCode, refl)
+    go false = (LongRead.NotCode (parity 16 w), refl)
 
 -- Going down the list, one reads what the checks read.
 by-the-list : (w : ℕ) → w < 65536 → readBy list w ≡ readLong w
 unfolding readBy
 by-the-list w small =
     ⊎-elim
-    (λ m. ap (λ (t : Bool). pick t (gives (passed w list)) (refuses 1)) (lt-ltb (passed w list) (length list) (m .0))
+    (λ m. ap (λ (t : Bool). pick t (gives (passed w list)) (refuses (notCodeWord 16 w))) (lt-ltb (passed w list) (length list) (m .0))
     ∙ sym (listed-reads (passed w list) w (subst (λ (n : ℕ). passed w list < n) list-length (m .0)) (m .1)))
-    (λ n. ap (λ (t : Bool). pick t (gives (passed w list)) (refuses 1)) (le-ltb (passed w list) (length list) (omega arith))
-    ∙ refused 16 w false (sym (not-listed w small (λ x l. n .1 x (omega (arith, list-length))))) refl)
+    (λ n. ap (λ (t : Bool). pick t (gives (passed w list)) (refuses (notCodeWord 16 w))) (le-ltb (passed w list) (length list) (omega arith))
+    ∙ refused 16 w false (sym (not-listed w small (λ x l. n .1 x (omega (arith, list-length))))) (parity 16 w) refl refl)
     (met-or-not w list)
 
 -- A figure has one word, and a word one figure.

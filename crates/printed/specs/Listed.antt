@@ -5,7 +5,8 @@ use Prim.Native.Nat.{ℕ, zero, suc}
 use mathlib.Core.List.{List, [], _∷_}
 use lib.Dec.{eqb, ltb}
 use lib.ListN.{length}
-use Rattle.words.specs.Answer.{Outcome, gives, refuses, pick}
+use Rattle.words.specs.Answer.{Answer, gives, refuses, pick}
+use Rattle.words.specs.Why.{Why, notCodeWord}
 use Rattle.words.specs.Code.{sent}
 
 -- The words of n figures from x on: each is the one that is sent for its figure.
@@ -22,6 +23,7 @@ unfoldable pub passed : ℕ → List ℕ → ℕ
 passed w [] = 0
 passed w (e ∷ l) = pick (eqb e w) 0 (suc (passed w l))
 
--- What one reads with a list in hand: the figure at which one meets the received word w, or refusal 1 if it is not there.
-unfoldable pub readBy : List ℕ → ℕ → Outcome ℕ
-readBy l w = pick (ltb (passed w l) (length l)) (gives (passed w l)) (refuses 1)
+-- What one reads with a list in hand: the figure at which one meets the received word w, or, if it is not there, refusal 1 with whether
+-- its ones are odd or even.
+unfoldable pub readBy : List ℕ → ℕ → Answer Why ℕ
+readBy l w = pick (ltb (passed w l) (length l)) (gives (passed w l)) (refuses (notCodeWord 16 w))

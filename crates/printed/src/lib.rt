@@ -4,8 +4,10 @@
 ghost use mathlib.Core.Path.{_≡_};
 ghost use Rattle.words.specs.Code.{readLong};
 ghost use Rattle.words.specs.Says.{saysLongRead};
+ghost use Rattle.words.specs.Why.{parity};
 ghost use Rattle.printed.specs.Listed.{list};
 use words::LongRead;
+use words::Parity;
 
 mod table;
 
@@ -16,7 +18,7 @@ pub fn list() -> [u16; 2048]
     table::WORDS
 }
 
-// The figure of a received long word, or refusal 1: the list is searched for it from figure 0 on.
+// The figure of a received long word, or refusal 1 with its parity: the list is searched for it from figure 0 on.
 pub fn read_long(word: u16) -> LongRead
     ensures { λ r. ⌜ saysLongRead r ≡ readLong word ⌝ }
 {
@@ -28,5 +30,16 @@ pub fn read_long(word: u16) -> LongRead
         }
         figure += 1;
     }
-    LongRead::NotCode
+    LongRead::NotCode(parity(word))
+}
+
+// Whether the ones of a long word are odd or even in number.
+fn parity(word: u16) -> Parity
+    ensures { λ r. ⌜ r ≡ parity 16 word ⌝ }
+{
+    if u16::count_ones(word) % 2 == 0 {
+        Parity::Even
+    } else {
+        Parity::Odd
+    }
 }

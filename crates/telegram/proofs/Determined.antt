@@ -7,14 +7,14 @@ use contract.Lifetimes.{Lfts}
 use borrow.Fn.Kinds.{Dens, endedOf}
 use denote.Triple.Clauses.{AtExit}
 use Rattle.words.specs.Answer.{Outcome, gives, refuses, pick}
+use Rattle.words.specs.Why.{why, are, unsaid}
 use Rattle.telegram.specs.Sync.{Good}
-use Rattle.telegram.specs.Telegram.{Said, figures, number, Letter, X, Y, Z, YZ, Received, reads, refused}
+use Rattle.telegram.specs.Telegram.{Received, badWord}
 use Rattle.telegram.specs.Place.{Single, at}
 use Rattle.telegram.specs.Survey.{Alike, alike}
-use Rattle.telegram.specs.Says.{saysPair, saysTelegram, saysWord, saysTelegramRead, saysFound, saysSurveyed}
+use Rattle.telegram.specs.Says.{saysPair, saysTelegramRead, saysFound, saysSurveyed}
 use Rattle.telegram.specs.declared.Pair.{Pair}
 use Rattle.telegram.specs.declared.Telegram.{Telegram}
-use Rattle.telegram.specs.declared.Word.{Word}
 use Rattle.telegram.specs.declared.TelegramRead.{TelegramRead}
 use Rattle.telegram.specs.declared.Found.{Found}
 use Rattle.telegram.specs.declared.Surveyed.{Surveyed}
@@ -38,46 +38,27 @@ pub pair-back : (r : Pair) → pairOf (saysPair r) ≡ r
 pair-back Pair.Good = refl
 pair-back Pair.NotSeven = refl
 
-abbrev pub telegramOf : Said → Telegram
-telegramOf (figures x y z) = Telegram.Figures x y z
-telegramOf (number m) = Telegram.Number m
-
-pub telegram-back : (t : Telegram) → telegramOf (saysTelegram t) ≡ t
-telegram-back (Telegram.Figures x y z) = refl
-telegram-back (Telegram.Number m) = refl
-
-abbrev pub wordOf : Letter → Word
-wordOf X = Word.X
-wordOf Y = Word.Y
-wordOf Z = Word.Z
-wordOf YZ = Word.YZ
-
-pub word-back : (w : Word) → wordOf (saysWord w) ≡ w
-word-back Word.X = refl
-word-back Word.Y = refl
-word-back Word.Z = refl
-word-back Word.YZ = refl
-
 abbrev pub readOf : Received → TelegramRead
-readOf (reads m) = TelegramRead.Is (telegramOf m)
-readOf (refused n letter) = pick (eqb n 1) (TelegramRead.NotCode (wordOf letter)) (TelegramRead.Fifteen (wordOf letter))
+readOf (gives m) = TelegramRead.Is m
+readOf (refuses (badWord w (why n (are p)))) = TelegramRead.NotCode w p
+readOf (refuses (badWord w (why n unsaid))) = TelegramRead.Fifteen w
 
 pub read-back : (r : TelegramRead) → readOf (saysTelegramRead r) ≡ r
-read-back (TelegramRead.Is t) = ap TelegramRead.Is (telegram-back t)
-read-back (TelegramRead.NotCode w) = ap TelegramRead.NotCode (word-back w)
-read-back (TelegramRead.Fifteen w) = ap TelegramRead.Fifteen (word-back w)
+read-back (TelegramRead.Is t) = refl
+read-back (TelegramRead.NotCode w p) = refl
+read-back (TelegramRead.Fifteen w) = refl
 
 -- Of a reading that is none, any answer will do.
 abbrev pub told : {A : Type 0} → (Telegram → A) → A → Received → A
-told some none (reads m) = some (telegramOf m)
-told some none (refused n letter) = none
+told some none (gives m) = some m
+told some none (refuses b) = none
 
 abbrev pub foundOf : Outcome Single → Found
 foundOf (gives (at p m)) = told (λ t. Found.At p t) Found.NoPlace m
 foundOf (refuses n) = pick (eqb n 4) Found.NotSeven (pick (eqb n 5) Found.Beyond Found.NoPlace)
 
 pub found-back : (r : Found) → foundOf (saysFound r) ≡ r
-found-back (Found.At p t) = ap (λ (u : Telegram). Found.At p u) (telegram-back t)
+found-back (Found.At p t) = refl
 found-back Found.NotSeven = refl
 found-back Found.Beyond = refl
 found-back Found.NoPlace = refl
@@ -88,7 +69,7 @@ surveyedOf (refuses n) =
     pick (eqb n 4) Surveyed.NotSeven (pick (eqb n 5) Surveyed.Beyond (pick (eqb n 6) Surveyed.NoPlace Surveyed.Differ))
 
 pub surveyed-back : (r : Surveyed) → surveyedOf (saysSurveyed r) ≡ r
-surveyed-back (Surveyed.Alike t first count) = ap (λ (u : Telegram). Surveyed.Alike u first count) (telegram-back t)
+surveyed-back (Surveyed.Alike t first count) = refl
 surveyed-back Surveyed.Differ = refl
 surveyed-back Surveyed.NotSeven = refl
 surveyed-back Surveyed.Beyond = refl

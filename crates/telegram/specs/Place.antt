@@ -10,7 +10,7 @@ use lib.Dec.{eqb, leb}
 use Rattle.words.specs.Answer.{Outcome, gives, refuses, pick}
 use Rattle.telegram.specs.Stretch.{bitsAt, inside}
 use Rattle.telegram.specs.Sync.{isGood}
-use Rattle.telegram.specs.Telegram.{Received, reads, refused, telegram}
+use Rattle.telegram.specs.Telegram.{Received, telegram}
 
 -- Whether the bytes a and z are s and t, in either order.
 unfoldable pub areSyncs : ℕ → ℕ → ℕ → ℕ → Bool
@@ -22,8 +22,8 @@ wordsAt b p = telegram (bitsAt b (p + 8) 8) (bitsAt b (p + 16) 8) (bitsAt b (p +
 
 -- Whether words are accepted.
 abbrev pub accepted : Received → Bool
-accepted (reads m) = true
-accepted (refused n letter) = false
+accepted (gives m) = true
+accepted (refuses b) = false
 
 -- Whether p, a bit of the stretch that begins at `start` and has `len` bits, is a place, with the sync words s and t.
 unfoldable pub isPlace : List ℕ → ℕ → ℕ → ℕ → ℕ → ℕ → Bool

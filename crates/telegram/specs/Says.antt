@@ -1,13 +1,12 @@
 -- The number and the values of document 01 for each case of this crate's answers.
 -- Assumes nothing.
 use Rattle.words.specs.Answer.{Outcome, gives, refuses}
+use Rattle.words.specs.Why.{why, are, unsaid}
 use Rattle.telegram.specs.Sync.{Good, good}
-use Rattle.telegram.specs.Telegram.{Said, figures, number, Letter, X, Y, Z, YZ, Received, reads, refused}
+use Rattle.telegram.specs.Telegram.{Received, badWord}
 use Rattle.telegram.specs.Place.{Single, at}
 use Rattle.telegram.specs.Survey.{Alike, alike}
 use Rattle.telegram.specs.declared.Pair.{Pair}
-use Rattle.telegram.specs.declared.Telegram.{Telegram}
-use Rattle.telegram.specs.declared.Word.{Word}
 use Rattle.telegram.specs.declared.TelegramRead.{TelegramRead}
 use Rattle.telegram.specs.declared.Found.{Found}
 use Rattle.telegram.specs.declared.Surveyed.{Surveyed}
@@ -17,35 +16,23 @@ abbrev pub saysPair : Pair → Outcome Good
 saysPair Pair.Good = gives good
 saysPair Pair.NotSeven = refuses 4
 
--- The figures of X, Y and Z, or the number.
-abbrev pub saysTelegram : Telegram → Said
-saysTelegram (Telegram.Figures x y z) = figures x y z
-saysTelegram (Telegram.Number m) = number m
-
--- The letter of a word.
-abbrev pub saysWord : Word → Letter
-saysWord Word.X = X
-saysWord Word.Y = Y
-saysWord Word.Z = Z
-saysWord Word.YZ = YZ
-
--- A telegram; "not a code word" is 1, "a short word of a telegram reads 15" is 3, each of the word named.
+-- A telegram; "not a code word" is 1, "a short word of a telegram reads 15" is 3, each of the word named; with 1 goes the parity of its ones.
 abbrev pub saysTelegramRead : TelegramRead → Received
-saysTelegramRead (TelegramRead.Is t) = reads (saysTelegram t)
-saysTelegramRead (TelegramRead.NotCode w) = refused 1 (saysWord w)
-saysTelegramRead (TelegramRead.Fifteen w) = refused 3 (saysWord w)
+saysTelegramRead (TelegramRead.Is t) = gives t
+saysTelegramRead (TelegramRead.NotCode w p) = refuses (badWord w (why 1 (are p)))
+saysTelegramRead (TelegramRead.Fifteen w) = refuses (badWord w (why 3 unsaid))
 
 -- A place with its telegram; "sync pair doesn't differ in seven bits" is 4, "stretch beyond the buffer, or above
 -- 16,777,216 bits" is 5, "no place in the stretch" is 6.
 abbrev pub saysFound : Found → Outcome Single
-saysFound (Found.At p t) = gives (at p (reads (saysTelegram t)))
+saysFound (Found.At p t) = gives (at p (gives t))
 saysFound Found.NotSeven = refuses 4
 saysFound Found.Beyond = refuses 5
 saysFound Found.NoPlace = refuses 6
 
 -- Places that are alike, by their telegram, the first of them and their number; 4, 5 and 6 as above, and "places differ" is 7.
 abbrev pub saysSurveyed : Surveyed → Outcome Alike
-saysSurveyed (Surveyed.Alike t first count) = gives (alike (reads (saysTelegram t)) first count)
+saysSurveyed (Surveyed.Alike t first count) = gives (alike (gives t) first count)
 saysSurveyed Surveyed.NotSeven = refuses 4
 saysSurveyed Surveyed.Beyond = refuses 5
 saysSurveyed Surveyed.NoPlace = refuses 6

@@ -4,45 +4,42 @@
 -- Assumes nothing.
 use Prim.Native.Nat.{ℕ, _+_, _*_}
 use lib.Dec.{eqb}
-use Rattle.words.specs.Answer.{Outcome, gives, refuses, pick}
+use Rattle.words.specs.Answer.{Answer, gives, refuses, then, pick}
+use Rattle.words.specs.Why.{Why, why, unsaid}
 use Rattle.words.specs.Code.{readShort, readLong}
+use Rattle.telegram.specs.declared.Telegram.{Telegram}
+use Rattle.telegram.specs.declared.Word.{Word}
 
--- What a telegram says: the figures of X, Y and Z, or, if X reads 12, the number that Y and Z carry together.
-pub data Said : Type 0 where
-  figures : ℕ → ℕ → ℕ → Said
-  number : ℕ → Said
+-- The first bad word of a telegram: which it is, and why it is refused.
+pub data BadWord : Type 0 where
+  badWord : Word → Why → BadWord
 
--- The words of a telegram, by their letters.
-pub data Letter : Type 0 where
-  X Y Z YZ : Letter
+-- What the three received words are: a telegram (the figures of X, Y and Z, or, if X reads 12, the number that Y and Z carry
+-- together), or refused for its first bad word.
+abbrev pub Received : Type 0
+Received = Answer BadWord Telegram
 
--- What the three received words are: a telegram, or refused with a number for the word named.
-pub data Received : Type 0 where
-  reads : Said → Received
-  refused : ℕ → Letter → Received
+-- A word's answer; its refusal names the word.
+abbrev pub named : Word → Answer Why ℕ → Answer BadWord ℕ
+named word (gives x) = gives x
+named word (refuses b) = refuses (badWord word b)
 
--- A word's answer: its figure goes on to what follows; its refusal decides.
-abbrev pub then : Letter → Outcome ℕ → (ℕ → Received) → Received
-then at (gives x) next = next x
-then at (refuses n) next = refused n at
+-- A short word of a telegram that reads x: 15 is refused with 3, and nothing is said of its ones.
+abbrev pub notFifteen : ℕ → Answer Why ℕ
+notFifteen x = pick (eqb x 15) (refuses (why 3 unsaid)) (gives x)
 
--- What a short word of a telegram reads: as any short word, but 15 is refused with 3.
-abbrev pub notFifteen : Outcome ℕ → Outcome ℕ
-notFifteen (gives x) = pick (eqb x 15) (refuses 3) (gives x)
-notFifteen (refuses n) = refuses n
-
--- What the received short word w of a telegram reads.
-unfoldable pub shortWord : ℕ → Outcome ℕ
-shortWord w = notFifteen (readShort w)
+-- What the received short word w of a telegram reads: as any short word, but for 15.
+unfoldable pub shortWord : ℕ → Answer Why ℕ
+shortWord w = then (readShort w) notFifteen
 
 -- Y and Z as one long word, Y its high byte.
-unfoldable pub longWord : ℕ → ℕ → Outcome ℕ
+unfoldable pub longWord : ℕ → ℕ → Answer Why ℕ
 longWord y z = readLong (y * 256 + z)
 
 -- The received words x, y, z as a telegram.
 unfoldable pub telegram : ℕ → ℕ → ℕ → Received
 telegram x y z =
-    then X (shortWord x) λ a.
+    then (named Word.X (shortWord x)) λ a.
     pick (eqb a 12)
-    (then YZ (longWord y z) λ m. reads (number m))
-    (then Y (shortWord y) λ b. then Z (shortWord z) λ c. reads (figures a b c))
+    (then (named Word.YZ (longWord y z)) λ m. gives (Telegram.Number m))
+    (then (named Word.Y (shortWord y)) λ b. then (named Word.Z (shortWord z)) λ c. gives (Telegram.Figures a b c))

@@ -3,10 +3,10 @@ ghost use mathlib.Core.Path.{_≡_};
 ghost use Prim.Native.Nat.{_+_, _-_, _*_, _<_, _≤_, _^_};
 ghost use mathlib.Core.List.{_∷_};
 ghost use lib.ListN.{length};
-ghost use Rattle.telegram.specs.Telegram.{reads};
+ghost use Rattle.words.specs.Answer.{gives};
 ghost use Rattle.telegram.specs.Place.{wordsAt, places};
 ghost use Rattle.telegram.specs.Survey.{together};
-ghost use Rattle.telegram.specs.Says.{saysTelegram, saysSurveyed};
+ghost use Rattle.telegram.specs.Says.{saysSurveyed};
 use crate::Surveyed;
 use crate::Telegram;
 use crate::ahead::eight_on;
@@ -18,7 +18,7 @@ use crate::forty::word;
 
 // The place `first`, which says `telegram`, with the places after it and before bit `stop`: all alike, or two differ.
 pub fn to_first(buf: &[u8], first: usize, stop: usize, s: u8, t: u8, telegram: Telegram) -> Surveyed
-    requires { ⌜ (first < stop) × (stop + 39 ≤ 8 * length (now buf)) × (stop + 39 < 2 ^ 64) × (reads (saysTelegram telegram) ≡ wordsAt (now buf) first) ⌝ }
+    requires { ⌜ (first < stop) × (stop + 39 ≤ 8 * length (now buf)) × (stop + 39 < 2 ^ 64) × (gives telegram ≡ wordsAt (now buf) first) ⌝ }
     ensures { λ r. ⌜ saysSurveyed r ≡ together (now (buf .entry)) (first ∷ places (now (buf .entry)) (first + 1) (stop - (first + 1) + 39) s t) ⌝ }
 {
     let kept = bits(buf, first, 40);

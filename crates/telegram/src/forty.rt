@@ -47,7 +47,7 @@ fn is_telegram(read: TelegramRead) -> bool
 {
     match read {
         TelegramRead::Is(_) => true,
-        TelegramRead::NotCode(_) => false,
+        TelegramRead::NotCode(_, _) => false,
         TelegramRead::Fifteen(_) => false,
     }
 }

@@ -18,6 +18,7 @@ mod stretch;
 mod sync;
 
 pub use stretch::inside;
+use words::Parity;
 use words::ShortRead;
 
 // What the judgement of a sync pair answers.
@@ -40,10 +41,10 @@ pub enum Word {
     YZ,
 }
 
-// What reading three received words answers: the telegram, or which word was bad and why.
+// What reading three received words answers: the telegram, or which word was bad and why; one that is no code word with the parity of its ones.
 pub enum TelegramRead {
     Is(Telegram),
-    NotCode(Word),
+    NotCode(Word, Parity),
     Fifteen(Word),
 }
 
@@ -83,16 +84,17 @@ pub fn good_pair(s: u8, t: u8) -> Pair
 pub fn read(x: u8, y: u8, z: u8) -> TelegramRead
     ensures { λ r. ⌜ saysTelegramRead r ≡ telegram x y z ⌝ }
 {
-    let ShortRead::Figure(a) = words::read_short(x) else {
-        return TelegramRead::NotCode(Word::X);
-    };
-    if a == 15 {
-        return TelegramRead::Fifteen(Word::X);
-    }
-    if a == 12 {
-        after_x::number(y, z)
-    } else {
-        after_x::figures(a, y, z)
+    match words::read_short(x) {
+        ShortRead::NotCode(p) => TelegramRead::NotCode(Word::X, p),
+        ShortRead::Figure(a) => {
+            if a == 15 {
+                TelegramRead::Fifteen(Word::X)
+            } else if a == 12 {
+                after_x::number(y, z)
+            } else {
+                after_x::figures(a, y, z)
+            }
+        }
     }
 }
 

@@ -47,7 +47,7 @@ fn found_at(p: usize, v: u64) -> Found
     let read = words_of(v);
     match read {
         TelegramRead::Is(telegram) => Found::At { place: p, telegram },
-        TelegramRead::NotCode(_) => Found::NoPlace,
+        TelegramRead::NotCode(_, _) => Found::NoPlace,
         TelegramRead::Fifteen(_) => Found::NoPlace,
     }
 }

@@ -2,17 +2,25 @@
 use crate::say;
 use crate::say::more;
 use words::LongRead;
+use words::Parity;
 
-// Whether two answers are the same.
+fn is_odd(p: Parity) -> bool {
+    match p {
+        Parity::Odd => true,
+        Parity::Even => false,
+    }
+}
+
+// Whether two answers are the same: the same figure, or the same parity.
 fn is_same(a: LongRead, b: LongRead) -> bool {
     match a {
         LongRead::Figure(x) => match b {
             LongRead::Figure(y) => x == y,
-            LongRead::NotCode => false,
+            LongRead::NotCode(_) => false,
         },
-        LongRead::NotCode => match b {
+        LongRead::NotCode(p) => match b {
             LongRead::Figure(_) => false,
-            LongRead::NotCode => true,
+            LongRead::NotCode(q) => is_odd(p) == is_odd(q),
         },
     }
 }

@@ -46,7 +46,7 @@ fn is_read(figure: u16, word: u16, read: LongRead, by: &[u8]) -> bool {
             }
             f == figure
         }
-        LongRead::NotCode => {
+        LongRead::NotCode(_) => {
             begin(figure, word);
             say::text(by);
             say::text(b" refused with 1\n");
@@ -58,7 +58,7 @@ fn is_read(figure: u16, word: u16, read: LongRead, by: &[u8]) -> bool {
 // Whether a reader refuses the word shown by mistake; if not, a line says so.
 fn is_refused(figure: u16, word: u16, read: LongRead, by: &[u8]) -> bool {
     match read {
-        LongRead::NotCode => true,
+        LongRead::NotCode(_) => true,
         LongRead::Figure(f) => {
             begin(figure, word);
             say::text(b" by mistake");

@@ -3,7 +3,7 @@
 use Prim.Native.Nat.{ℕ}
 use mathlib.Core.Path.{_≡_, refl, sym, ap, _∙_}
 use mathlib.Core.List.{List, [], _∷_}
-use Rattle.words.specs.Answer.{gives}
+use Rattle.words.specs.Answer.{Outcome, gives}
 use Rattle.walk.specs.declared.Direction.{Direction}
 use Rattle.walk.specs.declared.Placed.{Placed}
 use Rattle.walk.specs.declared.Picked.{Picked}
@@ -82,7 +82,7 @@ unfolding fitting
 told bs Fitted.NoRow h s = rw (sym (h Direction.Present), sym (h Direction.Opposite))
 told bs (Fitted.Is p) h s = go (p .direction) refl
   where
-    word : (d : Direction) → p .direction ≡ d → gives p ≡ gives (record { direction = d; kind = p .kind; speed = speedOf (p .kind) (p .a); a = p .a })
+    word : (d : Direction) → p .direction ≡ d → _≡_ {A = Outcome Picked} (gives p) (gives (record { direction = d; kind = p .kind; speed = speedOf (p .kind) (p .a); a = p .a }))
     word d e = rw (sym e, sym s)
 
     fit-in : (way d : Direction) → p .direction ≡ d → fitIn (rowsFor way) bs ≡ along way d (fit (p .kind) (p .a))

@@ -9,7 +9,9 @@ use borrow.Author.Tests.{le-leb, lt-leb}
 use Rattle.words.specs.Answer.{Outcome, gives, refuses, pick}
 use Rattle.words.specs.Bits.{bit}
 use Rattle.words.specs.Plain.{isCode, figure, plainWord}
+use Rattle.words.specs.Why.{why, are, parity, notCodeWord}
 use Rattle.words.specs.Code.{other, exchanged, readWord, writeWord, sent}
+use Rattle.words.specs.declared.Parity.{Parity}
 use Rattle.words.proofs.Digits.{bit-lt, word-lt}
 use Rattle.words.proofs.Figures.{figure-lt}
 
@@ -19,12 +21,14 @@ module _ (n w : ℕ) (t : Bool) (t-is : t ≡ isCode n (exchanged n w)) where
   unfolding readWord
   accepted x x-is so =
       ap gives (mod-eq-of-lt (subst (λ (k : ℕ). k < 2 ^ n) (sym x-is) (figure-lt n (exchanged n w))) ∙ x-is)
-      ∙ ap (λ (b : Bool). pick b (gives (figure n (exchanged n w))) (refuses 1)) (sym so ∙ t-is)
+      ∙ ap (λ (b : Bool). pick b (gives (figure n (exchanged n w))) (refuses (notCodeWord n w))) (sym so ∙ t-is)
 
-  -- Any other word is refused with 1.
-  pub refused : t ≡ false → refuses 1 ≡ readWord n w
+  -- Any other word is refused with 1, and says its parity.
+  pub refused : (p : Parity) → p ≡ parity n w → t ≡ false → refuses (why 1 (are p)) ≡ readWord n w
   unfolding readWord
-  refused so = ap (λ (b : Bool). pick b (gives (figure n (exchanged n w))) (refuses 1)) (sym so ∙ t-is)
+  refused p p-is so =
+      ap (λ (q : Parity). refuses (why 1 (are q))) p-is
+      ∙ ap (λ (b : Bool). pick b (gives (figure n (exchanged n w))) (refuses (notCodeWord n w))) (sym so ∙ t-is)
 
 -- A sent word has n bits.
 pub sent-lt : (n x : ℕ) → sent n x < 2 ^ n

@@ -9,6 +9,7 @@ use lib.Bits.{bitXor}
 use borrow.Author.Tests.{le-leb, leb-true}
 use Rattle.words.specs.Answer.{Outcome, gives, refuses, pick}
 use Rattle.words.specs.Plain.{isCheck, carriers}
+use Rattle.words.specs.Why.{notCodeWord}
 use Rattle.words.specs.Code.{readWord, writeWord, sent, readShort, writeShort, readLong, writeLong}
 use Rattle.words.proofs.Widths.{Width, short, long}
 use Rattle.words.proofs.Laws.{heard, noise, even-number, four-ones, three-flips, reads-back, writes-back, figure-small}
@@ -29,7 +30,7 @@ unfolding carriers isCheck
 without short x l = omega arith
 without long x l = omega arith
 
-given : (t : Bool) (v w : ℕ) → pick t (gives v) (refuses 2) ≡ gives w → (t ≡ true) × (v ≡ w)
+given : (t : Bool) (v w : ℕ) → pick {A = Outcome ℕ} t (gives v) (refuses 2) ≡ gives w → (t ≡ true) × (v ≡ w)
 given true v w e = (refl, cc)
 given false v w e = absurd (let z : _≡_ {A = ℕ} 0 1 = cc in omega arith)
 
@@ -55,9 +56,9 @@ pub short-read-written : (w x : ℕ) → w < 256 → readShort w ≡ gives x →
 short-read-written = read-written short
 
 pub short-noise : (c f x : ℕ) → readShort c ≡ gives x → readShort (bitXor c f) ≡ heard x (readShort f)
-short-noise = noise 8
+short-noise = noise short
 
-pub short-three-flips : (c f x : ℕ) → readShort c ≡ gives x → f < 256 → 1 ≤ onesOf f 8 → onesOf f 8 ≤ 3 → readShort (bitXor c f) ≡ refuses 1
+pub short-three-flips : (c f x : ℕ) → readShort c ≡ gives x → f < 256 → 1 ≤ onesOf f 8 → onesOf f 8 ≤ 3 → readShort (bitXor c f) ≡ refuses (notCodeWord 8 f)
 short-three-flips = three-flips short
 
 pub short-four-ones : (w x : ℕ) → w < 256 → readShort w ≡ gives x → (w ≡ 0 → ⊥) → 4 ≤ onesOf w 8
@@ -74,9 +75,9 @@ pub long-read-written : (w x : ℕ) → w < 65536 → readLong w ≡ gives x →
 long-read-written = read-written long
 
 pub long-noise : (c f x : ℕ) → readLong c ≡ gives x → readLong (bitXor c f) ≡ heard x (readLong f)
-long-noise = noise 16
+long-noise = noise long
 
-pub long-three-flips : (c f x : ℕ) → readLong c ≡ gives x → f < 65536 → 1 ≤ onesOf f 16 → onesOf f 16 ≤ 3 → readLong (bitXor c f) ≡ refuses 1
+pub long-three-flips : (c f x : ℕ) → readLong c ≡ gives x → f < 65536 → 1 ≤ onesOf f 16 → onesOf f 16 ≤ 3 → readLong (bitXor c f) ≡ refuses (notCodeWord 16 f)
 long-three-flips = three-flips long
 
 pub long-four-ones : (w x : ℕ) → w < 65536 → readLong w ≡ gives x → (w ≡ 0 → ⊥) → 4 ≤ onesOf w 16

@@ -5,12 +5,14 @@ use Prim.Native.Nat.{ℕ}
 use contract.Lifetimes.{Lfts}
 use borrow.Fn.Kinds.{Dens, endedOf}
 use denote.Triple.Clauses.{AtExit}
-use Rattle.words.specs.Answer.{Outcome, gives, refuses}
+use Rattle.words.specs.Answer.{Answer, Outcome, gives, refuses}
+use Rattle.words.specs.Why.{Why, why, are, unsaid}
 use Rattle.words.specs.Says.{saysShortRead, saysShortWritten, saysLongRead, saysLongWritten}
 use Rattle.words.specs.declared.ShortRead.{ShortRead}
 use Rattle.words.specs.declared.ShortWritten.{ShortWritten}
 use Rattle.words.specs.declared.LongRead.{LongRead}
 use Rattle.words.specs.declared.LongWritten.{LongWritten}
+use Rattle.words.specs.declared.Parity.{Parity}
 use Rattle.words.proofs.Told.{told}
 use Rattle.words.proofs.read_short.Kinds as read-short-kinds
 use Rattle.words.proofs.read_short.Reads as read-short-reads
@@ -21,15 +23,20 @@ use Rattle.words.proofs.read_long.Reads as read-long-reads
 use Rattle.words.proofs.write_long.Kinds as write-long-kinds
 use Rattle.words.proofs.write_long.Reads as write-long-reads
 
+-- The parity that a refusal says; of one that says none, any will do.
+abbrev pub parityOf : Why → Parity
+parityOf (why n (are p)) = p
+parityOf (why n unsaid) = Parity.Odd
+
 -- From what an answer says, the answer.
-pub shortRead : Outcome ℕ → ShortRead
+pub shortRead : Answer Why ℕ → ShortRead
 shortRead (gives x) = ShortRead.Figure x
-shortRead (refuses n) = ShortRead.NotCode
+shortRead (refuses b) = ShortRead.NotCode (parityOf b)
 
 pub shortRead-back : (r : ShortRead) → shortRead (saysShortRead r) ≡ r
 unfolding shortRead
 shortRead-back (ShortRead.Figure x) = refl
-shortRead-back ShortRead.NotCode = refl
+shortRead-back (ShortRead.NotCode p) = refl
 
 pub shortWritten : Outcome ℕ → ShortWritten
 shortWritten (gives w) = ShortWritten.Word w
@@ -40,14 +47,14 @@ unfolding shortWritten
 shortWritten-back (ShortWritten.Word w) = refl
 shortWritten-back ShortWritten.TooLarge = refl
 
-pub longRead : Outcome ℕ → LongRead
+pub longRead : Answer Why ℕ → LongRead
 longRead (gives x) = LongRead.Figure x
-longRead (refuses n) = LongRead.NotCode
+longRead (refuses b) = LongRead.NotCode (parityOf b)
 
 pub longRead-back : (r : LongRead) → longRead (saysLongRead r) ≡ r
 unfolding longRead
 longRead-back (LongRead.Figure x) = refl
-longRead-back LongRead.NotCode = refl
+longRead-back (LongRead.NotCode p) = refl
 
 pub longWritten : Outcome ℕ → LongWritten
 longWritten (gives w) = LongWritten.Word w

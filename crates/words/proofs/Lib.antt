@@ -8,6 +8,7 @@ pub mod Spelling
 pub mod Checking
 pub mod Answers
 pub mod Linear
+pub mod Parities
 pub mod Zero
 pub mod Weight
 pub mod Widths

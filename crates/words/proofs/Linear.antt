@@ -19,7 +19,7 @@ mixed : (p x y : ℕ) → x < 2 → y < 2 → p * differ x y % 2 ≡ (p * x + p 
 mixed p = two-bits (λ x y. p * differ x y % 2 ≡ (p * x + p * y) % 2) (omega arith) (omega arith) (omega arith) (omega arith)
 
 -- A count of ones of an exclusive or is odd where the two counts together are.
-count-xor : (p : ℕ → ℕ) (a b n : ℕ) → count p (bitXor a b) n % 2 ≡ (count p a n + count p b n) % 2
+pub count-xor : (p : ℕ → ℕ) (a b n : ℕ) → count p (bitXor a b) n % 2 ≡ (count p a n + count p b n) % 2
 unfolding count
 count-xor p a b zero = refl
 count-xor p a b (suc n) =

@@ -10,3 +10,8 @@ bit w i = w / 2 ^ i % 2
 unfoldable pub word : (ℕ → ℕ) → ℕ → ℕ
 word f zero = 0
 word f (suc n) = f n * 2 ^ n + word f n
+
+-- How many of the n lowest bits of the word w are ones.
+unfoldable pub onesOf : ℕ → ℕ → ℕ
+onesOf w zero = 0
+onesOf w (suc n) = bit w n + onesOf w n

@@ -4,9 +4,10 @@
 -- Assumes nothing.
 use Prim.Native.Nat.{ℕ}
 use lib.Dec.{eqb, leb}
-use Rattle.words.specs.Answer.{Outcome, gives, refuses, pick}
+use Rattle.words.specs.Answer.{Answer, Outcome, gives, refuses, pick}
 use Rattle.words.specs.Bits.{bit, word}
 use Rattle.words.specs.Plain.{isCode, figure, plainWord}
+use Rattle.words.specs.Why.{Why, notCodeWord}
 
 -- The position with which the position i is exchanged: 3 with 4, 11 with 12, any other with itself.
 unfoldable pub other : ℕ → ℕ
@@ -16,9 +17,9 @@ other i = pick (eqb i 3) 4 (pick (eqb i 4) 3 (pick (eqb i 11) 12 (pick (eqb i 12
 unfoldable pub exchanged : ℕ → ℕ → ℕ
 exchanged n w = word (λ i. bit w (other i)) n
 
--- What a received word of n bits reads: its figure, or refusal 1 if it is not a code word.
-unfoldable pub readWord : ℕ → ℕ → Outcome ℕ
-readWord n w = pick (isCode n (exchanged n w)) (gives (figure n (exchanged n w))) (refuses 1)
+-- What a received word of n bits reads: its figure, or, if it is not a code word, refusal 1 with whether its ones are odd or even.
+unfoldable pub readWord : ℕ → ℕ → Answer Why ℕ
+readWord n w = pick (isCode n (exchanged n w)) (gives (figure n (exchanged n w))) (refuses (notCodeWord n w))
 
 -- The word that is sent for the figure x.
 unfoldable pub sent : ℕ → ℕ → ℕ
@@ -29,7 +30,7 @@ unfoldable pub writeWord : ℕ → ℕ → ℕ → Outcome ℕ
 writeWord n largest x = pick (leb x largest) (gives (sent n x)) (refuses 2)
 
 -- The short code M(8,4): what a received byte reads.
-abbrev pub readShort : ℕ → Outcome ℕ
+abbrev pub readShort : ℕ → Answer Why ℕ
 readShort = readWord 8
 
 -- Its figures are 0 to 15: what writing one answers.
@@ -37,7 +38,7 @@ abbrev pub writeShort : ℕ → Outcome ℕ
 writeShort = writeWord 8 15
 
 -- The long code M(16,11): what sixteen received bits read.
-abbrev pub readLong : ℕ → Outcome ℕ
+abbrev pub readLong : ℕ → Answer Why ℕ
 readLong = readWord 16
 
 -- Its figures are 0 to 2,047: what writing one answers.

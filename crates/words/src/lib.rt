@@ -1,6 +1,6 @@
 // The two codes of document 01: M(8,4) for a short word, M(16,11) for a long one.
-// Promises: a word reads as its figure or is refused, nothing is mended; a figure is written as its one word or refused.
-// Specification: specs/Plain.antt (the plain code H), specs/Code.antt (the sent code M), specs/Says.antt (the answers).
+// Promises: a word reads as its figure or is refused and says whether its ones are odd or even, nothing is mended; a figure is written as its one word or refused.
+// Specification: specs/Plain.antt (the plain code H), specs/Code.antt (the sent code M), specs/Why.antt (refusals of words), specs/Says.antt (the answers).
 ghost use mathlib.Core.Path.{_≡_};
 ghost use Rattle.words.specs.Code.{readShort, writeShort, readLong, writeLong};
 ghost use Rattle.words.specs.Says.{saysShortRead, saysShortWritten, saysLongRead, saysLongWritten};
@@ -8,10 +8,16 @@ ghost use Rattle.words.specs.Says.{saysShortRead, saysShortWritten, says
 mod reading;
 mod writing;
 
+// Whether a word's ones are odd or even in number.
+pub enum Parity {
+    Odd,
+    Even,
+}
+
 // What reading a short word answers.
 pub enum ShortRead {
     Figure(u8),
-    NotCode,
+    NotCode(Parity),
 }
 
 // What writing a figure as a short word answers.
@@ -23,7 +29,7 @@ pub enum ShortWritten {
 // What reading a long word answers.
 pub enum LongRead {
     Figure(u16),
-    NotCode,
+    NotCode(Parity),
 }
 
 // What writing a figure as a long word answers.
@@ -32,7 +38,7 @@ pub enum LongWritten {
     TooLarge,
 }
 
-// The figure of a received short word, or refusal 1.
+// The figure of a received short word, or refusal 1 with its parity.
 pub fn read_short(word: u8) -> ShortRead
     ensures { λ r. ⌜ saysShortRead r ≡ readShort word ⌝ }
 {
@@ -41,7 +47,7 @@ pub fn read_short(word: u8) -> ShortRead
         let x = reading::figure(w);
         ShortRead::Figure((x % 256) as u8)
     } else {
-        ShortRead::NotCode
+        ShortRead::NotCode(reading::parity(w))
     }
 }
 
@@ -57,7 +63,7 @@ pub fn write_short(figure: u8) -> ShortWritten
     }
 }
 
-// The figure of a received long word, or refusal 1.
+// The figure of a received long word, or refusal 1 with its parity.
 pub fn read_long(word: u16) -> LongRead
     ensures { λ r. ⌜ saysLongRead r ≡ readLong word ⌝ }
 {
@@ -66,7 +72,7 @@ pub fn read_long(word: u16) -> LongRead
         let x = reading::figure(w);
         LongRead::Figure((x % 65536) as u16)
     } else {
-        LongRead::NotCode
+        LongRead::NotCode(reading::parity(w))
     }
 }
 

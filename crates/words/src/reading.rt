@@ -5,6 +5,8 @@ ghost use lib.Dec.{eqb};
 ghost use lib.Count.{ones};
 ghost use Rattle.words.specs.Plain.{isCode, figure};
 ghost use Rattle.words.specs.Code.{exchanged};
+ghost use Rattle.words.specs.Why.{parity};
+use crate::Parity;
 
 // The positions that each check looks at, in a word as received: bits 3 and 4 stand exchanged there, and 11 and 12.
 const CHECK_8: u32 = 0xFF00;
@@ -34,6 +36,18 @@ pub fn is_code(w: u32) -> bool
         && is_even(w & CHECK_2)
         && is_even(w & CHECK_1)
         && is_even(w & CHECK_0)
+}
+
+// Whether the ones of the received word w, of the long code, or of the short one if it is a byte, are odd or even in number.
+pub fn parity(w: u32) -> Parity
+    requires { ⌜ w < 65536 ⌝ }
+    ensures { λ r. ⌜ (r ≡ parity 16 w) × (w < 256 → r ≡ parity 8 w) ⌝ }
+{
+    if is_even(w) {
+        Parity::Even
+    } else {
+        Parity::Odd
+    }
 }
 
 // The figure that the received word w carries, as a word of the long code, and of the short one if it is a byte: bits 15, 14, 13, 11, 12, 10, 9 and 7 to 4.

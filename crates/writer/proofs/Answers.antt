@@ -7,8 +7,8 @@ use Prim.Native.Nat.{ℕ, _+_, _*_, _≤_, _<_}
 use lib.Dec.{leb, ltb}
 use lib.ListN.{length, drop}
 use borrow.Author.Tests.{ltb-true, ltb-false, le-leb, lt-leb}
-use Rattle.words.specs.Answer.{gives, refuses, pick}
-use Rattle.telegram.specs.Sync.{isGood, good, pairOf}
+use Rattle.words.specs.Answer.{Outcome, gives, refuses, pick}
+use Rattle.telegram.specs.Sync.{isGood, Good, good, pairOf}
 use Rattle.writer.specs.Words.{Words}
 use Rattle.writer.specs.Write.{telegrams, inRange, bytesOf, onto}
 use Rattle.writer.proofs.Bytes.{telegrams-length}
@@ -19,7 +19,7 @@ module _ (s t : ℕ) where
   unfolding pairOf
   is-good e = go (isGood s t) e
     where
-      go : (b : Bool) → gives good ≡ pick b (gives good) (refuses 4) → b ≡ true
+      go : (b : Bool) → _≡_ {A = Outcome Good} (gives good) (pick b (gives good) (refuses 4)) → b ≡ true
       go true e = refl
       go false e = cc
 
@@ -28,7 +28,7 @@ module _ (s t : ℕ) where
   unfolding pairOf
   not-good e = go (isGood s t) e
     where
-      go : (b : Bool) → refuses 4 ≡ pick b (gives good) (refuses 4) → b ≡ false
+      go : (b : Bool) → _≡_ {A = Outcome Good} (refuses 4) (pick b (gives good) (refuses 4)) → b ≡ false
       go false e = refl
       go true e = cc
 

@@ -6,7 +6,7 @@ use Prim.Native.Nat.{ℕ, _≤_, _<_}
 use native.Mathlib.Omega.{arith}
 use lib.Dec.{eqb, leb, ltb}
 use borrow.Author.Tests.{leb-true, leb-false, lt-ltb, le-ltb}
-use Rattle.words.specs.Answer.{gives, refuses, pick}
+use Rattle.words.specs.Answer.{Outcome, gives, refuses, pick}
 use Rattle.words.specs.Code.{writeWord, sent}
 use Rattle.telegram.specs.declared.Telegram.{Telegram}
 use Rattle.writer.specs.Words.{tooLarge, hasFifteen, wordsOf, spelt}
@@ -17,7 +17,7 @@ module _ (n largest x : ℕ) where
   unfolding writeWord
   written w e = go (leb x largest) refl e
     where
-      go : (t : Bool) → leb x largest ≡ t → gives w ≡ pick t (gives (sent n x)) (refuses 2) → (x ≤ largest) × (w ≡ sent n x)
+      go : (t : Bool) → leb x largest ≡ t → _≡_ {A = Outcome ℕ} (gives w) (pick t (gives (sent n x)) (refuses 2)) → (x ≤ largest) × (w ≡ sent n x)
       go true is e = (leb-true x largest is, cc)
       go false is e = absurd (let z : _≡_ {A = ℕ} 0 1 = cc in omega arith)
 
@@ -26,7 +26,7 @@ module _ (n largest x : ℕ) where
   unfolding writeWord
   unwritten e = go (leb x largest) refl e
     where
-      go : (t : Bool) → leb x largest ≡ t → refuses 2 ≡ pick t (gives (sent n x)) (refuses 2) → largest < x
+      go : (t : Bool) → leb x largest ≡ t → _≡_ {A = Outcome ℕ} (refuses 2) (pick t (gives (sent n x)) (refuses 2)) → largest < x
       go false is e = leb-false x largest is
       go true is e = absurd (let z : _≡_ {A = ℕ} 0 1 = cc in omega arith)
 

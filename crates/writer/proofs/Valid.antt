@@ -8,7 +8,8 @@ use native.Mathlib.Omega.{arith}
 use lib.Dec.{eqb, ltb}
 use lib.ListN.{length}
 use borrow.Author.Tests.{ltb-false, le-leb, lt-ltb}
-use Rattle.words.specs.Answer.{gives, refuses, pick}
+use Rattle.words.specs.Answer.{Answer, gives, refuses, then, pick}
+use Rattle.words.specs.Why.{Why, why, unsaid}
 use Rattle.words.specs.Plain.{isCheck, carriers}
 use Rattle.words.specs.Code.{readShort, readLong, sent}
 use Rattle.words.proofs.Widths.{short, long}
@@ -16,8 +17,7 @@ use Rattle.words.proofs.Laws.{reads-back}
 use Rattle.words.proofs.Answers.{sent-lt}
 use Rattle.telegram.specs.Stretch.{inside}
 use Rattle.telegram.specs.Sync.{isGood}
-use Rattle.telegram.specs.Telegram.{reads, notFifteen, shortWord, longWord, telegram}
-use Rattle.telegram.specs.Says.{saysTelegram}
+use Rattle.telegram.specs.Telegram.{notFifteen, shortWord, longWord, telegram}
 use Rattle.telegram.specs.declared.Telegram.{Telegram}
 use Rattle.line.specs.Line.{Proper}
 use Rattle.writer.specs.Words.{asked, tooLarge, hasFifteen, wordsOf}
@@ -35,7 +35,7 @@ short-back x l = reads-back short x (omega arith)
 
 in-telegram : (x : ℕ) → ltb 15 x ≡ false → eqb x 15 ≡ false → shortWord (sent 8 x) ≡ gives x
 unfolding shortWord
-in-telegram x small other = ap notFifteen (short-back x (ltb-false 15 x small)) ∙ ap (λ (t : Bool). pick t (refuses 3) (gives x)) other
+in-telegram x small other = ap (λ (o : Answer Why ℕ). then o notFifteen) (short-back x (ltb-false 15 x small)) ∙ ap (λ (t : Bool). pick t (refuses (why 3 unsaid)) (gives x)) other
 
 long-back : (m : ℕ) → ltb 2047 m ≡ false → longWord (sent 16 m / 256) (sent 16 m % 256) ≡ gives m
 unfolding longWord carriers isCheck
@@ -46,7 +46,7 @@ long-back m small =
 
 -- What the telegram asked for asks of its words.
 abbrev Reads : Telegram → Type 0
-Reads m = telegram (wordsOf m .x) (wordsOf m .y) (wordsOf m .z) ≡ reads (saysTelegram m)
+Reads m = telegram (wordsOf m .x) (wordsOf m .y) (wordsOf m .z) ≡ gives m
 
 figures-read : (x y z : ℕ) → eqb x 12 ≡ false → tooLarge (Telegram.Figures x y z) ≡ false → hasFifteen (Telegram.Figures x y z) ≡ false → Reads (Telegram.Figures x y z)
 unfolding wordsOf tooLarge hasFifteen telegram

@@ -10,9 +10,9 @@ use borrow.Author.Tests.{le-leb, lt-leb}
 use lib.Dec.{leb}
 use Rattle.words.specs.Answer.{Outcome, gives, refuses, pick}
 use Rattle.telegram.specs.Stretch.{inside}
-use Rattle.telegram.specs.Telegram.{Received, reads}
+use Rattle.telegram.specs.Telegram.{Received}
 use Rattle.telegram.specs.Survey.{Alike, alike, surveyed}
-use Rattle.telegram.specs.Says.{saysTelegram, saysSurveyed}
+use Rattle.telegram.specs.Says.{saysSurveyed}
 use Rattle.telegram.specs.declared.Surveyed.{Surveyed}
 use Rattle.telegram.proofs.Taken.{taken}
 use Rattle.contact.specs.Judge.{read, judged}
@@ -54,14 +54,14 @@ returns c =
     let v = c .before .before .before .before .survey in
     let g = c .before .before .surveyed .given in
     count-alike (a .buf .now) (a .start) (a .len) (a .s) (a .t) (v .result) (v .ensures)
-    (reads (saysTelegram (g .0 .0))) (g .0 .1 .0) (g .0 .1 .1 .0) true (ap saysSurveyed (g .1)) (le-leb _ _ (c .if1 .taken))
+    (gives (g .0 .0)) (g .0 .1 .0) (g .0 .1 .1 .0) true (ap saysSurveyed (g .1)) (le-leb _ _ (c .if1 .taken))
 
 or-neither-requires : tie.Need-or-neither-requires
 or-neither-requires c κs =
     let a = c .before .before .before .before .before .before .args in
     let v = c .before .before .before .before .survey in
     let g = c .before .before .surveyed .given in
-    let h = alike-taken (a .buf .now) (a .start) (a .len) (a .s) (a .t) (v .result) (v .ensures) (alike (reads (saysTelegram (g .0 .0))) (g .0 .1 .0) (g .0 .1 .1 .0)) (ap saysSurveyed (g .1)) in
+    let h = alike-taken (a .buf .now) (a .start) (a .len) (a .s) (a .t) (v .result) (v .ensures) (alike (gives (g .0 .0)) (g .0 .1 .0) (g .0 .1 .1 .0)) (ap saysSurveyed (g .1)) in
     omega (arith, taken (a .buf .now) (a .start) (a .len) h)
 
 enum-told : tie.Need-enum-told
@@ -90,7 +90,7 @@ returns-2 c =
     let g = c .before .before .before .surveyed .given in
     c .or-neither .ensures
     ∙ count-alike (a .buf .now) (a .start) (a .len) (a .s) (a .t) (v .result) (v .ensures)
-    (reads (saysTelegram (g .0 .0))) (g .0 .1 .0) (g .0 .1 .1 .0) false (ap saysSurveyed (g .1)) (lt-leb _ _ (c .before .if1 .left))
+    (gives (g .0 .0)) (g .0 .1 .0) (g .0 .1 .1 .0) false (ap saysSurveyed (g .1)) (lt-leb _ _ (c .before .if1 .left))
 
 returns-3 : tie.Need-returns-3
 returns-3 c =

@@ -52,12 +52,15 @@ loop-less c = search needs
 loop-again : tie.Need-loop-again Inv-loop μ-loop
 loop-again c = (search needs, below-more _ _ (c .before .before .loop .inv .1) (c .if1 .left))
 
+parity-requires : tie.Need-parity-requires Inv-loop μ-loop
+parity-requires c κs = search needs
+
 returns-2 : tie.Need-returns-2 Inv-loop μ-loop
 returns-2 c =
-    let at = c .before in
+    let at = c .before .before in
     let none : (x : ℕ) → x < 2048 → getD list x 0 ≡ at .before .before .args .word → ⊥ =
-    λ x l e. at .loop .inv .1 x (omega (arith, c .loop-test .left)) (ap (λ (l : List ℕ). getD l x 0) (at .before .list .ensures) ∙ e) in
-    refused 16 (at .before .before .args .word) false (sym (not-listed (at .before .before .args .word) (search needs) none)) refl
+    λ x l e. at .loop .inv .1 x (omega (arith, c .before .loop-test .left)) (ap (λ (l : List ℕ). getD l x 0) (at .before .list .ensures) ∙ e) in
+    refused 16 (at .before .before .args .word) false (sym (not-listed (at .before .before .args .word) (search needs) none)) (c .parity .result) (c .parity .ensures) refl
 
 pub read-long-spec : {M : Type 1} → statement M
 read-long-spec =
@@ -74,4 +77,5 @@ read-long-spec =
     add-figure
     loop-less
     loop-again
+    parity-requires
     returns-2)

@@ -1,47 +1,48 @@
 -- `read` judges X first, and reads Y and Z by what X says.
 use mathlib.Core.Path.{_≡_, ap, sym, _∙_}
 use mathlib.Core.Bool.{Bool}
-use Prim.Native.Nat.{ℕ}
 use lib.Dec.{eqb}
 use borrow.Author.Tests.{eq-eqb, ne-eqb}
-use Rattle.words.specs.Answer.{Outcome, pick}
-use Rattle.telegram.specs.Telegram.{X, Y, Z, YZ, Received, then, shortWord, longWord, reads, figures, number, telegram}
+use Prim.Native.Nat.{ℕ}
+use Rattle.words.specs.Answer.{gives, then, pick}
+use Rattle.telegram.specs.Telegram.{Received, named, shortWord, longWord, telegram}
+use Rattle.telegram.specs.declared.Telegram.{Telegram}
+use Rattle.telegram.specs.declared.Word.{Word}
 use Rattle.telegram.proofs.Words.{a-figure, fifteen, no-code}
 use borrow.Author.Needs.{needs}
 use Rattle.telegram.proofs.read.Statement.{statement}
 use Rattle.telegram.proofs.read.Tie as tie
 
--- what follows an X that reads a
-abbrev after : ℕ → ℕ → ℕ → Received
-after y z a =
-    pick (eqb a 12) (then YZ (longWord y z) (λ m. reads (number m)))
-    (then Y (shortWord y) (λ b. then Z (shortWord z) (λ c. reads (figures a b c))))
+-- how Y and Z are read after an X that reads a: as one long word where it is 12
+abbrev byTwelve : ℕ → ℕ → ℕ → Bool → Received
+byTwelve y z a twelve =
+    pick twelve (then (named Word.YZ (longWord y z)) (λ m. gives (Telegram.Number m)))
+    (then (named Word.Y (shortWord y)) (λ b. then (named Word.Z (shortWord z)) (λ c. gives (Telegram.Figures a b c))))
 
-on-x : (x y z : ℕ) {o : Outcome ℕ} → shortWord x ≡ o → then X o (after y z) ≡ telegram x y z
-unfolding telegram
-on-x x y z e = ap (λ (o : Outcome ℕ). then X o (after y z)) (sym e)
+abbrev after : ℕ → ℕ → ℕ → Received
+after y z a = byTwelve y z a (eqb a 12)
+
+-- X reads a figure that is not 15
+module _ (t : tie.After-a) where
+  abbrev way : Bool → Received
+  way = let a = t .before .before .before .args in byTwelve (a .y) (a .z) (t .a .given .0 .0)
+
+  on-figure : (t .a .given .0 .0 ≡ 15 → ⊥) → way (eqb (t .a .given .0 .0) 12)
+      ≡ telegram (t .before .before .before .args .x) (t .before .before .before .args .y) (t .before .before .before .args .z)
+  unfolding telegram
+  on-figure other =
+      let s = t .before .before in
+      let a = s .before .args in
+      a-figure Word.X (a .x) (after (a .y) (a .z)) (s .read-short .result) (s .read-short .ensures) (t .a .given .0 .0) (t .a .given .1) other
 
 read-short-requires : tie.Need-read-short-requires
 read-short-requires c κs = search needs
 
+enum-known-p : tie.Need-enum-known-p
+enum-known-p c = search needs
+
 enum-known-a : tie.Need-enum-known-a
 enum-known-a c = search needs
-
-enum-told : tie.Need-enum-told
-enum-told c = search needs
-
-returns : tie.Need-returns
-returns c =
-    let s = c .before .before in
-    on-x (s .before .args .x) (s .before .args .y) (s .before .args .z)
-    (no-code (s .before .args .x) (s .read-short .result) (s .read-short .ensures) (c .enum-told .given .1))
-
-returns-2 : tie.Need-returns-2
-returns-2 c =
-    let t = c .before .before in
-    let s = t .before .before in
-    on-x (s .before .args .x) (s .before .args .y) (s .before .args .z)
-    (fifteen (s .before .args .x) (s .read-short .result) (s .read-short .ensures) (t .a .given .0 .0) (t .a .given .1) (c .if1 .taken))
 
 number-requires : tie.Need-number-requires
 number-requires c κs = search needs
@@ -49,44 +50,41 @@ number-requires c κs = search needs
 figures-requires : tie.Need-figures-requires
 figures-requires c κs = search needs
 
+returns : tie.Need-returns
+unfolding telegram
+returns c =
+    let s = c .before .before .before in
+    let a = s .before .args in
+    no-code Word.X (a .x) (after (a .y) (a .z)) (s .read-short .result) (s .read-short .ensures) (c .before .p .given .0 .0) (c .before .p .given .1)
+
+returns-2 : tie.Need-returns-2
+unfolding telegram
+returns-2 c =
+    let t = c .before .before in
+    let s = t .before .before in
+    let a = s .before .args in
+    fifteen Word.X (a .x) (after (a .y) (a .z)) (s .read-short .result) (s .read-short .ensures) (t .a .given .0 .0) (t .a .given .1) (c .if1 .taken)
+
 returns-3 : tie.Need-returns-3
 returns-3 c =
-    let d = c .before .before in
-    let t = d .before .before in
-    let s = t .before .before in
-    let a = t .a .given .0 .0 in
-    let y = s .before .args .y in
-    let z = s .before .args .z in
-    c .number .ensures
-    ∙ ap (λ (b : Bool). pick b (then YZ (longWord y z) (λ m. reads (number m))) (then Y (shortWord y) (λ b. then Z (shortWord z) (λ c. reads (figures a b c)))))
-    (sym (eq-eqb a 12 (c .before .if2 .taken)))
-    ∙ on-x (s .before .args .x) y z
-    (a-figure (s .before .args .x) (s .read-short .result) (s .read-short .ensures) a (t .a .given .1) (d .if1 .left))
+    let t = c .before .before .before .before in
+    c .number .ensures ∙ ap (way t) (sym (eq-eqb (t .a .given .0 .0) 12 (c .before .if2 .taken))) ∙ on-figure t (c .before .before .if1 .left)
 
 returns-4 : tie.Need-returns-4
 returns-4 c =
-    let d = c .before .before in
-    let t = d .before .before in
-    let s = t .before .before in
-    let a = t .a .given .0 .0 in
-    let y = s .before .args .y in
-    let z = s .before .args .z in
-    c .figures .ensures
-    ∙ ap (λ (b : Bool). pick b (then YZ (longWord y z) (λ m. reads (number m))) (then Y (shortWord y) (λ b. then Z (shortWord z) (λ c. reads (figures a b c)))))
-    (sym (ne-eqb a 12 (c .before .if2 .left)))
-    ∙ on-x (s .before .args .x) y z
-    (a-figure (s .before .args .x) (s .read-short .result) (s .read-short .ensures) a (t .a .given .1) (d .if1 .left))
+    let t = c .before .before .before .before in
+    c .figures .ensures ∙ ap (way t) (sym (ne-eqb (t .a .given .0 .0) 12 (c .before .if2 .left))) ∙ on-figure t (c .before .before .if1 .left)
 
 pub read-spec : {M : Type 1} → statement M
 read-spec =
     tie.close
     (tie.spec
     read-short-requires
+    enum-known-p
     enum-known-a
-    enum-told
-    returns
-    returns-2
     number-requires
     figures-requires
+    returns
+    returns-2
     returns-3
     returns-4)

@@ -7,10 +7,9 @@ use native.Mathlib.Omega.{arith}
 use borrow.Author.Needs.{needs}
 use Rattle.telegram.specs.Place.{places, found}
 use Rattle.telegram.specs.Survey.{together, surveyed}
-use Rattle.telegram.specs.Says.{saysFound, saysTelegram}
+use Rattle.telegram.specs.Says.{saysFound}
 use Rattle.telegram.specs.declared.Found.{Found}
-use Rattle.telegram.specs.Telegram.{reads}
-use Rattle.words.specs.Answer.{refuses}
+use Rattle.words.specs.Answer.{refuses, gives}
 use Rattle.telegram.proofs.Taken.{taken}
 use Rattle.telegram.proofs.Handed.{Handed, handed, as-refused}
 use Rattle.telegram.proofs.survey.Statement.{statement}
@@ -24,10 +23,10 @@ enum-known-found c = search needs
 
 -- the place that the search handed out
 at-first : (c : tie.After-known-told) → let a = c .before .before .before .before .before .args in
-    Handed (a .buf .now) (a .start) (a .len) (a .s) (a .t) (c .before .found .given .0 .0) (reads (saysTelegram (c .before .found .given .0 .1 .0)))
+    Handed (a .buf .now) (a .start) (a .len) (a .s) (a .t) (c .before .found .given .0 .0) (gives (c .before .found .given .0 .1 .0))
 at-first c =
     let a = c .before .before .before .before .before .args in
-    handed (a .buf .now) (a .start) (a .len) (a .s) (a .t) (c .before .found .given .0 .0) (reads (saysTelegram (c .before .found .given .0 .1 .0)))
+    handed (a .buf .now) (a .start) (a .len) (a .s) (a .t) (c .before .found .given .0 .0) (gives (c .before .found .given .0 .1 .0))
     (sym (c .before .before .before .find .ensures) ∙ ap saysFound (c .before .found .given .1))
 
 -- what the search refuses

@@ -1,4 +1,4 @@
--- `read_short` answers the figure exactly where every check is even.
+-- `read_short` answers the figure exactly where every check is even, and the parity elsewhere.
 use borrow.Author.Needs.{needs}
 use Rattle.words.proofs.Answers.{accepted, refused}
 use Rattle.words.proofs.read_short.Statement.{statement}
@@ -18,8 +18,13 @@ returns c =
     accepted 8 (c .before .before .before .args .word) (c .before .before .is-code .result) (c .before .before .is-code .ensures .1 (c .before .before .before .fits .word .fits))
     (c .figure .result) (c .figure .ensures .1 (c .before .before .before .fits .word .fits)) (c .before .if1 .taken)
 
+parity-requires : tie.Need-parity-requires
+parity-requires c κs = search needs
+
 returns-2 : tie.Need-returns-2
-returns-2 c = refused 8 (c .before .before .args .word) (c .before .is-code .result) (c .before .is-code .ensures .1 (c .before .before .fits .word .fits)) (c .if1 .left)
+returns-2 c =
+    refused 8 (c .before .before .before .args .word) (c .before .before .is-code .result) (c .before .before .is-code .ensures .1 (c .before .before .before .fits .word .fits))
+    (c .parity .result) (c .parity .ensures .1 (c .before .before .before .fits .word .fits)) (c .before .if1 .left)
 
 pub read-short-spec : {M : Type 1} → statement M
-read-short-spec = tie.close (tie.spec is-code-requires figure-requires cast-t7 returns returns-2)
+read-short-spec = tie.close (tie.spec is-code-requires figure-requires cast-t7 parity-requires returns returns-2)

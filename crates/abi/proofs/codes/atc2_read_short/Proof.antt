@@ -1,7 +1,11 @@
 -- `atc2_read_short` returns the figure, or the refusal, as `read_short` answers.
 -- Assumes nothing.
 use mathlib.Core.Path.{_∙_}
+use Prim.Native.Nat.{ℕ}
+use lib.IntN.{ℤ}
 use borrow.Author.Needs.{needs}
+use Rattle.words.specs.Answer.{Answer}
+use Rattle.words.specs.Why.{Why, numbered}
 use Rattle.words.specs.Says.{saysShortRead}
 use Rattle.abi.specs.Face.{returned, itself}
 use Rattle.abi.proofs.Carried.{carried, as-i32}
@@ -20,11 +24,15 @@ cast-result c = search needs
 enum-told : tie.Need-enum-told
 enum-told c = search needs
 
+-- What is returned of an answer.
+abbrev face : Answer Why ℕ → ℤ
+face o = returned itself (numbered o)
+
 returns : tie.Need-returns
-returns c = as-i32 (search needs) ∙ carried (returned itself) saysShortRead (c .before .x .given .1) (c .before .before .before .read-short .ensures)
+returns c = as-i32 (search needs) ∙ carried face saysShortRead (c .before .x .given .1) (c .before .before .before .read-short .ensures)
 
 returns-2 : tie.Need-returns-2
-returns-2 c = carried (returned itself) saysShortRead (c .enum-told .given .1) (c .before .before .read-short .ensures)
+returns-2 c = carried face saysShortRead (c .enum-told .given .1) (c .before .before .read-short .ensures)
 
 pub atc2-read-short-spec : {M : Type 1} → statement M
 atc2-read-short-spec = tie.close (tie.spec read-short-requires enum-known-x cast-result enum-told returns returns-2)

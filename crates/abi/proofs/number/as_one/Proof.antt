@@ -2,8 +2,6 @@
 -- Assumes nothing.
 use mathlib.Core.Path.{sym, ap}
 use native.Mathlib.Omega.{arith}
-use Rattle.telegram.specs.Says.{saysTelegram}
-use Rattle.telegram.specs.declared.Telegram.{Telegram}
 use Rattle.abi.specs.Face.{asOne}
 use borrow.Author.Needs.{needs}
 use Rattle.abi.proofs.number.as_one.Statement.{statement}
@@ -46,10 +44,10 @@ add-result-3 : tie.Need-add-result-3
 add-result-3 c = search needs
 
 returns : tie.Need-returns
-returns c = (ap (λ (t : Telegram). asOne (saysTelegram t)) (sym (c .before .telegram .given .1)), omega arith)
+returns c = (ap asOne (sym (c .before .telegram .given .1)), omega arith)
 
 returns-2 : tie.Need-returns-2
-returns-2 c = (ap (λ (t : Telegram). asOne (saysTelegram t)) (sym (c .before .telegram2 .given .1)), omega arith)
+returns-2 c = (ap asOne (sym (c .before .telegram2 .given .1)), omega arith)
 
 pub as-one-spec : {M : Type 1} → statement M
 as-one-spec =

@@ -1,9 +1,7 @@
 -- `number` answers as the long word of Y and Z reads.
-use mathlib.Core.Path.{ap, sym}
-use Prim.Native.Nat.{ℕ}
-use Rattle.words.specs.Answer.{Outcome}
-use Rattle.words.specs.Says.{saysLongRead}
-use Rattle.telegram.specs.Telegram.{YZ, then, reads, number}
+use Rattle.words.specs.Answer.{gives}
+use Rattle.words.specs.declared.LongRead.{LongRead}
+use Rattle.telegram.specs.declared.Telegram.{Telegram}
 use Rattle.telegram.proofs.Words.{long-is}
 use borrow.Author.Needs.{needs}
 use Rattle.telegram.proofs.after_x.number.Statement.{statement}
@@ -18,22 +16,23 @@ add-read-long c = search needs
 read-long-requires : tie.Need-read-long-requires
 read-long-requires c κs = search needs
 
+enum-known-p : tie.Need-enum-known-p
+enum-known-p c = search needs
+
 enum-known-m : tie.Need-enum-known-m
 enum-known-m c = search needs
 
-enum-told : tie.Need-enum-told
-enum-told c = search needs
-
 returns : tie.Need-returns
 returns c =
-    ap (λ (o : Outcome ℕ). then YZ o (λ m. reads (number m)))
-    (sym (long-is (c .before .before .before .args .y) (c .before .before .before .args .z) (c .before .before .read-long .result) (c .before .before .read-long .ensures) (ap saysLongRead (c .enum-told .given .1))))
+    let s = c .before .before .before in
+    let a = s .before .args in
+    long-is (a .y) (a .z) (λ m. gives (Telegram.Number m)) (s .read-long .result) (LongRead.NotCode (c .before .p .given .0 .0)) (s .read-long .ensures) (c .before .p .given .1)
 
 returns-2 : tie.Need-returns-2
 returns-2 c =
-    let a = c .before .before .before .before .args in
-    ap (λ (o : Outcome ℕ). then YZ o (λ m. reads (number m)))
-    (sym (long-is (a .y) (a .z) (c .before .before .before .read-long .result) (c .before .before .before .read-long .ensures) (ap saysLongRead (c .before .m .given .1))))
+    let s = c .before .before .before in
+    let a = s .before .args in
+    long-is (a .y) (a .z) (λ m. gives (Telegram.Number m)) (s .read-long .result) (LongRead.Figure (c .before .m .given .0 .0)) (s .read-long .ensures) (c .before .m .given .1)
 
 pub number-spec : {M : Type 1} → statement M
 number-spec =
@@ -42,7 +41,7 @@ number-spec =
     mul-read-long
     add-read-long
     read-long-requires
+    enum-known-p
     enum-known-m
-    enum-told
     returns
     returns-2)
