@@ -56,3 +56,4 @@ pub mod Needed
 pub mod MarksMet
 pub mod RidesMet
 pub mod NumbersMet
+pub mod SectionsMet
