@@ -1,0 +1,4 @@
+pub mod Decimal
+pub mod Placing
+pub mod Standing
+pub mod Determined
