@@ -1,0 +1,12 @@
+-- `space` has as many bytes as its type says.
+use Prim.Native.Nat.{ℕ}
+use mathlib.Core.Path.{sym}
+use lib.ListN.{length-replicate}
+use Rattle.listen.proofs.space.Statement.{statement}
+use Rattle.listen.proofs.space.Tie as tie
+
+returns : tie.Need-returns
+returns c = sym (length-replicate {A = ℕ} 2097152 0)
+
+pub space-spec : {M : Type 1} → statement M
+space-spec = tie.close (tie.spec returns)
