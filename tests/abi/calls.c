@@ -174,6 +174,59 @@ static void balises(void)
     for (int i = 0; i < 9; i++) same("its bytes as they were", buf[i], number[i]);
 }
 
+/* Whether a test balise of four telegrams, between three bytes of quiet line, is read by the detector, and as the telegram sent; 2: as another. */
+static int heard(uint8_t x, uint16_t y, uint8_t z, uint8_t s, uint8_t t, uint64_t telegram)
+{
+    uint8_t cable[23];
+    struct atc2_search search;
+    uint64_t contact[2], out[3];
+    int is_read = 0;
+    for (int i = 0; i < 23; i++) cable[i] = 0xFF;
+    if (atc2_write_balise(x, y, z, s, t, 4, cable + 3, 16) != ATC2_SHORT || atc2_write_balise(x, y, z, s, t, 4, cable + 3, 17) != 17) return 2;
+    if (atc2_judge(cable, 23, 24, 136, s, t, out) != ATC2_TELEGRAM || out[0] != telegram || out[1] != 24 || out[2] != 4) return 2;
+    if (atc2_begin(cable, 23, 0, 184, &search) != 0) return 2;
+    while (atc2_next_contact(cable, 23, &search, contact) == ATC2_CONTACT)
+        if (atc2_judge(cable, 23, contact[0], contact[1], s, t, out) == ATC2_TELEGRAM) {
+            if (out[0] != telegram || out[2] > 4) return 2;
+            is_read = 1;
+        }
+    return is_read;
+}
+
+/* Whether some good pair lets the detector read this number. */
+static int heard_with_some_pair(uint16_t number)
+{
+    for (int s = 0; s < 256; s++)
+        for (int bit = 0; bit < 8; bit++)
+            if (heard(12, number, 0, (uint8_t)s, (uint8_t)(s ^ 0xFF ^ 1 << bit), 12 * 65536 + number) == 1) return 1;
+    return 0;
+}
+
+/* Every number and every telegram of three figures, written with the sync words 72 and 0D and listened to. */
+static void all_balises(void)
+{
+    int count[3] = {0, 0, 0}, never = 0, first = -1;
+    for (uint16_t number = 0; number < 2048; number++) {
+        count[heard(12, number, 0, 0x72, 0x0D, 12 * 65536 + number)]++;
+        if (!heard_with_some_pair(number)) {
+            never++;
+            if (first < 0) first = number;
+        }
+    }
+    same("numbers read on a cable", count[1], 1789);
+    same("numbers that close the contact", count[0], 259);
+    same("numbers read otherwise", count[2], 0);
+    same("numbers never read, whatever the pair", never, 215);
+    same("the first of them", first, 15);
+    count[0] = count[1] = count[2] = 0;
+    for (uint8_t x = 0; x < 15; x++)
+        for (uint8_t y = 0; y < 15 && x != 12; y++)
+            for (uint8_t z = 0; z < 15; z++) count[heard(x, y, z, 0x72, 0x0D, x * 65536u + y * 256u + z)]++;
+    same("telegrams of three figures read on a cable", count[1], 3150);
+    same("telegrams of three figures read otherwise", count[0] + count[2], 0);
+    printf("2048 numbers and 3150 telegrams of three figures written and listened to\n");
+}
+
 static void distances(void)
 {
     same("distance 0, 1", atc2_distance(0, 1), 125);
@@ -193,6 +246,7 @@ int main(void)
     judging();
     contacts();
     balises();
+    all_balises();
     distances();
     printf("%u passed, %u failed\n", passed, failed);
     return failed != 0;
