@@ -3,8 +3,8 @@ use Prim.Native.Nat.{ℕ, _≤_}
 use mathlib.Core.Path.{_≡_, refl, _∙_}
 use native.Mathlib.Omega.{arith}
 use lib.ListN.{length}
-use Rattle.checker.proofs.reading.length_of.Statement.{statement}
-use Rattle.checker.proofs.reading.length_of.Tie as tie
+use Rattle.cards.proofs.reading.length_of.Statement.{statement}
+use Rattle.cards.proofs.reading.length_of.Tie as tie
 
 abbrev Inv-loop : tie.InvT-loop
 Inv-loop fd block₀ bytes₀ turns₀ block bytes turns = (bytes ≤ 18446744073709551615) × (length block ≡ length block₀)

@@ -6,8 +6,8 @@ use mathlib.Core.Path.{_≡_, refl, sym, ap, _∙_}
 use native.Mathlib.Omega.{arith}
 use lib.ListN.{length}
 use borrow.Author.Needs.{needs}
-use Rattle.checker.proofs.reading.fill.Statement.{statement}
-use Rattle.checker.proofs.reading.fill.Tie as tie
+use Rattle.cards.proofs.reading.fill.Statement.{statement}
+use Rattle.cards.proofs.reading.fill.Tie as tie
 
 abbrev Inv-loop : tie.InvT-loop
 Inv-loop fd buf₀ have₀ failed₀ buf have failed = (have ≤ length buf) × (length buf ≡ length buf₀)
