@@ -1,0 +1,41 @@
+-- `add` puts the version after the last where it may be added, and else leaves the store.
+use mathlib.Core.Path.{_≡_, sym, ap, _∙_}
+use Rattle.settings.specs.Store.{added}
+use Rattle.settings.specs.Says.{saysVerdict}
+use Rattle.settings.proofs.Counts.{room}
+use borrow.Author.Needs.{needs}
+use Rattle.settings.proofs.add.Statement.{statement}
+use Rattle.settings.proofs.add.Tie as tie
+
+may-add-requires : tie.Need-may-add-requires
+may-add-requires c κs = search needs
+
+enum-told : tie.Need-enum-told
+enum-told c = search needs
+
+with-one-requires : tie.Need-with-one-requires
+with-one-requires c κs =
+    let m = c .before .before in
+    room (m .before .args .store) _ (sym (m .may-add .ensures) ∙ ap saysVerdict (c .enum-told .given .1))
+
+enum-known-verdict : tie.Need-enum-known-verdict
+enum-known-verdict c = search needs
+
+returns : tie.Need-returns
+unfolding added
+returns c =
+    let t = c .before in
+    let may = sym (t .before .before .may-add .ensures) ∙ ap saysVerdict (t .enum-told .given .1) in
+    rw (may, c .with-one .ensures)
+
+returns-2 : tie.Need-returns-2
+unfolding added
+returns-2 c =
+    let v = c .before in
+    let may = sym (v .before .before .may-add .ensures) ∙ ap saysVerdict (v .verdict .given .1) in
+    rw may
+
+pub add-spec : {M : Type 1} → statement M
+add-spec =
+    tie.close
+    (tie.spec may-add-requires enum-told with-one-requires enum-known-verdict returns returns-2)

@@ -1,0 +1,48 @@
+-- `begin` opens a store with good settings.
+use mathlib.Core.Path.{sym, ap, _∙_}
+use Rattle.settings.specs.Store.{begun}
+use Rattle.settings.specs.Says.{saysVerdict}
+use borrow.Author.Needs.{needs}
+use Rattle.settings.proofs.begin.Statement.{statement}
+use Rattle.settings.proofs.begin.Tie as tie
+
+settings-of-requires : tie.Need-settings-of-requires
+settings-of-requires c κs = search needs
+
+enum-told : tie.Need-enum-told
+enum-told c = search needs
+
+opened-requires : tie.Need-opened-requires
+opened-requires c κs = search needs
+
+enum-known-verdict : tie.Need-enum-known-verdict
+enum-known-verdict c = search needs
+
+no-store-requires : tie.Need-no-store-requires
+no-store-requires c κs = search needs
+
+returns : tie.Need-returns
+unfolding begun
+returns c =
+    let t = c .before in
+    let settings = sym (t .before .before .settings-of .ensures) ∙ ap saysVerdict (t .enum-told .given .1) in
+    rw (settings, c .opened .ensures)
+
+returns-2 : tie.Need-returns-2
+unfolding begun
+returns-2 c =
+    let t = c .before .before in
+    let settings = sym (t .before .before .settings-of .ensures) ∙ ap saysVerdict (t .verdict .given .1) in
+    rw (settings, c .no-store .ensures)
+
+pub begin-spec : {M : Type 1} → statement M
+begin-spec =
+    tie.close
+    (tie.spec
+    settings-of-requires
+    enum-told
+    opened-requires
+    enum-known-verdict
+    no-store-requires
+    returns
+    returns-2)

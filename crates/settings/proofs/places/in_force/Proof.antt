@@ -1,0 +1,104 @@
+-- `in_force` goes from version to version: what is in force among those from here on is in force among all.
+use mathlib.Core.Path.{_≡_, refl, sym, ap, _∙_}
+use Prim.Native.Nat.{_-_, _≤_}
+use native.Mathlib.Omega.{arith}
+use borrow.Author.Needs.{needs}
+use borrow.Author.Tests.{le-leb, lt-leb}
+use lib.ListN.{take, drop}
+use Rattle.settings.specs.Store.{versionsOf}
+use Rattle.settings.specs.At.{heldFrom, heldAmong, heldAt}
+use Rattle.settings.proofs.Walking.{unmapped, held-next, held-here, held-last, held-first}
+use Rattle.settings.proofs.places.in_force.Statement.{statement}
+use Rattle.settings.proofs.places.in_force.Tie as tie
+
+abbrev Inv-loop : tie.InvT-loop
+Inv-loop place versions count now₀ i₀ now i =
+    (1 ≤ i) × (i ≤ count) × (heldFrom now (drop i (take count versions)) place ≡ heldAmong (take count versions) place)
+
+abbrev μ-loop : tie.MeasureT-loop
+μ-loop place versions count now₀ i₀ now i = count - i
+
+array-copy-out-now : tie.Need-array-copy-out-now Inv-loop μ-loop
+array-copy-out-now c = search needs
+
+loop-holds : tie.Need-loop-holds Inv-loop μ-loop
+loop-holds c =
+    let s = c .before .before in
+    let a = s .args in (
+      search needs,
+      search needs,
+      held-first (a .store .versions) (a .store .count) (unmapped _ (a .store .versions) (s .good .0 .1 .1 .0 .1 .0 .1)) (s .pre .1) (a .place) (s .pre .0),
+    )
+
+mul-next : tie.Need-mul-next Inv-loop μ-loop
+mul-next c = omega arith
+
+array-copy-out-next : tie.Need-array-copy-out-next Inv-loop μ-loop
+array-copy-out-next c = omega arith
+
+holds-requires : tie.Need-holds-requires Inv-loop μ-loop
+holds-requires c κs = search needs
+
+returns : tie.Need-returns Inv-loop μ-loop
+unfolding heldAt versionsOf
+returns c =
+    let t = c .before .before .before .before in
+    let l = t .before in
+    let s = l .before .before .before in
+    let a = s .args in
+    c .holds .ensures
+    ∙ held-here (a .store .versions) (a .store .count) (unmapped _ (a .store .versions) (s .good .0 .1 .1 .0 .1 .0 .1)) (s .pre .1) (l .loop .now) (a .place) (l .loop .i)
+    (t .loop-test .taken) (lt-leb _ _ (c .before .if1 .taken))
+    ∙ l .loop .inv .2
+
+add-i : tie.Need-add-i Inv-loop μ-loop
+add-i c = omega arith
+
+loop-less : tie.Need-loop-less Inv-loop μ-loop
+loop-less c = omega arith
+
+loop-again : tie.Need-loop-again Inv-loop μ-loop
+loop-again c =
+    let t = c .before .before .before in
+    let l = t .before in
+    let s = l .before .before .before in
+    let a = s .args in (
+      omega arith,
+      omega arith,
+      sym (held-next (a .store .versions) (a .store .count) (unmapped _ (a .store .versions) (s .good .0 .1 .1 .0 .1 .0 .1)) (s .pre .1) (l .loop .now) (a .place) (l .loop .i)
+          (t .loop-test .taken) (le-leb _ _ (c .if1 .left)))
+          ∙ l .loop .inv .2,
+    )
+
+holds-requires-2 : tie.Need-holds-requires-2 Inv-loop μ-loop
+holds-requires-2 c κs = search needs
+
+returns-2 : tie.Need-returns-2 Inv-loop μ-loop
+unfolding heldAt versionsOf
+returns-2 c =
+    let t = c .before in
+    let l = t .before in
+    let s = l .before .before .before in
+    let a = s .args in
+    c .holds2 .ensures
+    ∙ held-last (a .store .versions) (a .store .count) (unmapped _ (a .store .versions) (s .good .0 .1 .1 .0 .1 .0 .1)) (s .pre .1) (l .loop .now) (a .place) (l .loop .i)
+    (t .loop-test .left)
+    ∙ l .loop .inv .2
+
+pub in-force-spec : {M : Type 1} → statement M
+in-force-spec =
+    tie.close
+    (tie.spec
+    Inv-loop
+    μ-loop
+    array-copy-out-now
+    loop-holds
+    mul-next
+    array-copy-out-next
+    holds-requires
+    returns
+    add-i
+    loop-less
+    loop-again
+    holds-requires-2
+    returns-2)

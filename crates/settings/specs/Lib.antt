@@ -1,0 +1,4 @@
+pub mod Versions
+pub mod Store
+pub mod At
+pub mod Says
