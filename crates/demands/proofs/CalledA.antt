@@ -14,6 +14,7 @@ use Rattle.group.specs.Message.{Content, Message, nothing}
 use Rattle.group.specs.Numbers.{numberOf}
 use Rattle.group.specs.Judge.{contentOf, messageOf, judgeRead, judge}
 use Rattle.walk.specs.Fitting.{speedOf, fitting}
+use Rattle.demands.proofs.Rules.{never}
 use Rattle.demands.proofs.Fits.{said, decide}
 use Rattle.group.specs.Says.{saysMessage}
 use Rattle.walk.specs.declared.Direction.{Direction}
@@ -116,9 +117,6 @@ in-direction rows every bs k a e = go (leb (howMany 12 bs) 1) e
     go false q = absurd (let z : _≡_ {A = ℕ} 0 1 = cc in omega arith)
 
 -- ---- the message
-
-never : {C : Type 0} {m : C} (n : ℕ) → refuses n ≡ gives m → ⊥
-never n e = let z : _≡_ {A = ℕ} 0 1 = cc in omega arith
 
 -- a message that takes its place, AY and AZ from this balise
 from-a : (bs : List Placed) (direction : Direction) (k : Kind) (a : Placed) (c : Content) (m : Said) → CanBeA bs k a → (direction ≡ Direction.Present → Board k → Head bs a)

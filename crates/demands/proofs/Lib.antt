@@ -23,12 +23,14 @@ pub mod Bare
 pub mod Spelled
 pub mod Demand1
 pub mod Cases
+pub mod RoutePresent
 pub mod RowCases
 pub mod Codes
 pub mod Prefix
 pub mod Boards
 pub mod CalledA
 pub mod Contents
+pub mod Entered
 pub mod Saying
 pub mod Handed
 pub mod Reading

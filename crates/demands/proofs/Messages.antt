@@ -22,6 +22,7 @@ use Rattle.group.specs.declared.Group.{Group}
 use Rattle.walk.specs.declared.Kind.{Kind}
 use Rattle.walk.specs.declared.Placed.{Placed}
 use Rattle.demands.specs.Table.{listOf, partsOf}
+use Rattle.demands.proofs.Rules.{never}
 use Rattle.demands.proofs.Fits.{said, decide}
 
 -- A message that says no more than its kind.
@@ -42,9 +43,6 @@ pub data View (bs : List Placed) (m : Message) : Type 0 where
   warning : m .direction ≡ Direction.Present → m .kind ≡ Kind.Warning → (d : ℕ) → distanceOf bs ≡ gives d → m .content ≡ ofWarning d (isPreset (yOf (B bs))) → View bs m
   route : m .direction ≡ Direction.Present → m .kind ≡ Kind.Route → m .content ≡ ofRoute (routeSpeed (m .ay) (m .az)) → View bs m
   plain : Other m → m .content ≡ nothing → View bs m
-
-pub never : {A : Type 0} {m : A} (n : ℕ) → refuses n ≡ gives m → ⊥
-never n e = let z : _≡_ {A = ℕ} 0 1 = cc in omega arith
 
 -- what goes on from a distance
 on-distance : (o : Outcome ℕ) (f : ℕ → Content) (g : Content → Message) (m : Message)

@@ -24,7 +24,8 @@ use Rattle.ride.specs.Closing.{numberOn}
 use Rattle.demands.specs.Table.{partsOf}
 use Rattle.demands.specs.Said.{Its-number, figure, no-figure}
 use Rattle.demands.specs.Ride.{IsNumbered, of-signal, of-other}
-use Rattle.demands.proofs.Messages.{never, of-group}
+use Rattle.demands.proofs.Rules.{never}
+use Rattle.demands.proofs.Messages.{of-group}
 
 -- ---- the number of a group
 

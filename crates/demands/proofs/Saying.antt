@@ -30,12 +30,14 @@ use Rattle.group.proofs.Entries.{speed-in, speed-out}
 use Rattle.demands.specs.Table.{someUnread, unread, listOf, partsOf}
 use Rattle.demands.specs.Said.{used, Announces, Speeds}
 use Rattle.demands.specs.Demand2.{noColumn, Groups}
-use Rattle.demands.proofs.Rules.{true-not-false}
+use Rattle.demands.proofs.Rules.{true-not-false, never}
 use Rattle.demands.proofs.Balises.{Read, bad, all, read-is}
 use Rattle.demands.proofs.Prefix.{target-prefixed, target-not}
 use Rattle.demands.proofs.Numbering.{has-number}
 use Rattle.demands.proofs.Messages.{View, signal, warning, route, plain, view}
+use Rattle.demands.proofs.Entered.{entry, preset-range, linked}
 use Rattle.demands.proofs.CalledA.{has-a}
+use Rattle.demands.proofs.RoutePresent.{route-present}
 use Rattle.demands.proofs.Contents.{content-so}
 
 -- Two to five balises that were all read are judged by the rows.
@@ -50,40 +52,6 @@ rows-judge g one five u =
     go t o (all ps) e = refl
 
 -- ---- distances
-
-in-table : (cs : List _) (by f : ℕ) → by < length cs → inTable cs by f ≡ gives (inColumn (getD cs by noColumn) f)
-in-table [] by f l = absurd (not-suc-le-zero l)
-in-table (c ∷ cs) zero f l = refl
-in-table (c ∷ cs) (suc by) f l = in-table cs by f (le-of-suc-le-suc l)
-
-entry : (by f : ℕ) → by < 15 → 1 ≤ f → f ≤ 14 → distance by f ≡ gives (inColumn (getD columns by noColumn) f)
-unfolding distance
-entry by f l a b = simp (le-leb 1 f a, le-leb f 14 b) (in-table columns by f l)
-
-never : {A : Type 0} {m : A} (n : ℕ) → refuses n ≡ gives m → ⊥
-never n e = let z : _≡_ {A = ℕ} 0 1 = cc in omega arith
-
-preset-range : (f d : ℕ) → distance 14 f ≡ gives d → (500 ≤ d) × (d ≤ 7000)
-unfolding distance
-preset-range f d e = go (leb 1 f) refl (leb f 14) refl e
-  where
-    go : (t : Bool) → leb 1 f ≡ t → (u : Bool) → leb f 14 ≡ u → pick {A = Outcome ℕ} (t && u) (gives (7500 - 500 * f)) (refuses 15) ≡ gives d → (500 ≤ d) × (d ≤ 7000)
-    go false h u k q = absurd (never 15 q)
-    go true h false k q = absurd (never 15 q)
-    go true h true k q =
-        let low : 1 ≤ f = leb-true 1 f h in
-        let high : f ≤ 14 = leb-true f 14 k in
-        let same : 7500 - 500 * f ≡ d = cc in
-        (omega arith, omega arith)
-
--- an allowed distance is table DF's, with the figure that is used
-linked : (by bz d : ℕ) (c : Found) → linkDistance by bz c ≡ gives d → distance by (used bz c) ≡ gives d
-linked by bz d none e = e
-linked by bz d (found c) e = go (eqb bz 0) e
-  where
-    go : (t : Bool) → pick t (distance by (Y (c .part))) (refuses 15) ≡ gives d → distance by (Y (c .part)) ≡ gives d
-    go true q = q
-    go false q = absurd (never 15 q)
 
 announces : (bs : List Placed) (d : ℕ) (preset : Bool) → distanceOf bs ≡ gives d → preset ≡ isPreset (yOf (B bs)) → Announces bs d preset
 unfolding distanceOf
@@ -194,6 +162,7 @@ groups = record {
   route = λ g m v c e.
       let is = route-so (partsOf g) m v e (view g (saysMessage m) (sym (c .1))) in
       (λ two. is ∙ ap (λ (y : ℕ). routeSpeed y (m .az)) two, λ four. is ∙ ap (λ (y : ℕ). routeSpeed y (m .az)) four);
+  route-present = λ g m c. route-present g (saysMessage m) (sym (c .1));
   distances = λ by f r c l a b. c .1 ∙ entry by f l a b;
   preset = λ f d c. preset-range f d (sym (c .1));
   speed = λ f r c l. c .1 ∙ speed-in f l;

@@ -31,6 +31,8 @@ use Rattle.telegram.specs.declared.TelegramRead.{TelegramRead}
 use Rattle.group.specs.Distance.{columns, Column, column, plus, inColumn}
 use Rattle.group.specs.Speed.{speeds, kmh, noInformation}
 use Rattle.walk.specs.OneWay.{OneWay}
+use Rattle.walk.specs.declared.Direction.{Direction}
+use Rattle.walk.specs.declared.Kind.{Kind}
 use Rattle.group.specs.Judge.{judgeRead}
 use Rattle.group.specs.Says.{saysMeasured, saysTold, saysJudged}
 use Rattle.group.specs.declared.Content.{Content}
@@ -136,6 +138,8 @@ pub record Groups : Type 0 where
       → m .content ≡ Content.Warning d preset → Announces (partsOf g) d preset
   pub route : (g : Group) (m : Message) (v : ℕ) → JudgeGroup g (Judged.Accepted m) → m .content ≡ Content.Route v
       → (m .ay ≡ 2 → v ≡ 10 * m .az) × (m .ay ≡ 4 → v ≡ 140)
+  -- "route, present only"
+  pub route-present : (g : Group) (m : Message) → JudgeGroup g (Judged.Accepted m) → m .kind ≡ Kind.Route → m .direction ≡ Direction.Present
   -- every entry of table DF; "column 14 ... between 500 and 7000"
   pub distances : (by figure : ℕ) (r : Measured) → Distance by figure r → by < 15 → 1 ≤ figure → figure ≤ 14
       → saysMeasured r ≡ gives (inColumn (getD columns by noColumn) figure)
