@@ -4,8 +4,8 @@
 -- The first sentence is the record `Demand1`, the second the record `Untouched`. The conditions are specs/Table.antt, the
 -- lists specs/Lists.antt, what the contracts allow is specs/Contracts.antt. That every call ends is the kit's own check of each function, and no theorem here. The
 -- functions without a list give no number: `fresh`, `speed` and `end` always answer; `put_line` says that a line has no room, for which
--- document 01 has no number; `telegram::inside` says whether row 5's condition does not hold, and `ride::allowed` whether row 19's does not. Those of the
--- face for C (crates/abi) have contracts of their own over the same definitions.
+-- document 01 has no number; `telegram::inside` says whether row 5's condition does not hold, and `ride::allowed` whether row 19's does not. For the
+-- face for C (crates/abi) crates/face says the same.
 -- Assumes nothing.
 use Prim.Native.Nat.{ℕ, _+_, _*_}
 use mathlib.Core.Bool.{true}
