@@ -1,0 +1,59 @@
+-- Each contract fixes the whole answer: any two that it allows are equal.
+-- Assumes nothing.
+use Prim.Native.Nat.{ℕ}
+use mathlib.Core.Path.{_≡_, refl, sym, ap, ap₂, _∙_}
+use contract.Lifetimes.{Lfts}
+use borrow.Fn.Kinds.{Dens, endedOf}
+use denote.Triple.Clauses.{AtExit}
+use Rattle.words.specs.Answer.{Outcome, gives, refuses}
+use Rattle.acceptance.specs.declared.Acceptance.{Acceptance}
+use Rattle.acceptance.specs.declared.Judged.{Judged}
+use Rattle.acceptance.specs.declared.Planned.{Planned}
+use Rattle.acceptance.specs.declared.Took.{Took}
+use Rattle.acceptance.specs.declared.Reported.{Reported}
+use Rattle.acceptance.specs.declared.Sums.{Sums}
+use Rattle.acceptance.specs.Plan.{Good, good, Planning}
+use Rattle.acceptance.specs.Says.{saysJudged, saysPlanned}
+use Rattle.acceptance.proofs.plan.Kinds as plan-kinds
+use Rattle.acceptance.proofs.plan.Reads as plan-reads
+use Rattle.acceptance.proofs.take.Kinds as take-kinds
+use Rattle.acceptance.proofs.take.Reads as take-reads
+use Rattle.acceptance.proofs.report.Kinds as report-kinds
+use Rattle.acceptance.proofs.report.Reads as report-reads
+use Rattle.acceptance.proofs.sum_up.Kinds as sum-up-kinds
+use Rattle.acceptance.proofs.sum_up.Reads as sum-up-reads
+
+-- The judgement that says so.
+abbrev pub judgedBy : Outcome Good → Judged
+judgedBy (gives g) = Judged.Good
+judgedBy (refuses 26) = Judged.Record
+judgedBy (refuses 27) = Judged.Near
+judgedBy (refuses n) = Judged.Tolerance
+
+judged-back : (j : Judged) → judgedBy (saysJudged j) ≡ j
+judged-back Judged.Good = refl
+judged-back Judged.Tolerance = refl
+judged-back Judged.Record = refl
+judged-back Judged.Near = refl
+
+-- Two plans that say the same are the same.
+pub same-planned : (p q : Planned) → saysPlanned p ≡ saysPlanned q → p ≡ q
+same-planned p q e =
+    let same : p .judged ≡ q .judged = sym (judged-back (p .judged)) ∙ ap (λ (x : Planning). judgedBy (x .answer)) e ∙ judged-back (q .judged) in
+    ap₂ (λ (a : Acceptance) (j : Judged). record { plan = a; judged = j }) (ap (λ (x : Planning). x .plan) e) same
+
+pub plan-determined : (κs : Lfts 1) (a : Dens κs plan-kinds.ps) (r r′ : Planned) (x x′ : AtExit (endedOf 1 plan-kinds.ps plan-kinds.r) κs)
+    → plan-reads.Post κs a r x → plan-reads.Post κs a r′ x′ → r ≡ r′
+plan-determined κs a r r′ x x′ p q = same-planned r r′ (p ∙ sym q)
+
+pub take-determined : (a : Dens tt take-kinds.ps) (r r′ : Took) (x x′ : AtExit (endedOf 0 take-kinds.ps take-kinds.r) tt)
+    → take-reads.Post tt a r x → take-reads.Post tt a r′ x′ → r ≡ r′
+take-determined a r r′ x x′ p q = p ∙ sym q
+
+pub report-determined : (a : Dens tt report-kinds.ps) (r r′ : Reported) (x x′ : AtExit (endedOf 0 report-kinds.ps report-kinds.r) tt)
+    → report-reads.Post tt a r x → report-reads.Post tt a r′ x′ → r ≡ r′
+report-determined a r r′ x x′ p q = p ∙ sym q
+
+pub sum-up-determined : (a : Dens tt sum-up-kinds.ps) (r r′ : Sums) (x x′ : AtExit (endedOf 0 sum-up-kinds.ps sum-up-kinds.r) tt)
+    → sum-up-reads.Post tt a r x → sum-up-reads.Post tt a r′ x′ → r ≡ r′
+sum-up-determined a r r′ x x′ p q = p ∙ sym q

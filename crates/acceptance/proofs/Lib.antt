@@ -1,0 +1,4 @@
+pub mod Walks
+pub mod Filling
+pub mod Cases
+pub mod Determined

@@ -1,0 +1,4 @@
+pub mod Plan
+pub mod Taking
+pub mod Report
+pub mod Says
