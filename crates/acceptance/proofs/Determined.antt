@@ -5,7 +5,8 @@ use mathlib.Core.Path.{_≡_, refl, sym, ap, ap₂, _∙_}
 use contract.Lifetimes.{Lfts}
 use borrow.Fn.Kinds.{Dens, endedOf}
 use denote.Triple.Clauses.{AtExit}
-use Rattle.words.specs.Answer.{Outcome, gives, refuses}
+use lib.Dec.{eqb}
+use Rattle.words.specs.Answer.{Outcome, gives, refuses, pick}
 use Rattle.acceptance.specs.declared.Acceptance.{Acceptance}
 use Rattle.acceptance.specs.declared.Judged.{Judged}
 use Rattle.acceptance.specs.declared.Planned.{Planned}
@@ -26,9 +27,7 @@ use Rattle.acceptance.proofs.sum_up.Reads as sum-up-reads
 -- The judgement that says so.
 abbrev pub judgedBy : Outcome Good → Judged
 judgedBy (gives g) = Judged.Good
-judgedBy (refuses 26) = Judged.Record
-judgedBy (refuses 27) = Judged.Near
-judgedBy (refuses n) = Judged.Tolerance
+judgedBy (refuses n) = pick (eqb n 26) Judged.Record (pick (eqb n 27) Judged.Near Judged.Tolerance)
 
 judged-back : (j : Judged) → judgedBy (saysJudged j) ≡ j
 judged-back Judged.Good = refl
