@@ -1,0 +1,5 @@
+pub mod Openings
+pub mod Endings
+pub mod Runs
+pub mod Hearing
+pub mod Looking

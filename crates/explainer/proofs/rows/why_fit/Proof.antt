@@ -1,0 +1,74 @@
+-- By the row that fits; where none does, the run is the longest.
+-- Assumes nothing.
+use mathlib.Core.Path.{_≡_, sym, ap, ap₂, _∙_}
+use Prim.Native.Nat.{ℕ}
+use native.Mathlib.Omega.{arith}
+use lib.ListN.{length, take}
+use Rattle.words.specs.Answer.{Outcome}
+use Rattle.walk.specs.declared.Picked.{Picked}
+use Rattle.walk.specs.Fitting.{saysFitted}
+use Rattle.group.proofs.Lists.{long-take}
+use Rattle.explainer.specs.Opening.{openingRun}
+use Rattle.explainer.specs.Reason.{opens, Explained, because}
+use Rattle.explainer.specs.Explain.{whyFit}
+use Rattle.explainer.proofs.Runs.{run-is-longest, longest-one}
+use borrow.Author.Needs.{needs}
+use Rattle.explainer.proofs.rows.why_fit.Statement.{statement}
+use Rattle.explainer.proofs.rows.why_fit.Tie as tie
+
+fit-requires : tie.Need-fit-requires
+fit-requires c κs = search needs
+
+enum-known-row : tie.Need-enum-known-row
+enum-known-row c = search needs
+
+why-row-requires : tie.Need-why-row-requires
+why-row-requires c κs = search needs
+
+enum-told : tie.Need-enum-told
+enum-told c = search needs
+
+opening-requires : tie.Need-opening-requires
+opening-requires c κs = search needs
+
+cast-t7 : tie.Need-cast-t7
+cast-t7 c =
+    let s = c .before .before .before .before in
+    omega (arith, c .opening .ensures .within, long-take (s .args .p) (s .args .n) (s .good .0 .1 .0 .1) (s .pre))
+
+cast-t8 : tie.Need-cast-t8
+cast-t8 c = search needs
+
+returns : tie.Need-returns
+returns c =
+    let q = c .before .before in
+    let f = q .before .before in
+    let a = f .before .args in
+    let e = sym (f .fit .ensures) ∙ ap saysFitted (q .row .given .1) in
+    c .why-row .ensures ∙ sym (ap (λ (v : Outcome Picked). whyFit v (take (a .n) (a .p))) e)
+
+returns-2 : tie.Need-returns-2
+returns-2 c =
+    let k = c .before in
+    let f = k .before .before in
+    let s = f .before in
+    let a = s .args in
+    let bs = take (a .n) (a .p) in
+    let e = sym (f .fit .ensures) ∙ ap saysFitted (k .enum-told .given .1) in
+    let run : c .opening .result ≡ openingRun bs = longest-one bs (c .opening .result) (openingRun bs) (c .opening .ensures) (run-is-longest bs) in
+    let many : a .n ≡ length bs = sym (long-take (a .p) (a .n) (s .good .0 .1 .0 .1) (s .pre)) in
+    ap₂ (λ (r m : ℕ). because 13 (opens r m)) run many ∙ sym (ap (λ (v : Outcome Picked). whyFit v bs) e)
+
+pub why-fit-spec : {M : Type 1} → statement M
+why-fit-spec =
+    tie.close
+    (tie.spec
+    fit-requires
+    enum-known-row
+    why-row-requires
+    enum-told
+    opening-requires
+    cast-t7
+    cast-t8
+    returns
+    returns-2)

@@ -1,0 +1,5 @@
+pub mod Opening
+pub mod Reason
+pub mod Explain
+pub mod Says
+pub mod Inside

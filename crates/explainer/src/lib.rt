@@ -1,0 +1,61 @@
+// Why a closed group was refused, for the depot that asks which balise to go and clean.
+// Promises: a reason exactly for a refused group, for the number that it was refused with; the balise that it names is the first such one.
+// Specification: specs/Explain.antt (the reasons), specs/Opening.antt (the opening run), specs/Says.antt (the answers); what they name is
+// true: specs/Truths.antt.
+ghost use mathlib.Core.Path.{_≡_};
+ghost use Rattle.explainer.specs.Explain.{explain};
+ghost use Rattle.explainer.specs.Says.{saysReason};
+
+mod figures;
+mod reading;
+mod rows;
+
+use group::Group;
+use telegram::Word;
+use words::Parity;
+
+// What is bad about a balise: it was unreadable, or a word of it is no code word (1), with the parity of its ones, or reads 15 (3).
+pub enum Bad {
+    Unreadable,
+    NotCode(Word, Parity),
+    Fifteen(Word),
+}
+
+// Why a group was refused: none if it was accepted; for 10 and 11 the number of balises (255 stands for 255 or more); for 12 the first bad
+// balise, from 0, with its place and what is bad; for 13 how many of how many balises open a permitted group; for 15 the balise whose
+// figure breaks the rule, with its place.
+pub enum Reason {
+    None,
+    One(u8),
+    Many(u8),
+    Unread { balise: u8, place: u32, bad: Bad },
+    NoRow { run: u8, of: u8 },
+    NoDistance { balise: u8, place: u32 },
+}
+
+// Why a closed group was refused, or no reason.
+pub fn explain(group: Group) -> Reason
+    ensures { λ r. ⌜ saysReason r ≡ explain group ⌝ }
+{
+    let count = group.count;
+    let kept = group.kept;
+    if count == 1 {
+        return Reason::One(count);
+    }
+    if count > 5 {
+        return Reason::Many(count);
+    }
+    let n = count as usize;
+    let all = reading::read_all(kept, n);
+    let parts = all.parts;
+    let bad = all.bad;
+    if all.good {
+        rows::why_fit(parts, n)
+    } else {
+        Reason::Unread {
+            balise: all.balise,
+            place: all.place,
+            bad,
+        }
+    }
+}
