@@ -3,3 +3,5 @@ pub mod Endings
 pub mod Runs
 pub mod Hearing
 pub mod Looking
+pub mod Firsts
+pub mod Determined

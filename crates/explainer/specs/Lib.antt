@@ -3,3 +3,4 @@ pub mod Reason
 pub mod Explain
 pub mod Says
 pub mod Inside
+pub mod Truths

@@ -1,0 +1,50 @@
+-- Each contract fixes its function's whole answer: any two answers that it allows are equal.
+-- Assumes nothing.
+use mathlib.Core.Path.{_≡_, refl}
+use lib.Dec.{eqb}
+use contract.Lifetimes.{Lfts}
+use borrow.Fn.Kinds.{Dens, endedOf}
+use denote.Triple.Clauses.{AtExit}
+use Rattle.words.specs.Answer.{pick}
+use Rattle.words.specs.Why.{why, are, unsaid}
+use Rattle.words.proofs.Told.{told}
+use Rattle.telegram.specs.Telegram.{badWord}
+use Rattle.explainer.specs.declared.Bad.{Bad as Badly}
+use Rattle.explainer.specs.declared.Reason.{Reason}
+use Rattle.explainer.specs.Reason.{Bad, unreadable, word, Cause, balises, bad, opens, figure, Explained, noReason, because}
+use Rattle.explainer.specs.Says.{saysBad, saysReason}
+use Rattle.explainer.proofs.explain.Kinds as explain-kinds
+use Rattle.explainer.proofs.explain.Reads as explain-reads
+
+-- From what an answer says, the answer.
+pub badly : Bad → Badly
+badly unreadable = Badly.Unreadable
+badly (word (badWord w (why n (are p)))) = Badly.NotCode w p
+badly (word (badWord w (why n unsaid))) = Badly.Fifteen w
+
+pub badly-back : (r : Badly) → badly (saysBad r) ≡ r
+unfolding badly
+badly-back Badly.Unreadable = refl
+badly-back (Badly.NotCode w p) = refl
+badly-back (Badly.Fifteen w) = refl
+
+pub reason : Explained → Reason
+reason noReason = Reason.None
+reason (because n (balises k)) = pick (eqb n 10) (Reason.One k) (Reason.Many k)
+reason (because n (bad i place b)) = Reason.Unread i place (badly b)
+reason (because n (opens run k)) = Reason.NoRow run k
+reason (because n (figure i place)) = Reason.NoDistance i place
+
+pub reason-back : (r : Reason) → reason (saysReason r) ≡ r
+unfolding reason
+reason-back Reason.None = refl
+reason-back (Reason.One k) = refl
+reason-back (Reason.Many k) = refl
+reason-back (Reason.Unread i place b) = rw (badly-back b)
+reason-back (Reason.NoRow run k) = refl
+reason-back (Reason.NoDistance i place) = refl
+
+pub explain-determined : (κs : Lfts 0) (a : Dens κs explain-kinds.ps) (r r′ : Reason)
+    (x x′ : AtExit (endedOf 0 explain-kinds.ps explain-kinds.r) κs)
+    → explain-reads.Post κs a r x → explain-reads.Post κs a r′ x′ → r ≡ r′
+explain-determined κs a r r′ x x′ p q = told saysReason reason reason-back r r′ p q
