@@ -4,4 +4,7 @@ pub mod Runs
 pub mod Hearing
 pub mod Looking
 pub mod Firsts
+pub mod Nines
+pub mod Distances
+pub mod Truths
 pub mod Determined
