@@ -11,7 +11,7 @@ use Rattle.words.proofs.Told.{told}
 use Rattle.telegram.specs.Telegram.{badWord}
 use Rattle.explainer.specs.declared.Bad.{Bad as Badly}
 use Rattle.explainer.specs.declared.Reason.{Reason}
-use Rattle.explainer.specs.Reason.{Bad, unreadable, word, Cause, balises, bad, opens, figure, Explained, noReason, because}
+use Rattle.explainer.specs.Reason.{Bad, unreadable, word, balises, bad, opens, figure, Explained, noReason, because}
 use Rattle.explainer.specs.Says.{saysBad, saysReason}
 use Rattle.explainer.proofs.explain.Kinds as explain-kinds
 use Rattle.explainer.proofs.explain.Reads as explain-reads

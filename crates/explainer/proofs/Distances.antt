@@ -2,14 +2,13 @@
 -- Assumes nothing.
 use Prim.Native.Nat.{ℕ, zero, suc, _≤_, _<_}
 use mathlib.Core.Path.{_≡_, refl, sym, ap, _∙_}
-use mathlib.Core.Bool.{Bool, true, false, not, _&&_, _||_}
-use mathlib.Core.List.{List, [], _∷_, _++_}
+use mathlib.Core.Bool.{Bool, true, false, not, _||_}
+use mathlib.Core.List.{List, [], _∷_}
 use native.Mathlib.Omega.{arith}
-use native.Mathlib.Nat.{le-of-suc-le-suc}
 use lib.Dec.{eqb, leb, ltb}
 use lib.ListN.{length}
-use borrow.Author.Tests.{eqb-true, eqb-false, leb-true, leb-false, ltb-true, ltb-false, le-leb}
-use Rattle.words.specs.Answer.{Outcome, gives, refuses, pick}
+use borrow.Author.Tests.{eqb-true, eqb-false, leb-true, ltb-true, ltb-false, le-leb}
+use Rattle.words.specs.Answer.{gives, refuses, pick}
 use Rattle.walk.specs.declared.Kind.{Kind}
 use Rattle.walk.specs.declared.Placed.{Placed}
 use Rattle.walk.specs.declared.Picked.{Picked}
@@ -17,10 +16,10 @@ use Rattle.walk.specs.Row.{any, isCategory, Y, Z, Found, none, found, first}
 use Rattle.walk.proofs.Figures.{meets-any}
 use Rattle.walk.proofs.Bools.{both, false-true}
 use Rattle.group.specs.Distance.{Column, columns, inTable, inColumn, distance, linkDistance, noIncrease}
-use Rattle.group.specs.Judge.{yOf, zOf, B, C, distanceOf}
-use Rattle.explainer.specs.Reason.{figure, Explained, noReason, because}
-use Rattle.explainer.specs.Explain.{indexOf, placeOf, isFound, oneToFourteen, bBreaks, cBreaks, whyDistance}
-use Rattle.explainer.specs.Truths.{At, BBreaks, preset-barred, without-14, with-14, no-column, CBreaks, Culprit, its-B, its-C}
+use Rattle.group.specs.Judge.{yOf, B}
+use Rattle.explainer.specs.Reason.{figure}
+use Rattle.explainer.specs.Explain.{indexOf, isFound, oneToFourteen, bBreaks, cBreaks}
+use Rattle.explainer.specs.Truths.{At, BBreaks, preset-barred, without-14, with-14, no-column, CBreaks}
 use Rattle.explainer.proofs.Openings.{or-cases}
 
 -- ---- table DF

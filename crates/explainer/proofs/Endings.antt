@@ -1,25 +1,19 @@
 -- Balises that open a row, as the matcher stopped early says, are made a group of it by some more: an actual list of them.
 -- Assumes nothing.
-use Prim.Native.Nat.{ℕ, _+_, _≤_}
-use mathlib.Core.Path.{_≡_, refl, sym, ap, subst, _∙_}
+use Prim.Native.Nat.{ℕ}
+use mathlib.Core.Path.{_≡_, refl, sym, subst}
 use mathlib.Core.Bool.{Bool, true, false, not, _&&_, _||_}
 use mathlib.Core.List.{List, [], _∷_, _++_, append-assoc}
-use native.Mathlib.Omega.{arith}
-use lib.Dec.{leb}
-use borrow.Author.Tests.{leb-true, le-leb}
 use Rattle.words.specs.Answer.{pick}
-use Rattle.walk.specs.declared.Direction.{Direction}
 use Rattle.walk.specs.declared.Kind.{Kind}
 use Rattle.walk.specs.declared.Part.{Part}
 use Rattle.walk.specs.declared.Placed.{Placed}
-use Rattle.walk.specs.Row.{Figures, all, _to_, Asked, category, oneOf, M, Member, A, must, may, Row, row, isCategory, meets, fits, Found, none, found, first, calledA, Fit, misfit, fit, fitWith, fitRow, orElse, fitRows}
-use Rattle.walk.specs.Rows.{present, opposite, howMany, fitIn}
-use Rattle.walk.specs.Fitting.{rowsFor}
-use Rattle.walk.specs.Opening.{Opens}
+use Rattle.walk.specs.Row.{Figures, all, _to_, Asked, category, oneOf, M, Member, A, must, may, row, isCategory, meets, fits, Found, none, found, first, calledA, fitWith, fitRow}
+use Rattle.walk.specs.Rows.{howMany}
 use Rattle.walk.proofs.Bools.{both, false-true}
-use Rattle.explainer.specs.Opening.{opensMembers, opensRows, isOpening}
+use Rattle.explainer.specs.Opening.{opensMembers}
 use Rattle.explainer.specs.Explain.{isFound}
-use Rattle.explainer.proofs.Openings.{or-cases, or-first, or-second, and-both, isFit, or-fit, many-append}
+use Rattle.explainer.proofs.Openings.{or-cases, or-first, or-second, and-both, isFit}
 
 -- The least figure allowed.
 abbrev least : Figures → ℕ
@@ -53,7 +47,7 @@ abbrev canFill : Asked → Bool
 canFill w = meets w (sample w .part) && not (isCategory 12 (sample w .part))
 
 -- Every member that must be there has one.
-abbrev fillable : List Member → Bool
+abbrev pub fillable : List Member → Bool
 fillable [] = true
 fillable (A w ∷ ms) = canFill w && fillable ms
 fillable (must w ∷ ms) = canFill w && fillable ms
@@ -89,7 +83,7 @@ filled-numbers (must w ∷ ms) t =
     rw (not-true (isCategory 12 (sample w .part)) (both (meets w (sample w .part)) (not (isCategory 12 (sample w .part))) (h .0) .1)) (filled-numbers ms (h .1))
 filled-numbers (may w ∷ ms) t = filled-numbers ms t
 
-ending-fits : (ms : List Member) (bs : List Placed) → fillable ms ≡ true → opensMembers ms bs ≡ true → fits ms (bs ++ ending ms bs) ≡ true
+pub ending-fits : (ms : List Member) (bs : List Placed) → fillable ms ≡ true → opensMembers ms bs ≡ true → fits ms (bs ++ ending ms bs) ≡ true
 unfolding fits opensMembers ending
 ending-fits ms [] t e = filled-fits ms t
 ending-fits [] (b ∷ bs) t e = e
@@ -112,7 +106,7 @@ ending-fits (may w ∷ ms) (b ∷ bs) t e = go (meets w (b .part) && opensMember
     go false q r taken left =
         or-second (meets w (b .part) && fits ms (bs ++ ending ms (b ∷ bs))) (fits ms ((b ∷ bs) ++ ending ms (b ∷ bs))) (left r)
 
-ending-numbers : (ms : List Member) (bs : List Placed) → fillable ms ≡ true → howMany 12 (ending ms bs) ≡ 0
+pub ending-numbers : (ms : List Member) (bs : List Placed) → fillable ms ≡ true → howMany 12 (ending ms bs) ≡ 0
 unfolding ending howMany
 ending-numbers ms [] t = filled-numbers ms t
 ending-numbers [] (b ∷ bs) t = refl
@@ -136,7 +130,7 @@ first-there w (x ∷ before) b bs e = go (meets w (x .part)) (first-there w befo
     go false q = q
 
 -- Whether a row calls a balise A.
-abbrev hasA : List Member → Bool
+abbrev pub hasA : List Member → Bool
 hasA [] = false
 hasA (A w ∷ ms) = true
 hasA (must w ∷ ms) = hasA ms
@@ -158,66 +152,10 @@ called (may w ∷ ms) before (b ∷ bs) t e =
     (called ms (before ++ (b ∷ [])) bs t (both (meets w (b .part)) (fits ms bs) q .1)))
     (λ q. called ms before (b ∷ bs) t q)
 
-fits-row : (kind : Kind) (ms : List Member) (bs : List Placed) → hasA ms ≡ true → fits ms bs ≡ true → isFit (fitRow (row kind ms) bs) ≡ true
+pub fits-row : (kind : Kind) (ms : List Member) (bs : List Placed) → hasA ms ≡ true → fits ms bs ≡ true → isFit (fitRow (row kind ms) bs) ≡ true
 unfolding fitRow
 fits-row kind ms bs t e = rw e (go (calledA ms bs) (called ms [] bs t e))
   where
     go : (f : Found) → isFound f ≡ true → isFit (fitWith kind f) ≡ true
     go none q = q
     go (found a) q = refl
-
--- ---- the rows
-
--- Every row calls a balise A, and can be filled.
-abbrev whole : List Row → Bool
-whole [] = true
-whole (row kind ms ∷ rs) = (hasA ms && fillable ms) && whole rs
-
--- Balises without a 12 that make these a group of one of the rows.
-record Ended (rs : List Row) (bs : List Placed) : Type 0 where
-  more : List Placed
-  numbers : howMany 12 more ≡ 0
-  fits-one : isFit (fitRows rs (bs ++ more)) ≡ true
-
-rows-end : (rs : List Row) (bs : List Placed) → whole rs ≡ true → opensRows rs bs ≡ true → Ended rs bs
-unfolding opensRows fitRows
-rows-end [] bs t e = false-true e
-rows-end (row kind ms ∷ rs) bs t e =
-    let h = both (hasA ms && fillable ms) (whole rs) t in
-    let a = both (hasA ms) (fillable ms) (h .0) in
-    or-cases (opensMembers ms bs) (opensRows rs bs) e
-    (λ q. record {
-      more = ending ms bs;
-      numbers = ending-numbers ms bs (a .1);
-      fits-one =
-          or-fit (fitRow (row kind ms) (bs ++ ending ms bs)) (fitRows rs (bs ++ ending ms bs))
-          ∙ or-first (isFit (fitRow (row kind ms) (bs ++ ending ms bs))) (isFit (fitRows rs (bs ++ ending ms bs)))
-          (fits-row kind ms (bs ++ ending ms bs) (a .0) (ending-fits ms bs (a .1) q));
-    })
-    (λ q. let r = rows-end rs bs (h .1) q in record {
-      more = r .more;
-      numbers = r .numbers;
-      fits-one =
-          or-fit (fitRow (row kind ms) (bs ++ r .more)) (fitRows rs (bs ++ r .more))
-          ∙ or-second (isFit (fitRow (row kind ms) (bs ++ r .more))) (isFit (fitRows rs (bs ++ r .more))) (r .fits-one);
-    })
-
-opens-by : (way : Direction) (bs : List Placed) → leb (howMany 12 bs) 1 ≡ true → Ended (rowsFor way) bs → Opens bs
-unfolding fitIn
-opens-by way bs few d = go (fitRows (rowsFor way) (bs ++ d .more)) refl (d .fits-one)
-  where
-    once : leb (howMany 12 (bs ++ d .more)) 1 ≡ true
-    once = le-leb (howMany 12 (bs ++ d .more)) 1 (omega (arith, leb-true (howMany 12 bs) 1 few, many-append 12 bs (d .more), d .numbers))
-
-    go : (f : Fit) → fitRows (rowsFor way) (bs ++ d .more) ≡ f → isFit f ≡ true → Opens bs
-    go misfit q e = false-true e
-    go (fit kind a) q e = record { more = d .more; way = way; kind = kind; a = a; fits = rw (once, q) }
-
--- Balises that are found to open a permitted group do so.
-pub real-opening : (bs : List Placed) → isOpening bs ≡ true → Opens bs
-unfolding isOpening
-real-opening bs e =
-    let h = both (leb (howMany 12 bs) 1) (opensRows present bs || opensRows opposite bs) e in
-    or-cases (opensRows present bs) (opensRows opposite bs) (h .1)
-    (λ q. opens-by Direction.Present bs (h .0) (rows-end present bs refl q))
-    (λ q. opens-by Direction.Opposite bs (h .0) (rows-end opposite bs refl q))

@@ -2,12 +2,11 @@
 -- Assumes nothing.
 use Prim.Native.Nat.{ℕ, suc, _+_}
 use mathlib.Core.Path.{_≡_, refl, sym, ap, _∙_}
-use mathlib.Core.List.{List, [], _∷_, _++_, List·Memᴰ, List·Memᴰ·cases-cons, List·Memᴰ·not-nil}
+use mathlib.Core.List.{List, [], _∷_, List·Memᴰ·cases-cons, List·Memᴰ·not-nil}
 use mathlib.Core.Logic.{⊎-elim}
 use native.Mathlib.Omega.{arith}
-use lib.ListN.{length}
 use Rattle.words.specs.Answer.{Answer, Outcome, gives, refuses, then}
-use Rattle.telegram.specs.Telegram.{BadWord, Received, telegram}
+use Rattle.telegram.specs.Telegram.{Received, telegram}
 use Rattle.walk.specs.declared.Part.{Part}
 use Rattle.walk.specs.declared.Placed.{Placed}
 use Rattle.group.specs.declared.Heard.{Heard}
@@ -15,7 +14,7 @@ use Rattle.group.specs.declared.Balise.{Balise}
 use Rattle.group.specs.Balise.{partOf, partHeard, readAll}
 use Rattle.explainer.specs.Reason.{Bad, unreadable, word, Cause, bad}
 use Rattle.explainer.specs.Explain.{partOrWord, partOrBad, named, readFrom}
-use Rattle.explainer.specs.Truths.{At, BadAs, was-unreadable, bad-word, FirstBad}
+use Rattle.explainer.specs.Truths.{BadAs, was-unreadable, bad-word, FirstBad}
 
 -- An answer without its name: refused with 12.
 abbrev pub unnamed : {R A : Type 0} → Answer R A → Outcome A

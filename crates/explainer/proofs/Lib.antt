@@ -1,10 +1,13 @@
 pub mod Openings
 pub mod Endings
+pub mod Permitted
 pub mod Runs
 pub mod Hearing
 pub mod Looking
 pub mod Firsts
 pub mod Nines
 pub mod Distances
+pub mod Culprits
+pub mod Examples
 pub mod Truths
 pub mod Determined

@@ -1,24 +1,22 @@
 -- Balises that some more make a group of a row open it, as the matcher stopped early says.
 -- Assumes nothing.
-use Prim.Native.Nat.{ℕ, zero, suc, _+_, _≤_}
-use mathlib.Core.Path.{_≡_, refl, sym, ap, subst, _∙_}
-use mathlib.Core.Bool.{Bool, true, false, not, _&&_, _||_}
-use mathlib.Core.List.{List, [], _∷_, _++_, append-assoc, append-nil}
+use Prim.Native.Nat.{ℕ, suc, _+_, _≤_}
+use mathlib.Core.Path.{_≡_, refl, sym, ap, _∙_}
+use mathlib.Core.Bool.{Bool, true, false, _&&_, _||_}
+use mathlib.Core.List.{List, [], _∷_, _++_}
 use native.Mathlib.Omega.{arith}
-use lib.Dec.{T, eqb, leb}
+use lib.Dec.{leb}
 use borrow.Author.Tests.{leb-true, le-leb}
 use Rattle.words.specs.Answer.{pick}
 use Rattle.walk.specs.declared.Direction.{Direction}
 use Rattle.walk.specs.declared.Kind.{Kind}
-use Rattle.walk.specs.declared.Part.{Part}
 use Rattle.walk.specs.declared.Placed.{Placed}
-use Rattle.walk.specs.Row.{Figures, all, _to_, Asked, category, oneOf, M, Member, A, must, may, Row, row, isCategory, meets, fits, Found, none, found, first, calledA, Fit, misfit, fit, fitWith, fitRow, orElse, fitRows}
+use Rattle.walk.specs.Row.{_to_, Member, A, must, may, Row, row, isCategory, meets, fits, found, calledA, Fit, misfit, fit, fitWith, fitRow, orElse, fitRows}
 use Rattle.walk.specs.Rows.{present, opposite, howMany, fitIn}
 use Rattle.walk.specs.Fitting.{rowsFor}
 use Rattle.walk.specs.Opening.{Opens}
-use Rattle.walk.proofs.Bools.{and-left, and-right, both, false-true}
+use Rattle.walk.proofs.Bools.{both, false-true}
 use Rattle.explainer.specs.Opening.{opensMembers, opensRows, isOpening}
-use Rattle.explainer.specs.Explain.{isFound}
 
 -- An `||` of which one half holds.
 pub or-cases : (a b : Bool) → a || b ≡ true → {R : Type 0} → (a ≡ true → R) → (b ≡ true → R) → R

@@ -1,7 +1,7 @@
 -- The opening run is the longest: as far as it the balises open a permitted group, and one balise further they do not.
 -- Assumes nothing.
 use Prim.Native.Nat.{ℕ, zero, suc, _+_, _≤_, _<_}
-use mathlib.Core.Path.{_≡_, refl, sym, ap, subst, _∙_}
+use mathlib.Core.Path.{_≡_, refl, sym, ap, _∙_}
 use mathlib.Core.Bool.{Bool, true, false}
 use mathlib.Core.List.{List, _++_, append-assoc}
 use native.Mathlib.Omega.{arith}
@@ -11,14 +11,14 @@ use lib.Seq.{take-take}
 use borrow.Author.Tests.{ltb-true, ltb-false}
 use Rattle.words.specs.Answer.{pick}
 use Rattle.walk.specs.declared.Placed.{Placed}
-use Rattle.walk.specs.Row.{isCategory, fits}
+use Rattle.walk.specs.Row.{fits}
 use Rattle.walk.specs.Rows.{howMany, fitIn}
 use Rattle.walk.specs.Fitting.{rowsFor}
 use Rattle.walk.specs.Opening.{Opens, Longest}
 use Rattle.walk.proofs.Bools.{false-true}
 use Rattle.explainer.specs.Opening.{opensMembers, opensRows, isOpening, longestOf, openingRun}
 use Rattle.explainer.proofs.Openings.{seen-opening}
-use Rattle.explainer.proofs.Endings.{real-opening}
+use Rattle.explainer.proofs.Permitted.{real-opening}
 
 module _ (bs : List Placed) where
   none-open : isOpening (take 0 bs) ≡ true

@@ -3,7 +3,7 @@
 use Prim.Native.Nat.{ℕ, _+_}
 use mathlib.Core.Path.{_≡_, refl, sym, ap, subst, _∙_}
 use mathlib.Core.Logic.{_⊎_, inl, inr}
-use mathlib.Core.Bool.{Bool, true, false, _&&_, _||_}
+use mathlib.Core.Bool.{Bool, true, false, _&&_}
 use mathlib.Core.List.{List}
 use native.Mathlib.Omega.{arith}
 use lib.Dec.{eqb, ltb}
@@ -20,75 +20,23 @@ use Rattle.walk.proofs.Bools.{both, false-true}
 use Rattle.group.specs.declared.Group.{Group}
 use Rattle.group.specs.declared.Judged.{Judged}
 use Rattle.group.specs.Balise as received
-use Rattle.group.specs.Distance.{isPreset, noIncrease, linkDistance}
+use Rattle.group.specs.Distance.{isPreset, noIncrease}
 use Rattle.group.specs.Numbers.{numberOf}
-use Rattle.group.specs.Message.{Content, Message, nothing}
-use Rattle.group.specs.Judge.{yOf, zOf, B, C, distanceOf, signalDistance, contentOf, messageOf, judgeAs, judgeRead, judge}
+use Rattle.group.specs.Message.{Message, nothing}
+use Rattle.group.specs.Judge.{yOf, B, signalDistance, contentOf, messageOf, judgeAs, judgeRead, judge}
 use Rattle.group.specs.Says.{saysJudged}
 use Rattle.explainer.specs.declared.Reason.{Reason}
 use Rattle.explainer.specs.Opening.{openingRun}
-use Rattle.explainer.specs.Reason.{Bad, Cause, balises, bad, opens, figure, Explained, noReason, because}
-use Rattle.explainer.specs.Explain.{readFrom, indexOf, placeOf, isFound, bBreaks, cBreaks, whyDistance, whyPresent, whyRow, whyFit, whyRead, explain}
+use Rattle.explainer.specs.Reason.{Cause, balises, bad, Explained, noReason, because}
+use Rattle.explainer.specs.Explain.{readFrom, isFound, whyPresent, whyRow, whyFit, whyRead, explain}
 use Rattle.explainer.specs.Says.{saysReason}
-use Rattle.explainer.specs.Truths.{Explains, Judges, BBreaks, preset-barred, Culprit, its-B, its-C, OpensSoFar, BreaksRule, Why, why-10, why-11, why-12, why-13, why-15, Right, Truths}
+use Rattle.explainer.specs.Truths.{Explains, Judges, Culprit, BreaksRule, Why, why-10, why-11, why-12, why-13, why-15, Right, Truths}
+use Rattle.group.specs.declared.Heard.{Heard}
+use Rattle.explainer.proofs.Examples.{at, a-one, a-nine, two, three, counted, one-balise, six-balises, second-unreadable, two-of-three, b-breaks, accepted-of-the-ride}
 use Rattle.explainer.proofs.Runs.{run-is-longest}
-use Rattle.explainer.proofs.Firsts.{unnamed, read-unnamed, Names, names-first}
+use Rattle.explainer.proofs.Firsts.{unnamed, read-unnamed, names-first}
 use Rattle.explainer.proofs.Nines.{isJudged, only-13, nine-there}
-use Rattle.explainer.proofs.Distances.{refused-by-b, refused-by-c, allowed-by-both, b-breaks, b-keeps, c-breaks, at-index}
-
--- ---- 15
-
--- The distance of a present signal or warning board, if no rule bars it first.
-abbrev unless : Bool → List Placed → Outcome ℕ
-unless barred bs = pick barred (refuses 15) (distanceOf bs)
-
--- A figure of B or C breaks the rule and is named, or the distance is allowed and nothing is.
-data Decided (row : Picked) (b : Placed) (bs : List Placed) (barred : Bool) : Type 0 where
-  breaks : (i place : ℕ) → unless barred bs ≡ refuses 15 → whyDistance barred bs ≡ because 15 (figure i place) → Culprit bs row b i place → Decided row b bs barred
-  allowed : (d : ℕ) → unless barred bs ≡ gives d → whyDistance barred bs ≡ noReason → Decided row b bs barred
-
-module _ (row : Picked) (b : Placed) (bs : List Placed) (is-B : B bs ≡ found b) (barred : Bool) where
-  abbrev Barred : Type 0
-  Barred = (row .kind ≡ Kind.Signal) × (Y (b .part) ≡ 14) × (noIncrease (Z (row .a .part)) ≡ true)
-
-  -- B is named;
-  by-b : barred || bBreaks (yOf (B bs)) (zOf (B bs)) (isFound (C bs)) ≡ true → unless barred bs ≡ refuses 15 → BBreaks row b (C bs) → Decided row b bs barred
-  unfolding whyDistance
-  by-b e refused why = breaks (indexOf 9 bs) (placeOf (B bs)) refused (rw e) (its-B (at-index 9 bs b is-B) (sym (ap placeOf is-B)) why)
-
-  -- C is named;
-  by-c : (c : Placed) → C bs ≡ found c → barred ≡ false → bBreaks (yOf (B bs)) (zOf (B bs)) (isFound (C bs)) ≡ false → cBreaks (yOf (C bs)) (isFound (C bs)) ≡ true
-      → (BBreaks row b (C bs) → ⊥) → Decided row b bs barred
-  unfolding whyDistance distanceOf
-  by-c c is unbarred keeps e not-b =
-      breaks (indexOf 14 bs) (placeOf (C bs))
-      (rw unbarred (refused-by-c (yOf (B bs)) (zOf (B bs)) (C bs) keeps e))
-      (rw (unbarred, keeps, e))
-      (its-C c is (at-index 14 bs c is) (sym (ap placeOf is)) (c-breaks c (ap (λ (f : Found). cBreaks (yOf f) (isFound f)) (sym is) ∙ e)) not-b)
-
-  -- or nothing is.
-  by-none : barred ≡ false → bBreaks (yOf (B bs)) (zOf (B bs)) (isFound (C bs)) ≡ false → cBreaks (yOf (C bs)) (isFound (C bs)) ≡ false → Decided row b bs barred
-  unfolding whyDistance distanceOf
-  by-none unbarred keeps e =
-      let t = allowed-by-both (yOf (B bs)) (zOf (B bs)) (C bs) keeps e in
-      allowed (t .0) (rw unbarred (t .1)) (rw (unbarred, keeps, e))
-
-  figures-of-b : bBreaks (yOf (B bs)) (zOf (B bs)) (isFound (C bs)) ≡ bBreaks (Y (b .part)) (Z (b .part)) (isFound (C bs))
-  figures-of-b = ap (λ (f : Found). bBreaks (yOf f) (zOf f) (isFound (C bs))) is-B
-
-  decided : (barred ≡ true → Barred) → (Barred → barred ≡ true) → Decided row b bs barred
-  unfolding distanceOf
-  decided from to = go barred refl (bBreaks (yOf (B bs)) (zOf (B bs)) (isFound (C bs))) refl (cBreaks (yOf (C bs)) (isFound (C bs))) refl (C bs) refl
-    where
-      go : (s : Bool) → barred ≡ s → (t : Bool) → bBreaks (yOf (B bs)) (zOf (B bs)) (isFound (C bs)) ≡ t → (u : Bool) → cBreaks (yOf (C bs)) (isFound (C bs)) ≡ u
-          → (f : Found) → C bs ≡ f → Decided row b bs barred
-      go true p t q u r f is = let h = from p in by-b (rw p) (rw p) (preset-barred (h .0) (h .1) (h .2))
-      go false p true q u r f is =
-          by-b (rw (p, q)) (rw p (refused-by-b (yOf (B bs)) (zOf (B bs)) (C bs) q)) (b-breaks row b (C bs) (sym figures-of-b ∙ q))
-      go false p false q false r f is = by-none p q r
-      go false p false q true r none is = false-true (ap (λ (f : Found). cBreaks (yOf f) (isFound f)) (sym is) ∙ r)
-      go false p false q true r (found c) is =
-          by-c c is p q r (b-keeps row b (C bs) (sym figures-of-b ∙ q) (λ k y z. false-true (sym p ∙ to (k, y, z))))
+use Rattle.explainer.proofs.Culprits.{Decided, breaks, allowed, decided}
 
 -- ---- the row that fits
 
@@ -204,4 +152,10 @@ truths =
     record {
       right = right;
       none-if = λ g r j e f is. accepted g (saysJudged j) (saysReason r) (right g r j e f) (ap saysReason is);
+      some-10 = (counted 1, one-balise .1);
+      some-11 = (counted 6, six-balises .1);
+      some-12 = (two a-one (at 1030 Heard.Unreadable), second-unreadable .1);
+      some-13 = (three a-one a-nine a-one, two-of-three .1);
+      some-15 = (two a-one (at 1030 (Heard.Words 0x99 0x2B 0x00)), b-breaks .1);
+      some-accepted = (two a-one a-nine, accepted-of-the-ride);
     }

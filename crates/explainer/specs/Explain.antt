@@ -2,7 +2,7 @@
 -- balise in passing order and which word (X, Y, Z or YZ) is bad, none if it was unreadable; for 15 the balise whose figure breaks the rule,
 -- B before C (B also for M-101's rule); for 13 the length of the longest opening run that also opens some permitted group".
 -- Assumes nothing.
-use Prim.Native.Nat.{ℕ, zero, suc}
+use Prim.Native.Nat.{ℕ, suc}
 use mathlib.Core.Bool.{Bool, true, false, not, _&&_, _||_}
 use mathlib.Core.List.{List, [], _∷_}
 use lib.Dec.{eqb, leb, ltb}

@@ -118,8 +118,19 @@ abbrev pub Right : Group → Outcome Message → Explained → Type 0
 Right g (gives m) e = e ≡ noReason
 Right g (refuses n) e = Why g n e
 
+-- A group that is refused with this number: so that none of what is claimed speaks of nothing.
+abbrev pub RefusedWith : ℕ → Type 0
+RefusedWith n = (g : Group) × (judge g ≡ refuses n)
+
 -- What is claimed, for any group that is lent.
 pub record Truths : Type 0 where
   pub right : (g : Group) (r : Reason) (j : Judged) → Explains g r → Judges g j → Right g (saysJudged j) (saysReason r)
   -- Only an accepted group has no reason.
   pub none-if : (g : Group) (r : Reason) (j : Judged) → Explains g r → Judges g j → r ≡ Reason.None → (m : Message) × (saysJudged j ≡ gives m)
+  -- There are groups of each sort.
+  pub some-10 : RefusedWith 10
+  pub some-11 : RefusedWith 11
+  pub some-12 : RefusedWith 12
+  pub some-13 : RefusedWith 13
+  pub some-15 : RefusedWith 15
+  pub some-accepted : (g : Group) × (m : Message) × (judge g ≡ gives m)
