@@ -157,5 +157,5 @@ truths =
       some-12 = (two a-one (at 1030 Heard.Unreadable), second-unreadable .1);
       some-13 = (three a-one a-nine a-one, two-of-three .1);
       some-15 = (two a-one (at 1030 (Heard.Words 0x99 0x2B 0x00)), b-breaks .1);
-      some-accepted = (two a-one a-nine, accepted-of-the-ride);
+      some-accepted = (two a-one a-nine, accepted-of-the-ride .0, accepted-of-the-ride .1);
     }
