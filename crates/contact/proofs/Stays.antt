@@ -14,7 +14,7 @@ use Rattle.contact.proofs.Latest.{newest, older}
 use Rattle.contact.proofs.Steps.{stays-out, stays-in}
 
 -- The zeroes among the n + 1 latest bits are those among the n latest before, and the new bit if it is one.
-zeroes-after : (h b n : ℕ) → b < 2 → n < 16 → zeroesOf (after h b) (suc n) ≡ (1 - b) + zeroesOf h n
+pub zeroes-after : (h b n : ℕ) → b < 2 → n < 16 → zeroesOf (after h b) (suc n) ≡ (1 - b) + zeroesOf h n
 unfolding zeroesOf
 zeroes-after h b zero small low = omega (arith, newest h b small)
 zeroes-after h b (suc n) small low =
@@ -22,7 +22,7 @@ zeroes-after h b (suc n) small low =
     omega (arith, shifted, zeroes-after h b n small (omega arith))
 
 -- More bits have no fewer zeroes.
-grows : (w n k : ℕ) → zeroesOf w n ≤ zeroesOf w (n + k)
+pub grows : (w n k : ℕ) → zeroesOf w n ≤ zeroesOf w (n + k)
 unfolding zeroesOf
 grows w n zero = omega (arith, ap (zeroesOf w) (add-zero n))
 grows w n (suc k) = omega (arith, grows w n k, ap (zeroesOf w) (add-suc n k))
@@ -30,7 +30,7 @@ grows w n (suc k) = omega (arith, grows w n k, ap (zeroesOf w) (add-suc n k))
 -- The bits of the buffer b from bit i on, the history h before them.
 module _ (b : List ℕ) (h i : ℕ) where
   -- The history after n of them.
-  abbrev on : ℕ → ℕ
+  abbrev pub on : ℕ → ℕ
   on zero = h
   on (suc n) = after (on n) (bitAt b (i + n))
 
@@ -49,7 +49,7 @@ module _ (b : List ℕ) (h i : ℕ) where
       omega (arith, still m n (omega arith), one, ap (zeroesOf (on (suc n))) (add-suc m n))
 
   -- Where none of n bits opens or closes, the contacts are those from behind them on.
-  behind : (mode : Mode) (end n : ℕ) → i + n ≤ end
+  pub behind : (mode : Mode) (end n : ℕ) → i + n ≤ end
       → ((k : ℕ) → k < n → contacts b mode (on k) (i + k) (end - (i + k)) ≡ contacts b mode (on (suc k)) (i + k + 1) (end - (i + k + 1)))
       → contacts b mode h i (end - i) ≡ contacts b mode (on n) (i + n) (end - (i + n))
   behind mode end zero room each = ap (λ (k : ℕ). contacts b mode h k (end - k)) (sym (add-zero i))
