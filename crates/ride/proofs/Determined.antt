@@ -9,6 +9,8 @@ use contract.Lifetimes.{Lfts}
 use borrow.Fn.Kinds.{Dens, endedOf}
 use denote.Triple.Clauses.{AtExit}
 use Rattle.words.specs.Answer.{Outcome, gives, refuses, pick}
+use Rattle.settings.specs.declared.Bad.{Bad}
+use Rattle.settings.proofs.Determined.{badOf}
 use Rattle.ride.specs.Record.{Entry}
 use Rattle.ride.specs.Step.{Step, End}
 use Rattle.ride.specs.At.{Standing, noRecord, treated, Treatment}
@@ -29,8 +31,6 @@ use Rattle.ride.specs.declared.Way.{Way}
 use Rattle.ride.specs.declared.Ran.{Ran}
 use Rattle.ride.proofs.fresh.Kinds as fresh-kinds
 use Rattle.ride.proofs.fresh.Reads as fresh-reads
-use Rattle.ride.proofs.joining.allowed.Kinds as allowed-kinds
-use Rattle.ride.proofs.joining.allowed.Reads as allowed-reads
 use Rattle.ride.proofs.records.check_record.Kinds as check-kinds
 use Rattle.ride.proofs.records.check_record.Reads as check-reads
 use Rattle.ride.proofs.step.Kinds as step-kinds
@@ -41,6 +41,10 @@ use Rattle.ride.proofs.end.Kinds as end-kinds
 use Rattle.ride.proofs.end.Reads as end-reads
 use Rattle.ride.proofs.run.Kinds as run-kinds
 use Rattle.ride.proofs.run.Reads as run-reads
+use Rattle.ride.proofs.run_under.Kinds as run-under-kinds
+use Rattle.ride.proofs.run_under.Reads as run-under-reads
+use Rattle.ride.proofs.trace.odometer_at.Kinds as odometer-at-kinds
+use Rattle.ride.proofs.trace.odometer_at.Reads as odometer-at-reads
 
 -- From what an answer says, the answer.
 abbrev pub wrongOf : ℕ → Wrong
@@ -118,11 +122,15 @@ ended-back r = ap (λ (ls : Lines). record { ride = r .ride; closed = r .closed;
 
 abbrev pub wayOf : Outcome Through → Way
 wayOf (gives t) = Way.Through
-wayOf (refuses n) = pick (eqb n 19) Way.Gap Way.Length
+wayOf (refuses n) = pick (eqb n 16) Way.Length (Way.Settings (badOf n))
 
 pub way-back : (w : Way) → wayOf (saysWay w) ≡ w
 way-back Way.Through = refl
-way-back Way.Gap = refl
+way-back (Way.Settings Bad.Pair) = refl
+way-back (Way.Settings Bad.Gap) = refl
+way-back (Way.Settings Bad.TooHigh) = refl
+way-back (Way.Settings Bad.NotAbove) = refl
+way-back (Way.Settings Bad.Full) = refl
 way-back Way.Length = refl
 
 abbrev pub ranOf : Run → Ran
@@ -135,11 +143,6 @@ pub fresh-determined : (κs : Lfts 0) (a : Dens κs fresh-kinds.ps) (r r′ : Ri
     (x x′ : AtExit (endedOf 0 fresh-kinds.ps fresh-kinds.r) κs)
     → fresh-reads.Post κs a r x → fresh-reads.Post κs a r′ x′ → r ≡ r′
 fresh-determined κs a r r′ x x′ p q = p ∙ sym q
-
-pub allowed-determined : (κs : Lfts 0) (a : Dens κs allowed-kinds.ps) (r r′ : Bool)
-    (x x′ : AtExit (endedOf 0 allowed-kinds.ps allowed-kinds.r) κs)
-    → allowed-reads.Post κs a r x → allowed-reads.Post κs a r′ x′ → r ≡ r′
-allowed-determined κs a r r′ x x′ p q = p ∙ sym q
 
 pub check-record-determined : (κs : Lfts 0) (a : Dens κs check-kinds.ps) (r r′ : Checked)
     (x x′ : AtExit (endedOf 0 check-kinds.ps check-kinds.r) κs)
@@ -165,3 +168,13 @@ pub run-determined : (κs : Lfts 1) (a : Dens κs run-kinds.ps) (r r′ : Ran)
     (x x′ : AtExit (endedOf 1 run-kinds.ps run-kinds.r) κs)
     → run-reads.Post κs a r x → run-reads.Post κs a r′ x′ → r ≡ r′
 run-determined κs a r r′ x x′ p q = sym (ran-back r) ∙ ap ranOf (p ∙ sym q) ∙ ran-back r′
+
+pub run-under-determined : (κs : Lfts 1) (a : Dens κs run-under-kinds.ps) (r r′ : Ran)
+    (x x′ : AtExit (endedOf 1 run-under-kinds.ps run-under-kinds.r) κs)
+    → run-under-reads.Post κs a r x → run-under-reads.Post κs a r′ x′ → r ≡ r′
+run-under-determined κs a r r′ x x′ p q = sym (ran-back r) ∙ ap ranOf (p ∙ sym q) ∙ ran-back r′
+
+pub odometer-at-determined : (κs : Lfts 1) (a : Dens κs odometer-at-kinds.ps) (r r′ : ℕ)
+    (x x′ : AtExit (endedOf 1 odometer-at-kinds.ps odometer-at-kinds.r) κs)
+    → odometer-at-reads.Post κs a r x → odometer-at-reads.Post κs a r′ x′ → r ≡ r′
+odometer-at-determined κs a r r′ x x′ p q = p ∙ sym q

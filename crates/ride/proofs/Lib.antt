@@ -2,6 +2,7 @@ pub mod Cases
 pub mod Steps
 pub mod At
 pub mod Turns
+pub mod Under
 pub mod Law
 pub mod Cutting
 pub mod Sections

@@ -1,19 +1,17 @@
 -- The records of a trace, one after the other.
 -- Assumes nothing.
-use Prim.Native.Nat.{ℕ, zero, suc, _+_, _-_, _*_, _%_, _≤_, _<_}
+use Prim.Native.Nat.{ℕ, zero, suc, _+_, _-_, _*_, _≤_, _<_}
 use native.Mathlib.Omega.{arith}
 use native.Mathlib.Nat.{add-zero}
 use mathlib.Core.Path.{_≡_, refl, ap, sym, _∙_}
-use mathlib.Core.Bool.{true, false}
 use mathlib.Core.List.{List, [], _∷_}
-use lib.Dec.{eqb}
 use lib.ListN.{length, getD, take, drop}
 use lib.Seq.{drop-cons, drop-drop}
-use Rattle.words.specs.Answer.{gives, refuses}
 use Rattle.ride.specs.declared.Ride.{Ride}
-use Rattle.ride.specs.Joining.{allowed}
 use Rattle.ride.specs.Step.{treat}
-use Rattle.ride.specs.Over.{firstRecords, records, rideOver, through, Run, run}
+use Rattle.ride.specs.Record.{odometerOf}
+use Rattle.ride.specs.At.{recordAt}
+use Rattle.ride.specs.Over.{firstRecords, rideOver}
 
 -- ---- the eight bytes of a record
 
@@ -40,51 +38,38 @@ eight-bytes l at h =
 
 -- ---- one record more
 
--- the state after the records of a trace from the one that i others stand before, in the state `ride`
-abbrev pub fromHere : ℕ → List ℕ → ℕ → Ride → ℕ → Ride
-fromHere gap trace count ride i = rideOver (λ o. gap) ride (i + 1) (firstRecords (count - i) (drop (i * 8) trace)) .ride
+-- the state after the records of a trace from the one that i others stand before, in the state `ride`, by any rule of the gap
+abbrev pub fromHere : (ℕ → ℕ) → List ℕ → ℕ → Ride → ℕ → Ride
+fromHere gaps trace count ride i = rideOver gaps ride (i + 1) (firstRecords (count - i) (drop (i * 8) trace)) .ride
 
 -- at the first record it is that of all records
-pub from-first : (gap : ℕ) (trace : List ℕ) (count : ℕ) (ride : Ride) → fromHere gap trace count ride 0 ≡ rideOver (λ o. gap) ride 1 (firstRecords count trace) .ride
-from-first gap trace count ride =
+pub from-first : (gaps : ℕ → ℕ) (trace : List ℕ) (count : ℕ) (ride : Ride) → fromHere gaps trace count ride 0 ≡ rideOver gaps ride 1 (firstRecords count trace) .ride
+from-first gaps trace count ride =
     let e : count - 0 ≡ count = omega arith in
-    ap (λ (k : ℕ). rideOver (λ o. gap) ride 1 (firstRecords k trace) .ride) e
+    ap (λ (k : ℕ). rideOver gaps ride 1 (firstRecords k trace) .ride) e
 
 -- it stays the same from one record to the next
-pub from-next : (gap : ℕ) (trace : List ℕ) (count : ℕ) (ride next end : Ride) (i : ℕ) → i < count
-    → next ≡ treat ride gap (take 8 (drop (i * 8) trace)) .ride → fromHere gap trace count ride i ≡ end → fromHere gap trace count next (i + 1) ≡ end
+pub from-next : (gaps : ℕ → ℕ) (trace : List ℕ) (count : ℕ) (ride next end : Ride) (i : ℕ) → i < count
+    → next ≡ treat ride (gaps (odometerOf (recordAt trace i))) (recordAt trace i) .ride → fromHere gaps trace count ride i ≡ end
+    → fromHere gaps trace count next (i + 1) ≡ end
 unfolding rideOver firstRecords
-from-next gap trace count ride next end i h stepped same =
+from-next gaps trace count ride next end i h stepped same =
     let e : count - i ≡ suc (count - (i + 1)) = omega arith in
     let n : suc (i + 1) ≡ i + 1 + 1 = omega arith in
     let p : i * 8 + 8 ≡ (i + 1) * 8 = omega arith in
     let d : drop 8 (drop (i * 8) trace) ≡ drop ((i + 1) * 8) trace = drop-drop 8 (i * 8) trace ∙ ap (λ (k : ℕ). drop k trace) p in
-    let after : ℕ → List ℕ → Ride → Ride = λ m t s. rideOver (λ o. gap) s m (firstRecords (count - (i + 1)) t) .ride in
+    let r : List ℕ = recordAt trace i in
+    let then : Ride = treat ride (gaps (odometerOf r)) r .ride in
+    let after : ℕ → List ℕ → Ride → Ride = λ m t s. rideOver gaps s m (firstRecords (count - (i + 1)) t) .ride in
     ap (after (i + 1 + 1) (drop ((i + 1) * 8) trace)) stepped
-    ∙ ap (λ (t : List ℕ). after (i + 1 + 1) t (treat ride gap (take 8 (drop (i * 8) trace)) .ride)) (sym d)
-    ∙ ap (λ (m : ℕ). after m (drop 8 (drop (i * 8) trace)) (treat ride gap (take 8 (drop (i * 8) trace)) .ride)) (sym n)
-    ∙ ap (λ (k : ℕ). rideOver (λ o. gap) ride (i + 1) (firstRecords k (drop (i * 8) trace)) .ride) (sym e)
+    ∙ ap (λ (t : List ℕ). after (i + 1 + 1) t then) (sym d)
+    ∙ ap (λ (m : ℕ). after m (drop 8 (drop (i * 8) trace)) then) (sym n)
+    ∙ ap (λ (k : ℕ). rideOver gaps ride (i + 1) (firstRecords k (drop (i * 8) trace)) .ride) (sym e)
     ∙ same
 
 -- after the last record it is the state itself
-pub from-last : (gap : ℕ) (trace : List ℕ) (count : ℕ) (ride : Ride) (i : ℕ) → count ≤ i → ride ≡ fromHere gap trace count ride i
+pub from-last : (gaps : ℕ → ℕ) (trace : List ℕ) (count : ℕ) (ride : Ride) (i : ℕ) → count ≤ i → ride ≡ fromHere gaps trace count ride i
 unfolding rideOver firstRecords
-from-last gap trace count ride i h =
+from-last gaps trace count ride i h =
     let e : count - i ≡ 0 = omega arith in
-    sym (ap (λ (k : ℕ). rideOver (λ o. gap) ride (i + 1) (firstRecords k (drop (i * 8) trace)) .ride) e)
-
--- ---- the whole trace
-
-pub run-gap : (ride : Ride) (gap : ℕ) (trace : List ℕ) → allowed gap ≡ false → _≡_ {A = Run} (record { answer = refuses 19; ride = ride }) (run ride gap trace)
-unfolding run
-run-gap ride gap trace e = rw e
-
-pub run-length : (ride : Ride) (gap : ℕ) (trace : List ℕ) → allowed gap ≡ true → eqb (length trace % 8) 0 ≡ false
-    → _≡_ {A = Run} (record { answer = refuses 16; ride = ride }) (run ride gap trace)
-unfolding run
-run-length ride gap trace e h = rw (e, h)
-
-pub run-through : (ride : Ride) (gap : ℕ) (trace : List ℕ) → allowed gap ≡ true → eqb (length trace % 8) 0 ≡ true
-    → _≡_ {A = Run} (record { answer = gives through; ride = rideOver (λ o. gap) ride 1 (records trace) .ride }) (run ride gap trace)
-unfolding run
-run-through ride gap trace e h = rw (e, h)
+    sym (ap (λ (k : ℕ). rideOver gaps ride (i + 1) (firstRecords k (drop (i * 8) trace)) .ride) e)

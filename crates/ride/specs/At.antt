@@ -9,12 +9,17 @@ use Rattle.group.specs.declared.Group.{Group}
 use Rattle.ride.specs.declared.Line.{Line}
 use Rattle.ride.specs.declared.Ride.{Ride}
 use Rattle.ride.specs.State.{noGroup}
+use Rattle.ride.specs.Record.{odometerOf}
 use Rattle.ride.specs.Joining.{allowed}
 use Rattle.ride.specs.Step.{Step, treat}
 
 -- The record that stands behind i others: "records of one fixed size, no header: 8 bytes".
 abbrev pub recordAt : List ℕ → ℕ → List ℕ
 recordAt trace i = take 8 (drop (i * 8) trace)
+
+-- The odometer of the record at an index, as its four bytes say; 0 where there is none.
+unfoldable pub odometerAt : List ℕ → ℕ → ℕ
+odometerAt trace i = pick (ltb i (length trace / 8)) (odometerOf (recordAt trace i)) 0
 
 -- What stands at an index: no record (document 01 has no number for that), or one, with its lines or the number of its refusal.
 pub data Standing : Type 0 where

@@ -4,17 +4,14 @@
 -- Assumes nothing.
 use Prim.Native.Nat.{ℕ, _+_}
 use mathlib.Core.Bool.{Bool, _&&_}
-use lib.Dec.{leb, ltb}
+use lib.Dec.{ltb}
 use lib.ListN.{set}
 use Rattle.words.specs.Answer.{pick}
+pub use Rattle.settings.specs.Versions.{allowed}
 use Rattle.group.specs.declared.Balise.{Balise}
 use Rattle.group.specs.declared.Group.{Group}
 use Rattle.ride.specs.declared.Passed.{Passed}
 use Rattle.ride.specs.State.{noGroup, isOpen}
-
--- "The gap is a setting, 1 to 200 dm."
-abbrev pub allowed : ℕ → Bool
-allowed gap = leb 1 gap && leb gap 200
 
 -- "If a group is open and the odometer exceeds its last balise by more than the gap": the group is left behind.
 abbrev pub isBehind : ℕ → ℕ → Group → Bool

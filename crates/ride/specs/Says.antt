@@ -3,6 +3,7 @@
 use Prim.Native.Nat.{ℕ}
 use mathlib.Core.List.{List, [], _∷_}
 use Rattle.words.specs.Answer.{Outcome, gives, refuses}
+use Rattle.settings.specs.Says.{saysBad}
 use Rattle.ride.specs.declared.Wrong.{Wrong}
 use Rattle.ride.specs.declared.Checked.{Checked}
 use Rattle.ride.specs.declared.Line.{Line}
@@ -78,10 +79,10 @@ saysTreated t = record { reply = saysReply (t .reply); closed = t .closed; ride 
 abbrev pub saysEnded : Ended → End
 saysEnded e = record { lines = saysLines (e .lines); closed = e .closed; ride = e .ride }
 
--- "gap outside 1 to 200" is 19, "trace length not a multiple of 8" is 16.
+-- Settings that are refused have their own number ("gap outside 1 to 200" is 19); "trace length not a multiple of 8" is 16.
 abbrev pub saysWay : Way → Outcome Through
 saysWay Way.Through = gives through
-saysWay Way.Gap = refuses 19
+saysWay (Way.Settings bad) = refuses (saysBad bad)
 saysWay Way.Length = refuses 16
 
 -- A run: how it went, and the state after it.

@@ -3,18 +3,11 @@ ghost use mathlib.Core.Path.{_≡_};
 ghost use Prim.Native.Nat.{_+_};
 ghost use lib.Dec.{ltb};
 ghost use Rattle.ride.specs.State.{noGroup, isOpen};
-ghost use Rattle.ride.specs.Joining.{allowed, counted, join, takeUp};
+ghost use Rattle.ride.specs.Joining.{counted, join, takeUp};
 use crate::Passed;
 use group::Balise;
 use group::Group;
 use group::Heard;
-
-// Whether the gap is 1 to 200.
-pub fn allowed(gap: u32) -> bool
-    ensures { λ r. ⌜ r ≡ allowed gap ⌝ }
-{
-    (1 <= gap) & (gap <= 200)
-}
 
 // A place of a group that no balise has taken.
 const NO_BALISE: Balise = Balise {

@@ -12,7 +12,7 @@ use crate::Wrong;
 use group::Heard;
 
 // Four bytes as a number, high byte first.
-fn high_first(a: u8, b: u8, c: u8, d: u8) -> u32
+pub fn high_first(a: u8, b: u8, c: u8, d: u8) -> u32
     ensures { λ r. ⌜ r ≡ ((a * 256 + b) * 256 + c) * 256 + d ⌝ }
 {
     ((a as u32 * 256 + b as u32) * 256 + c as u32) * 256 + d as u32

@@ -1,11 +1,13 @@
 // The records of a trace: one by its index, and all of them in turn.
 ghost use mathlib.Core.Path.{_≡_};
 ghost use Prim.Native.Nat.{_+_, _≤_};
-ghost use mathlib.Core.Bool.{true};
 ghost use lib.ListN.{length, take, drop};
 ghost use Rattle.ride.specs.State.{noGroup};
-ghost use Rattle.ride.specs.Joining.{allowed};
-ghost use Rattle.ride.specs.At.{treatAt};
+ghost use Rattle.words.specs.Answer.{gives};
+ghost use Rattle.settings.specs.Versions.{kept};
+ghost use Rattle.settings.specs.Store.{judged};
+ghost use Rattle.settings.specs.At.{heldAt, gapAt};
+ghost use Rattle.ride.specs.At.{odometerAt, treatAt};
 ghost use Rattle.ride.specs.Over.{rideOver, records};
 ghost use Rattle.ride.specs.Says.{saysReply, saysTreated, saysWay, saysRan};
 use crate::Lines;
@@ -13,10 +15,13 @@ use crate::Ran;
 use crate::Ride;
 use crate::Way;
 use crate::Wrong;
-use crate::joining::allowed;
 use crate::joining::no_group;
+use crate::records::high_first;
 use crate::stepping::treat;
 use group::Group;
+use settings::Held;
+use settings::Store;
+use settings::allowed;
 
 // What a record gives: why it is refused, or its lines.
 pub enum Given {
@@ -53,6 +58,17 @@ fn eight(trace: &[u8], at: usize) -> [u8; 8]
         trace[at + 6],
         trace[at + 7],
     ]
+}
+
+// The odometer of the record at an index of the trace, as its four bytes say; 0 where there is no such record.
+pub fn odometer_at(trace: &[u8], i: usize) -> u32
+    ensures { λ r. ⌜ r ≡ odometerAt (now (trace .entry)) i ⌝ }
+{
+    if i >= trace.len() / 8 {
+        return 0;
+    }
+    let at = i * 8;
+    high_first(trace[at], trace[at + 1], trace[at + 2], trace[at + 3])
 }
 
 // No record is treated.
@@ -95,16 +111,22 @@ pub fn went(ride: Ride, way: Way) -> Ran
     Ran { ride, way }
 }
 
-// The state after all records of the trace.
-pub fn over(ride: Ride, gap: u32, trace: &[u8]) -> Ride
-    requires { ⌜ allowed gap ≡ true ⌝ }
-    ensures { λ r. ⌜ r ≡ rideOver (λ odometer. gap) ride 1 (records (now (trace .entry))) .ride ⌝ }
+// The state after all records of the trace, each treated with the gap in force at its own odometer. The store is asked only where that leaves
+// the places of the settings that are held; what is held at first is what is in force at place 0.
+pub fn over(ride: Ride, store: Store, first: Held, trace: &[u8]) -> Ride
+    requires { ⌜ (judged store ≡ gives kept) × (first ≡ heldAt store 0) ⌝ }
+    ensures { λ r. ⌜ r ≡ rideOver (gapAt store) ride 1 (records (now (trace .entry))) .ride ⌝ }
 {
     let count = trace.len() / 8;
     let mut now = ride;
+    let mut held = first;
     let mut i: usize = 0;
     while i < count {
-        let treated = treat_at(now, gap, trace, i);
+        let odometer = odometer_at(trace, i);
+        if settings::leaves(held, odometer) {
+            held = settings::hold(store, held, odometer);
+        }
+        let treated = treat_at(now, held.gap, trace, i);
         now = treated.ride;
         i += 1;
     }

@@ -25,6 +25,10 @@ use Rattle.settings.proofs.add.Kinds as add-kinds
 use Rattle.settings.proofs.add.Reads as add-reads
 use Rattle.settings.proofs.at.Kinds as at-kinds
 use Rattle.settings.proofs.at.Reads as at-reads
+use Rattle.settings.proofs.places.leaves.Kinds as leaves-kinds
+use Rattle.settings.proofs.places.leaves.Reads as leaves-reads
+use Rattle.settings.proofs.hold.Kinds as hold-kinds
+use Rattle.settings.proofs.hold.Reads as hold-reads
 
 -- From what an answer says, the answer.
 abbrev pub badOf : ℕ → Bad
@@ -89,3 +93,13 @@ pub at-determined : (κs : Lfts 0) (a : Dens κs at-kinds.ps) (r r′ : Asked)
     (x x′ : AtExit (endedOf 0 at-kinds.ps at-kinds.r) κs)
     → at-reads.Post κs a r x → at-reads.Post κs a r′ x′ → r ≡ r′
 at-determined κs a r r′ x x′ p q = sym (asked-back r) ∙ ap askedOf (p ∙ sym q) ∙ asked-back r′
+
+pub leaves-determined : (κs : Lfts 0) (a : Dens κs leaves-kinds.ps) (r r′ : Bool)
+    (x x′ : AtExit (endedOf 0 leaves-kinds.ps leaves-kinds.r) κs)
+    → leaves-reads.Post κs a r x → leaves-reads.Post κs a r′ x′ → r ≡ r′
+leaves-determined κs a r r′ x x′ p q = p ∙ sym q
+
+pub hold-determined : (κs : Lfts 0) (a : Dens κs hold-kinds.ps) (r r′ : Held)
+    (x x′ : AtExit (endedOf 0 hold-kinds.ps hold-kinds.r) κs)
+    → hold-reads.Post κs a r x → hold-reads.Post κs a r′ x′ → r ≡ r′
+hold-determined κs a r r′ x x′ p q = p ∙ sym q

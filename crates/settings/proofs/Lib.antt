@@ -1,3 +1,5 @@
 pub mod Walking
 pub mod Counts
+pub mod Holding
+pub mod Plain
 pub mod Determined

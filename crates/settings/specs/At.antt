@@ -2,6 +2,7 @@
 -- version in force there." That it is the one with the highest place not above the asked one is a law of Laws.antt.
 -- Assumes nothing.
 use Prim.Native.Nat.{ℕ, _+_}
+use mathlib.Core.Bool.{Bool, _||_}
 use mathlib.Core.List.{List, [], _∷_}
 use lib.Dec.{leb, ltb}
 use Rattle.words.specs.Answer.{Outcome, gives, refuses, pick}
@@ -43,3 +44,22 @@ unfoldable pub asked : Store → ℕ → Outcome Held
 asked store place =
     then (judged store) λ k.
     pick (ltb highest place) (refuses 18) (gives (heldAt store place))
+
+-- ---- holding a version from one place to the next
+
+-- Whether a place lies outside those at which the held settings are in force.
+unfoldable pub leaves : Held → ℕ → Bool
+leaves held place = ltb place (held .from) || leb (held .until) place
+
+-- What an asking gives is held from then on; a refusal changes nothing.
+abbrev pub heldOr : Held → Outcome Held → Held
+heldOr held (gives next) = next
+heldOr held (refuses n) = held
+
+-- The settings to hold at a place that was asked for.
+unfoldable pub heldOn : Store → Held → ℕ → Held
+heldOn store held place = heldOr held (asked store place)
+
+-- Going over many places, the settings to hold at the next one: the store is asked only where it lies outside those of the held ones.
+unfoldable pub heldFor : Store → Held → ℕ → Held
+heldFor store held place = pick (leaves held place) (heldOn store held place) held

@@ -47,6 +47,10 @@ openedIf v (refuses n) = record { answer = refuses n; store = noStore }
 unfoldable pub begun : ℕ → ℕ → ℕ → Change
 begun gap s t = openedIf (firstOf gap s t) (settingsOf gap s t)
 
+-- A plain gap as a store: one version, in force everywhere. No ride looks at its sync pair.
+abbrev pub plain : ℕ → Store
+plain gap = begun gap 0x00 0x7F .store
+
 -- ---- a lent store, judged as opening it and adding version by version would
 
 -- The versions after one that is in force from `last` on, each added after the one before: the first bad one refuses.

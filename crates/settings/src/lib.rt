@@ -5,13 +5,14 @@
 // Specification: specs/Versions.antt, Store.antt, At.antt, Says.antt (the answers); laws: specs/Laws.antt.
 ghost use mathlib.Core.Path.{_≡_};
 ghost use Rattle.settings.specs.Store.{begun, added};
-ghost use Rattle.settings.specs.At.{asked};
+ghost use Rattle.settings.specs.At.{asked, heldOn};
 ghost use Rattle.settings.specs.Says.{saysBegun, saysAdded, saysAsked};
 
 mod judging;
 mod places;
 mod versions;
 
+pub use places::leaves;
 pub use versions::allowed;
 
 // A version of the settings: the gap and the sync words S and S* (s and t), in force from a place on.
@@ -124,5 +125,16 @@ pub fn at(store: Store, place: u32) -> Asked
             }
             Asked::InForce(places::in_force(store, place))
         }
+    }
+}
+
+// The settings to hold at a place, by whoever goes over many: those in force there; where asking is refused, those held before.
+pub fn hold(store: Store, held: Held, place: u32) -> Held
+    ensures { λ r. ⌜ r ≡ heldOn store held place ⌝ }
+{
+    let answer = at(store, place);
+    match answer {
+        Asked::InForce(next) => next,
+        Asked::Refused(_) => held,
     }
 }

@@ -2,7 +2,7 @@
 ghost use mathlib.Core.Path.{_≡_};
 ghost use Prim.Native.Nat.{_≤_, _<_};
 ghost use Rattle.settings.specs.Store.{noStore, opened, lastPlace, withOne};
-ghost use Rattle.settings.specs.At.{holds, heldAt};
+ghost use Rattle.settings.specs.At.{holds, heldAt, leaves};
 use crate::Held;
 use crate::Store;
 use crate::Version;
@@ -89,4 +89,11 @@ pub fn in_force(store: Store, place: u32) -> Held
         i += 1;
     }
     holds(now, 4000000001)
+}
+
+// Whether a place lies outside those at which the held settings are in force, so that the store is to be asked again.
+pub fn leaves(held: Held, place: u32) -> bool
+    ensures { λ r. ⌜ r ≡ leaves held place ⌝ }
+{
+    (place < held.from) | (held.until <= place)
 }

@@ -1,0 +1,110 @@
+-- Rides under a store: what is held treats each record as the gap in force at its own odometer does; a plain gap is a store of one version.
+-- Assumes nothing.
+use Prim.Native.Nat.{ℕ, suc, _/_, _%_, _≤_, _<_}
+use native.Mathlib.Omega.{arith}
+use mathlib.Core.Path.{_≡_, refl, ap, sym, _∙_}
+use mathlib.Core.Bool.{Bool, true, false, not}
+use mathlib.Core.List.{List, [], _∷_}
+use lib.Dec.{eqb, ltb}
+use lib.ListN.{length}
+use borrow.Author.Tests.{lt-ltb, le-ltb}
+use Rattle.words.specs.Answer.{Outcome, gives, refuses, pick}
+use Rattle.settings.specs.declared.Store.{Store}
+use Rattle.settings.specs.declared.Held.{Held}
+use Rattle.settings.specs.Versions.{highest, Kept, kept}
+use Rattle.settings.specs.Store.{plain, judged}
+use Rattle.settings.specs.At.{heldAt, gapAt, heldFor}
+use Rattle.settings.proofs.Holding.{Holding, keeps, held-is}
+use Rattle.settings.proofs.Plain.{plain-good, plain-bad, plain-gap}
+use Rattle.ride.specs.declared.Ride.{Ride}
+use Rattle.ride.specs.Record.{Entry, odometerOf, passedOf, inOrder, check}
+use Rattle.ride.specs.Joining.{allowed}
+use Rattle.ride.specs.Step.{Step, refuseOr, treat}
+use Rattle.ride.specs.At.{recordAt, odometerAt}
+use Rattle.ride.specs.Over.{records, linesFor, Ridden, before, rideOver, through, Run, run}
+use Rattle.ride.specs.Under.{judgedFirst, runUnder}
+
+-- ---- the odometer at an index
+
+pub odometer-there : (trace : List ℕ) (i : ℕ) → i < length trace / 8 → odometerOf (recordAt trace i) ≡ odometerAt trace i
+unfolding odometerAt
+odometer-there trace i h = rw (lt-ltb i (length trace / 8) h)
+
+pub odometer-none : (trace : List ℕ) (i : ℕ) → length trace / 8 ≤ i → 0 ≡ odometerAt trace i
+unfolding odometerAt
+odometer-none trace i h = rw (le-ltb i (length trace / 8) h)
+
+-- ---- one record
+
+-- A record above the highest place is refused whatever the gap.
+refused-by : (b : Bool) (ride : Ride) (gap other : ℕ) (e : Outcome Entry)
+    → refuseOr ride gap (pick b (refuses 16) (pick {A = Outcome Entry} true (refuses 18) e)) ≡ refuseOr ride other (pick b (refuses 16) (pick {A = Outcome Entry} true (refuses 18) e))
+refused-by true ride gap other e = refl
+refused-by false ride gap other e = refl
+
+high-refused : (ride : Ride) (gap other : ℕ) (r : List ℕ) → ltb 4000000000 (odometerOf r) ≡ true → treat ride gap r ≡ treat ride other r
+unfolding treat check
+high-refused ride gap other r e =
+    rw e (refused-by (not (inOrder r)) ride gap other (pick (ltb (odometerOf r) (ride .odometer)) (refuses 17) (gives (record { odometer = odometerOf r; passed = passedOf r }))))
+
+treat-by : (b : Bool) (store : Store) (held : Held) (ride : Ride) (r : List ℕ) → ltb highest (odometerOf r) ≡ b → judged store ≡ gives kept → Holding store held
+    → treat ride (heldFor store held (odometerOf r) .gap) r ≡ treat ride (gapAt store (odometerOf r)) r
+unfolding gapAt
+treat-by true store held ride r e h hold = high-refused ride (heldFor store held (odometerOf r) .gap) (heldAt store (odometerOf r) .gap) r e
+treat-by false store held ride r e h hold = ap (λ (x : Held). treat ride (x .gap) r) (held-is store held (odometerOf r) h hold e)
+
+-- What is held treats a record as the gap in force at its odometer does.
+pub treat-held : (store : Store) (held : Held) (ride : Ride) (r : List ℕ) → judged store ≡ gives kept → Holding store held
+    → treat ride (heldFor store held (odometerOf r) .gap) r ≡ treat ride (gapAt store (odometerOf r)) r
+treat-held store held ride r h hold = treat-by (ltb highest (odometerOf r)) store held ride r refl h hold
+
+-- A turn over a trace: what is held for the record at an index stays held, and treats it so.
+pub turn : (store : Store) (held next : Held) (ride : Ride) (trace : List ℕ) (i odometer : ℕ) → judged store ≡ gives kept → Holding store held
+    → i < length trace / 8 → odometer ≡ odometerAt trace i → next ≡ heldFor store held odometer
+    → Holding store next × (treat ride (next .gap) (recordAt trace i) ≡ treat ride (gapAt store (odometerOf (recordAt trace i))) (recordAt trace i))
+turn store held next ride trace i odometer h hold there is for =
+    let own : next ≡ heldFor store held (odometerOf (recordAt trace i)) = for ∙ ap (heldFor store held) (is ∙ sym (odometer-there trace i there)) in (
+      rw own (keeps store held (odometerOf (recordAt trace i)) h hold),
+      rw own (treat-held store held ride (recordAt trace i) h hold),
+    )
+
+-- ---- the rule counts only at the records' own odometers
+
+pub same-rule : (gaps others : ℕ → ℕ) → ((o : ℕ) → gaps o ≡ others o) → (ride : Ride) (number : ℕ) (rs : List (List ℕ)) → rideOver gaps ride number rs ≡ rideOver others ride number rs
+unfolding rideOver
+same-rule gaps others e ride number [] = refl
+same-rule gaps others e ride number (r ∷ rs) =
+    let s : Step = treat ride (others (odometerOf r)) r in
+    ap (λ (g : ℕ). before (linesFor number (treat ride g r .lines)) (rideOver gaps (treat ride g r .ride) (suc number) rs)) (e (odometerOf r))
+    ∙ ap (before (linesFor number (s .lines))) (same-rule gaps others e (s .ride) (suc number) rs)
+
+-- ---- the whole trace
+
+pub under-refused : (ride : Ride) (store : Store) (trace : List ℕ) (n : ℕ) → judged store ≡ refuses n
+    → _≡_ {A = Run} (record { answer = refuses n; ride = ride }) (runUnder ride store trace)
+unfolding runUnder
+under-refused ride store trace n e = rw e
+
+pub under-length : (ride : Ride) (store : Store) (trace : List ℕ) → judged store ≡ gives kept → eqb (length trace % 8) 0 ≡ false
+    → _≡_ {A = Run} (record { answer = refuses 16; ride = ride }) (runUnder ride store trace)
+unfolding runUnder
+under-length ride store trace e h = rw (e, h)
+
+pub under-through : (ride : Ride) (store : Store) (trace : List ℕ) → judged store ≡ gives kept → eqb (length trace % 8) 0 ≡ true
+    → _≡_ {A = Run} (record { answer = gives through; ride = rideOver (gapAt store) ride 1 (records trace) .ride }) (runUnder ride store trace)
+unfolding runUnder
+under-through ride store trace e h = rw (e, h)
+
+-- ---- a plain gap
+
+plain-by : (b : Bool) (ride : Ride) (gap : ℕ) (trace : List ℕ) → allowed gap ≡ b → runUnder ride (plain gap) trace ≡ run ride gap trace
+unfolding runUnder run
+plain-by true ride gap trace e =
+    rw (plain-good gap e, e)
+    (ap (λ (s : Ride). pick {A = Run} (eqb (length trace % 8) 0) (record { answer = gives through; ride = s }) (record { answer = refuses 16; ride = ride }))
+    (ap (λ (x : Ridden). x .ride) (same-rule (gapAt (plain gap)) (λ odometer. gap) (λ o. plain-gap gap o e) ride 1 (records trace))))
+plain-by false ride gap trace e = rw (plain-bad gap e, e)
+
+-- A store of one version rides as its plain gap does.
+pub plain-run : (ride : Ride) (gap : ℕ) (trace : List ℕ) → runUnder ride (plain gap) trace ≡ run ride gap trace
+plain-run ride gap trace = plain-by (allowed gap) ride gap trace refl

@@ -1,0 +1,32 @@
+-- `hold` takes what asking gives, and else stays.
+use mathlib.Core.Path.{sym, ap, _∙_}
+use Rattle.settings.specs.At.{heldOn}
+use Rattle.settings.specs.Says.{saysAsked}
+use borrow.Author.Needs.{needs}
+use Rattle.settings.proofs.hold.Statement.{statement}
+use Rattle.settings.proofs.hold.Tie as tie
+
+at-requires : tie.Need-at-requires
+at-requires c κs = search needs
+
+enum-known-answer : tie.Need-enum-known-answer
+enum-known-answer c = search needs
+
+enum-told : tie.Need-enum-told
+enum-told c = search needs
+
+returns : tie.Need-returns
+unfolding heldOn
+returns c =
+    let v = c .before in
+    let answer = sym (v .before .before .at .ensures) ∙ ap saysAsked (v .answer .given .1) in
+    rw answer
+
+returns-2 : tie.Need-returns-2
+unfolding heldOn
+returns-2 c =
+    let answer = sym (c .before .before .at .ensures) ∙ ap saysAsked (c .enum-told .given .1) in
+    rw answer
+
+pub hold-spec : {M : Type 1} → statement M
+hold-spec = tie.close (tie.spec at-requires enum-known-answer enum-told returns returns-2)
