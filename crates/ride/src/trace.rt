@@ -64,7 +64,7 @@ fn eight(trace: &[u8], at: usize) -> [u8; 8]
 pub fn odometer_at(trace: &[u8], i: usize) -> u32
     ensures { λ r. ⌜ r ≡ odometerAt (now (trace .entry)) i ⌝ }
 {
-    if i >= trace.len() / 8 {
+    if trace.len() / 8 <= i {
         return 0;
     }
     let at = i * 8;

@@ -3,3 +3,4 @@ pub mod Counts
 pub mod Holding
 pub mod Plain
 pub mod Determined
+pub mod Examples
