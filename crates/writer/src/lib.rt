@@ -8,7 +8,8 @@ ghost use Rattle.writer.specs.Says.{saysWritten};
 mod filling;
 mod spelling;
 
-use spelling::Spelt;
+pub use spelling::Spelt;
+pub use spelling::spell;
 
 // What writing a test balise answers: so many bytes written, or why none.
 pub enum Written {
