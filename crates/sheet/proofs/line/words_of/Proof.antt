@@ -1,0 +1,63 @@
+-- `words_of` reads four words one after the other, and looks whether there is a fifth.
+use mathlib.Core.Path.{sym, _∙_}
+use Rattle.arguments.specs.Says.{saysByte}
+use Rattle.sheet.specs.Line.{wordsOf}
+use Rattle.sheet.proofs.Wording.{words-are}
+use borrow.Author.Needs.{needs}
+use Rattle.sheet.proofs.line.words_of.Statement.{statement}
+use Rattle.sheet.proofs.line.words_of.Tie as tie
+
+is-at-end-requires : tie.Need-is-at-end-requires
+is-at-end-requires c κs = search needs
+
+returns : tie.Need-returns
+unfolding wordsOf
+returns c = simp (sym (c .before .is-at-end .ensures) ∙ c .if1 .taken)
+
+next-figure-requires : tie.Need-next-figure-requires
+next-figure-requires c κs = search needs
+
+next-figure-requires-2 : tie.Need-next-figure-requires-2
+next-figure-requires-2 c κs = search needs
+
+next-byte-requires : tie.Need-next-byte-requires
+next-byte-requires c κs = search needs
+
+next-byte-requires-2 : tie.Need-next-byte-requires-2
+next-byte-requires-2 c κs = search needs
+
+is-at-end-requires-2 : tie.Need-is-at-end-requires-2
+is-at-end-requires-2 c κs = search needs
+
+version-of-requires : tie.Need-version-of-requires
+version-of-requires c κs = search needs
+
+returns-2 : tie.Need-returns-2
+returns-2 c =
+    let e = c .before in
+    let b4 = e .before in
+    let b3 = b4 .before in
+    let f2 = b3 .before in
+    let f1 = f2 .before in
+    let s = f1 .before in
+    let t = s .before .before .before .args .text .now in
+    c .version-of .ensures
+    ∙ words-are t (f1 .next-figure .result .end) (f2 .next-figure2 .result .end) (b3 .next-byte .result .end) (b4 .next-byte2 .result .end)
+    (f1 .next-figure .ensures .1 .1) (f2 .next-figure2 .ensures .1 .1) (b3 .next-byte .ensures .1 .1) (b4 .next-byte2 .ensures .1 .1)
+    (f1 .next-figure .result .figure) (f2 .next-figure2 .result .figure) (saysByte (b3 .next-byte .result .byte)) (saysByte (b4 .next-byte2 .result .byte)) (e .is-at-end2 .result)
+    (f1 .next-figure .ensures .1 .0) (f2 .next-figure2 .ensures .1 .0) (b3 .next-byte .ensures .1 .0) (b4 .next-byte2 .ensures .1 .0) (e .is-at-end2 .ensures)
+    (sym (s .before .is-at-end .ensures) ∙ s .if1 .left)
+
+pub words-of-spec : {M : Type 1} → statement M
+words-of-spec =
+    tie.close
+    (tie.spec
+    is-at-end-requires
+    returns
+    next-figure-requires
+    next-figure-requires-2
+    next-byte-requires
+    next-byte-requires-2
+    is-at-end-requires-2
+    version-of-requires
+    returns-2)
