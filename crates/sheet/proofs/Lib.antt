@@ -1,3 +1,8 @@
+pub mod Determined
+pub mod Examples
 pub mod Figures
+pub mod Giving
+pub mod Lines
+pub mod Pieces
 pub mod Stretches
 pub mod Wording

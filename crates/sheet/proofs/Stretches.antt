@@ -45,7 +45,7 @@ module _ (stop : Stop) where
   drop-to t from = sym (drop-drop (length (upTo stop (drop from t))) from t) ∙ after (drop from t)
 
   module _ (t : List ℕ) (i : ℕ) (in-text : i < length t) where
-    next : drop i t ≡ getD t i 0 ∷ drop (i + 1) t
+    pub next : drop i t ≡ getD t i 0 ∷ drop (i + 1) t
     next = drop-cons t i 0 in-text ∙ ap (λ (k : ℕ). getD t i 0 ∷ drop k t) (sym (add-one i))
 
     pub ends-here : stops stop (getD t i 0) ≡ true → length (upTo stop (drop i t)) ≡ 0

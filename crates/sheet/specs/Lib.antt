@@ -1,2 +1,5 @@
 pub mod Words
 pub mod Line
+pub mod Taking
+pub mod Sheet
+pub mod Told

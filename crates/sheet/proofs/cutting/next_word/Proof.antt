@@ -26,11 +26,12 @@ returns c =
     let e = c .end-of2 .result in
     let begins : drop s t ≡ onward Stop.Word (drop (a .from) t) = ap (λ (n : ℕ). drop n t) (f .end-of .ensures .0) ∙ drop-to Stop.Word t (a .from) in
     let ends : drop e t ≡ onward Stop.Blank (drop s t) = ap (λ (n : ℕ). drop n t) (c .end-of2 .ensures .0) ∙ drop-to Stop.Blank t s in
-    let long : e - s ≡ length (upTo Stop.Blank (drop s t)) = omega (arith, c .end-of2 .ensures .0) in
-    (
+    let long : e - s ≡ length (upTo Stop.Blank (drop s t)) = omega (arith, c .end-of2 .ensures .0) in (
       (omega (arith, c .end-of2 .ensures .0), c .end-of2 .ensures .1),
-      (ap (λ (n : ℕ). take n (drop s t)) long ∙ part Stop.Blank (drop s t) ∙ ap (upTo Stop.Blank) begins,
-      ends ∙ ap (onward Stop.Blank) begins),
+      (
+        ap (λ (n : ℕ). take n (drop s t)) long ∙ part Stop.Blank (drop s t) ∙ ap (upTo Stop.Blank) begins,
+        ends ∙ ap (onward Stop.Blank) begins,
+      ),
     )
 
 pub next-word-spec : {M : Type 1} → statement M

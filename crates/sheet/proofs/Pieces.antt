@@ -1,0 +1,57 @@
+-- What is said, by its pieces, as they are put, and how long it is at most.
+-- Assumes nothing.
+use mathlib.Core.Path.{_≡_, refl}
+use mathlib.Core.List.{List, _++_, append-assoc}
+use Prim.Native.Nat.{ℕ, _+_, _≤_}
+use Prim.Native.String.{String}
+use native.Mathlib.Omega.{arith}
+use mathlib.Core.Bool.{Bool, true, false}
+use lib.Dec.{eqb}
+use lib.ListN.{length, length-append}
+use borrow.Author.Tests.{eq-eqb, ne-eqb}
+use Rattle.words.specs.Answer.{pick}
+use Rattle.text.specs.Text.{codes, decimal}
+use Rattle.text.proofs.Decimal.{decimal-length}
+use Rattle.sheet.specs.declared.How.{How}
+use Rattle.sheet.specs.Told.{refusal, told}
+
+-- words and a number
+abbrev pub numbered : String → ℕ → List ℕ
+numbered words n = codes words ++ decimal n
+
+pub of-none : (line n : ℕ) → line ≡ 0 → numbered "settings refused " n ++ codes "\n" ≡ refusal line n
+unfolding refusal
+of-none line n e = simp (eq-eqb line 0 e, append-assoc)
+
+pub of-a-line : (line n : ℕ) → (line ≡ 0 → ⊥) → numbered "settings line " line ++ numbered " refused " n ++ codes "\n" ≡ refusal line n
+unfolding refusal
+of-a-line line n e = simp (ne-eqb line 0 e, append-assoc)
+
+pub unreadable-is : (line : ℕ) → numbered "settings line " line ++ codes " unreadable\n" ≡ told line How.Unreadable
+unfolding told
+unreadable-is line = simp append-assoc
+
+by-line : (b : Bool) (x y : List ℕ) → length x ≤ 80 → length y ≤ 80 → length (pick b x y) ≤ 80
+by-line true x y h k = h
+by-line false x y h k = k
+
+refusal-length : (line n : ℕ) → length (refusal line n) ≤ 80
+unfolding refusal
+refusal-length line n =
+    by-line (eqb line 0)
+    (codes "settings refused " ++ decimal n ++ codes "\n")
+    (codes "settings line " ++ decimal line ++ codes " refused " ++ decimal n ++ codes "\n")
+    (simp length-append (omega (arith, decimal-length n)))
+    (simp length-append (omega (arith, decimal-length line, decimal-length n)))
+
+-- Nothing longer is said.
+pub told-length : (line : ℕ) (how : How) → length (told line how) ≤ 80
+unfolding told
+told-length line How.Fine = omega arith
+told-length line How.Unreadable = simp length-append (omega (arith, decimal-length line))
+told-length line (How.Refused n) = refusal-length line n
+told-length line How.TooLong = omega arith
+
+-- The same text in other words has the same room.
+pub room-as : {t u : List ℕ} (b : List ℕ) (at : ℕ) → t ≡ u → at + length u ≤ length b → at + length t ≤ length b
+room-as b at e h = rw e h

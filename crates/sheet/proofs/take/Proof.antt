@@ -1,0 +1,56 @@
+-- `take` goes by what the line says.
+use mathlib.Core.Path.{_≡_, sym, ap, _∙_}
+use Rattle.sheet.specs.Taking.{saidTo, taken}
+use borrow.Author.Needs.{needs}
+use Rattle.sheet.proofs.take.Statement.{statement}
+use Rattle.sheet.proofs.take.Tie as tie
+
+line-of-requires : tie.Need-line-of-requires
+line-of-requires c κs = search needs
+
+enum-told : tie.Need-enum-told
+enum-told c = search needs
+
+enum-known-said : tie.Need-enum-known-said
+enum-known-said c = search needs
+
+give-requires : tie.Need-give-requires
+give-requires c κs = search needs
+
+enum-told-2 : tie.Need-enum-told-2
+enum-told-2 c = search needs
+
+returns : tie.Need-returns
+unfolding taken
+returns c =
+    let l = c .before .before in
+    let s = l .before .before .args .store in
+    ap (saidTo s) (sym (c .enum-told .given .1)) ∙ ap (saidTo s) (l .line-of .ensures)
+
+returns-2 : tie.Need-returns-2
+unfolding taken
+returns-2 c =
+    let k = c .before .before in
+    let l = k .before .before in
+    let s = l .before .before .args .store in
+    c .give .ensures ∙ ap (saidTo s) (sym (k .said .given .1)) ∙ ap (saidTo s) (l .line-of .ensures)
+
+returns-3 : tie.Need-returns-3
+unfolding taken
+returns-3 c =
+    let l = c .before .before in
+    let s = l .before .before .args .store in
+    ap (saidTo s) (sym (c .enum-told2 .given .1)) ∙ ap (saidTo s) (l .line-of .ensures)
+
+pub take-spec : {M : Type 1} → statement M
+take-spec =
+    tie.close
+    (tie.spec
+    line-of-requires
+    enum-told
+    enum-known-said
+    give-requires
+    enum-told-2
+    returns
+    returns-2
+    returns-3)
