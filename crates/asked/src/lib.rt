@@ -1,0 +1,149 @@
+// What the arguments ask for before the cards, for the programs that ride: `-s SETTINGS`.
+// `options(program, aside)` answers an `Asked`: the store of the settings; the number of the first argument after them (1, or 3 after `-s SETTINGS`);
+// and how it went: `Plain` (no `-s`: the store of document 01's gap, 40), `Settings` (the store of the file), `Usage` (`-s` without a file: the program
+// says its usage by `cards::say`), or `Said`: the settings are bad, and it was said. Then the program ends, before any card is opened.
+// Said are, on standard output, `settings line 3 refused 24`, `settings line 3 unreadable`, `settings refused 19`; for a program whose result is bytes
+// (`aside`) the same after its name on standard error; there, for every program, `PROGRAM: cannot open FILE`, `PROGRAM: cannot read FILE`, `PROGRAM: settings too long`.
+// Promises: it is safe and it ends; what a text of settings comes to, and the words said of it, are the crate sheet's. What is read or written
+// stands outside contracts: docs/EXCEPTIONS.md.
+ghost use mathlib.Core.Path.{_≡_};
+ghost use lib.ListN.{length};
+use libc::STDERR_FILENO;
+use libc::STDOUT_FILENO;
+use settings::Store;
+use sheet::Sheet;
+
+// The gap of a program that is given no settings, in dm.
+const GAP: u32 = 40;
+
+// The argument of the settings' file.
+const FILE: usize = 2;
+
+// How asking for the settings went.
+pub enum How {
+    Plain,
+    Settings,
+    Usage,
+    Said,
+}
+
+// What the arguments ask for: the settings, the first argument after them, and how it went.
+pub struct Asked {
+    pub store: Store,
+    pub first: usize,
+    pub how: How,
+}
+
+// Room for the longest text of settings, and one byte more, which tells a longer one.
+fn room() -> [u8; 1048577]
+    ensures { λ r. ⌜ 1048577 ≡ length r ⌝ }
+{
+    [0; 1048577]
+}
+
+// Whether the first argument is `-s`.
+fn is_option() -> bool {
+    let mut text = io::buffer();
+    let length = os::arg(1, &mut text);
+    if os::errno() != 0 {
+        return false;
+    }
+    (length == 2) & (text[0] == b'-') & (text[1] == b's')
+}
+
+// The first bytes of a line.
+fn write(fd: i32, line: &[u8], count: usize) {
+    if count <= line.len() {
+        io::write_all(fd, &line[..count]);
+    }
+}
+
+// Says what is wrong with the settings. That they are too long is no result.
+fn tell(program: &[u8], aside: bool, line: u32, how: sheet::How) {
+    let mut text = [0u8; 80];
+    let count = sheet::put_told(line, how, &mut text, 0);
+    if aside | is_too_long(how) {
+        io::write_all(STDERR_FILENO, program);
+        io::write_all(STDERR_FILENO, b": ");
+        write(STDERR_FILENO, &text, count);
+        return;
+    }
+    write(STDOUT_FILENO, &text, count);
+}
+
+// Whether a text is longer than is read.
+fn is_too_long(how: sheet::How) -> bool {
+    match how {
+        sheet::How::TooLong => true,
+        sheet::How::Fine => false,
+        sheet::How::Unreadable => false,
+        sheet::How::Refused(_) => false,
+    }
+}
+
+// Whether a text is fine.
+fn is_fine(how: sheet::How) -> bool {
+    match how {
+        sheet::How::Fine => true,
+        sheet::How::TooLong => false,
+        sheet::How::Unreadable => false,
+        sheet::How::Refused(_) => false,
+    }
+}
+
+// The options with this store.
+fn with(store: Store, how: How) -> Asked {
+    Asked {
+        store,
+        first: FILE + 1,
+        how,
+    }
+}
+
+// What a text of settings comes to, and says what is wrong with it.
+fn judged(program: &[u8], aside: bool, sheet: Sheet) -> Asked {
+    let store = sheet.store;
+    let line = sheet.line;
+    let how = sheet.how;
+    if is_fine(how) {
+        return with(store, How::Settings);
+    }
+    tell(program, aside, line, how);
+    with(store, How::Said)
+}
+
+// The settings of the open file, or what is said of it.
+fn from_file(program: &[u8], aside: bool, plain: Store, fd: i32) -> Asked {
+    let mut text = room();
+    let got = cards::fill(fd, &mut text);
+    let count = got.count;
+    if got.failed {
+        cards::cannot_read(program, FILE);
+        return with(plain, How::Said);
+    }
+    judged(program, aside, sheet::read(&text[..count]))
+}
+
+// What the arguments ask for before the cards.
+pub fn options(program: &[u8], aside: bool) -> Asked {
+    let begun = settings::begin(GAP, 0x00, 0x7F);
+    let plain = begun.store;
+    if !is_option() {
+        return Asked {
+            store: plain,
+            first: 1,
+            how: How::Plain,
+        };
+    }
+    if os::arg_count() <= FILE {
+        return with(plain, How::Usage);
+    }
+    let fd = cards::open_card(FILE);
+    if fd < 0 {
+        cards::cannot_open(program, FILE);
+        return with(plain, How::Said);
+    }
+    let options = from_file(program, aside, plain, fd);
+    libc::close(fd);
+    options
+}
