@@ -11,8 +11,12 @@ use lib.Dec.{eqb, leb}
 use lib.ListN.{length, take, drop, length-append, length-drop}
 use borrow.Author.Tests.{leb-true}
 use Rattle.words.specs.Answer.{Outcome, gives, refuses, pick}
+use Rattle.settings.specs.declared.Store.{Store}
+use Rattle.settings.specs.Versions.{Kept, kept}
+use Rattle.settings.specs.Store.{plain, judged}
+use Rattle.settings.specs.At.{gapAt}
 use Rattle.ride.specs.declared.Ride.{Ride}
-use Rattle.ride.specs.Joining.{allowed}
+use Rattle.ride.specs.Record.{odometerOf}
 use Rattle.ride.specs.Step.{treat}
 use Rattle.ride.specs.Over.{records, linesFor, rideOver}
 use Rattle.ride.proofs.Cutting.{records-length}
@@ -21,7 +25,9 @@ use Rattle.listing.specs.declared.Done.{Done}
 use Rattle.listing.specs.declared.Listed.{Listed}
 use Rattle.listing.specs.Put.{Ends, next, noRoom, Filled, filled, placed, put}
 use Rattle.listing.specs.List.{textOf, isTaken, taken, Taken, Listing, listOf, unlisted, list}
+use Rattle.listing.specs.Under.{judgedFirst, listUnder}
 use Rattle.listing.specs.Says.{saysPut, saysDone, saysListed}
+use Rattle.listing.proofs.Plain.{plain-list}
 
 -- a text that was put lies within the buffer
 put-within : (b : Bool) (k most n : ℕ) (x y : List ℕ) → leb k most ≡ b → next n ≡ pick b (filled (next k) x) (filled noRoom y) .ends → n ≤ most
@@ -41,13 +47,13 @@ one-more : (b : Bool) (n k : ℕ) → n ≤ k → pick b (suc n) 0 ≤ suc k
 one-more true n k h = omega arith
 one-more false n k h = omega arith
 
-taken-within : (gap : ℕ) (ride : Ride) (number room : ℕ) (rs : List (List ℕ)) → taken gap ride number room rs ≤ length rs
+taken-within : (gaps : ℕ → ℕ) (ride : Ride) (number room : ℕ) (rs : List (List ℕ)) → taken gaps ride number room rs ≤ length rs
 unfolding taken
-taken-within gap ride number room [] = omega arith
-taken-within gap ride number room (r ∷ rs) =
-    let left = room - length (textOf (linesFor number (treat ride gap r .lines))) in
-    one-more (isTaken number room) (taken gap (treat ride gap r .ride) (suc number) left rs) (length rs)
-    (taken-within gap (treat ride gap r .ride) (suc number) left rs)
+taken-within gaps ride number room [] = omega arith
+taken-within gaps ride number room (r ∷ rs) =
+    let left = room - length (textOf (linesFor number (treat ride (gaps (odometerOf r)) r .lines))) in
+    one-more (isTaken number room) (taken gaps (treat ride (gaps (odometerOf r)) r .ride) (suc number) left rs) (length rs)
+    (taken-within gaps (treat ride (gaps (odometerOf r)) r .ride) (suc number) left rs)
 
 -- a text from the buffer's start that leaves its length is not longer than it
 start-within : (t b : List ℕ) → length (placed t b 0) ≡ length b → length t ≤ length b
@@ -61,33 +67,44 @@ abbrev took : Outcome Taken → Taken
 took (gives t) = t
 took (refuses n) = record { records = 0; bytes = 0 }
 
--- the answers of `list`, by its two tests
-list-cases : (c d : Bool) (ride : Ride) (gap number n : ℕ) (trace out x : List ℕ) (rs : List (List ℕ)) (r : Listed) (k bytes : ℕ)
-    → saysListed r x ≡ pick c (pick d (listOf gap ride number n rs out) (unlisted ride number out 16)) (unlisted ride number out 19)
+-- the answers of a listing, where it is not refused for its settings
+listed-by : (d : Bool) (gaps : ℕ → ℕ) (ride : Ride) (number n : ℕ) (out x : List ℕ) (rs : List (List ℕ)) (r : Listed) (k bytes : ℕ)
+    → saysListed r x ≡ pick d (listOf gaps ride number n rs out) (unlisted ride number out 16)
     → r .done ≡ Done.Took k bytes → length x ≡ length out → (k ≡ n) × (bytes ≤ length out)
 unfolding listOf
-list-cases true true ride gap number n trace out x rs r k bytes e is same =
-    let w : List ℕ = textOf (rideOver (λ odometer. gap) ride number (take n rs) .lines) in
+listed-by true gaps ride number n out x rs r k bytes e is same =
+    let w : List ℕ = textOf (rideOver gaps ride number (take n rs) .lines) in
     let answer : _≡_ {A = Outcome Taken} (gives (record { records = k; bytes = bytes })) (gives (record { records = n; bytes = length w })) =
     sym (ap saysDone is) ∙ ap (λ (l : Listing). l .answer) e in
     let k-is : k ≡ n = ap (λ (o : Outcome Taken). took o .records) answer in
     let bytes-is : bytes ≡ length w = ap (λ (o : Outcome Taken). took o .bytes) answer in
     let out-is : length (placed w out 0) ≡ length out = sym (ap (λ (l : Listing). length (l .out)) e) ∙ same in
     (k-is, omega (arith, start-within w out out-is))
-list-cases true false ride gap number n trace out x rs r k bytes e is same =
+listed-by false gaps ride number n out x rs r k bytes e is same =
     let answer : _≡_ {A = Outcome Taken} (gives (record { records = k; bytes = bytes })) (refuses 16) = sym (ap saysDone is) ∙ ap (λ (l : Listing). l .answer) e in
     let z : _≡_ {A = ℕ} 0 1 = cc in
     absurd (omega arith)
-list-cases false d ride gap number n trace out x rs r k bytes e is same =
-    let answer : _≡_ {A = Outcome Taken} (gives (record { records = k; bytes = bytes })) (refuses 19) = sym (ap saysDone is) ∙ ap (λ (l : Listing). l .answer) e in
+
+-- and under a store
+under-by : (o : Outcome Kept) (d : Bool) (gaps : ℕ → ℕ) (ride : Ride) (number n : ℕ) (out x : List ℕ) (rs : List (List ℕ)) (r : Listed) (k bytes : ℕ)
+    → saysListed r x ≡ judgedFirst ride number out o (pick d (listOf gaps ride number n rs out) (unlisted ride number out 16))
+    → r .done ≡ Done.Took k bytes → length x ≡ length out → (k ≡ n) × (bytes ≤ length out)
+under-by (gives kept) d gaps ride number n out x rs r k bytes e is same = listed-by d gaps ride number n out x rs r k bytes e is same
+under-by (refuses m) d gaps ride number n out x rs r k bytes e is same =
+    let answer : _≡_ {A = Outcome Taken} (gives (record { records = k; bytes = bytes })) (refuses m) = sym (ap saysDone is) ∙ ap (λ (l : Listing). l .answer) e in
     let z : _≡_ {A = ℕ} 0 1 = cc in
     absurd (omega arith)
 
+pub list-under-within : (ride : Ride) (store : Store) (number : ℕ) (trace out x : List ℕ) (r : Listed) (k bytes : ℕ) → saysListed r x ≡ listUnder ride store number trace out
+    → r .done ≡ Done.Took k bytes → length x ≡ length out → (k * 8 ≤ length trace) × (bytes ≤ length out)
+unfolding listUnder
+list-under-within ride store number trace out x r k bytes e is same =
+    let n : ℕ = taken (gapAt store) ride number (length out) (records trace) in
+    let within = under-by (judged store) (eqb (length trace % 8) 0) (gapAt store) ride number n out x (records trace) r k bytes e is same in
+    let all : n ≤ length (records trace) = taken-within (gapAt store) ride number (length out) (records trace) in
+    (omega (arith, records-length (length trace / 8) trace, within .0), within .1)
+
 pub list-within : (ride : Ride) (gap number : ℕ) (trace out x : List ℕ) (r : Listed) (k bytes : ℕ) → saysListed r x ≡ list ride gap number trace out
     → r .done ≡ Done.Took k bytes → length x ≡ length out → (k * 8 ≤ length trace) × (bytes ≤ length out)
-unfolding list
 list-within ride gap number trace out x r k bytes e is same =
-    let n : ℕ = taken gap ride number (length out) (records trace) in
-    let within = list-cases (allowed gap) (eqb (length trace % 8) 0) ride gap number n trace out x (records trace) r k bytes e is same in
-    let all : n ≤ length (records trace) = taken-within gap ride number (length out) (records trace) in
-    (omega (arith, records-length (length trace / 8) trace, within .0), within .1)
+    list-under-within ride (plain gap) number trace out x r k bytes (e ∙ sym (plain-list ride gap number trace out)) is same

@@ -10,6 +10,8 @@ use borrow.Fn.Kinds.{Dens, endedOf}
 use denote.Triple.Clauses.{AtExit}
 use denote.Ref.{now}
 use Rattle.words.specs.Answer.{Outcome, gives, refuses, pick}
+use Rattle.settings.specs.declared.Bad.{Bad}
+use Rattle.settings.proofs.Determined.{badOf}
 use Rattle.listing.specs.declared.Put.{Put}
 use Rattle.listing.specs.declared.Done.{Done}
 use Rattle.listing.specs.declared.Listed.{Listed}
@@ -20,6 +22,8 @@ use Rattle.listing.proofs.put_line.Kinds as put-line-kinds
 use Rattle.listing.proofs.put_line.Reads as put-line-reads
 use Rattle.listing.proofs.list.Kinds as list-kinds
 use Rattle.listing.proofs.list.Reads as list-reads
+use Rattle.listing.proofs.list_under.Kinds as list-under-kinds
+use Rattle.listing.proofs.list_under.Reads as list-under-reads
 
 -- From what an answer says, the answer.
 abbrev pub putOf : Ends → Put
@@ -32,11 +36,15 @@ put-back Put.NoRoom = refl
 
 abbrev pub doneOf : Outcome Taken → Done
 doneOf (gives t) = Done.Took (t .records) (t .bytes)
-doneOf (refuses n) = pick (eqb n 19) Done.Gap Done.Length
+doneOf (refuses n) = pick (eqb n 16) Done.Length (Done.Settings (badOf n))
 
 pub done-back : (d : Done) → doneOf (saysDone d) ≡ d
 done-back (Done.Took records bytes) = refl
-done-back Done.Gap = refl
+done-back (Done.Settings Bad.Pair) = refl
+done-back (Done.Settings Bad.Gap) = refl
+done-back (Done.Settings Bad.TooHigh) = refl
+done-back (Done.Settings Bad.NotAbove) = refl
+done-back (Done.Settings Bad.Full) = refl
 done-back Done.Length = refl
 
 abbrev listedOf : Listing → Listed
@@ -56,6 +64,15 @@ pub list-determined : (κs : Lfts 2) (a : Dens κs list-kinds.ps) (r r′ : List
     (x x′ : AtExit (endedOf 2 list-kinds.ps list-kinds.r) κs)
     → list-reads.Post κs a r x → list-reads.Post κs a r′ x′ → (r ≡ r′) × (now (x .1 .1 .1 .1 .0) ≡ now (x′ .1 .1 .1 .1 .0))
 list-determined κs a r r′ x x′ p q =
+    let same : saysListed r (now (x .1 .1 .1 .1 .0)) ≡ saysListed r′ (now (x′ .1 .1 .1 .1 .0)) = p ∙ sym q in (
+      sym (listed-back r (now (x .1 .1 .1 .1 .0))) ∙ ap listedOf same ∙ listed-back r′ (now (x′ .1 .1 .1 .1 .0)),
+      ap (λ (l : Listing). l .out) same,
+    )
+
+pub list-under-determined : (κs : Lfts 2) (a : Dens κs list-under-kinds.ps) (r r′ : Listed)
+    (x x′ : AtExit (endedOf 2 list-under-kinds.ps list-under-kinds.r) κs)
+    → list-under-reads.Post κs a r x → list-under-reads.Post κs a r′ x′ → (r ≡ r′) × (now (x .1 .1 .1 .1 .0) ≡ now (x′ .1 .1 .1 .1 .0))
+list-under-determined κs a r r′ x x′ p q =
     let same : saysListed r (now (x .1 .1 .1 .1 .0)) ≡ saysListed r′ (now (x′ .1 .1 .1 .1 .0)) = p ∙ sym q in (
       sym (listed-back r (now (x .1 .1 .1 .1 .0))) ∙ ap listedOf same ∙ listed-back r′ (now (x′ .1 .1 .1 .1 .0)),
       ap (λ (l : Listing). l .out) same,

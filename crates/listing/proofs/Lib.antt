@@ -5,6 +5,7 @@ pub mod Words
 pub mod Longest
 pub mod Texts
 pub mod Turns
+pub mod Plain
 pub mod Bounds
 pub mod Examples
 pub mod Determined

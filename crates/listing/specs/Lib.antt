@@ -1,4 +1,5 @@
 pub mod Text
 pub mod Put
 pub mod List
+pub mod Under
 pub mod Says

@@ -9,6 +9,7 @@ use Rattle.words.specs.Answer.{Outcome, gives, refuses, pick}
 use Rattle.ride.specs.declared.Line.{Line}
 use Rattle.ride.specs.declared.Ride.{Ride}
 use Rattle.ride.specs.Joining.{allowed}
+use Rattle.ride.specs.Record.{odometerOf}
 use Rattle.ride.specs.Step.{Step, treat}
 use Rattle.ride.specs.Over.{records, linesFor, Ridden, rideOver}
 use Rattle.listing.specs.Text.{text}
@@ -24,13 +25,14 @@ textOf (l ∷ ls) = text l ++ textOf ls
 abbrev pub isTaken : ℕ → ℕ → Bool
 isTaken number room = leb 128 room && ltb number 18446744073709551615
 
--- How many of some records are taken, one after the other, from a state and the first one's number, into so much room.
-unfoldable pub taken : ℕ → Ride → ℕ → ℕ → List (List ℕ) → ℕ
-taken gap ride number room [] = 0
-taken gap ride number room (r ∷ rs) =
-    let s : Step = treat ride gap r in
+-- How many of some records are taken, one after the other, with the gap that the rule gives for each record's odometer, from a
+-- state and the first one's number, into so much room.
+unfoldable pub taken : (ℕ → ℕ) → Ride → ℕ → ℕ → List (List ℕ) → ℕ
+taken gaps ride number room [] = 0
+taken gaps ride number room (r ∷ rs) =
+    let s : Step = treat ride (gaps (odometerOf r)) r in
     let left : ℕ = room - length (textOf (linesFor number (s .lines))) in
-    pick (isTaken number room) (suc (taken gap (s .ride) (suc number) left rs)) 0
+    pick (isTaken number room) (suc (taken gaps (s .ride) (suc number) left rs)) 0
 
 -- How many records were taken, and how many bytes written.
 pub record Taken : Type 0 where
@@ -46,9 +48,9 @@ pub record Listing : Type 0 where
   pub out : List ℕ
 
 -- The listing of n records: the text of the lines of the ride over them, at the start of the buffer.
-unfoldable pub listOf : ℕ → Ride → ℕ → ℕ → List (List ℕ) → List ℕ → Listing
-listOf gap ride number n rs out =
-    let ridden : Ridden = rideOver (λ odometer. gap) ride number (take n rs) in
+unfoldable pub listOf : (ℕ → ℕ) → Ride → ℕ → ℕ → List (List ℕ) → List ℕ → Listing
+listOf gaps ride number n rs out =
+    let ridden : Ridden = rideOver gaps ride number (take n rs) in
     let written : List ℕ = textOf (ridden .lines) in
     record {
       answer = gives (record { records = n; bytes = length written });
@@ -58,8 +60,8 @@ listOf gap ride number n rs out =
     }
 
 -- The listing of as many of some records as are taken into the buffer.
-abbrev pub listTaken : ℕ → Ride → ℕ → List (List ℕ) → List ℕ → Listing
-listTaken gap ride number rs out = listOf gap ride number (taken gap ride number (length out) rs) rs out
+abbrev pub listTaken : (ℕ → ℕ) → Ride → ℕ → List (List ℕ) → List ℕ → Listing
+listTaken gaps ride number rs out = listOf gaps ride number (taken gaps ride number (length out) rs) rs out
 
 -- A refusal takes nothing and leaves the buffer.
 abbrev pub unlisted : Ride → ℕ → List ℕ → ℕ → Listing
@@ -71,6 +73,6 @@ unfoldable pub list : Ride → ℕ → ℕ → List ℕ → List ℕ → Listing
 list ride gap number trace out =
     pick (allowed gap)
     (pick (eqb (length trace % 8) 0)
-    (listTaken gap ride number (records trace) out)
+    (listTaken (λ odometer. gap) ride number (records trace) out)
     (unlisted ride number out 16))
     (unlisted ride number out 19)

@@ -3,6 +3,7 @@
 use Prim.Native.Nat.{ℕ}
 use mathlib.Core.List.{List}
 use Rattle.words.specs.Answer.{Outcome, gives, refuses}
+use Rattle.settings.specs.Says.{saysBad}
 use Rattle.listing.specs.declared.Put.{Put}
 use Rattle.listing.specs.declared.Done.{Done}
 use Rattle.listing.specs.declared.Listed.{Listed}
@@ -14,10 +15,11 @@ abbrev pub saysPut : Put → Ends
 saysPut (Put.Next at) = next at
 saysPut Put.NoRoom = noRoom
 
--- What was taken; "gap outside 1 to 200" is 19, "trace length not a multiple of 8" is 16.
+-- What was taken; settings that are refused have their own number ("gap outside 1 to 200" is 19); "trace length not a multiple
+-- of 8" is 16.
 abbrev pub saysDone : Done → Outcome Taken
 saysDone (Done.Took records bytes) = gives (record { records = records; bytes = bytes })
-saysDone Done.Gap = refuses 19
+saysDone (Done.Settings bad) = refuses (saysBad bad)
 saysDone Done.Length = refuses 16
 
 -- A listing: what was taken, the state and the next number, and the buffer then.

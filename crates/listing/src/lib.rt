@@ -1,10 +1,12 @@
 // Lines as text in a lent buffer, and the listing of a trace.
 // Promises: a line is written with document 01's words to the letter; a listing is the text of the ride's lines; bytes around it stay.
-// Specification: specs/Text.antt (the words), Put.antt (a text in a buffer), List.antt (the listing), Says.antt (the answers).
+// Specification: specs/Text.antt (the words), Put.antt (a text in a buffer), List.antt (the listing), Under.antt (under a store
+// of settings), Says.antt (the answers).
 ghost use mathlib.Core.Path.{_≡_};
 ghost use Rattle.listing.specs.Text.{text};
 ghost use Rattle.listing.specs.Put.{put, filled};
 ghost use Rattle.listing.specs.List.{list};
+ghost use Rattle.listing.specs.Under.{listUnder};
 ghost use Rattle.listing.specs.Says.{saysPut, saysListed};
 
 mod lines;
@@ -13,6 +15,9 @@ mod records;
 
 use ride::Line;
 use ride::Ride;
+use settings::Asked;
+use settings::Bad;
+use settings::Store;
 
 // What putting a line answers: the place behind it, or that there is no room for it.
 pub enum Put {
@@ -20,10 +25,11 @@ pub enum Put {
     NoRoom,
 }
 
-// How a listing went: so many records taken and bytes written, or refused for the gap (19) or the trace's length (16).
+// How a listing went: so many records taken and bytes written, or refused for the settings (a plain gap:
+// 19) or the trace's length (16).
 pub enum Done {
     Took { records: usize, bytes: usize },
-    Gap,
+    Settings(Bad),
     Length,
 }
 
@@ -53,19 +59,32 @@ pub fn put_line(line: Line, buf: &mut [u8], at: usize) -> Put
 pub fn list(ride: Ride, gap: u32, number: u64, trace: &[u8], out: &mut [u8]) -> Listed
     ensures { λ r. ⌜ saysListed r (now (out .exit)) ≡ list ride gap number (now (trace .entry)) (now (out .entry)) ⌝ }
 {
-    if !ride::allowed(gap) {
-        return Listed {
+    let begun = settings::begin(gap, 0x00, 0x7F);
+    let store = begun.store;
+    list_under(ride, store, number, trace, out)
+}
+
+// The listing under a store: the store's own refusal, 16 for the trace's length, or the lines of as many records as surely have room, each
+// treated with the gap in force at its own odometer.
+pub fn list_under(ride: Ride, store: Store, number: u64, trace: &[u8], out: &mut [u8]) -> Listed
+    ensures { λ r. ⌜ saysListed r (now (out .exit)) ≡ listUnder ride store number (now (trace .entry)) (now (out .entry)) ⌝ }
+{
+    let asked = settings::at(store, 0);
+    match asked {
+        Asked::Refused(bad) => Listed {
             ride,
             number,
-            done: Done::Gap,
-        };
+            done: Done::Settings(bad),
+        },
+        Asked::InForce(held) => {
+            if trace.len() % 8 != 0 {
+                return Listed {
+                    ride,
+                    number,
+                    done: Done::Length,
+                };
+            }
+            records::over(ride, store, held, number, trace, out)
+        }
     }
-    if trace.len() % 8 != 0 {
-        return Listed {
-            ride,
-            number,
-            done: Done::Length,
-        };
-    }
-    records::over(ride, gap, number, trace, out)
 }

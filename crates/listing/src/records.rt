@@ -1,9 +1,11 @@
 // The records of a trace, one after the other.
 ghost use mathlib.Core.Path.{_≡_};
 ghost use Prim.Native.Nat.{_+_, _≤_};
-ghost use mathlib.Core.Bool.{true};
 ghost use lib.ListN.{length};
-ghost use Rattle.ride.specs.Joining.{allowed};
+ghost use Rattle.words.specs.Answer.{gives};
+ghost use Rattle.settings.specs.Versions.{kept};
+ghost use Rattle.settings.specs.Store.{judged};
+ghost use Rattle.settings.specs.At.{heldAt, gapAt};
 ghost use Rattle.ride.specs.Over.{records, linesFor};
 ghost use Rattle.ride.specs.Says.{saysWrong, saysLines, saysGiven};
 ghost use Rattle.listing.specs.Put.{placed};
@@ -18,6 +20,8 @@ use ride::Lines;
 use ride::Reply;
 use ride::Ride;
 use ride::Wrong;
+use settings::Held;
+use settings::Store;
 
 // The number of a refusal.
 fn refusal(wrong: Wrong) -> u8
@@ -58,18 +62,31 @@ fn put_given(number: u64, given: Given, out: &mut [u8], at: usize) -> usize
     }
 }
 
-// The records in turn, up to the last, while there is room for the lines of one more and the next number fits.
-pub fn over(ride: Ride, gap: u32, number: u64, trace: &[u8], out: &mut [u8]) -> Listed
-    requires { ⌜ allowed gap ≡ true ⌝ }
-    ensures { λ r. ⌜ saysListed r (now (out .exit)) ≡ listTaken gap ride number (records (now (trace .entry))) (now (out .entry)) ⌝ }
+// The records in turn, up to the last, while there is room for the lines of one more and the next number fits. The store is asked only where
+// an odometer leaves the places of the settings that are held; what is held at first is what is in force at place 0.
+pub fn over(
+    ride: Ride,
+    store: Store,
+    first: Held,
+    number: u64,
+    trace: &[u8],
+    out: &mut [u8],
+) -> Listed
+    requires { ⌜ (judged store ≡ gives kept) × (first ≡ heldAt store 0) ⌝ }
+    ensures { λ r. ⌜ saysListed r (now (out .exit)) ≡ listTaken (gapAt store) ride number (records (now (trace .entry))) (now (out .entry)) ⌝ }
 {
     let count = trace.len() / 8;
     let mut now = ride;
+    let mut held = first;
     let mut next = number;
     let mut i: usize = 0;
     let mut at: usize = 0;
     while (i < count) & ((out.len() - at >= 128) & (next < u64::MAX)) {
-        let treated = ride::treat_at(now, gap, trace, i);
+        let odometer = ride::odometer_at(trace, i);
+        if settings::leaves(held, odometer) {
+            held = settings::hold(store, held, odometer);
+        }
+        let treated = ride::treat_at(now, held.gap, trace, i);
         let reply = treated.reply;
         let Reply::Record(given) = reply else {
             break;
