@@ -9,17 +9,22 @@ use Rattle.words.specs.Answer.{Outcome, gives, refuses, pick}
 use Rattle.contact.specs.Contacts.{Handed, handed, noFurther}
 use Rattle.telegram.proofs.Determined.{told}
 use Rattle.contact.specs.Judge.{Contact, read, marker}
-use Rattle.contact.specs.Says.{saysBegun, saysNext, saysJudged}
+use Rattle.contact.specs.Says.{saysBegun, saysNext, saysJudged, saysJudgedUnder}
 use Rattle.contact.specs.declared.Search.{Search}
 use Rattle.contact.specs.declared.Begun.{Begun}
 use Rattle.contact.specs.declared.Next.{Next}
 use Rattle.contact.specs.declared.Judged.{Judged}
+use Rattle.contact.specs.declared.JudgedUnder.{JudgedUnder}
+use Rattle.settings.specs.declared.Bad.{Bad}
+use Rattle.settings.proofs.Determined.{badOf}
 use Rattle.contact.proofs.begin.Kinds as begin-kinds
 use Rattle.contact.proofs.begin.Reads as begin-reads
 use Rattle.contact.proofs.next_contact.Kinds as next-kinds
 use Rattle.contact.proofs.next_contact.Reads as next-reads
 use Rattle.contact.proofs.judge.Kinds as judge-kinds
 use Rattle.contact.proofs.judge.Reads as judge-reads
+use Rattle.contact.proofs.judge_under.Kinds as judge-under-kinds
+use Rattle.contact.proofs.judge_under.Reads as judge-under-reads
 
 -- From what an answer says, the answer.
 abbrev pub begunOf : Outcome Search → Begun
@@ -69,3 +74,26 @@ pub judge-determined : (κs : Lfts 1) (a : Dens κs judge-kinds.ps) (r r′ : Ju
     (x x′ : AtExit (endedOf 1 judge-kinds.ps judge-kinds.r) κs)
     → judge-reads.Post κs a r x → judge-reads.Post κs a r′ x′ → r ≡ r′
 judge-determined κs a r r′ x x′ p q = sym (judged-back r) ∙ ap judgedOf (p ∙ sym q) ∙ judged-back r′
+
+abbrev pub judgedUnderOf : Outcome Contact → JudgedUnder
+judgedUnderOf (gives (read m first count)) = told (λ t. JudgedUnder.Read t first count) JudgedUnder.Neither m
+judgedUnderOf (gives marker) = JudgedUnder.Marker
+judgedUnderOf (refuses n) =
+    pick (eqb n 5) JudgedUnder.Beyond (pick (eqb n 7) JudgedUnder.Differ (pick (eqb n 8) JudgedUnder.Neither (JudgedUnder.Settings (badOf n))))
+
+pub judged-under-back : (r : JudgedUnder) → judgedUnderOf (saysJudgedUnder r) ≡ r
+judged-under-back (JudgedUnder.Read t first count) = refl
+judged-under-back JudgedUnder.Marker = refl
+judged-under-back (JudgedUnder.Settings Bad.Pair) = refl
+judged-under-back (JudgedUnder.Settings Bad.Gap) = refl
+judged-under-back (JudgedUnder.Settings Bad.TooHigh) = refl
+judged-under-back (JudgedUnder.Settings Bad.NotAbove) = refl
+judged-under-back (JudgedUnder.Settings Bad.Full) = refl
+judged-under-back JudgedUnder.Beyond = refl
+judged-under-back JudgedUnder.Differ = refl
+judged-under-back JudgedUnder.Neither = refl
+
+pub judge-under-determined : (κs : Lfts 1) (a : Dens κs judge-under-kinds.ps) (r r′ : JudgedUnder)
+    (x x′ : AtExit (endedOf 1 judge-under-kinds.ps judge-under-kinds.r) κs)
+    → judge-under-reads.Post κs a r x → judge-under-reads.Post κs a r′ x′ → r ≡ r′
+judge-under-determined κs a r r′ x x′ p q = sym (judged-under-back r) ∙ ap judgedUnderOf (p ∙ sym q) ∙ judged-under-back r′

@@ -1,4 +1,5 @@
 pub mod History
 pub mod Contacts
 pub mod Judge
+pub mod Under
 pub mod Says

@@ -3,10 +3,12 @@
 use Rattle.words.specs.Answer.{Outcome, gives, refuses}
 use Rattle.contact.specs.Contacts.{Handed, handed, noFurther}
 use Rattle.contact.specs.Judge.{Contact, read, marker}
+use Rattle.settings.specs.Says.{saysBad}
 use Rattle.contact.specs.declared.Search.{Search}
 use Rattle.contact.specs.declared.Begun.{Begun}
 use Rattle.contact.specs.declared.Next.{Next}
 use Rattle.contact.specs.declared.Judged.{Judged}
+use Rattle.contact.specs.declared.JudgedUnder.{JudgedUnder}
 
 -- The search that begins a stretch; "stretch beyond the buffer, or above 16,777,216 bits" is 5.
 abbrev pub saysBegun : Begun → Outcome Search
@@ -30,3 +32,12 @@ saysJudged Judged.NotSeven = refuses 4
 saysJudged Judged.Beyond = refuses 5
 saysJudged Judged.Differ = refuses 7
 saysJudged Judged.Neither = refuses 8
+
+-- The same under a store; settings or a place that are refused have their own number.
+abbrev pub saysJudgedUnder : JudgedUnder → Outcome Contact
+saysJudgedUnder (JudgedUnder.Read t first count) = gives (read (gives t) first count)
+saysJudgedUnder JudgedUnder.Marker = gives marker
+saysJudgedUnder (JudgedUnder.Settings bad) = refuses (saysBad bad)
+saysJudgedUnder JudgedUnder.Beyond = refuses 5
+saysJudgedUnder JudgedUnder.Differ = refuses 7
+saysJudgedUnder JudgedUnder.Neither = refuses 8

@@ -1,14 +1,20 @@
 // Contacts of document 01: the detector, which hands out those of a stretch one after the other, and the judging of one.
 // Promises: each contact comes once, in order, and nothing else moves the search; judged are all of its places at once.
-// Specification: specs/History.antt (the latest sixteen bits), specs/Contacts.antt, specs/Judge.antt, specs/Says.antt (the answers).
+// Specification: specs/History.antt (the latest sixteen bits), specs/Contacts.antt, specs/Judge.antt, specs/Under.antt (under a store of
+// settings), specs/Says.antt (the answers).
 ghost use mathlib.Core.Path.{_≡_};
 ghost use Rattle.contact.specs.Contacts.{begun, nextContact};
 ghost use Rattle.contact.specs.Judge.{judged};
-ghost use Rattle.contact.specs.Says.{saysBegun, saysNext, saysJudged};
+ghost use Rattle.contact.specs.Under.{judgedUnder};
+ghost use Rattle.contact.specs.Says.{saysBegun, saysNext, saysJudged, saysJudgedUnder};
 
 mod detector;
 mod marker;
+mod under;
 
+use settings::Asked;
+use settings::Bad;
+use settings::Store;
 use telegram::Surveyed;
 use telegram::Telegram;
 
@@ -47,6 +53,21 @@ pub enum Judged {
     },
     Marker,
     NotSeven,
+    Beyond,
+    Differ,
+    Neither,
+}
+
+// What judging a contact under a store answers: what was read, with the first place and the number of places; a marker; why the settings or the
+// place are refused; or why it is neither.
+pub enum JudgedUnder {
+    Read {
+        telegram: Telegram,
+        first: usize,
+        count: usize,
+    },
+    Marker,
+    Settings(Bad),
     Beyond,
     Differ,
     Neither,
@@ -105,5 +126,16 @@ pub fn judge(buf: &[u8], start: usize, len: usize, s: u8, t: u8) -> Judged
         Surveyed::NotSeven => Judged::NotSeven,
         Surveyed::Beyond => Judged::Beyond,
         Surveyed::NoPlace => marker::or_neither(buf, start, len),
+    }
+}
+
+// The contact judged with the sync pair that is in force at the odometer given with it; the store's own refusal first, then 18.
+pub fn judge_under(store: Store, odometer: u32, buf: &[u8], start: usize, len: usize) -> JudgedUnder
+    ensures { λ r. ⌜ saysJudgedUnder r ≡ judgedUnder store odometer (now (buf .entry)) start len ⌝ }
+{
+    let asked = settings::at(store, odometer);
+    match asked {
+        Asked::Refused(bad) => JudgedUnder::Settings(bad),
+        Asked::InForce(held) => under::with_pair(judge(buf, start, len, held.s, held.t)),
     }
 }

@@ -29,7 +29,7 @@ listing ride gap number trace out =
   where
     go : (t u : Bool)
         → Decided Given (row 19 (not t) ∷ row 16 (not u) ∷ [])
-        (pick t (pick u (listTaken gap ride number (records trace) out) (unlisted ride number out 16)) (unlisted ride number out 19) .answer)
+        (pick t (pick u (listTaken (λ odometer. gap) ride number (records trace) out) (unlisted ride number out 16)) (unlisted ride number out 19) .answer)
     go false u = (λ q. refl, λ q. absurd (true-not-false q))
     go true false = (λ q. absurd (true-not-false (sym q)), λ q. (λ p. refl, λ p. absurd (true-not-false p)))
     go true true = (λ q. absurd (true-not-false (sym q)), λ q. (λ p. absurd (true-not-false (sym p)), λ p. (_, refl)))
@@ -44,8 +44,8 @@ list-untouched ride gap number trace out n e = go (allowed gap) (eqb (length tra
     kept l = (l .ride ≡ ride) × (l .number ≡ number) × (l .out ≡ out)
 
     go : (t u : Bool)
-        → pick t (pick u (listTaken gap ride number (records trace) out) (unlisted ride number out 16)) (unlisted ride number out 19) .answer ≡ refuses n
-        → kept (pick t (pick u (listTaken gap ride number (records trace) out) (unlisted ride number out 16)) (unlisted ride number out 19))
+        → pick t (pick u (listTaken (λ odometer. gap) ride number (records trace) out) (unlisted ride number out 16)) (unlisted ride number out 19) .answer ≡ refuses n
+        → kept (pick t (pick u (listTaken (λ odometer. gap) ride number (records trace) out) (unlisted ride number out 16)) (unlisted ride number out 19))
     go false u q = (refl, refl, refl)
     go true false q = (refl, refl, refl)
     go true true q = absurd (gives-not q)

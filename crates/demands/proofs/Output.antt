@@ -58,8 +58,8 @@ all-listed trace before good small enough =
     let many : length (records trace) ≡ recordsIn trace = records-length (recordsIn trace) trace in
     let fit : 128 * length (records trace) ≤ length before = subst (λ (k : ℕ). 128 * k ≤ length before) (sym many) enough in
     let few : 1 + length (records trace) ≤ 18446744073709551615 = subst (λ (k : ℕ). 1 + k ≤ 18446744073709551615) (sym many) (omega arith) in
-    ap (λ (t : Bool). pick t (listTaken 40 freshRide 1 (records trace) before) (unlisted freshRide 1 before 16)) (not-false (eqb (length trace % 8) 0) good)
-    ∙ ap (λ (k : ℕ). listOf 40 freshRide 1 k (records trace) before) (all-taken (records trace) 40 freshRide 1 (length before) fit few ∙ many)
+    ap (λ (t : Bool). pick t (listTaken (λ odometer. 40) freshRide 1 (records trace) before) (unlisted freshRide 1 before 16)) (not-false (eqb (length trace % 8) 0) good)
+    ∙ ap (λ (k : ℕ). listOf (λ odometer. 40) freshRide 1 k (records trace) before) (all-taken (records trace) (λ odometer. 40) freshRide 1 (length before) fit few ∙ many)
     ∙ ap (λ (rs : List (List ℕ)). whole rs) (take-all (recordsIn trace) (records trace) (subst (λ (k : ℕ). k ≤ recordsIn trace) (sym many) (omega arith)))
   where
     whole : List (List ℕ) → Listing
@@ -142,10 +142,10 @@ pub takes-so : (ride : Ride) (gap number : ℕ) (trace before : List ℕ) (l : L
     → ListInto ride gap number trace before l after → Takes ride gap number trace before l after
 unfolding list listOf badLength
 takes-so ride gap number trace before l after good-gap good c =
-    let n = taken gap ride number (length before) (records trace) in
+    let n = taken (λ odometer. gap) ride number (length before) (records trace) in
     let w = textOf (rideOver (λ odometer. gap) ride number (take n (records trace)) .lines) in
     let is = c .7 ∙ ap₂ (λ (v w : List ℕ). list ride gap number v w) (c .4) (c .5)
-    ∙ ap₂ (λ (t u : Bool). pick t (pick u (listTaken gap ride number (records trace) before) (unlisted ride number before 16)) (unlisted ride number before 19))
+    ∙ ap₂ (λ (t u : Bool). pick t (pick u (listTaken (λ odometer. gap) ride number (records trace) before) (unlisted ride number before 16)) (unlisted ride number before 19))
     (not-false (allowed gap) (sym (bad-gap gap) ∙ good-gap)) (not-false (eqb (length trace % 8) 0) good) in
     let holds : after ≡ w ++ drop (length w) before = sym (c .6) ∙ ap (λ (v : Listing). v .out) is ∙ at-first w before in
     let many : length (records trace) ≡ recordsIn trace = records-length (recordsIn trace) trace in
@@ -153,10 +153,10 @@ takes-so ride gap number trace before l after good-gap good c =
       n = n;
       bytes = length w;
       took = told saysDone listing-is.doneOf listing-is.done-back (l .done) (Done.Took n (length w)) (ap (λ (v : Listing). v .answer) is) refl;
-      of-these = subst (λ (k : ℕ). n ≤ k) many (few-taken (records trace) gap ride number (length before));
-      one-at-least = λ some room small. one-taken (records trace) gap ride number (length before) (subst (λ (k : ℕ). 1 ≤ k) (sym many) some) room small;
+      of-these = subst (λ (k : ℕ). n ≤ k) many (few-taken (records trace) (λ odometer. gap) ride number (length before));
+      one-at-least = λ some room small. one-taken (records trace) (λ odometer. gap) ride number (length before) (subst (λ (k : ℕ). 1 ≤ k) (sym many) some) room small;
       all-with-room = λ enough small.
-          all-taken (records trace) gap ride number (length before) (subst (λ (k : ℕ). 128 * k ≤ length before) (sym many) enough)
+          all-taken (records trace) (λ odometer. gap) ride number (length before) (subst (λ (k : ℕ). 128 * k ≤ length before) (sym many) enough)
           (subst (λ (k : ℕ). number + k ≤ 18446744073709551615) (sym many) small)
           ∙ many;
       written = ap (take (length w)) holds ∙ take-at w (drop (length w) before) (length w) refl;

@@ -8,7 +8,7 @@ use mathlib.Core.List.{List, [], _∷_, _++_}
 use lib.ListN.{length, drop, length-append}
 use borrow.Author.Tests.{le-leb, lt-ltb}
 use Rattle.words.specs.Answer.{Outcome, gives, refuses, pick}
-use Rattle.ride.specs.Record.{Entry, check}
+use Rattle.ride.specs.Record.{Entry, check, odometerOf}
 use Rattle.ride.specs.Joining.{isBehind}
 use Rattle.group.specs.Judge.{judge}
 use Rattle.group.specs.declared.Group.{Group}
@@ -50,54 +50,54 @@ missed-short true l = one-short l
 missed-short false l = none-short
 
 -- The lines of a record have at most 128 bytes.
-record-short : (ride : Ride) (gap number : ℕ) (r : List ℕ) → length (textOf (linesFor number (treat ride gap r .lines))) ≤ 128
+record-short : (ride : Ride) (gaps number : ℕ) (r : List ℕ) → length (textOf (linesFor number (treat ride (gaps (odometerOf r)) r .lines))) ≤ 128
 unfolding treat goOn closeBehind missedLines atMostOne
-record-short ride gap number r = go (check (ride .odometer) r)
+record-short ride (gaps (odometerOf r)) number r = go (check (ride .odometer) r)
   where
-    go : (o : Outcome Entry) → length (textOf (linesFor number (refuseOr ride gap o .lines))) ≤ 128
+    go : (o : Outcome Entry) → length (textOf (linesFor number (refuseOr ride gaps o .lines))) ≤ 128
     go (refuses n) = omega (arith, one-short (Line.Record number n))
     go (gives e) =
-        let c : Closing = pick (isBehind gap (e .odometer) (ride .group)) (close (ride .group) (ride .known)) (leave (ride .group) (ride .known)) in
-        two-short (c .lines) (missedLines (e .odometer) (c .group) (c .known)) (closing-short (ride .group) (ride .known) (isBehind gap (e .odometer) (ride .group)))
+        let c : Closing = pick (isBehind gaps (e .odometer) (ride .group)) (close (ride .group) (ride .known)) (leave (ride .group) (ride .known)) in
+        two-short (c .lines) (missedLines (e .odometer) (c .group) (c .known)) (closing-short (ride .group) (ride .known) (isBehind gaps (e .odometer) (ride .group)))
         (missed-short (isMissed (e .odometer) (c .group) (c .known)) (Line.Missed (missedPlace (c .known .linking))))
 
 -- With room for 128 bytes a record, all are taken.
-pub all-taken : (rs : List (List ℕ)) (gap : ℕ) (ride : Ride) (number room : ℕ) → 128 * length rs ≤ room → number + length rs ≤ 18446744073709551615
-    → taken gap ride number room rs ≡ length rs
+pub all-taken : (rs : List (List ℕ)) (gaps : ℕ → ℕ) (ride : Ride) (number room : ℕ) → 128 * length rs ≤ room → number + length rs ≤ 18446744073709551615
+    → taken gaps ride number room rs ≡ length rs
 unfolding taken
-all-taken [] gap ride number room enough small = refl
-all-taken (r ∷ rs) gap ride number room enough small =
-    let s : Step = treat ride gap r in
-    let written : length (textOf (linesFor number (s .lines))) ≤ 128 = record-short ride gap number r in
+all-taken [] gaps ride number room enough small = refl
+all-taken (r ∷ rs) gaps ride number room enough small =
+    let s : Step = treat ride (gaps (odometerOf r)) r in
+    let written : length (textOf (linesFor number (s .lines))) ≤ 128 = record-short ride (gaps (odometerOf r)) number r in
     let left : ℕ = room - length (textOf (linesFor number (s .lines))) in
     let here : 128 ≤ room = omega arith in
     let next : number < 18446744073709551615 = omega arith in
     let more : 128 * length rs ≤ left = omega arith in
     let on : suc number + length rs ≤ 18446744073709551615 = omega arith in
-    ap₂ (λ (t u : Bool). pick (t && u) (suc (taken gap (s .ride) (suc number) left rs)) 0) (le-leb 128 room here) (lt-ltb number 18446744073709551615 next)
-    ∙ ap suc (all-taken rs gap (s .ride) (suc number) left more on)
+    ap₂ (λ (t u : Bool). pick (t && u) (suc (taken gaps (s .ride) (suc number) left rs)) 0) (le-leb 128 room here) (lt-ltb number 18446744073709551615 next)
+    ∙ ap suc (all-taken rs gaps (s .ride) (suc number) left more on)
 
 -- No more are taken than there are.
-pub few-taken : (rs : List (List ℕ)) (gap : ℕ) (ride : Ride) (number room : ℕ) → taken gap ride number room rs ≤ length rs
+pub few-taken : (rs : List (List ℕ)) (gaps : ℕ → ℕ) (ride : Ride) (number room : ℕ) → taken gaps ride number room rs ≤ length rs
 unfolding taken
-few-taken [] gap ride number room = omega arith
-few-taken (r ∷ rs) gap ride number room =
-    let s : Step = treat ride gap r in
+few-taken [] gaps ride number room = omega arith
+few-taken (r ∷ rs) gaps ride number room =
+    let s : Step = treat ride (gaps (odometerOf r)) r in
     let left : ℕ = room - length (textOf (linesFor number (s .lines))) in
-    go (isTaken number room) (taken gap (s .ride) (suc number) left rs) (few-taken rs gap (s .ride) (suc number) left)
+    go (isTaken number room) (taken gaps (s .ride) (suc number) left rs) (few-taken rs gaps (s .ride) (suc number) left)
   where
     go : (t : Bool) (k : ℕ) → k ≤ length rs → pick t (suc k) 0 ≤ suc (length rs)
     go true k h = omega arith
     go false k h = omega arith
 
 -- One is, where there is one and room for it.
-pub one-taken : (rs : List (List ℕ)) (gap : ℕ) (ride : Ride) (number room : ℕ) → 1 ≤ length rs → 128 ≤ room → number < 18446744073709551615
-    → 1 ≤ taken gap ride number room rs
+pub one-taken : (rs : List (List ℕ)) (gaps : ℕ → ℕ) (ride : Ride) (number room : ℕ) → 1 ≤ length rs → 128 ≤ room → number < 18446744073709551615
+    → 1 ≤ taken gaps ride number room rs
 unfolding taken
-one-taken [] gap ride number room some enough small = absurd (omega arith)
-one-taken (r ∷ rs) gap ride number room some enough small =
-    let s : Step = treat ride gap r in
+one-taken [] gaps ride number room some enough small = absurd (omega arith)
+one-taken (r ∷ rs) gaps ride number room some enough small =
+    let s : Step = treat ride (gaps (odometerOf r)) r in
     let left : ℕ = room - length (textOf (linesFor number (s .lines))) in
-    let more : 1 ≤ suc (taken gap (s .ride) (suc number) left rs) = omega arith in
+    let more : 1 ≤ suc (taken gaps (s .ride) (suc number) left rs) = omega arith in
     subst (λ (k : ℕ). 1 ≤ k)
-    (sym (ap₂ (λ (t u : Bool). pick (t && u) (suc (taken gap (s .ride) (suc number) left rs)) 0) (le-leb 128 room enough) (lt-ltb number 18446744073709551615 small))) more
+    (sym (ap₂ (λ (t u : Bool). pick (t && u) (suc (taken gaps (s .ride) (suc number) left rs)) 0) (le-leb 128 room enough) (lt-ltb number 18446744073709551615 small))) more

@@ -53,7 +53,7 @@ module _ (gap : ℕ) (ride : Ride) (number : ℕ) (card : List ℕ) where
   room = replicate (128 * recordsIn card) 0
 
   abbrev many : ℕ
-  many = taken gap ride number (length room) (records card)
+  many = taken (λ odometer. gap) ride number (length room) (records card)
 
   abbrev over : Ridden
   over = rideOver (λ odometer. gap) ride number (take many (records card))
@@ -71,11 +71,11 @@ module _ (gap : ℕ) (ride : Ride) (number : ℕ) (card : List ℕ) where
         after = placed written room 0;
       }
 
-  allowed-so : badGap gap ≡ false → Whole card → listTaken gap ride number (records card) room ≡ list ride gap number card room
+  allowed-so : badGap gap ≡ false → Whole card → listTaken (λ odometer. gap) ride number (records card) room ≡ list ride gap number card room
   unfolding list badLength
   allowed-so good whole =
       sym
-      (ap₂ (λ (t u : Bool). pick t (pick u (listTaken gap ride number (records card) room) (unlisted ride number room 16)) (unlisted ride number room 19))
+      (ap₂ (λ (t u : Bool). pick t (pick u (listTaken (λ odometer. gap) ride number (records card) room) (unlisted ride number room 16)) (unlisted ride number room 19))
       (not-false (allowed gap) (sym (bad-gap gap) ∙ good)) (not-false (eqb (length card % 8) 0) whole))
 
   called : badGap gap ≡ false → Whole card → ListInto ride gap number card room (theCall .answer) (theCall .after)

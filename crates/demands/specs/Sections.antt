@@ -63,12 +63,12 @@ pub record Call : Type 0 where
 -- How many records a call took, and how many bytes it wrote; a refused one none.
 abbrev pub taken : Done → ℕ
 taken (Done.Took records bytes) = records
-taken Done.Gap = 0
+taken (Done.Settings bad) = 0
 taken Done.Length = 0
 
 abbrev pub bytesOf : Done → ℕ
 bytesOf (Done.Took records bytes) = bytes
-bytesOf Done.Gap = 0
+bytesOf (Done.Settings bad) = 0
 bytesOf Done.Length = 0
 
 -- A call is lent a block of whole records from the front of what is left, long or short, and a buffer of any length.

@@ -1,0 +1,42 @@
+-- `judge_under` asks the store, and judges with the pair in force.
+use mathlib.Core.Path.{_≡_, sym, ap, _∙_}
+use Rattle.settings.specs.Says.{saysAsked}
+use Rattle.contact.specs.Under.{judgedUnder}
+use borrow.Author.Needs.{needs}
+use Rattle.contact.proofs.judge_under.Statement.{statement}
+use Rattle.contact.proofs.judge_under.Tie as tie
+
+at-requires : tie.Need-at-requires
+at-requires c κs = search needs
+
+enum-known-asked : tie.Need-enum-known-asked
+enum-known-asked c = search needs
+
+enum-known-asked-2 : tie.Need-enum-known-asked-2
+enum-known-asked-2 c = search needs
+
+judge-requires : tie.Need-judge-requires
+judge-requires c κs = search needs
+
+with-pair-requires : tie.Need-with-pair-requires
+with-pair-requires c κs = search needs
+
+returns : tie.Need-returns
+unfolding judgedUnder
+returns c =
+    let v = c .before in
+    let asked = sym (v .before .before .at .ensures) ∙ ap saysAsked (v .asked .given .1) in
+    rw asked
+
+returns-2 : tie.Need-returns-2
+unfolding judgedUnder
+returns-2 c =
+    let j = c .before in
+    let v = j .before .before in
+    let asked = sym (v .before .before .at .ensures) ∙ ap saysAsked (v .asked2 .given .1) in
+    rw asked (c .with-pair .ensures ∙ j .judge .ensures)
+
+pub judge-under-spec : {M : Type 1} → statement M
+judge-under-spec =
+    tie.close
+    (tie.spec at-requires enum-known-asked enum-known-asked-2 judge-requires with-pair-requires returns returns-2)
