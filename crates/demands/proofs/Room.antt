@@ -50,15 +50,15 @@ missed-short true l = one-short l
 missed-short false l = none-short
 
 -- The lines of a record have at most 128 bytes.
-record-short : (ride : Ride) (gaps number : ℕ) (r : List ℕ) → length (textOf (linesFor number (treat ride (gaps (odometerOf r)) r .lines))) ≤ 128
+record-short : (ride : Ride) (gap number : ℕ) (r : List ℕ) → length (textOf (linesFor number (treat ride gap r .lines))) ≤ 128
 unfolding treat goOn closeBehind missedLines atMostOne
-record-short ride (gaps (odometerOf r)) number r = go (check (ride .odometer) r)
+record-short ride gap number r = go (check (ride .odometer) r)
   where
-    go : (o : Outcome Entry) → length (textOf (linesFor number (refuseOr ride gaps o .lines))) ≤ 128
+    go : (o : Outcome Entry) → length (textOf (linesFor number (refuseOr ride gap o .lines))) ≤ 128
     go (refuses n) = omega (arith, one-short (Line.Record number n))
     go (gives e) =
-        let c : Closing = pick (isBehind gaps (e .odometer) (ride .group)) (close (ride .group) (ride .known)) (leave (ride .group) (ride .known)) in
-        two-short (c .lines) (missedLines (e .odometer) (c .group) (c .known)) (closing-short (ride .group) (ride .known) (isBehind gaps (e .odometer) (ride .group)))
+        let c : Closing = pick (isBehind gap (e .odometer) (ride .group)) (close (ride .group) (ride .known)) (leave (ride .group) (ride .known)) in
+        two-short (c .lines) (missedLines (e .odometer) (c .group) (c .known)) (closing-short (ride .group) (ride .known) (isBehind gap (e .odometer) (ride .group)))
         (missed-short (isMissed (e .odometer) (c .group) (c .known)) (Line.Missed (missedPlace (c .known .linking))))
 
 -- With room for 128 bytes a record, all are taken.
