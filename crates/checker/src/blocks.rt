@@ -1,4 +1,4 @@
-// The records of the cards, block by block: in through `list`, out to standard output.
+// The records of the cards, block by block: in through `list_under`, out to standard output.
 ghost use mathlib.Core.Path.{_≡_};
 ghost use lib.ListN.{length};
 use cards::How;
@@ -8,12 +8,7 @@ use listing::Put;
 use ride::Line;
 use ride::Lines;
 use ride::Ride;
-
-// The program's gap in dm.
-const GAP: u32 = 40;
-
-// The argument of the first card.
-pub const FIRST: usize = 1;
+use settings::Store;
 
 // Room for the lines of a block: 128 bytes for each of its records.
 pub fn room() -> [u8; 1048576]
@@ -38,10 +33,10 @@ pub fn write_line(line: Line) -> bool {
     io::write_all(STDOUT_FILENO, &out[..n])
 }
 
-// Lists the records and writes their lines. Where out has 128 bytes for each of them, one call of `list` takes them all.
-fn write_records(from: Stand, records: &[u8], out: &mut [u8]) -> Stand {
+// Lists the records and writes their lines. Where out has 128 bytes for each of them, one call of `list_under` takes them all.
+fn write_records(from: Stand, store: Store, records: &[u8], out: &mut [u8]) -> Stand {
     let ride = from.ride;
-    let listed = listing::list(ride, GAP, from.number, records, out);
+    let listed = listing::list_under(ride, store, from.number, records, out);
     let done = listed.done;
     let after = listed.ride;
     let number = listed.number;
@@ -88,21 +83,21 @@ fn finish(how: How, stand: Stand) {
     }
 }
 
-// The lines of all records of the cards, whose lengths were kept, as one ride, and of its end. A proved loop has to end, and nothing says that
+// The lines of all records of the cards from this argument on, whose lengths were kept, as one ride under the settings, and of its end. A proved loop has to end, and nothing says that
 // a file does: so it counts its turns down from a number that no run uses up.
-pub fn list_cards(lengths: &[u64], block: &mut [u8], out: &mut [u8]) {
+pub fn list_cards(store: Store, first: usize, lengths: &[u64], block: &mut [u8], out: &mut [u8]) {
     let ride = ride::fresh();
     let mut stand = Stand {
         ride,
         number: 1,
         is_good: true,
     };
-    let mut pass = cards::begin(FIRST);
+    let mut pass = cards::begin(first);
     let mut turns = u64::MAX;
     while turns > 0 {
         let got = cards::next_block(pass, lengths, block);
         let read = got.read;
-        stand = write_records(stand, &block[..read], out);
+        stand = write_records(stand, store, &block[..read], out);
         if !stand.is_good {
             return;
         }
