@@ -36,10 +36,10 @@ pub fn write_line(line: Line) -> bool {
 // Lists the records and writes their lines. Where out has 128 bytes for each of them, one call of `list_under` takes them all.
 fn write_records(from: Stand, store: Store, records: &[u8], out: &mut [u8]) -> Stand {
     let ride = from.ride;
-    let listed = listing::list_under(ride, store, from.number, records, out);
-    let done = listed.done;
-    let after = listed.ride;
-    let number = listed.number;
+    let answer = listing::list_under(ride, store, from.number, records, out);
+    let done = answer.done;
+    let after = answer.ride;
+    let number = answer.number;
     let Done::Took {
         records: count,
         bytes,
@@ -52,10 +52,11 @@ fn write_records(from: Stand, store: Store, records: &[u8], out: &mut [u8]) -> S
         };
     };
     let is_written = io::write_all(STDOUT_FILENO, &out[..bytes]);
+    let listed = count * 8;
     Stand {
         ride: after,
         number,
-        is_good: is_written & (count * 8 == records.len()),
+        is_good: is_written & (listed == records.len()),
     }
 }
 

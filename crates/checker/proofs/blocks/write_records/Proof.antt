@@ -44,8 +44,8 @@ slice-aggregate-write-all c = sym (length-take-le _ _ (within (c .before .before
 write-all-requires : tie.Need-write-all-requires
 write-all-requires c κs = search needs
 
-mul-t16 : tie.Need-mul-t16
-mul-t16 c = omega (arith, within (c .before .before .before) .0)
+mul-listed : tie.Need-mul-listed
+mul-listed c = omega (arith, within (c .before .before .before) .0)
 
 same-length-2 : tie.Need-same-length-2
 same-length-2 c = search needs
@@ -64,6 +64,6 @@ write-records-spec =
     slice-reshare-prefix-write-all
     slice-aggregate-write-all
     write-all-requires
-    mul-t16
+    mul-listed
     same-length-2
     returns-2)
