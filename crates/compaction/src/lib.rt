@@ -1,0 +1,1 @@
+// A trace made smaller in place.
