@@ -1,2 +1,4 @@
 pub mod Dropped
 pub mod Smaller
+pub mod Blocks
+pub mod Compact

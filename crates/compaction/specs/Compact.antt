@@ -1,0 +1,46 @@
+-- A trace made smaller in place (document 02, M-107): "The result says the new length; bytes beyond it stay. Refusals: 19, then 16 for a
+-- bad trace length."
+-- Assumes nothing.
+use Prim.Native.Nat.{ℕ, _%_}
+use mathlib.Core.List.{List, [], _∷_, _++_}
+use lib.Dec.{eqb}
+use lib.ListN.{length, drop}
+use Rattle.words.specs.Answer.{Outcome, gives, refuses, pick}
+use Rattle.ride.specs.declared.Ride.{Ride}
+use Rattle.ride.specs.Joining.{allowed}
+use Rattle.ride.specs.Over.{records, rideOver}
+use Rattle.compaction.specs.declared.Waiting.{Waiting}
+use Rattle.compaction.specs.Dropped.{compactOver}
+use Rattle.compaction.specs.Blocks.{keptOver, waitsAfter}
+
+-- The bytes of some records, one after the other.
+abbrev pub bytesOf : List (List ℕ) → List ℕ
+bytesOf [] = []
+bytesOf (r ∷ rs) = r ++ bytesOf rs
+
+-- Some bytes at the start of a buffer: "bytes beyond it stay".
+abbrev pub onto : List ℕ → List ℕ → List ℕ
+onto bytes buffer = bytes ++ drop (length bytes) buffer
+
+-- What compacting comes to: the new length or the number of the refusal; the state after the trace; and the lent buffer then.
+pub record Compaction : Type 0 where
+  pub answer : Outcome ℕ
+  pub ride : Ride
+  pub buffer : List ℕ
+
+-- A refusal leaves the state and the buffer as they were.
+abbrev pub untouched : Ride → List ℕ → ℕ → Compaction
+untouched ride trace n = record { answer = refuses n; ride = ride; buffer = trace }
+
+-- The compaction of a trace of whole records, with a rule of the gap: the kept records' bytes, and their length.
+unfoldable pub smallerTrace : (ℕ → ℕ) → Ride → List ℕ → Compaction
+smallerTrace gaps ride trace =
+    let bytes : List ℕ = bytesOf (compactOver gaps ride (records trace)) in
+    record { answer = gives (length bytes); ride = rideOver gaps ride 1 (records trace) .ride; buffer = onto bytes trace }
+
+-- Compacting a trace from a state: "gap outside 1 to 200" is 19, "trace length not a multiple of 8" is 16; else what is kept.
+unfoldable pub compact : Ride → ℕ → List ℕ → Compaction
+compact ride gap trace =
+    pick (allowed gap)
+    (pick (eqb (length trace % 8) 0) (smallerTrace (λ odometer. gap) ride trace) (untouched ride trace 16))
+    (untouched ride trace 19)
