@@ -1,3 +1,5 @@
 pub mod Laws
 pub mod Smaller
 pub mod Turns
+pub mod Walk
+pub mod Blocks

@@ -24,6 +24,7 @@ pub fn eight(trace: &[u8], at: usize) -> [u8; 8]
 // Eight bytes into a trace from this one on.
 pub fn put_eight(bytes: [u8; 8], trace: &mut [u8], at: usize)
     requires { ⌜ at + 8 ≤ length (now trace) ⌝ }
+    ensures { λ _. ⌜ length bytes ≡ 8 ⌝ }
     ensures { λ _. ⌜ now (trace .exit) ≡ placed bytes (now (trace .entry)) at ⌝ }
 {
     let mut i = 0;

@@ -57,7 +57,8 @@ pub fn decide(ride: Ride, gap: u32, bytes: [u8; 8], next: [u8; 8]) -> Decided
     let stepped = ride::step(ride, gap, bytes);
     let after = stepped.ride;
     let report = stepped.report;
-    let dropped = (bytes[4] == 3) & (is_quiet(report) & is_accepted(ride::check_record(after, next)));
+    let dropped = (bytes[4] == 3)
+        & (is_quiet(report) & is_accepted(ride::check_record(after, next)));
     Decided {
         ride: after,
         dropped,

@@ -56,11 +56,13 @@ returns : tie.Need-returns Inv-loop μ-loop
 returns c =
     let l = c .before in
     let a = l .before .args in
-    let all : l .loop .i ≡ length (a .t1) = omega arith in
-    sym (placed-none (l .loop .trace) (a .at + l .loop .i))
-    ∙ ap (λ (s : List ℕ). placed s (l .loop .trace) (a .at + l .loop .i))
-    (sym (ap (λ (k : ℕ). drop k (a .t1)) all ∙ drop-length (a .t1)))
-    ∙ l .loop .inv .3
+    let all : l .loop .i ≡ length (a .t1) = omega arith in (
+      l .loop .inv .1,
+      sym (placed-none (l .loop .trace) (a .at + l .loop .i))
+          ∙ ap (λ (s : List ℕ). placed s (l .loop .trace) (a .at + l .loop .i))
+          (sym (ap (λ (k : ℕ). drop k (a .t1)) all ∙ drop-length (a .t1)))
+          ∙ l .loop .inv .3,
+    )
 
 pub put-eight-spec : {M : Type 1} → statement M
 put-eight-spec =
