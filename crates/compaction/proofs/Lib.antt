@@ -3,3 +3,4 @@ pub mod Smaller
 pub mod Turns
 pub mod Walk
 pub mod Blocks
+pub mod Last

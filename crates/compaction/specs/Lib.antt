@@ -2,3 +2,4 @@ pub mod Dropped
 pub mod Smaller
 pub mod Blocks
 pub mod Compact
+pub mod Says
