@@ -545,10 +545,15 @@ static int refusal(const struct plain_ride *ride, uint32_t odometer, const uint8
     return odometer < ride->odometer ? 17 : 0;
 }
 
+static uint32_t odometer_of(const uint8_t *record)
+{
+    return (uint32_t)record[0] << 24 | (uint32_t)record[1] << 16 | (uint32_t)record[2] << 8 | record[3];
+}
+
 /* One record, and its lines. */
 static char *step(struct plain_ride *ride, uint32_t gap, const uint8_t *record, char *out)
 {
-    uint32_t odometer = (uint32_t)record[0] << 24 | (uint32_t)record[1] << 16 | (uint32_t)record[2] << 8 | record[3];
+    uint32_t odometer = odometer_of(record);
     ride->records++;
     int refused = refusal(ride, odometer, record);
     if (refused != 0) {
@@ -599,4 +604,39 @@ int64_t plain_check(uint32_t gap, const uint8_t *trace, size_t n, char *out)
     plain_fresh(&ride);
     size_t written = plain_list(&ride, gap, trace, n / 8, out, PLAIN_ROOM * (n / 8), &taken);
     return (int64_t)(written + plain_end(&ride, out + written));
+}
+
+/* ---- Smaller traces ---- */
+
+size_t plain_compact_block(struct plain_waiting *waiting, uint32_t gap, uint8_t *block, size_t records)
+{
+    size_t kept = 0;
+    for (size_t i = 0; i < records; i++) {
+        uint8_t next[8];
+        memcpy(next, block + 8 * i, 8);
+        if (waiting->waits) {
+            char lines[2 * PLAIN_ROOM];
+            bool is_quiet = step(&waiting->ride, gap, waiting->record, lines) == lines;
+            bool is_dropped = waiting->record[4] == 3 && is_quiet && refusal(&waiting->ride, odometer_of(next), next) == 0;
+            if (!is_dropped)
+                memcpy(block + 8 * kept++, waiting->record, 8);
+        }
+        memcpy(waiting->record, next, 8);
+        waiting->waits = true;
+    }
+    return kept;
+}
+
+int64_t plain_compact(uint32_t gap, uint8_t *trace, size_t n)
+{
+    if (gap < 1 || gap > 200)
+        return -19;
+    if (n % 8 != 0)
+        return -16;
+    struct plain_waiting waiting = {.waits = false};
+    plain_fresh(&waiting.ride);
+    size_t kept = plain_compact_block(&waiting, gap, trace, n / 8);
+    if (waiting.waits)
+        memcpy(trace + 8 * kept++, waiting.record, 8);
+    return (int64_t)(8 * kept);
 }

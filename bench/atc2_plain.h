@@ -76,6 +76,20 @@ size_t plain_end(struct plain_ride *ride, char *out);
    for each record, and as many again for the ending. */
 int64_t plain_check(uint32_t gap, const uint8_t *trace, size_t n, char *out);
 
+/* A trace in blocks on the way to a smaller one: the record that waits for the next, if one does, and the ride before it. */
+struct plain_waiting {
+    struct plain_ride ride;
+    uint8_t record[8];
+    bool waits;
+};
+
+/* Settles the record that waits, and all of the block's but the last, which then waits itself: what is kept goes to the
+   block's start; answers how many records it is. */
+size_t plain_compact_block(struct plain_waiting *waiting, uint32_t gap, uint8_t *block, size_t records);
+
+/* Compacts a trace of n bytes in place, for a fresh ride: its new length, or -19, -16. */
+int64_t plain_compact(uint32_t gap, uint8_t *trace, size_t n);
+
 /* The only line for a trace whose length is no multiple of 8. */
 #define PLAIN_BAD_TRACE "trace refused 16\n"
 

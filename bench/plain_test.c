@@ -619,6 +619,29 @@ static void test_room(void)
     CHECK(plain_list(&ride, 40, trace, 1, parts, PLAIN_ROOM - 1, &taken) == 0 && taken == 0);
 }
 
+/* ---- Smaller traces ---- */
+
+/* Whether the trace, compacted, is the other one, its bytes beyond the new length as they were. */
+static bool compacts(const char *from, const char *to)
+{
+    static uint8_t before[sizeof trace], wanted[sizeof trace];
+    size_t n = trace_of(from, before), m = trace_of(to, wanted);
+    memcpy(trace, before, n);
+    return plain_compact(40, trace, n) == (int64_t)m && memcmp(trace, wanted, m) == 0 && memcmp(trace + m, before + m, n - m) == 0;
+}
+
+static void test_compact(void)
+{
+    CHECK(compacts("", ""));
+    CHECK(compacts("5:-", "5:-"));
+    CHECK(compacts("5:- 6:- 7:-", "7:-"));
+    CHECK(compacts("5:- 6:- 5:- 7:- 7:-", "6:- 5:- 7:-"));
+    CHECK(compacts("1000:1,8,5 1010:- 1030:9,2,4 1060:- 6000:- 6001:- 6002:-", "1000:1,8,5 1030:9,2,4 6000:- 6002:-"));
+    CHECK(compacts("5:M 6:- 45:- 46:- 47:-", "5:M 46:- 47:-"));
+    uint8_t one[8] = {0, 0, 0, 5, 3, 0, 0, 0};
+    CHECK(plain_compact(0, one, 7) == -19 && plain_compact(201, one, 8) == -19 && plain_compact(40, one, 7) == -16);
+}
+
 int main(void)
 {
     test_words();
@@ -639,6 +662,7 @@ int main(void)
     test_speeds();
     test_numbers();
     test_room();
+    test_compact();
     printf("%d passed, %d failed\n", passed, failed);
     return failed != 0;
 }
