@@ -1,6 +1,10 @@
 pub mod Laws
+pub mod Lower
+pub mod Once
 pub mod Smaller
 pub mod Turns
 pub mod Walk
 pub mod Blocks
 pub mod Last
+pub mod Trace
+pub mod Examples

@@ -1,78 +1,21 @@
 -- The compacted records ride as the original ones do: where a record is dropped, the next one is accepted from the lower odometer too, and
--- from there on all is the same. Compacting once more drops nothing: what kept a record still keeps it.
+-- from there on all is the same.
 -- Assumes nothing.
-use Prim.Native.Nat.{ℕ, suc, _≤_}
+use Prim.Native.Nat.{ℕ, suc}
 use native.Mathlib.Omega.{arith}
-use native.Mathlib.Nat.{le-refl, le-trans}
-use mathlib.Core.Path.{_≡_, refl, sym, ap, subst, _∙_}
-use mathlib.Core.Bool.{Bool, true, false, _&&_}
+use mathlib.Core.Path.{_≡_, refl, sym, ap, subst}
+use mathlib.Core.Bool.{true, false}
 use mathlib.Core.List.{List, [], _∷_, _++_}
-use lib.Dec.{eqb}
-use borrow.Author.Tests.{eqb-true}
-use Rattle.words.specs.Answer.{Outcome, gives, refuses, pick}
+use Rattle.words.specs.Answer.{Outcome, gives, refuses}
 use Rattle.ride.specs.declared.Line.{Line}
 use Rattle.ride.specs.declared.Ride.{Ride}
-use Rattle.ride.specs.Record.{odometerOf, kindOf, check}
+use Rattle.ride.specs.Record.{odometerOf}
 use Rattle.ride.specs.Step.{Step, treat}
 use Rattle.ride.specs.Over.{linesFor, Ridden, before, rideOver}
-use Rattle.ride.proofs.Law.{odometer-rises}
-use Rattle.compaction.specs.Dropped.{isQuiet, isAccepted, isDropped, isDroppedBefore, compactOver}
+use Rattle.compaction.specs.Dropped.{isQuiet, isDroppedBefore, compactOver}
 use Rattle.compaction.specs.Smaller.{withoutRefused, refusals, Agree, none, same, refused, KeptOf, nothing, kept, dropped, Smaller}
-use Rattle.compaction.proofs.Laws.{atOdometer, same-step, odometer-alone, quiet-accepted}
-
--- ---- what a dropped record shows
-
-pub record Dropped (ride : Ride) (gap : ℕ) (r next : List ℕ) : Type 0 where
-  pub kind : kindOf r ≡ 3
-  pub quiet : isQuiet (treat ride gap r .lines) ≡ true
-  pub next-accepted : isAccepted (check (treat ride gap r .ride .odometer) next) ≡ true
-
-three : (a b c : Bool) → (a && (b && c)) ≡ true → (a ≡ true) × (b ≡ true) × (c ≡ true)
-three true true true e = (refl, refl, refl)
-three true true false e = absurd (let z : _≡_ {A = ℕ} 0 1 = cc in omega arith)
-three true false c e = absurd (let z : _≡_ {A = ℕ} 0 1 = cc in omega arith)
-three false b c e = absurd (let z : _≡_ {A = ℕ} 0 1 = cc in omega arith)
-
-pub is-dropped : (ride : Ride) (gap : ℕ) (r next : List ℕ) → isDropped ride gap r next ≡ true → Dropped ride gap r next
-unfolding isDropped
-is-dropped ride gap r next e =
-    let t = three (eqb (kindOf r) 3) (isQuiet (treat ride gap r .lines)) (isAccepted (check (treat ride gap r .ride .odometer) next)) e in
-    record { kind = eqb-true (kindOf r) 3 (t .0); quiet = t .1; next-accepted = t .2 }
-
--- ---- a state, and one that is lower: with a lower last odometer before a record that is accepted, or the same
-
-data Lower (ride : Ride) : Ride → List (List ℕ) → Type 0 where
-  level : {rs : List (List ℕ)} → Lower ride ride rs
-  below : (low : ℕ) {r : List ℕ} {rs : List (List ℕ)} → low ≤ ride .odometer → isAccepted (check (ride .odometer) r) ≡ true
-      → Lower ride (atOdometer low ride) (r ∷ rs)
-
--- the first record's step is the same from both
-first-step : (ride low : Ride) (gap : ℕ) (r : List ℕ) (rs : List (List ℕ)) → Lower ride low (r ∷ rs) → treat low gap r ≡ treat ride gap r
-first-step ride low gap r rs level = refl
-first-step ride low gap r rs (below o h a) = same-step o ride gap r h a
-
--- where it is dropped, the lower state stays lower
-drop-next : (low : ℕ) (ride : Ride) (gap : ℕ) (r next : List ℕ) (rs : List (List ℕ)) → low ≤ ride .odometer → Dropped ride gap r next
-    → Lower (treat ride gap r .ride) (atOdometer low ride) (next ∷ rs)
-drop-next low ride gap r next rs h d =
-    let alone : treat ride gap r .ride ≡ atOdometer (odometerOf r) ride = odometer-alone ride gap r (d .kind) (d .quiet) in
-    let higher : low ≤ treat ride gap r .ride .odometer = le-trans h (odometer-rises ride gap r) in
-    subst
-    (λ (x : Ride). (low ≤ x .odometer) → isAccepted (check (x .odometer) next) ≡ true → Lower x (atOdometer low ride) (next ∷ rs))
-    (sym alone)
-    (λ m a. below low m a)
-    higher
-    (d .next-accepted)
-
-still-lower : (ride low : Ride) (gap : ℕ) (r : List ℕ) (rs : List (List ℕ)) → Lower ride low (r ∷ rs) → isDroppedBefore ride gap r rs ≡ true
-    → Lower (treat ride gap r .ride) low rs
-still-lower ride low gap r [] l e = absurd (let z : _≡_ {A = ℕ} 0 1 = cc in omega arith)
-still-lower ride low gap r (next ∷ rs) level e = drop-next (ride .odometer) ride gap r next rs (le-refl (ride .odometer)) (is-dropped ride gap r next e)
-still-lower ride low gap r (next ∷ rs) (below o h a) e = drop-next o ride gap r next rs h (is-dropped ride gap r next e)
-
-by-pick : (P : List (List ℕ) → Type 0) (b : Bool) (x y : List (List ℕ)) → (b ≡ true → P x) → (b ≡ false → P y) → P (pick b x y)
-by-pick P true x y f g = f refl
-by-pick P false x y f g = g refl
+use Rattle.compaction.proofs.Lower.{Lower, level, first-step, still-lower, was-quiet, was-kind, by-pick}
+use Rattle.compaction.proofs.Once.{once-more}
 
 -- ---- the same ride
 
@@ -98,14 +41,6 @@ no-lines : (m : ℕ) (o : Outcome (List Line)) → isQuiet o ≡ true → linesF
 no-lines m (gives []) q = refl
 no-lines m (gives (l ∷ ls)) q = absurd (let z : _≡_ {A = ℕ} 0 1 = cc in omega arith)
 no-lines m (refuses n) q = absurd (let z : _≡_ {A = ℕ} 0 1 = cc in omega arith)
-
-was-quiet : (ride : Ride) (gap : ℕ) (r : List ℕ) (rs : List (List ℕ)) → isDroppedBefore ride gap r rs ≡ true → isQuiet (treat ride gap r .lines) ≡ true
-was-quiet ride gap r [] e = absurd (let z : _≡_ {A = ℕ} 0 1 = cc in omega arith)
-was-quiet ride gap r (next ∷ rs) e = is-dropped ride gap r next e .quiet
-
-was-kind : (ride : Ride) (gap : ℕ) (r : List ℕ) (rs : List (List ℕ)) → isDroppedBefore ride gap r rs ≡ true → kindOf r ≡ 3
-was-kind ride gap r [] e = absurd (let z : _≡_ {A = ℕ} 0 1 = cc in omega arith)
-was-kind ride gap r (next ∷ rs) e = is-dropped ride gap r next e .kind
 
 -- a dropped record gave no line
 after-dropped : (m : ℕ) (a b : Ridden) (o : Outcome (List Line)) → isQuiet o ≡ true → Alike a b → Alike a (before (linesFor m o) b)
@@ -164,59 +99,7 @@ kept-of gaps ride (r ∷ rs) =
     (λ e. dropped (was-kind ride gap r rs e) (kept-of gaps (treat ride gap r .ride) rs))
     (λ e. kept (kept-of gaps (treat ride gap r .ride) rs))
 
--- ---- once more
-
--- whether a record is dropped goes by its step
-by-step : (ride low : Ride) (gap : ℕ) (r : List ℕ) (ks : List (List ℕ)) → treat low gap r ≡ treat ride gap r
-    → isDroppedBefore low gap r ks ≡ isDroppedBefore ride gap r ks
-unfolding isDropped
-by-step ride low gap r [] e = refl
-by-step ride low gap r (next ∷ ks) e =
-    ap (λ (s : Step). eqb (kindOf r) 3 && (isQuiet (s .lines) && isAccepted (check (s .ride .odometer) next))) e
-
-neither : (a b c d : Bool) → (a && (b && c)) ≡ false → c ≡ true → (a && (b && d)) ≡ false
-neither true true true d e f = absurd (let z : _≡_ {A = ℕ} 0 1 = cc in omega arith)
-neither true true false d e f = absurd (let z : _≡_ {A = ℕ} 0 1 = cc in omega arith)
-neither true false c d e f = refl
-neither false b c d e f = refl
-
--- a record that was kept although the next one was accepted is kept before whatever follows
-kept-before : (ride : Ride) (gap : ℕ) (r next : List ℕ) (ks : List (List ℕ)) → isDropped ride gap r next ≡ false
-    → isAccepted (check (treat ride gap r .ride .odometer) next) ≡ true → isDroppedBefore ride gap r ks ≡ false
-unfolding isDropped
-kept-before ride gap r next [] e a = refl
-kept-before ride gap r next (k ∷ ks) e a =
-    neither (eqb (kindOf r) 3) (isQuiet (treat ride gap r .lines)) (isAccepted (check (treat ride gap r .ride .odometer) next))
-    (isAccepted (check (treat ride gap r .ride .odometer) k)) e a
-
--- what kept a record among the original ones keeps it among those that are left
-still-kept : (gaps : ℕ → ℕ) (ride : Ride) (gap : ℕ) (r : List ℕ) (rs : List (List ℕ)) → isDroppedBefore ride gap r rs ≡ false
-    → isDroppedBefore ride gap r (compactOver gaps (treat ride gap r .ride) rs) ≡ false
-unfolding compactOver
-still-kept gaps ride gap r [] e = refl
-still-kept gaps ride gap r (next ∷ rs) e =
-    let then : Ride = treat ride gap r .ride in
-    let its : ℕ = gaps (odometerOf next) in
-    let rest = compactOver gaps (treat then its next .ride) rs in
-    by-pick (λ ks. isDroppedBefore ride gap r ks ≡ false) (isDroppedBefore then its next rs) rest (next ∷ rest)
-    (λ d. kept-before ride gap r next rest e (quiet-accepted then its next (was-quiet then its next rs d)))
-    (λ d. e)
-
-once-more : (gaps : ℕ → ℕ) (ride low : Ride) (rs : List (List ℕ)) → Lower ride low rs → compactOver gaps low (compactOver gaps ride rs) ≡ compactOver gaps ride rs
-unfolding compactOver
-once-more gaps ride low [] l = refl
-once-more gaps ride low (r ∷ rs) l =
-    let gap : ℕ = gaps (odometerOf r) in
-    let s : Step = treat ride gap r in
-    let rest : List (List ℕ) = compactOver gaps (s .ride) rs in
-    by-pick (λ ks. compactOver gaps low ks ≡ ks) (isDroppedBefore ride gap r rs) rest (r ∷ rest)
-    (λ e. once-more gaps (s .ride) low rs (still-lower ride low gap r rs l e))
-    (λ e.
-    let step : treat low gap r ≡ s = first-step ride low gap r rs l in
-    let stays : isDroppedBefore low gap r rest ≡ false = by-step ride low gap r rest step ∙ still-kept gaps ride gap r rs e in
-    ap (λ (b : Bool). pick b (compactOver gaps (treat low gap r .ride) rest) (r ∷ compactOver gaps (treat low gap r .ride) rest)) stays
-    ∙ ap (λ (t : Step). r ∷ compactOver gaps (t .ride) rest) step
-    ∙ ap (λ (ks : List (List ℕ)). r ∷ ks) (once-more gaps (s .ride) (s .ride) rs level))
+-- ---- all of it
 
 pub smaller : Smaller
 smaller = record {
