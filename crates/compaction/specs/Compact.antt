@@ -1,11 +1,15 @@
 -- A trace made smaller in place (document 02, M-107): "The result says the new length; bytes beyond it stay. Refusals: 19, then 16 for a
--- bad trace length."
+-- bad trace length." The same under a store (M-111): "M-107, M-108 and M-109 hold with one fixed store on both sides."
 -- Assumes nothing.
 use Prim.Native.Nat.{ℕ, _%_}
 use mathlib.Core.List.{List, [], _∷_, _++_}
 use lib.Dec.{eqb}
 use lib.ListN.{length, drop}
 use Rattle.words.specs.Answer.{Outcome, gives, refuses, pick}
+use Rattle.settings.specs.declared.Store.{Store}
+use Rattle.settings.specs.Versions.{Kept}
+use Rattle.settings.specs.Store.{judged}
+use Rattle.settings.specs.At.{gapAt}
 use Rattle.ride.specs.declared.Ride.{Ride}
 use Rattle.ride.specs.Joining.{allowed}
 use Rattle.ride.specs.Over.{records, rideOver}
@@ -21,6 +25,8 @@ bytesOf (r ∷ rs) = r ++ bytesOf rs
 -- Some bytes at the start of a buffer: "bytes beyond it stay".
 abbrev pub onto : List ℕ → List ℕ → List ℕ
 onto bytes buffer = bytes ++ drop (length bytes) buffer
+
+-- ---- a whole trace
 
 -- What compacting comes to: the new length or the number of the refusal; the state after the trace; and the lent buffer then.
 pub record Compaction : Type 0 where
@@ -44,3 +50,43 @@ compact ride gap trace =
     pick (allowed gap)
     (pick (eqb (length trace % 8) 0) (smallerTrace (λ odometer. gap) ride trace) (untouched ride trace 16))
     (untouched ride trace 19)
+
+-- Under a store: the store's own refusal decides first.
+abbrev pub judgedFirst : Ride → List ℕ → Outcome Kept → Compaction → Compaction
+judgedFirst ride trace (gives k) compaction = compaction
+judgedFirst ride trace (refuses n) compaction = untouched ride trace n
+
+-- Compacting a trace under a store: its own refusal, then 16; else what is kept in the ride with the gap in force at each record's odometer.
+unfoldable pub compactUnder : Ride → Store → List ℕ → Compaction
+compactUnder ride store trace =
+    judgedFirst ride trace (judged store)
+    (pick (eqb (length trace % 8) 0) (smallerTrace (gapAt store) ride trace) (untouched ride trace 16))
+
+-- ---- a block of a trace
+
+-- What a block comes to: how many bytes are settled as kept, or the number of the refusal; what waits then; and the lent block then.
+pub record Settling : Type 0 where
+  pub answer : Outcome ℕ
+  pub waiting : Waiting
+  pub buffer : List ℕ
+
+-- A refusal leaves what waits and the block as they were.
+abbrev pub unsettled : Waiting → List ℕ → ℕ → Settling
+unsettled w block n = record { answer = refuses n; waiting = w; buffer = block }
+
+-- A block of whole records.
+unfoldable pub settledBlock : (ℕ → ℕ) → Waiting → List ℕ → Settling
+settledBlock gaps w block =
+    let bytes : List ℕ = bytesOf (keptOver gaps w (records block)) in
+    record { answer = gives (length bytes); waiting = waitsAfter gaps w (records block); buffer = onto bytes block }
+
+-- The store's own refusal decides first.
+abbrev pub blockFirst : Waiting → List ℕ → Outcome Kept → Settling → Settling
+blockFirst w block (gives k) settling = settling
+blockFirst w block (refuses n) settling = unsettled w block n
+
+-- A block under a store, after what waits from the block before: refusals as for a whole trace.
+unfoldable pub blockUnder : Waiting → Store → List ℕ → Settling
+blockUnder w store block =
+    blockFirst w block (judged store)
+    (pick (eqb (length block % 8) 0) (settledBlock (gapAt store) w block) (unsettled w block 16))

@@ -1,9 +1,13 @@
 // The end of a trace: the last record waits for none, and is kept.
 ghost use mathlib.Core.Path.{_≡_};
 ghost use mathlib.Core.Bool.{true};
-ghost use Prim.Native.Nat.{_+_, _%_, _≤_};
+ghost use Prim.Native.Nat.{_+_, _≤_};
 ghost use lib.ListN.{length};
+ghost use Rattle.words.specs.Answer.{gives};
 ghost use Rattle.text.specs.Put.{placed};
+ghost use Rattle.settings.specs.Versions.{kept};
+ghost use Rattle.settings.specs.Store.{judged};
+ghost use Rattle.settings.specs.At.{heldAt, gapAt};
 ghost use Rattle.ride.specs.Joining.{allowed};
 ghost use Rattle.ride.specs.Over.{rideOver};
 ghost use Rattle.compaction.specs.declared.Size.{Size};
@@ -16,6 +20,8 @@ use crate::Waiting;
 use crate::copying::put_eight;
 use crate::walking::over;
 use ride::Ride;
+use settings::Held;
+use settings::Store;
 
 // The record that waits, if one does, after the bytes that are kept.
 fn finish(waiting: Waiting, at: usize, gap: u32, trace: &mut [u8]) -> Compacted
@@ -42,9 +48,9 @@ fn finish(waiting: Waiting, at: usize, gap: u32, trace: &mut [u8]) -> Compacted
 }
 
 // All records of a trace.
-pub fn whole(ride: Ride, gap: u32, trace: &mut [u8]) -> Compacted
-    requires { ⌜ (allowed gap ≡ true) × (length (now trace) % 8 ≡ 0) ⌝ }
-    ensures { λ r. ⌜ saysCompacted r (now (trace .exit)) ≡ smallerTrace (λ odometer. gap) ride (now (trace .entry)) ⌝ }
+pub fn whole(ride: Ride, store: Store, first: Held, trace: &mut [u8]) -> Compacted
+    requires { ⌜ (judged store ≡ gives kept) × (first ≡ heldAt store 0) ⌝ }
+    ensures { λ r. ⌜ saysCompacted r (now (trace .exit)) ≡ smallerTrace (gapAt store) ride (now (trace .entry)) ⌝ }
 {
     let walked = over(
         Waiting {
@@ -52,9 +58,10 @@ pub fn whole(ride: Ride, gap: u32, trace: &mut [u8]) -> Compacted
             bytes: [0; 8],
             waits: false,
         },
-        gap,
+        store,
+        first,
         trace,
     );
     let waiting = walked.waiting;
-    finish(waiting, walked.bytes, gap, trace)
+    finish(waiting, walked.bytes, walked.gap, trace)
 }

@@ -1,9 +1,10 @@
 // A trace made smaller in place: position records that say nothing new are dropped.
 // Promises: the ride over what is kept has the same end state and the same lines, but for the numbers of refused records; a refusal touches nothing.
-// Specification: specs/Dropped.antt (which records are dropped), Compact.antt (a trace), Blocks.antt (a trace in blocks), Smaller.antt (what is promised of them).
+// Specification: specs/Dropped.antt (which records are dropped), Compact.antt (a trace, and one in blocks), Blocks.antt (what waits between two blocks),
+// Smaller.antt (what is promised of the records that are kept), Says.antt (the answers).
 ghost use mathlib.Core.Path.{_≡_};
-ghost use Rattle.compaction.specs.Compact.{compact};
-ghost use Rattle.compaction.specs.Says.{saysCompacted};
+ghost use Rattle.compaction.specs.Compact.{compact, compactUnder, blockUnder};
+ghost use Rattle.compaction.specs.Says.{saysCompacted, saysBlock};
 
 mod copying;
 mod deciding;
@@ -11,18 +12,21 @@ mod ending;
 mod walking;
 
 use ride::Ride;
+use settings::Asked;
+use settings::Bad;
+use settings::Store;
 
-// A trace between two blocks: the record that waits for the next one, if one does, and the state before it.
+// A trace between two blocks: the record that waits for the next one, if one does, and the state before it. At first none waits.
 pub struct Waiting {
     pub ride: Ride,
     pub bytes: [u8; 8],
     pub waits: bool,
 }
 
-// How long a trace is once it is compacted, in bytes; or why it is not: for the gap (19) or the trace's length (16).
+// How many bytes are kept; or why nothing is done: for the settings (a plain gap: 19) or the trace's length (16).
 pub enum Size {
     Bytes(usize),
-    Gap,
+    Settings(Bad),
     Length,
 }
 
@@ -32,21 +36,67 @@ pub struct Compacted {
     pub size: Size,
 }
 
-// The trace without the records that are dropped, in place: 19 for the gap, 16 for the trace's length.
+// What a block answers: what waits after it, and how many bytes at its start are kept.
+pub struct Block {
+    pub waiting: Waiting,
+    pub size: Size,
+}
+
+// The trace without the records that are dropped, in place: 19 for the gap, 16 for the trace's length. A plain gap is a store of one version; no
+// ride looks at the sync pair.
 pub fn compact(ride: Ride, gap: u32, trace: &mut [u8]) -> Compacted
     ensures { λ r. ⌜ saysCompacted r (now (trace .exit)) ≡ compact ride gap (now (trace .entry)) ⌝ }
 {
-    if !ride::allowed(gap) {
-        return Compacted {
+    let begun = settings::begin(gap, 0x00, 0x7F);
+    let store = begun.store;
+    compact_under(ride, store, trace)
+}
+
+// The same under a store: the store's own refusal, then 16.
+pub fn compact_under(ride: Ride, store: Store, trace: &mut [u8]) -> Compacted
+    ensures { λ r. ⌜ saysCompacted r (now (trace .exit)) ≡ compactUnder ride store (now (trace .entry)) ⌝ }
+{
+    let asked = settings::at(store, 0);
+    match asked {
+        Asked::Refused(bad) => Compacted {
             ride,
-            size: Size::Gap,
-        };
+            size: Size::Settings(bad),
+        },
+        Asked::InForce(held) => {
+            if trace.len() % 8 != 0 {
+                return Compacted {
+                    ride,
+                    size: Size::Length,
+                };
+            }
+            ending::whole(ride, store, held, trace)
+        }
     }
-    if trace.len() % 8 != 0 {
-        return Compacted {
-            ride,
-            size: Size::Length,
-        };
+}
+
+// One block of a trace under a store, after what waits from the block before. Its last record waits for the next block; after the last block it is kept.
+pub fn block_under(waiting: Waiting, store: Store, block: &mut [u8]) -> Block
+    ensures { λ r. ⌜ saysBlock r (now (block .exit)) ≡ blockUnder waiting store (now (block .entry)) ⌝ }
+{
+    let asked = settings::at(store, 0);
+    match asked {
+        Asked::Refused(bad) => Block {
+            waiting,
+            size: Size::Settings(bad),
+        },
+        Asked::InForce(held) => {
+            if block.len() % 8 != 0 {
+                return Block {
+                    waiting,
+                    size: Size::Length,
+                };
+            }
+            let walked = walking::over(waiting, store, held, block);
+            let then = walked.waiting;
+            Block {
+                waiting: then,
+                size: Size::Bytes(walked.bytes),
+            }
+        }
     }
-    ending::whole(ride, gap, trace)
 }

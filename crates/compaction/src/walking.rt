@@ -2,16 +2,20 @@
 ghost use mathlib.Core.Path.{_≡_};
 ghost use mathlib.Core.Bool.{true};
 ghost use mathlib.Core.List.{[], _∷_};
-ghost use lib.ListN.{length};
-ghost use Rattle.words.specs.Answer.{pick};
+ghost use Rattle.words.specs.Answer.{gives, pick};
 ghost use Rattle.ride.specs.Joining.{allowed};
-ghost use Rattle.ride.specs.Over.{records};
-ghost use Rattle.compaction.specs.Blocks.{settled, waitsNext, keptOver, waitsAfter};
-ghost use Rattle.compaction.specs.Compact.{bytesOf, onto};
+ghost use Rattle.settings.specs.Versions.{kept};
+ghost use Rattle.settings.specs.Store.{judged};
+ghost use Rattle.settings.specs.At.{heldAt, gapAt, heldFor};
+ghost use Rattle.compaction.specs.Blocks.{settled, waitsNext};
+ghost use Rattle.compaction.specs.Inside.{Over};
 use crate::Waiting;
 use crate::copying::eight;
+use crate::copying::odometer_of;
 use crate::copying::put_eight;
 use crate::deciding::decide;
+use settings::Held;
+use settings::Store;
 
 // What the next record settles: whether the waiting one is kept, and what waits then.
 pub struct Settled {
@@ -19,9 +23,10 @@ pub struct Settled {
     pub kept: bool,
 }
 
-// What a block comes to: what waits then, and how many bytes of it are settled as kept.
+// What a block comes to: what waits then, with the gap that it is treated with, and how many bytes of the block are settled as kept.
 pub struct Walked {
     pub waiting: Waiting,
+    pub gap: u32,
     pub bytes: usize,
 }
 
@@ -55,30 +60,45 @@ pub fn settle(waiting: Waiting, gap: u32, next: [u8; 8]) -> Settled
     }
 }
 
-// The records of a block in turn. What is kept is written no further on than what is read.
-pub fn over(waiting: Waiting, gap: u32, block: &mut [u8]) -> Walked
-    requires { ⌜ allowed gap ≡ true ⌝ }
-    ensures { λ r. ⌜ r .waiting ≡ waitsAfter (λ odometer. gap) waiting (records (now (block .entry))) ⌝ }
-    ensures { λ r. ⌜ r .bytes ≡ length (bytesOf (keptOver (λ odometer. gap) waiting (records (now (block .entry))))) ⌝ }
-    ensures { λ _. ⌜ now (block .exit) ≡ onto (bytesOf (keptOver (λ odometer. gap) waiting (records (now (block .entry))))) (now (block .entry)) ⌝ }
+// The settings held for a record: the store is asked only where the odometer leaves the places of those that are held.
+fn held_for(store: Store, held: Held, odometer: u32) -> Held
+    ensures { λ r. ⌜ r ≡ heldFor store held odometer ⌝ }
+{
+    if settings::leaves(held, odometer) {
+        return settings::hold(store, held, odometer);
+    }
+    held
+}
+
+// The records of a block in turn, each treated with the gap in force at its own odometer. What is kept is written no further on than what is read.
+pub fn over(waiting: Waiting, store: Store, first: Held, block: &mut [u8]) -> Walked
+    requires { ⌜ (judged store ≡ gives kept) × (first ≡ heldAt store 0) ⌝ }
+    ensures { λ r. ⌜ Over (gapAt store) waiting (now (block .entry)) (r .waiting) (r .gap) (r .bytes) (now (block .exit)) ⌝ }
 {
     let count = block.len() / 8;
     let mut w = waiting;
+    let bytes = w.bytes;
+    let mut held = held_for(store, first, odometer_of(bytes));
     let mut i: usize = 0;
     let mut at: usize = 0;
     while i < count {
         let next = eight(block, i * 8);
-        let settled = settle(w, gap, next);
+        let settled = settle(w, held.gap, next);
         if settled.kept {
             let bytes = w.bytes;
             put_eight(bytes, block, at);
             at += 8;
+        }
+        let odometer = odometer_of(next);
+        if settings::leaves(held, odometer) {
+            held = settings::hold(store, held, odometer);
         }
         w = settled.waiting;
         i += 1;
     }
     Walked {
         waiting: w,
+        gap: held.gap,
         bytes: at,
     }
 }
