@@ -13,7 +13,7 @@ use Rattle.text.specs.Put.{placed}
 use Rattle.text.proofs.Placing.{placed-none}
 use Rattle.ride.specs.declared.Ride.{Ride}
 use Rattle.ride.specs.Record.{odometerOf}
-use Rattle.ride.specs.Step.{treat}
+use Rattle.ride.specs.Step.{Step, treat}
 use Rattle.ride.specs.Over.{records, rideOver}
 use Rattle.ride.proofs.Cutting.{records-length}
 use Rattle.compaction.specs.declared.Size.{Size}
@@ -21,6 +21,7 @@ use Rattle.compaction.specs.declared.Waiting.{Waiting}
 use Rattle.compaction.specs.Dropped.{compactOver}
 use Rattle.compaction.specs.Blocks.{waitingRecord, keptOver, waitsAfter}
 use Rattle.compaction.specs.Compact.{bytesOf, onto, Compaction, smallerTrace}
+use Rattle.compaction.specs.Inside.{Serves}
 use Rattle.compaction.specs.Says.{saysSize}
 use Rattle.compaction.proofs.Walk.{bytes-join, onto-more}
 use Rattle.compaction.proofs.Blocks.{whole, state, eights, room}
@@ -44,6 +45,18 @@ finish-one gaps w at b ride after e eight s p = record {
   size-is = rw (e, append-nil, eight);
   buffer-is = rw (e, append-nil) p;
 }
+
+-- a gap that serves it leaves the state that the rule's own does
+served : (b : Bool) (gaps : ℕ → ℕ) (gap : ℕ) (ride : Ride) (r : List ℕ) → Serves gaps gap r
+    → rideOver (λ odometer. gap) ride 1 (pick b (r ∷ []) []) .ride ≡ rideOver gaps ride 1 (pick b (r ∷ []) []) .ride
+unfolding rideOver
+served true gaps gap ride r s = ap (λ (t : Step). t .ride) (s .treats ride)
+served false gaps gap ride r s = refl
+
+pub finished-so : (gaps : ℕ → ℕ) (gap : ℕ) (w : Waiting) (at : ℕ) (before : List ℕ) (ride : Ride) (size : Size) (after : List ℕ) → Serves gaps gap (w .bytes)
+    → Finished (λ odometer. gap) w at before ride size after → Finished gaps w at before ride size after
+finished-so gaps gap w at before ride size after s f =
+    record { ride-is = f .ride-is ∙ served (w .waits) gaps gap (w .ride) (w .bytes) s; size-is = f .size-is; buffer-is = f .buffer-is }
 
 -- where none waited at first: the whole
 module _ (gaps : ℕ → ℕ) (ride : Ride) (b : List ℕ) (trace : List ℕ) where

@@ -1,40 +1,28 @@
--- `compact` judges the gap, then the length, and else goes over the whole trace.
-use mathlib.Core.Path.{sym, _∙_}
+-- `compact` compacts under the store of its gap.
+use mathlib.Core.Path.{_≡_, ap, _∙_}
+use Rattle.settings.specs.Store.{Change}
+use Rattle.compaction.specs.Compact.{compactUnder}
+use Rattle.compaction.proofs.Under.{plain-compact}
 use borrow.Author.Needs.{needs}
-use borrow.Author.Tests.{not-true, not-false, eq-eqb, ne-eqb}
-use Rattle.compaction.specs.Compact.{compact}
 use Rattle.compaction.proofs.compact.Statement.{statement}
 use Rattle.compaction.proofs.compact.Tie as tie
 
-allowed-requires : tie.Need-allowed-requires
-allowed-requires c κs = search needs
+begin-requires : tie.Need-begin-requires
+begin-requires c κs = search needs
 
-returns : tie.Need-returns
-unfolding compact
-returns c = simp (sym (c .before .allowed .ensures) ∙ not-true (c .before .allowed .result) (c .if1 .taken))
-
-returns-2 : tie.Need-returns-2
-unfolding compact
-returns-2 c =
-    simp (sym (c .before .before .allowed .ensures) ∙ not-false (c .before .before .allowed .result) (c .before .if1 .left), ne-eqb _ _ (c .if2 .taken))
-
-whole-requires : tie.Need-whole-requires
-whole-requires c κs =
-    let e = c .before in
-    let g = e .before .before in
-    (sym (g .allowed .ensures) ∙ not-false (g .allowed .result) (e .before .if1 .left), e .if2 .left)
+compact-under-requires : tie.Need-compact-under-requires
+compact-under-requires c κs = search needs
 
 same-length : tie.Need-same-length
 same-length c = search needs
 
-returns-3 : tie.Need-returns-3
-unfolding compact
-returns-3 c =
-    let w = c .before .before in
-    let e = w .before .before in
-    let g = e .before .before in
-    simp (sym (g .allowed .ensures) ∙ not-false (g .allowed .result) (e .before .if1 .left), eq-eqb _ _ (e .if2 .left)) (w .whole .ensures)
+returns : tie.Need-returns
+returns c =
+    let u = c .before .before in
+    let b = u .before .before .before in
+    let a = b .before .before .args in
+    u .compact-under .ensures ∙ ap (λ (x : Change). compactUnder (a .ride) (x .store) (a .trace .now)) (b .begin .ensures)
+    ∙ plain-compact (a .ride) (a .gap) (a .trace .now)
 
 pub compact-spec : {M : Type 1} → statement M
-compact-spec =
-    tie.close (tie.spec allowed-requires returns returns-2 whole-requires same-length returns-3)
+compact-spec = tie.close (tie.spec begin-requires compact-under-requires same-length returns)
