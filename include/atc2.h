@@ -4,10 +4,10 @@
  * Link with target/staticlib/libabi.a (rt staticlib abi; x86-64 Linux). Each function is total: whatever numbers and bytes are passed,
  * it returns one of the values listed, and a refusal, -N for the number N of documents 01 and 02, leaves every lent array as it was. A buffer
  * is used only while the call runs. The caller keeps: buf points to n bytes (in atc2_write_balise to len) and is not NULL, even where there
- * is none; search to a search, out to as many numbers as it is declared with; and no two of them overlap.
+ * is none; trace to n bytes, likewise; search to a search, out to as many numbers as it is declared with; and no two of them overlap.
  *
- * Here are the codes, telegrams, contacts, test balises and table DF's distances. Groups, rides and their lines are not: for those there is the
- * program checker (./run checker). tests/abi/calls.c is a small program that uses every function.
+ * Here are the codes, telegrams, contacts, test balises, table DF's distances and the compaction of traces. Groups, rides and their lines are not: for those there
+ * is the program checker (./run checker). tests/abi/calls.c is a small program that uses every function.
  */
 #ifndef ATC2_H
 #define ATC2_H
@@ -31,6 +31,8 @@ enum {
     ATC2_NEITHER = -8,      /* contact neither telegram nor marker */
     ATC2_CUT = -9,          /* contact cut by the end of the record */
     ATC2_NOT_ALLOWED = -15, /* distance not allowed */
+    ATC2_LENGTH = -16,      /* trace length not a multiple of 8 */
+    ATC2_GAP = -19,         /* gap outside 1 to 200 */
     ATC2_COUNT = -20,       /* number of telegrams to write outside 2 to 1,000 */
     ATC2_SHORT = -21        /* buffer too short for them */
 };
@@ -108,6 +110,11 @@ int32_t atc2_next_contact(const uint8_t *buf, size_t n, struct atc2_search *sear
  * S first, the sync words in turn, one to close: 4 * n + 1, the number of bytes written; bytes after them stay.
  * -2: a figure above 15 or a number above 2047; -3: a figure of 15; -4: the pair; -20: n; -21: fewer than 4 * n + 1 bytes; in this order. */
 int32_t atc2_write_balise(uint8_t x, uint16_t y, uint8_t z, uint8_t s, uint8_t t, uint32_t n, uint8_t *buf, size_t len);
+
+/* A trace of n bytes made smaller in place, for a fresh ride with this gap in dm: its new length in bytes. Dropped are position records that were
+ * accepted, gave no line, are not the last and have an accepted record after them; bytes beyond the new length stay.
+ * -19: the gap; -16: n is no multiple of 8; in this order. */
+int64_t atc2_compact(uint32_t gap, uint8_t *trace, size_t n);
 
 /* The distance in decimetres of a figure 1 to 14 in column BY 0 to 14 of table DF.
  * -15 for any other column or figure. */

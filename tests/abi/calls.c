@@ -238,6 +238,46 @@ static void distances(void)
     same("distance 15, 1", atc2_distance(15, 1), ATC2_NOT_ALLOWED);
 }
 
+/* A position record, or one with a telegram. */
+static size_t record(uint8_t *trace, size_t at, uint32_t odometer, int kind, uint8_t x, uint8_t y, uint8_t z)
+{
+    uint8_t bytes[8] = {(uint8_t)(odometer >> 24), (uint8_t)(odometer >> 16), (uint8_t)(odometer >> 8), (uint8_t)odometer, (uint8_t)kind, x, y, z};
+    for (int i = 0; i < 8; i++) trace[at + i] = bytes[i];
+    return at + 8;
+}
+
+/* Document 01's ride with positions between its records, compacted. */
+static void traces(void)
+{
+    uint8_t trace[56], before[56], kept[32];
+    size_t n = 0, k = 0;
+    int alike = 0, stayed = 0, untouched = 0;
+    n = record(trace, n, 1000, 0, 0x17, 0x8E, 0x5A);
+    n = record(trace, n, 1010, 3, 0, 0, 0);
+    n = record(trace, n, 1030, 0, 0x99, 0x2B, 0x4D);
+    n = record(trace, n, 1060, 3, 0, 0, 0);
+    n = record(trace, n, 6000, 3, 0, 0, 0);
+    n = record(trace, n, 6001, 3, 0, 0, 0);
+    n = record(trace, n, 6002, 3, 0, 0, 0);
+    k = record(kept, k, 1000, 0, 0x17, 0x8E, 0x5A);
+    k = record(kept, k, 1030, 0, 0x99, 0x2B, 0x4D);
+    k = record(kept, k, 6000, 3, 0, 0, 0);
+    k = record(kept, k, 6002, 3, 0, 0, 0);
+    for (size_t i = 0; i < n; i++) before[i] = trace[i];
+    same("compact gap 0", atc2_compact(0, trace, n - 1), ATC2_GAP);
+    same("compact gap 201", atc2_compact(201, trace, n), ATC2_GAP);
+    same("compact half a record", atc2_compact(40, trace, n - 4), ATC2_LENGTH);
+    for (size_t i = 0; i < n; i++) untouched += trace[i] == before[i];
+    same("compact refused leaves all bytes", untouched, (int)n);
+    same("compact nothing", atc2_compact(40, trace, 0), 0);
+    same("compact", atc2_compact(40, trace, n), 32);
+    for (size_t i = 0; i < k; i++) alike += trace[i] == kept[i];
+    for (size_t i = k; i < n; i++) stayed += trace[i] == before[i];
+    same("compact keeps four records", alike, (int)k);
+    same("compact leaves the bytes beyond", stayed, (int)(n - k));
+    same("compact once more", atc2_compact(40, trace, k), 32);
+}
+
 int main(void)
 {
     words();
@@ -248,6 +288,7 @@ int main(void)
     balises();
     all_balises();
     distances();
+    traces();
     printf("%u passed, %u failed\n", passed, failed);
     return failed != 0;
 }

@@ -1,3 +1,4 @@
+pub mod Smaller
 -- What the proofs of several functions use, and that the contracts fix every answer.
 pub mod Carried
 pub mod TableDF

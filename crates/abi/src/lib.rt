@@ -7,4 +7,5 @@ pub mod contacts;
 pub mod distances;
 mod number;
 pub mod telegrams;
+pub mod traces;
 pub mod why;

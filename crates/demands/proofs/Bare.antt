@@ -32,6 +32,10 @@ use Rattle.demands.proofs.Treats.{treat-untouched}
 use Rattle.demands.proofs.Steps.{group-refused, end-refused}
 use Rattle.demands.proofs.Writes.{write-untouched}
 use Rattle.demands.proofs.Listings.{list-untouched, put-untouched}
+use Rattle.demands.proofs.Compacting.{compact-untouched, under-untouched, block-untouched}
+use Rattle.compaction.specs.Says.{saysSize}
+use Rattle.compaction.specs.Compact.{Compaction, compact, compactUnder, Settling, blockUnder}
+use Rattle.compaction.proofs.Determined as compaction-is
 
 pub untouched : Untouched
 untouched = record {
@@ -55,6 +59,18 @@ untouched = record {
   write = λ x y z s t n before r after k c e.
       let is = c .5 ∙ ap (write x y z s t n) (c .3) in
       sym (c .4) ∙ ap (λ (w : Writing). w .buffer) is ∙ write-untouched x y z s t n before k (sym (ap (λ (w : Writing). w .answer) is) ∙ e);
+  compact = λ ride gap before r after n c e.
+      let is = c .5 ∙ ap (compact ride gap) (c .3) in
+      let kept = compact-untouched ride gap before n (sym (ap (λ (x : Compaction). x .answer) is) ∙ e) in
+      (ap (λ (x : Compaction). x .ride) is ∙ kept .0, sym (c .4) ∙ ap (λ (x : Compaction). x .buffer) is ∙ kept .1);
+  compact-under = λ ride store before r after n c e.
+      let is = c .5 ∙ ap (compactUnder ride store) (c .3) in
+      let kept = under-untouched ride store before n (sym (ap (λ (x : Compaction). x .answer) is) ∙ e) in
+      (ap (λ (x : Compaction). x .ride) is ∙ kept .0, sym (c .4) ∙ ap (λ (x : Compaction). x .buffer) is ∙ kept .1);
+  block-under = λ w store before r after n c e.
+      let is = c .5 ∙ ap (blockUnder w store) (c .3) in
+      let kept = block-untouched w store before n (sym (ap (λ (x : Settling). x .answer) is) ∙ e) in
+      (ap (λ (x : Settling). x .waiting) is ∙ kept .0, sym (c .4) ∙ ap (λ (x : Settling). x .buffer) is ∙ kept .1);
   group = group-refused;
   end = end-refused;
   short-read = λ n r r′ p q. told saysShortRead words-are.shortRead words-are.shortRead-back r r′ p q;
@@ -77,4 +93,5 @@ untouched = record {
   reply = λ n r r′ p q. told saysReply ride-is.replyOf ride-is.reply-back r r′ p q;
   way = λ n r r′ p q. told saysWay ride-is.wayOf ride-is.way-back r r′ p q;
   done = λ n r r′ p q. told saysDone listing-is.doneOf listing-is.done-back r r′ p q;
+  size = λ n r r′ p q. told saysSize compaction-is.sizeOf compaction-is.size-back r r′ p q;
 }

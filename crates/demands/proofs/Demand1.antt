@@ -13,6 +13,7 @@ use Rattle.ride.specs.Step.{Step}
 use Rattle.ride.specs.At.{Treatment}
 use Rattle.ride.specs.Over.{Run, run}
 use Rattle.listing.specs.List.{Listing, list}
+use Rattle.compaction.specs.Compact.{Compaction, compact}
 use Rattle.demands.specs.Demand1.{Demand1}
 use Rattle.demands.proofs.Refusals.{reading, writing, pairing, wording, finding, surveying}
 use Rattle.demands.proofs.Writes.{writing-test}
@@ -22,6 +23,7 @@ use Rattle.demands.proofs.Groups.{fitting-to, grouping}
 use Rattle.demands.proofs.Rides.{checking, stepping, running}
 use Rattle.demands.proofs.Treats.{treated-is, treating}
 use Rattle.demands.proofs.Listings.{listing}
+use Rattle.demands.proofs.Compacting.{compacting}
 
 pub demand1 : Demand1
 demand1 = record {
@@ -49,4 +51,7 @@ demand1 = record {
   list = λ ride gap number trace before r after c.
       let e = ap (λ (l : Listing). l .answer) (c .7 ∙ ap₂ (λ (v w : List ℕ). list ride gap number v w) (c .4) (c .5)) in
       rw e (listing ride gap number trace before);
+  compact = λ ride gap before r after c.
+      let e = ap (λ (x : Compaction). x .answer) (c .5 ∙ ap (compact ride gap) (c .3)) in
+      rw e (compacting ride gap before);
 }

@@ -18,6 +18,7 @@ pub mod Treats
 pub mod Runs
 pub mod Riding
 pub mod Listings
+pub mod Compacting
 pub mod Writes
 pub mod Bare
 pub mod Spelled

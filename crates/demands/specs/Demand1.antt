@@ -55,6 +55,11 @@ use Rattle.ride.specs.declared.trace.Treated.{Treated}
 use Rattle.ride.specs.declared.Ended.{Ended}
 use Rattle.ride.specs.declared.Ran.{Ran}
 use Rattle.ride.specs.declared.Line.{Line}
+use Rattle.settings.specs.declared.Store.{Store}
+use Rattle.compaction.specs.Says.{saysSize}
+use Rattle.compaction.specs.declared.Waiting.{Waiting}
+use Rattle.compaction.specs.declared.Compacted.{Compacted}
+use Rattle.compaction.specs.declared.Block.{Block}
 use Rattle.listing.specs.Put.{noRoom}
 use Rattle.listing.specs.Says.{saysPut, saysDone}
 use Rattle.listing.specs.declared.Put.{Put}
@@ -62,6 +67,7 @@ use Rattle.listing.specs.declared.Listed.{Listed}
 use Rattle.demands.specs.Rules.{rowOf, row, Decided, Given, Is}
 use Rattle.demands.specs.Table.{notCode, above, notSeven, beyond, noRow, noDistance, badGap}
 use Rattle.demands.specs.Contracts.{ReadShort, WriteShort, ReadLong, WriteLong, GoodPair, ReadTelegram, Find, Survey, Write, Begin, NextContact, JudgeContact, FitRow, Distance, JudgeGroup, CheckRecord, StepOf, TreatAt, EndOf, RunOver, PutLine, ListInto}
+use Rattle.demands.specs.Compacting.{CompactIn, CompactUnder, BlockUnder}
 use Rattle.demands.specs.Lists.{telegramRules, findRules, surveyRules, writeRules, nextRules, judgeRules, groupRules, recordRules, stepRules, runRules, findReads, surveyReads, JudgeReads, NextReads}
 use Rattle.demands.specs.Steps.{OneStep, LeavesBehind}
 
@@ -104,9 +110,11 @@ pub record Demand1 : Type 0 where
   pub run : (ride : Ride) (gap : ℕ) (trace : List ℕ) (r : Ran) → RunOver ride gap trace r → Decided (Is through) (runRules gap trace) (saysRan r .answer)
   pub list : (ride : Ride) (gap number : ℕ) (trace before : List ℕ) (r : Listed) (after : List ℕ) → ListInto ride gap number trace before r after
       → Decided Given (runRules gap trace) (saysDone (r .done))
+  pub compact : (ride : Ride) (gap : ℕ) (before : List ℕ) (r : Compacted) (after : List ℕ) → CompactIn ride gap before r after
+      → Decided Given (runRules gap before) (saysSize (r .size))
 
 -- "A refusal hands out no figure, and lent memory and state stay untouched unless the table says otherwise."
--- Of the libraries only `listing` and `writer` are lent memory that they may write; a search is given by value, and a refusal of `next_contact` gives
+-- Of the libraries only `listing`, `writer` and `compaction` are lent memory that they may write; a search is given by value, and a refusal of `next_contact` gives
 -- none back. (The face for C leaves every lent array as it was where it refuses: `left` of crates/abi/specs/Face.antt.)
 pub record Untouched : Type 0 where
   -- a refused step closes no group, and it and a refused run leave the ride as it was
@@ -123,6 +131,13 @@ pub record Untouched : Type 0 where
       → saysPut r ≡ noRoom → after ≡ before
   -- so does a refused writing
   pub write : (x y z s t n : ℕ) (before : List ℕ) (r : Written) (after : List ℕ) (k : ℕ) → Write x y z s t n before r after → saysAnswer r ≡ refuses k → after ≡ before
+  -- so does a refused compaction, of a trace or of a block of it
+  pub compact : (ride : Ride) (gap : ℕ) (before : List ℕ) (r : Compacted) (after : List ℕ) (n : ℕ) → CompactIn ride gap before r after
+      → saysSize (r .size) ≡ refuses n → (r .ride ≡ ride) × (after ≡ before)
+  pub compact-under : (ride : Ride) (store : Store) (before : List ℕ) (r : Compacted) (after : List ℕ) (n : ℕ) → CompactUnder ride store before r after
+      → saysSize (r .size) ≡ refuses n → (r .ride ≡ ride) × (after ≡ before)
+  pub block-under : (w : Waiting) (store : Store) (before : List ℕ) (r : Block) (after : List ℕ) (n : ℕ) → BlockUnder w store before r after
+      → saysSize (r .size) ≡ refuses n → (r .waiting ≡ w) × (after ≡ before)
   -- "but for the group refusals": a group that is left behind and refused with n, 10 to 13 or 15, gives the fault line, is handed out as
   -- the one that closed, and leaves nothing known and no group but what the record itself takes up
   pub group : (o : OneStep) (j : GroupJudged) (n : ℕ) → LeavesBehind o → JudgeGroup (o .ride .group) j → saysGroup j ≡ refuses n
@@ -162,3 +177,4 @@ pub record Untouched : Type 0 where
   pub reply : Bare saysReply
   pub way : Bare saysWay
   pub done : Bare saysDone
+  pub size : Bare saysSize

@@ -2,6 +2,7 @@ pub mod Rules
 pub mod Table
 pub mod Table02
 pub mod Contracts
+pub mod Compacting
 pub mod Steps
 pub mod Lists
 pub mod Demand1

@@ -1,0 +1,99 @@
+// The records of the cards, block by block: in through `block_under`, what is kept out to standard output.
+use crate::counts;
+use cards::How;
+use compaction::Size;
+use compaction::Waiting;
+use libc::STDOUT_FILENO;
+use settings::Store;
+
+// Where the trace stands: what waits, how many records came and how many were kept, and whether all writes so far succeeded.
+struct Stand {
+    waiting: Waiting,
+    records: u64,
+    kept: u64,
+    is_good: bool,
+}
+
+// Compacts a block, and writes what is kept of it.
+fn write_block(from: Stand, store: Store, block: &mut [u8]) -> Stand {
+    let waiting = from.waiting;
+    let records = counts::more(from.records, block.len() / 8);
+    let done = compaction::block_under(waiting, store, block);
+    let then = done.waiting;
+    let size = done.size;
+    let Size::Bytes(bytes) = size else {
+        return Stand {
+            waiting: then,
+            records,
+            kept: from.kept,
+            is_good: false,
+        };
+    };
+    let is_good = (bytes <= block.len()) && io::write_all(STDOUT_FILENO, &block[..bytes]);
+    Stand {
+        waiting: then,
+        records,
+        kept: counts::more(from.kept, bytes / 8),
+        is_good,
+    }
+}
+
+// Writes the last record, which waits for none, and says the counts.
+fn write_last(stand: Stand) {
+    let waiting = stand.waiting;
+    if !waiting.waits {
+        counts::say(stand.records, stand.kept);
+        return;
+    }
+    let bytes = waiting.bytes;
+    if io::write_all(STDOUT_FILENO, &bytes) {
+        counts::say(stand.records, counts::more(stand.kept, 1));
+        return;
+    }
+    cards::say(b"compact", b"cannot write");
+}
+
+// What comes after the last block: the last record and the counts, or what failed.
+fn finish(how: How, stand: Stand) {
+    match how {
+        How::End => write_last(stand),
+        How::CannotOpen(number) => cards::cannot_open(b"compact", number),
+        How::CannotRead(number) => cards::cannot_read(b"compact", number),
+        How::NoRoom => {}
+        How::More => {}
+    }
+}
+
+// The compacted trace of all records of the cards, whose lengths were kept, as one ride. A proved loop has to end, and nothing says that
+// a file does: so it counts its turns down from a number that no run uses up.
+pub fn write_cards(store: Store, first: usize, lengths: &[u64], block: &mut [u8]) {
+    let ride = ride::fresh();
+    let mut stand = Stand {
+        waiting: Waiting {
+            ride,
+            bytes: [0; 8],
+            waits: false,
+        },
+        records: 0,
+        kept: 0,
+        is_good: true,
+    };
+    let mut pass = cards::begin(first);
+    let mut turns = u64::MAX;
+    while turns > 0 {
+        let got = cards::next_block(pass, lengths, block);
+        let read = got.read;
+        stand = write_block(stand, store, &mut block[..read]);
+        if !stand.is_good {
+            cards::say(b"compact", b"cannot write");
+            return;
+        }
+        let how = got.how;
+        let How::More = how else {
+            finish(how, stand);
+            return;
+        };
+        pass = got.pass;
+        turns -= 1;
+    }
+}

@@ -1,0 +1,46 @@
+// The compacted trace of the cards that are named, as one ride, to standard output; on standard error how many records it had and how many are kept.
+// Promises: it is safe and it ends; what is kept is compaction::block_under's, block by block and card by card.
+// Specification: none of its own; what the blocks come to is crates/smaller/specs/Blocks.antt, what cannot be said of a program's reads
+// and writes stands in docs/EXCEPTIONS.md.
+mod blocks;
+mod counts;
+
+use asked::How;
+use cards::Found;
+use settings::Store;
+
+// The program's name.
+const NAME: &[u8; 7] = b"compact";
+
+// How it is called.
+fn usage() {
+    cards::say(NAME, b"usage: compact [-s SETTINGS] CARD..");
+}
+
+// Goes over the cards twice: once for their lengths, once for the records. Nothing is written before all of them can be read and have whole records.
+fn go_over(store: Store, first: usize) {
+    let mut lengths = [0u64; 8192];
+    let mut block = io::large_buffer();
+    let found = cards::go_over(first, &mut lengths, &mut block);
+    match found {
+        Found::Cards => blocks::write_cards(store, first, &lengths, &mut block),
+        Found::BadLength(_) => cards::say(NAME, b"refused 16"),
+        Found::NoCard => usage(),
+        Found::TooMany => cards::say_found(NAME, found),
+        Found::CannotOpen(_) => cards::say_found(NAME, found),
+        Found::CannotRead(_) => cards::say_found(NAME, found),
+        Found::Once(_) => cards::say_found(NAME, found),
+    }
+}
+
+fn main() {
+    let options = asked::options(NAME, true);
+    let store = options.store;
+    let how = options.how;
+    match how {
+        How::Plain => go_over(store, options.first),
+        How::Settings => go_over(store, options.first),
+        How::Usage => usage(),
+        How::Said => {}
+    }
+}
