@@ -5,7 +5,7 @@ use mathlib.Core.Path.{_≡_, sym, ap, _∙_}
 use mathlib.Core.List.{List}
 use Prim.Native.Nat.{ℕ, _^_, _<_}
 use lib.IntN.{ℤ, pos}
-use mir.Syntax.{w32}
+use mir.Syntax.{w32, w64}
 use mir.Val.{toZ}
 use mir.Facts.{toZ-pos}
 use Rattle.words.specs.Answer.{Outcome}
@@ -26,3 +26,7 @@ module _ {E A : Type 0} (says : E → Outcome A) (numberOf : A → ℕ) (put : A
 -- A number below 2 ^ 31 is itself as an `i32`.
 pub as-i32 : {n : ℕ} → n < 2 ^ 31 → toZ w32 n ≡ pos n
 as-i32 small = toZ-pos w32 small
+
+-- A number below 2 ^ 63 is itself as an `i64`.
+pub as-i64 : {n : ℕ} → n < 2 ^ 63 → toZ w64 n ≡ pos n
+as-i64 small = toZ-pos w64 small

@@ -28,6 +28,8 @@ use Rattle.abi.proofs.contacts.atc2_next_contact.Kinds as next-contact-
 use Rattle.abi.proofs.contacts.atc2_next_contact.Reads as next-contact-reads
 use Rattle.abi.proofs.balises.atc2_write_balise.Kinds as write-balise-kinds
 use Rattle.abi.proofs.balises.atc2_write_balise.Reads as write-balise-reads
+use Rattle.abi.proofs.traces.atc2_compact.Kinds as compact-kinds
+use Rattle.abi.proofs.traces.atc2_compact.Reads as compact-reads
 use Rattle.abi.proofs.distances.atc2_distance.Kinds as distance-kinds
 use Rattle.abi.proofs.distances.atc2_distance.Reads as distance-reads
 
@@ -99,3 +101,9 @@ pub atc2-write-balise-determined : (κs : Lfts 1) (a : Dens κs write-balise-kin
     → write-balise-reads.Post κs a r x → write-balise-reads.Post κs a r′ x′
     → (r ≡ r′) × (x .1 .1 .1 .1 .1 .1 .0 .now ≡ x′ .1 .1 .1 .1 .1 .1 .0 .now)
 atc2-write-balise-determined κs a r r′ x x′ p q = (p .0 ∙ sym (q .0), p .1 ∙ sym (q .1))
+
+-- `trace` is the second of the arguments of `atc2_compact`.
+pub atc2-compact-determined : (κs : Lfts 1) (a : Dens κs compact-kinds.ps) (r r′ : ℤ)
+    (x x′ : AtExit (endedOf 1 compact-kinds.ps compact-kinds.r) κs)
+    → compact-reads.Post κs a r x → compact-reads.Post κs a r′ x′ → (r ≡ r′) × (x .1 .0 .now ≡ x′ .1 .0 .now)
+atc2-compact-determined κs a r r′ x x′ p q = (p .0 ∙ sym (q .0), p .1 ∙ sym (q .1))

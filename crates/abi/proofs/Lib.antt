@@ -1,5 +1,5 @@
-pub mod Smaller
 -- What the proofs of several functions use, and that the contracts fix every answer.
 pub mod Carried
+pub mod Smaller
 pub mod TableDF
 pub mod Determined

@@ -29,7 +29,7 @@ pub few-bytes : (ride : Ride) (gap : ℕ) (trace : List ℕ) (n : ℕ) → gives
 unfolding compact smallerTrace
 few-bytes ride gap trace n e =
     let is = picked (allowed gap) (eqb (length trace % 8) 0) _ n
-    (rw answer-of (allowed gap) (eqb (length trace % 8) 0) (smallerTrace (λ odometer. gap) ride trace) (untouched ride trace 16) (untouched ride trace 19) at e) in
+    (rw (answer-of (allowed gap) (eqb (length trace % 8) 0) (smallerTrace (λ odometer. gap) ride trace) (untouched ride trace 16) (untouched ride trace 19)) at e) in
     omega (arith, not-longer (λ odometer. gap) ride trace)
 
 never-16 : (bad : Bad) → saysBad bad ≡ 16 → saysBad bad ≡ 19
@@ -48,4 +48,4 @@ pub only-19 : (ride : Ride) (gap : ℕ) (trace : List ℕ) (bad : Bad) → refus
 unfolding compact smallerTrace
 only-19 ride gap trace bad e =
     refused-by (allowed gap) (eqb (length trace % 8) 0) _ bad
-    (rw answer-of (allowed gap) (eqb (length trace % 8) 0) (smallerTrace (λ odometer. gap) ride trace) (untouched ride trace 16) (untouched ride trace 19) at e)
+    (rw (answer-of (allowed gap) (eqb (length trace % 8) 0) (smallerTrace (λ odometer. gap) ride trace) (untouched ride trace 16) (untouched ride trace 19)) at e)

@@ -1,58 +1,101 @@
+-- `atc2_compact` returns the new length, or the refusal, and leaves the trace, as `compact` does for a fresh ride.
+-- Assumes nothing.
+use mathlib.Core.Path.{_≡_, sym, ap, subst, _∙_}
+use mathlib.Core.List.{List}
+use Prim.Native.Nat.{ℕ, _^_, _≤_, _<_}
+use native.Mathlib.Nat.{mul-one}
+use native.Mathlib.Omega.{arith}
+use lib.ListN.{length}
 use borrow.Author.Needs.{needs}
+use Rattle.words.specs.Answer.{refuses}
+use Rattle.ride.specs.declared.Ride.{Ride}
+use Rattle.ride.specs.State.{freshRide}
+use Rattle.compaction.specs.Compact.{Compaction, compact}
+use Rattle.compaction.specs.Says.{saysSize}
+use Rattle.abi.specs.Face.{returned, itself}
+use Rattle.abi.proofs.Carried.{carried, as-i64}
+use Rattle.abi.proofs.Smaller.{few-bytes, only-19}
 use Rattle.abi.proofs.traces.atc2_compact.Statement.{statement}
 use Rattle.abi.proofs.traces.atc2_compact.Tie as tie
-use Rattle.abi.proofs.traces.atc2_compact.Reads as reads
-use Rattle.abi.proofs.traces.atc2_compact.Lts as lts
-use Rattle.compaction.proofs.compact.Reads as compact-reads
-use Rattle.ride.proofs.fresh.Reads as fresh-reads
 
--- src/traces.rt:14:41
+-- What the call of `compact` came to.
+came : tie.After-compact → Compaction
+came w =
+    let a = w .before .before .before .before .args in
+    compact freshRide (a .gap) (a .trace .now)
+
+answered : (w : tie.After-compact) → saysSize (w .compact .result .size) ≡ came w .answer
+unfolding came
+answered w =
+    let f = w .before .before in
+    let a = f .before .before .args in
+    ap (λ (v : Compaction). v .answer) (w .compact .ensures ∙ ap (λ (r : Ride). compact r (a .gap) (a .trace .now)) (f .fresh .ensures))
+
+left-there : (w : tie.After-compact) → w .compact .last .1 .1 .0 ≡ came w .buffer
+unfolding came
+left-there w =
+    let f = w .before .before in
+    let a = f .before .before .args in
+    ap (λ (v : Compaction). v .buffer) (w .compact .ensures ∙ ap (λ (r : Ride). compact r (a .gap) (a .trace .now)) (f .fresh .ensures))
+
 fresh-requires : tie.Need-fresh-requires
 fresh-requires c κs = search needs
 
--- src/traces.rt:14:9
 compact-requires : tie.Need-compact-requires
 compact-requires c κs = search needs
 
--- src/traces.rt:17:21
 enum-known-size : tie.Need-enum-known-size
 enum-known-size c = search needs
 
--- src/traces.rt:17:31
-cast-result : tie.Need-cast-result
-cast-result c = ?
+-- not above the trace's own length, which is below 2 ^ 63
+small : (c : tie.After-known-told) → c .before .size .given .0 .0 < 2 ^ 63
+unfolding came
+small c =
+    let w = c .before .before .before .before .before in
+    let s = w .before .before .before .before in
+    let few : c .before .size .given .0 .0 ≤ length (s .args .trace .now) =
+    few-bytes freshRide (s .args .gap) (s .args .trace .now) (c .before .size .given .0 .0) (ap saysSize (sym (c .before .size .given .1)) ∙ answered w) in
+    let big : length (s .args .trace .now) < 2 ^ 63 = subst (λ (k : ℕ). k < 2 ^ 63) (mul-one (length (s .args .trace .now))) (s .good .1 .0 .1) in
+    omega arith
 
--- src/traces.rt:18:30
+cast-result : tie.Need-cast-result
+cast-result c = let below : c .before .size .given .0 .0 < 2 ^ 63 = small c in search needs
+
 enum-told : tie.Need-enum-told
 enum-told c = search needs
 
--- src/traces.rt:19:25
 enum-told-2 : tie.Need-enum-told-2
 enum-told-2 c = search needs
 
--- src/traces.rt:9:1
 same-length : tie.Need-same-length
 same-length c = search needs
 
--- src/traces.rt:9:1
 returns : tie.Need-returns
-returns c = ?
+unfolding came
+returns c =
+    let w = c .before .before .before .before .before in
+    (as-i64 (small c) ∙ carried (returned itself) saysSize (c .before .size .given .1) (answered w), left-there w)
 
--- src/traces.rt:9:1
 same-length-2 : tie.Need-same-length-2
 same-length-2 c = search needs
 
--- src/traces.rt:9:1
 returns-2 : tie.Need-returns-2
-returns-2 c = ?
+unfolding came
+returns-2 c =
+    let w = c .before .before .before .before in
+    let a = w .before .before .before .before .args in
+    let bad = c .enum-told .given .0 .0 in
+    let is-19 = only-19 freshRide (a .gap) (a .trace .now) bad (ap saysSize (sym (c .enum-told .given .1)) ∙ answered w) in
+    (ap (λ (n : ℕ). returned itself (refuses n)) (sym is-19) ∙ carried (returned itself) saysSize (c .enum-told .given .1) (answered w), left-there w)
 
--- src/traces.rt:9:1
 same-length-3 : tie.Need-same-length-3
 same-length-3 c = search needs
 
--- src/traces.rt:9:1
 returns-3 : tie.Need-returns-3
-returns-3 c = ?
+unfolding came
+returns-3 c =
+    let w = c .before .before .before .before in
+    (carried (returned itself) saysSize (c .enum-told2 .given .1) (answered w), left-there w)
 
 pub atc2-compact-spec : {M : Type 1} → statement M
 atc2-compact-spec =
