@@ -1,5 +1,8 @@
 // The records of the cards, block by block: in through `block_under`, what is kept out to standard output.
+ghost use Prim.Native.Nat.{_≤_};
+ghost use lib.ListN.{length};
 use crate::counts;
+use crate::writing;
 use cards::How;
 use compaction::Size;
 use compaction::Waiting;
@@ -29,13 +32,20 @@ fn write_block(from: Stand, store: Store, block: &mut [u8]) -> Stand {
             is_good: false,
         };
     };
-    let is_good = (bytes <= block.len()) && io::write_all(STDOUT_FILENO, &block[..bytes]);
+    let is_good = writing::write(STDOUT_FILENO, block, bytes);
     Stand {
         waiting: then,
         records,
         kept: counts::more(from.kept, bytes / 8),
         is_good,
     }
+}
+
+// The same for the front of a buffer, so many bytes long.
+fn write_front(from: Stand, store: Store, block: &mut [u8], read: usize) -> Stand
+    requires { ⌜ read ≤ length (now block) ⌝ }
+{
+    write_block(from, store, &mut block[..read])
 }
 
 // Writes the last record, which waits for none, and says the counts.
@@ -50,7 +60,7 @@ fn write_last(stand: Stand) {
         counts::say(stand.records, counts::more(stand.kept, 1));
         return;
     }
-    cards::say(b"compact", b"cannot write");
+    writing::cannot_write();
 }
 
 // What comes after the last block: the last record and the counts, or what failed.
@@ -83,9 +93,9 @@ pub fn write_cards(store: Store, first: usize, lengths: &[u64], block: &mut [u8]
     while turns > 0 {
         let got = cards::next_block(pass, lengths, block);
         let read = got.read;
-        stand = write_block(stand, store, &mut block[..read]);
+        stand = write_front(stand, store, block, read);
         if !stand.is_good {
-            cards::say(b"compact", b"cannot write");
+            writing::cannot_write();
             return;
         }
         let how = got.how;

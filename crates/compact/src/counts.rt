@@ -1,4 +1,5 @@
 // How many records there were, and how many are kept.
+use crate::writing;
 use libc::STDERR_FILENO;
 
 // Two counts added; a sum that no trace reaches stays at the highest number.
@@ -16,7 +17,5 @@ pub fn say(records: u64, kept: u64) {
     let second = text::put_number(b"compact: ", records, &mut line, 0);
     let third = text::put_number(b" records, ", kept, &mut line, second);
     let end = text::put(b" kept\n", &mut line, third);
-    if end <= 80 {
-        io::write_all(STDERR_FILENO, &line[..end]);
-    }
+    writing::write(STDERR_FILENO, &line, end);
 }

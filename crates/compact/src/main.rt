@@ -4,17 +4,15 @@
 // and writes stands in docs/EXCEPTIONS.md.
 mod blocks;
 mod counts;
+mod writing;
 
 use asked::How;
 use cards::Found;
 use settings::Store;
 
-// The program's name.
-const NAME: &[u8; 7] = b"compact";
-
 // How it is called.
 fn usage() {
-    cards::say(NAME, b"usage: compact [-s SETTINGS] CARD..");
+    cards::say(b"compact", b"usage: compact [-s SETTINGS] CARD..");
 }
 
 // Goes over the cards twice: once for their lengths, once for the records. Nothing is written before all of them can be read and have whole records.
@@ -24,17 +22,17 @@ fn go_over(store: Store, first: usize) {
     let found = cards::go_over(first, &mut lengths, &mut block);
     match found {
         Found::Cards => blocks::write_cards(store, first, &lengths, &mut block),
-        Found::BadLength(_) => cards::say(NAME, b"refused 16"),
+        Found::BadLength(_) => cards::say(b"compact", b"refused 16"),
         Found::NoCard => usage(),
-        Found::TooMany => cards::say_found(NAME, found),
-        Found::CannotOpen(_) => cards::say_found(NAME, found),
-        Found::CannotRead(_) => cards::say_found(NAME, found),
-        Found::Once(_) => cards::say_found(NAME, found),
+        Found::TooMany => cards::say_found(b"compact", found),
+        Found::CannotOpen(_) => cards::say_found(b"compact", found),
+        Found::CannotRead(_) => cards::say_found(b"compact", found),
+        Found::Once(_) => cards::say_found(b"compact", found),
     }
 }
 
 fn main() {
-    let options = asked::options(NAME, true);
+    let options = asked::options(b"compact", true);
     let store = options.store;
     let how = options.how;
     match how {
