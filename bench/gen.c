@@ -3,6 +3,7 @@
    trace      a ride of so many records (a million where none are named): groups of every row, most of them good, with
               marks of every kind, positions, unreadable balises, broken groups, refused records
    damaged    such a ride with some of its bytes changed, and one in ten cut within a record
+   positions  so many position records, one each metre
    none       16,777,216 bits in which no contact opens and neither sync word stands: single zeroes among ones
    telegrams  16,777,216 bits of one balise, telegram after telegram
    noise      16,777,216 bits by chance
@@ -265,17 +266,31 @@ static void make_trace(void)
     }
 }
 
+/* Position records, one each metre. */
+static void make_positions(uint64_t count)
+{
+    for (uint64_t i = 1; i <= count; i++) {
+        uint32_t o = (uint32_t)(10 * i % MOST_DM);
+        uint8_t record[8] = {(uint8_t)(o >> 24), (uint8_t)(o >> 16), (uint8_t)(o >> 8), (uint8_t)o, 3, 0, 0, 0};
+        fwrite(record, 1, sizeof record, stdout);
+    }
+}
+
 int main(int argc, char **argv)
 {
     if (argc < 3) {
-        fprintf(stderr, "gen trace|damaged|none|telegrams|noise|line SEED [RECORDS]\n");
+        fprintf(stderr, "gen trace|damaged|positions|none|telegrams|noise|line SEED [RECORDS]\n");
         return 2;
     }
     chance_state = strtoull(argv[2], NULL, 10);
     is_damaged = strcmp(argv[1], "damaged") == 0;
+    wanted = argc > 3 ? strtoull(argv[3], NULL, 10) : 1000000;
+    if (strcmp(argv[1], "positions") == 0) {
+        make_positions(wanted);
+        return 0;
+    }
     if (strcmp(argv[1], "trace") != 0 && !is_damaged)
         return make_stretch(argv[1]) ? 0 : 2;
-    wanted = argc > 3 ? strtoull(argv[3], NULL, 10) : 1000000;
     make_trace();
     return 0;
 }

@@ -18,9 +18,12 @@ use Rattle.group.specs.Distance.{distance}
 use Rattle.writer.specs.Write.{Writing, onto, write}
 use Rattle.abi.specs.Face.{returned, left, itself, asOne, told, whyNumber, foundNumber, foundPut}
 use Rattle.abi.specs.Contacts.{searchIn, begunNumber, begunPut, nextNumber, nextPut, nextMoved, judgedNumber, judgedPut}
+use Rattle.ride.specs.State.{freshRide}
+use Rattle.compaction.specs.Compact.{compact}
 use Rattle.demands.specs.Rules.{Rule, rowOf, row, Decided, Given, Is}
 use Rattle.demands.specs.Table.{notCode, above, beyond, noDistance}
-use Rattle.demands.specs.Lists.{telegramRules, findRules, writeRules, nextRules, judgeRules, findReads, JudgeReads, NextReads}
+use Rattle.demands.specs.Lists.{telegramRules, findRules, writeRules, nextRules, judgeRules, runRules, findReads, JudgeReads, NextReads}
+use Rattle.demands.proofs.Compacting.{compacting, compact-untouched}
 use Rattle.demands.proofs.Refusals.{reading, writing, wording, finding}
 use Rattle.demands.proofs.Writes.{writing-test, write-untouched}
 use Rattle.demands.proofs.Contacts.{beginning, nexting, judging}
@@ -65,6 +68,9 @@ demand1 = record {
       let e : r ≡ returned itself (write x y z s t n before .answer) =
       c .5 .0 ∙ ap (λ (v : List ℕ). returned itself (write x y z s t n v .answer)) (c .3) in
       decided-of (returned itself) (Is (4 * n + 1)) (writeRules x y z s t n before) (write x y z s t n before .answer) e (writing-test x y z s t n before);
+  compact = λ gap before r after c.
+      let e : r ≡ returned itself (compact freshRide gap before .answer) = c .5 .0 ∙ ap (λ (v : List ℕ). returned itself (compact freshRide gap v .answer)) (c .3) in
+      decided-of (returned itself) Given (runRules gap before) (compact freshRide gap before .answer) e (compacting freshRide gap before);
 }
 
 -- A lent array after a call that refuses, from what the contract leaves in it.
@@ -98,4 +104,9 @@ untouched = record {
       let l : after ≡ write x y z s t n before .buffer = sym (c .4) ∙ c .5 .1 ∙ ap (λ (v : List ℕ). write x y z s t n v .buffer) (c .3) in
       let q : (k : ℕ) × (write x y z s t n before .answer ≡ refuses k) = is-refusal itself (write x y z s t n before .answer) (subst Refused e refused) in
       l ∙ write-untouched x y z s t n before (q .0) (q .1);
+  compact = λ gap before r after c refused.
+      let e : r ≡ returned itself (compact freshRide gap before .answer) = c .5 .0 ∙ ap (λ (v : List ℕ). returned itself (compact freshRide gap v .answer)) (c .3) in
+      let l : after ≡ compact freshRide gap before .buffer = sym (c .4) ∙ c .5 .1 ∙ ap (λ (v : List ℕ). compact freshRide gap v .buffer) (c .3) in
+      let q : (k : ℕ) × (compact freshRide gap before .answer ≡ refuses k) = is-refusal itself (compact freshRide gap before .answer) (subst Refused e refused) in
+      l ∙ compact-untouched freshRide gap before (q .0) (q .1) .1;
 }

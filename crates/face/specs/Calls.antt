@@ -31,6 +31,8 @@ use Rattle.abi.proofs.contacts.atc2_judge.Kinds as judge-kinds
 use Rattle.abi.proofs.contacts.atc2_judge.Reads as judge-reads
 use Rattle.abi.proofs.balises.atc2_write_balise.Kinds as write-balise-kinds
 use Rattle.abi.proofs.balises.atc2_write_balise.Reads as write-balise-reads
+use Rattle.abi.proofs.traces.atc2_compact.Kinds as compact-kinds
+use Rattle.abi.proofs.traces.atc2_compact.Reads as compact-reads
 use Rattle.abi.proofs.distances.atc2_distance.Kinds as distance-kinds
 use Rattle.abi.proofs.distances.atc2_distance.Reads as distance-reads
 
@@ -100,3 +102,9 @@ WriteBalise x y z s t n before r after =
     (κs : Lfts 1) × (out : RefT (List ℕ)) × (e : AtExit (endedOf 1 write-balise-kinds.ps write-balise-kinds.r) κs)
     × (now out ≡ before) × (now (e .1 .1 .1 .1 .1 .1 .0) ≡ after)
     × write-balise-reads.Post κs (x, (y, (z, (s, (t, (n, (out, tt))))))) r e
+
+-- `atc2_compact` may return r for this gap, and leave `after` in `trace`, which held `before`.
+abbrev pub Compact : ℕ → List ℕ → ℤ → List ℕ → Type 0
+Compact gap before r after =
+    (κs : Lfts 1) × (trace : RefT (List ℕ)) × (e : AtExit (endedOf 1 compact-kinds.ps compact-kinds.r) κs)
+    × (now trace ≡ before) × (now (e .1 .0) ≡ after) × compact-reads.Post κs (gap, (trace, tt)) r e

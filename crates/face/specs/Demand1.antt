@@ -15,8 +15,8 @@ use Rattle.abi.specs.Face.{returned, itself, asOne, told, whyNumber, foundNumbe
 use Rattle.abi.specs.Contacts.{searchIn, begunNumber, nextNumber, judgedNumber}
 use Rattle.demands.specs.Rules.{Rule, rowOf, row, Decided, Given, Is}
 use Rattle.demands.specs.Table.{notCode, above, beyond, noDistance}
-use Rattle.demands.specs.Lists.{telegramRules, findRules, writeRules, nextRules, judgeRules, findReads, JudgeReads, NextReads}
-use Rattle.face.specs.Calls.{ReadShort, WriteShort, ReadLong, WriteLong, ReadTelegram, WhyTelegram, Distance, Find, Begin, NextContact, Judge, WriteBalise}
+use Rattle.demands.specs.Lists.{telegramRules, findRules, writeRules, nextRules, judgeRules, runRules, findReads, JudgeReads, NextReads}
+use Rattle.face.specs.Calls.{ReadShort, WriteShort, ReadLong, WriteLong, ReadTelegram, WhyTelegram, Distance, Find, Begin, NextContact, Judge, WriteBalise, Compact}
 
 -- A list of refusals, each answer told in another way: its conditions and their order stay.
 abbrev pub toldBy : {A B : Type 0} → (A → B) → List (Rule A) → List (Rule B)
@@ -53,6 +53,8 @@ pub record Demand1 : Type 0 where
       → DecidedAs (returned judgedNumber) (JudgeReads b start len s t) (judgeRules b start len s t) r
   pub write-balise : (x y z s t n : ℕ) (before : List ℕ) (r : ℤ) (after : List ℕ) → WriteBalise x y z s t n before r after
       → DecidedAs (returned itself) (Is (4 * n + 1)) (writeRules x y z s t n before) r
+  pub compact : (gap : ℕ) (before : List ℕ) (r : ℤ) (after : List ℕ) → Compact gap before r after
+      → DecidedAs {A = Outcome ℕ} (returned itself) Given (runRules gap before) r
 
 -- A number below 0: a refusal.
 abbrev pub Refused : ℤ → Type 0
@@ -66,3 +68,4 @@ pub record Untouched : Type 0 where
       → (moved ≡ from) × (after ≡ before)
   pub judge : (b : List ℕ) (start len s t : ℕ) (before : List ℕ) (r : ℤ) (after : List ℕ) → Judge b start len s t before r after → Refused r → after ≡ before
   pub write-balise : (x y z s t n : ℕ) (before : List ℕ) (r : ℤ) (after : List ℕ) → WriteBalise x y z s t n before r after → Refused r → after ≡ before
+  pub compact : (gap : ℕ) (before : List ℕ) (r : ℤ) (after : List ℕ) → Compact gap before r after → Refused r → after ≡ before
