@@ -1,4 +1,4 @@
-mod Counts
+pub mod Counts
 mod Walk
 mod Quiet
 mod Passes
@@ -7,11 +7,11 @@ mod Over
 mod Alike
 mod Within
 mod Fair
-mod Below
+pub mod Below
 mod Broken
 mod Few
 mod Never
-mod Either
+pub mod Either
 mod Marker
 mod Sixty
 mod Row

@@ -1,0 +1,5 @@
+mod Some
+mod Pieces
+mod Ten
+mod Determined
+mod Means

@@ -1,0 +1,75 @@
+-- `sound` asks for a good pair, and then for sixteen bits with few zeroes among those of ten bytes.
+use mathlib.Core.Path.{_≡_, sym, ap, ap₂, _∙_}
+use mathlib.Core.Bool.{Bool, true, false}
+use Rattle.words.specs.Answer.{Outcome, gives, refuses, pick}
+use Rattle.telegram.specs.Says.{saysPair}
+use Rattle.writer.specs.Words.{Words}
+use Rattle.writer.proofs.Answers.{is-good, not-good}
+use Rattle.unheard.specs.Sound.{isBroken, sending, Heard, audible, broken, soundWith}
+use Rattle.unheard.proofs.Ten.{ten-broken}
+use borrow.Author.Needs.{needs}
+use Rattle.unheard.proofs.sixteen.sound.Statement.{statement}
+use Rattle.unheard.proofs.sixteen.sound.Tie as tie
+
+-- what a good pair, and whether it is broken, come to
+abbrev picked : Bool → Bool → Outcome Heard
+picked g b = pick g (gives (pick b broken audible)) (refuses 4)
+
+good-pair-requires : tie.Need-good-pair-requires
+good-pair-requires c κs = search needs
+
+enum-told : tie.Need-enum-told
+enum-told c = search needs
+
+enum-told-2 : tie.Need-enum-told-2
+enum-told-2 c = search needs
+
+returns : tie.Need-returns
+unfolding soundWith
+returns c =
+    let g = c .before .before in
+    let a = g .before .args in
+    let w : Words = record { x = a .x; y = a .y; z = a .z } in
+    let bad = not-good (a .s) (a .t) (sym (ap saysPair (c .enum-told2 .given .1)) ∙ g .good-pair .ensures) in
+    ap (λ (t : Bool). picked t (isBroken (sending (a .s) (a .t) w))) (sym bad)
+
+slice-aggregate-some-few : tie.Need-slice-aggregate-some-few
+slice-aggregate-some-few c = search needs
+
+some-few-requires : tie.Need-some-few-requires
+some-few-requires c κs = search needs
+
+returns-2 : tie.Need-returns-2
+unfolding soundWith
+returns-2 c =
+    let told = c .before .before .before in
+    let g = told .before .before in
+    let a = g .before .args in
+    let w : Words = record { x = a .x; y = a .y; z = a .z } in
+    let good = is-good (a .s) (a .t) (sym (ap saysPair (told .enum-told .given .1)) ∙ g .good-pair .ensures) in
+    let so : isBroken (sending (a .s) (a .t) w) ≡ true = sym (ten-broken (a .s) (a .t) w) ∙ sym (c .before .some-few .ensures) ∙ c .if1 .taken in
+    ap₂ picked (sym good) (sym so)
+
+returns-3 : tie.Need-returns-3
+unfolding soundWith
+returns-3 c =
+    let told = c .before .before .before in
+    let g = told .before .before in
+    let a = g .before .args in
+    let w : Words = record { x = a .x; y = a .y; z = a .z } in
+    let good = is-good (a .s) (a .t) (sym (ap saysPair (told .enum-told .given .1)) ∙ g .good-pair .ensures) in
+    let so : isBroken (sending (a .s) (a .t) w) ≡ false = sym (ten-broken (a .s) (a .t) w) ∙ sym (c .before .some-few .ensures) ∙ c .if1 .left in
+    ap₂ picked (sym good) (sym so)
+
+pub sound-spec : {M : Type 1} → statement M
+sound-spec =
+    tie.close
+    (tie.spec
+    good-pair-requires
+    enum-told
+    enum-told-2
+    returns
+    slice-aggregate-some-few
+    some-few-requires
+    returns-2
+    returns-3)

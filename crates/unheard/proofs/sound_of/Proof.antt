@@ -1,0 +1,59 @@
+-- `sound_of` spells the words, and goes on to their line if there are words.
+use mathlib.Core.Path.{sym, ap, _∙_}
+use Rattle.words.specs.Answer.{Outcome, then}
+use Rattle.writer.specs.Words.{Words}
+use Rattle.writer.specs.Says.{saysSpelt}
+use Rattle.unheard.specs.Sound.{soundWith, soundOf}
+use borrow.Author.Needs.{needs}
+use Rattle.unheard.proofs.sound_of.Statement.{statement}
+use Rattle.unheard.proofs.sound_of.Tie as tie
+
+spell-requires : tie.Need-spell-requires
+spell-requires c κs = search needs
+
+enum-known-spelt : tie.Need-enum-known-spelt
+enum-known-spelt c = search needs
+
+sound-requires : tie.Need-sound-requires
+sound-requires c κs = search needs
+
+enum-told : tie.Need-enum-told
+enum-told c = search needs
+
+enum-told-2 : tie.Need-enum-told-2
+enum-told-2 c = search needs
+
+returns : tie.Need-returns
+unfolding soundOf
+returns c =
+    let k = c .before .before in
+    let q = k .before .before in
+    let a = q .before .args in
+    c .sound .ensures ∙ ap (λ (o : Outcome Words). then o (soundWith (a .s) (a .t))) (sym (ap saysSpelt (k .spelt .given .1)) ∙ q .spell .ensures)
+
+returns-2 : tie.Need-returns-2
+unfolding soundOf
+returns-2 c =
+    let q = c .before .before in
+    let a = q .before .args in
+    ap (λ (o : Outcome Words). then o (soundWith (a .s) (a .t))) (sym (ap saysSpelt (c .enum-told .given .1)) ∙ q .spell .ensures)
+
+returns-3 : tie.Need-returns-3
+unfolding soundOf
+returns-3 c =
+    let q = c .before .before in
+    let a = q .before .args in
+    ap (λ (o : Outcome Words). then o (soundWith (a .s) (a .t))) (sym (ap saysSpelt (c .enum-told2 .given .1)) ∙ q .spell .ensures)
+
+pub sound-of-spec : {M : Type 1} → statement M
+sound-of-spec =
+    tie.close
+    (tie.spec
+    spell-requires
+    enum-known-spelt
+    sound-requires
+    enum-told
+    enum-told-2
+    returns
+    returns-2
+    returns-3)
