@@ -1,6 +1,8 @@
 -- Each contract fixes its function's whole answer: any two answers that it allows are equal.
 -- Assumes nothing.
-use mathlib.Core.Path.{_≡_, refl}
+use mathlib.Core.Path.{_≡_, refl, sym, ap, _∙_}
+use Prim.Native.Nat.{ℕ}
+use denote.Ref.{now}
 use lib.Dec.{eqb}
 use contract.Lifetimes.{Lfts}
 use borrow.Fn.Kinds.{Dens, endedOf}
@@ -8,6 +10,7 @@ use denote.Triple.Clauses.{AtExit}
 use Rattle.words.specs.Answer.{pick}
 use Rattle.words.specs.Why.{why, are, unsaid}
 use Rattle.words.proofs.Told.{told}
+use Rattle.text.specs.Put.{Put, came}
 use Rattle.telegram.specs.Telegram.{badWord}
 use Rattle.explainer.specs.declared.Bad.{Bad as Badly}
 use Rattle.explainer.specs.declared.Reason.{Reason}
@@ -15,6 +18,8 @@ use Rattle.explainer.specs.Reason.{Bad, unreadable, word, balises, bad, 
 use Rattle.explainer.specs.Says.{saysBad, saysReason}
 use Rattle.explainer.proofs.explain.Kinds as explain-kinds
 use Rattle.explainer.proofs.explain.Reads as explain-reads
+use Rattle.explainer.proofs.put_reason.Kinds as put-reason-kinds
+use Rattle.explainer.proofs.put_reason.Reads as put-reason-reads
 
 -- From what an answer says, the answer.
 pub badly : Bad → Badly
@@ -48,3 +53,10 @@ pub explain-determined : (κs : Lfts 0) (a : Dens κs explain-kinds.ps) (r r′ 
     (x x′ : AtExit (endedOf 0 explain-kinds.ps explain-kinds.r) κs)
     → explain-reads.Post κs a r x → explain-reads.Post κs a r′ x′ → r ≡ r′
 explain-determined κs a r r′ x x′ p q = told saysReason reason reason-back r r′ p q
+
+pub put-reason-determined : (κs : Lfts 1) (a : Dens κs put-reason-kinds.ps) (r r′ : ℕ)
+    (x x′ : AtExit (endedOf 1 put-reason-kinds.ps put-reason-kinds.r) κs)
+    → put-reason-reads.Post κs a r x → put-reason-reads.Post κs a r′ x′ → (r ≡ r′) × (now (x .1 .0) ≡ now (x′ .1 .0))
+put-reason-determined κs a r r′ x x′ p q =
+    let same : came r (now (x .1 .0)) ≡ came r′ (now (x′ .1 .0)) = p ∙ sym q in
+    (ap (λ (v : Put). v .next) same, ap (λ (v : Put). v .buffer) same)

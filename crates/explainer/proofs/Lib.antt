@@ -8,6 +8,8 @@ pub mod Firsts
 pub mod Nines
 pub mod Distances
 pub mod Culprits
+pub mod Pieces
+pub mod Spelled
 pub mod Examples
 pub mod Truths
 pub mod Determined

@@ -4,3 +4,4 @@ pub mod Explain
 pub mod Says
 pub mod Inside
 pub mod Truths
+pub mod Text

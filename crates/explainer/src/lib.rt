@@ -1,12 +1,15 @@
 // Why a closed group was refused, for the depot that asks which balise to go and clean.
 // Promises: a reason exactly for a refused group, for the number that it was refused with; the balise that it names is the first such one.
 // Specification: specs/Explain.antt (the reasons), specs/Opening.antt (the opening run), specs/Says.antt (the answers); what they name is
-// true: specs/Truths.antt.
+// true: specs/Truths.antt. Its text: specs/Text.antt; a text in a buffer is `text`'s specs/Put.antt.
 ghost use mathlib.Core.Path.{_≡_};
+ghost use Rattle.text.specs.Put.{put, came};
 ghost use Rattle.explainer.specs.Explain.{explain};
 ghost use Rattle.explainer.specs.Says.{saysReason};
+ghost use Rattle.explainer.specs.Text.{reasonText};
 
 mod figures;
+mod lines;
 mod reading;
 mod rows;
 
@@ -58,4 +61,13 @@ pub fn explain(group: Group) -> Reason
             bad,
         }
     }
+}
+
+// The reason as text into buf from `at` on, and the place after it; without room buf stays as it is, and the answer is `at`.
+pub fn put_reason(reason: Reason, buf: &mut [u8], at: usize) -> usize
+    ensures { λ r. ⌜ came r (now (buf .exit)) ≡ put (reasonText reason) (now (buf .entry)) at ⌝ }
+{
+    let mut space = [0u8; 96];
+    let n = lines::put_text(reason, &mut space, 0);
+    text::put(&space[..n], buf, at)
 }

@@ -1,9 +1,7 @@
 -- The count is judged first, then the balises are read, then the rows decide.
 -- Assumes nothing.
-use Prim.Native.Nat.{_<_}
 use mathlib.Core.Path.{_≡_, sym, ap, _∙_}
 use mathlib.Core.Bool.{Bool}
-use native.Mathlib.Omega.{arith}
 use borrow.Author.Tests.{eq-eqb, ne-eqb, lt-ltb, le-ltb}
 use lib.ListN.{take}
 use Rattle.words.specs.Answer.{gives, refuses, pick}

@@ -4,7 +4,6 @@ use mathlib.Core.Path.{sym, ap, _∙_}
 use lib.ListN.{take}
 use Rattle.walk.specs.declared.Kind.{Kind}
 use Rattle.explainer.specs.Explain.{whyPresent}
-use Rattle.explainer.specs.Inside.{whyOf}
 use Rattle.explainer.proofs.Looking.{of-signal, of-warning}
 use borrow.Author.Needs.{needs}
 use Rattle.explainer.proofs.figures.why_present.Statement.{statement}

@@ -9,7 +9,7 @@ use Rattle.walk.specs.declared.Picked.{Picked}
 use Rattle.walk.specs.Fitting.{saysFitted}
 use Rattle.group.proofs.Lists.{long-take}
 use Rattle.explainer.specs.Opening.{openingRun}
-use Rattle.explainer.specs.Reason.{opens, Explained, because}
+use Rattle.explainer.specs.Reason.{opens, because}
 use Rattle.explainer.specs.Explain.{whyFit}
 use Rattle.explainer.proofs.Runs.{run-is-longest, longest-one}
 use borrow.Author.Needs.{needs}
