@@ -1,0 +1,4 @@
+pub mod Texts
+pub mod Turns
+pub mod Under
+pub mod Alike

@@ -1,0 +1,92 @@
+-- The place, the number, the colon, the reason and the newline, one after the other.
+-- Assumes nothing.
+use mathlib.Core.Path.{_≡_, sym, ap, _∙_}
+use mathlib.Core.List.{List, [], _∷_, _++_}
+use Prim.Native.Nat.{ℕ, _+_, _≤_}
+use native.Mathlib.Omega.{arith}
+use lib.ListN.{length, length-append}
+use Rattle.text.specs.Text.{codes}
+use Rattle.text.specs.Put.{came, put}
+use Rattle.text.proofs.Standing.{less, room-after, join, join-4}
+use Rattle.ride.specs.declared.Line.{Line}
+use Rattle.ride.specs.declared.Lines.{Lines}
+use Rattle.ride.specs.declared.trace.Given.{Given}
+use Rattle.ride.specs.Over.{linesFor}
+use Rattle.ride.specs.Says.{saysWrong, saysLines, saysGiven}
+use Rattle.listing.specs.declared.Put.{Put}
+use Rattle.listing.specs.Put.{Filled}
+use Rattle.listing.specs.Says.{saysPut}
+use Rattle.listing.specs.Text.{text}
+use Rattle.explainer.specs.Text.{reasonText}
+use Rattle.explained.specs.Text.{faultText, lineText, linesText}
+use Rattle.explained.proofs.Texts.{why-is, asPut, put-alike, numbered, fault-is, one-is, two-is, line-length, lines-short, room-as}
+use borrow.Author.Needs.{needs}
+use Rattle.explained.proofs.lines.put_fault.Statement.{statement}
+use Rattle.explained.proofs.lines.put_fault.Tie as tie
+
+slice-aggregate-put-number : tie.Need-slice-aggregate-put-number
+slice-aggregate-put-number c = search needs
+
+put-number-requires : tie.Need-put-number-requires
+put-number-requires c κs = search needs
+
+slice-aggregate-put-number-2 : tie.Need-slice-aggregate-put-number-2
+slice-aggregate-put-number-2 c = search needs
+
+put-number-requires-2 : tie.Need-put-number-requires-2
+put-number-requires-2 c κs = search needs
+
+slice-aggregate-put : tie.Need-slice-aggregate-put
+slice-aggregate-put c = search needs
+
+put-requires : tie.Need-put-requires
+put-requires c κs = search needs
+
+put-reason-requires : tie.Need-put-reason-requires
+put-reason-requires c κs = search needs
+
+slice-aggregate-put-2 : tie.Need-slice-aggregate-put-2
+slice-aggregate-put-2 c = search needs
+
+put-requires-2 : tie.Need-put-requires-2
+put-requires-2 c κs = search needs
+
+same-length : tie.Need-same-length
+same-length c = search needs
+
+returns : tie.Need-returns
+returns c = 
+    let p5 = c .before .before in
+    let p4 = p5 .before .before .before .before .before in
+    let p3 = p4 .before .before .before .before in
+    let p2 = p3 .before .before .before .before .before in
+    let p1 = p2 .before .before .before .before .before in
+    let s = p1 .before .before .before .before in
+    let a = s .args in
+    let b = a .buf .now in
+    let t1 = numbered "" (a .place) in
+    let t2 = numbered " fault " (a .n) in
+    let t4 = reasonText (a .reason) in
+    let is = fault-is (a .place) (a .n) t4 in
+    let whole = room-as b (a .at) is (s .pre) in
+    join b (a .at) (t1 ++ t2 ++ codes ": " ++ t4) (codes "\n") whole
+    (join-4 b (a .at) t1 t2 (codes ": ") t4 (less b (a .at) (t1 ++ t2 ++ codes ": " ++ t4) (codes "\n") whole)
+    (p1 .put-number .ensures) (p2 .put-number2 .ensures) (p3 .put .ensures) (p4 .put-reason .ensures))
+    (p5 .put2 .ensures)
+    ∙ ap (λ (t : List ℕ). put t b (a .at)) is
+
+pub put-fault-spec : {M : Type 1} → statement M
+put-fault-spec =
+    tie.close
+    (tie.spec
+    slice-aggregate-put-number
+    put-number-requires
+    slice-aggregate-put-number-2
+    put-number-requires-2
+    slice-aggregate-put
+    put-requires
+    put-reason-requires
+    slice-aggregate-put-2
+    put-requires-2
+    same-length
+    returns)

@@ -1,0 +1,86 @@
+-- A refused record has one line.
+-- Assumes nothing.
+use mathlib.Core.Path.{_≡_, sym, ap, _∙_}
+use mathlib.Core.List.{List, [], _∷_, _++_}
+use Prim.Native.Nat.{ℕ, _+_, _≤_}
+use native.Mathlib.Omega.{arith}
+use lib.ListN.{length, length-append}
+use Rattle.text.specs.Text.{codes}
+use Rattle.text.specs.Put.{came, put}
+use Rattle.text.proofs.Standing.{less, room-after, join, join-4}
+use Rattle.ride.specs.declared.Line.{Line}
+use Rattle.ride.specs.declared.Lines.{Lines}
+use Rattle.ride.specs.declared.trace.Given.{Given}
+use Rattle.ride.specs.Over.{linesFor}
+use Rattle.ride.specs.Says.{saysWrong, saysLines, saysGiven}
+use Rattle.listing.specs.declared.Put.{Put}
+use Rattle.listing.specs.Put.{Filled}
+use Rattle.listing.specs.Says.{saysPut}
+use Rattle.listing.specs.Text.{text}
+use Rattle.explainer.specs.Text.{reasonText}
+use Rattle.explained.specs.Text.{faultText, lineText, linesText}
+use Rattle.explained.proofs.Texts.{why-is, asPut, put-alike, numbered, fault-is, one-is, two-is, line-length, lines-short, room-as}
+use borrow.Author.Needs.{needs}
+use Rattle.explained.proofs.lines.put_given.Statement.{statement}
+use Rattle.explained.proofs.lines.put_given.Tie as tie
+
+enum-known-given : tie.Need-enum-known-given
+enum-known-given c = search needs
+
+refusal-requires : tie.Need-refusal-requires
+refusal-requires c κs = search needs
+
+put-said-requires : tie.Need-put-said-requires
+put-said-requires c κs = 
+    let x = c .before in
+    let s = c .before .before .before .before .before .before in
+    let a = s .args in
+    let h : a .at + length (lineText (a .closed) (Line.Record (a .number) (x .refusal .result))) ≤ length (a .buf .now) =
+    omega (arith, line-length (a .closed) (Line.Record (a .number) (x .refusal .result)), s .pre) in
+    h
+
+enum-known-given-2 : tie.Need-enum-known-given-2
+enum-known-given-2 c = search needs
+
+put-lines-requires : tie.Need-put-lines-requires
+put-lines-requires c κs = search needs
+
+same-length : tie.Need-same-length
+same-length c = search needs
+
+returns : tie.Need-returns
+returns c = 
+    let p = c .before .before in
+    let x = p .before .before in
+    let k = x .before .before in
+    let a = k .before .before .before .args in
+    let w = k .given .given .0 .0 in
+    p .put-said .ensures
+    ∙ ap (λ (v : ℕ). put (lineText (a .closed) (Line.Record (a .number) v)) (a .buf .now) (a .at)) (x .refusal .ensures)
+    ∙ ap (λ (t : List ℕ). put t (a .buf .now) (a .at)) (one-is (a .closed) (Line.Record (a .number) (saysWrong w)))
+    ∙ ap (λ (v : Given). put (linesText (a .closed) (linesFor (a .number) (saysGiven v))) (a .buf .now) (a .at)) (sym (k .given .given .1))
+
+same-length-2 : tie.Need-same-length-2
+same-length-2 c = search needs
+
+returns-2 : tie.Need-returns-2
+returns-2 c = 
+    let p = c .before .before in
+    let k = p .before .before .before in
+    let a = k .before .before .before .args in
+    p .put-lines .ensures
+    ∙ ap (λ (v : Given). put (linesText (a .closed) (linesFor (a .number) (saysGiven v))) (a .buf .now) (a .at)) (sym (k .given2 .given .1))
+
+pub put-given-spec : {M : Type 1} → statement M
+put-given-spec =
+    tie.close
+    (tie.spec
+    enum-known-given
+    refusal-requires
+    put-said-requires
+    enum-known-given-2
+    put-lines-requires
+    same-length
+    returns
+    same-length-2
+    returns-2)

@@ -1,0 +1,70 @@
+-- As the checker puts it.
+-- Assumes nothing.
+use mathlib.Core.Path.{_≡_, sym, ap, _∙_}
+use mathlib.Core.List.{List, [], _∷_, _++_}
+use Prim.Native.Nat.{ℕ, _+_, _≤_}
+use native.Mathlib.Omega.{arith}
+use lib.ListN.{length, length-append}
+use Rattle.text.specs.Text.{codes}
+use Rattle.text.specs.Put.{came, put}
+use Rattle.text.proofs.Standing.{less, room-after, join, join-4}
+use Rattle.ride.specs.declared.Line.{Line}
+use Rattle.ride.specs.declared.Lines.{Lines}
+use Rattle.ride.specs.declared.trace.Given.{Given}
+use Rattle.ride.specs.Over.{linesFor}
+use Rattle.ride.specs.Says.{saysWrong, saysLines, saysGiven}
+use Rattle.listing.specs.declared.Put.{Put}
+use Rattle.listing.specs.Put.{Filled}
+use Rattle.listing.specs.Says.{saysPut}
+use Rattle.listing.specs.Text.{text}
+use Rattle.explainer.specs.Text.{reasonText}
+use Rattle.explained.specs.Text.{faultText, lineText, linesText}
+use Rattle.explained.proofs.Texts.{why-is, asPut, put-alike, numbered, fault-is, one-is, two-is, line-length, lines-short, room-as}
+use borrow.Author.Needs.{needs}
+use Rattle.explained.proofs.lines.put_plain.Statement.{statement}
+use Rattle.explained.proofs.lines.put_plain.Tie as tie
+
+put-line-requires : tie.Need-put-line-requires
+put-line-requires c κs = search needs
+
+enum-known-next : tie.Need-enum-known-next
+enum-known-next c = search needs
+
+enum-told : tie.Need-enum-told
+enum-told c = search needs
+
+same-length : tie.Need-same-length
+same-length c = search needs
+
+returns : tie.Need-returns
+returns c = 
+    let p = c .before .before .before .before .before in
+    let a = p .before .before .before .args in
+    let x = p .put-line .last .1 .0 in
+    sym (ap (λ (o : Put). asPut (a .at) (saysPut o) x) (c .before .next .given .1))
+    ∙ ap (λ (f : Filled). asPut (a .at) (f .ends) (f .buffer)) (p .put-line .ensures)
+    ∙ put-alike (a .at) (text (a .line)) (a .buf .now)
+
+same-length-2 : tie.Need-same-length-2
+same-length-2 c = search needs
+
+returns-2 : tie.Need-returns-2
+returns-2 c = 
+    let p = c .before .before .before .before in
+    let a = p .before .before .before .args in
+    let x = p .put-line .last .1 .0 in
+    sym (ap (λ (o : Put). asPut (a .at) (saysPut o) x) (c .enum-told .given .1))
+    ∙ ap (λ (f : Filled). asPut (a .at) (f .ends) (f .buffer)) (p .put-line .ensures)
+    ∙ put-alike (a .at) (text (a .line)) (a .buf .now)
+
+pub put-plain-spec : {M : Type 1} → statement M
+put-plain-spec =
+    tie.close
+    (tie.spec
+    put-line-requires
+    enum-known-next
+    enum-told
+    same-length
+    returns
+    same-length-2
+    returns-2)

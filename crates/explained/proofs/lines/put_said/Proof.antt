@@ -1,0 +1,166 @@
+-- A fault line has its reason; any other is put as the checker puts it.
+-- Assumes nothing.
+use mathlib.Core.Path.{_≡_, sym, ap, _∙_}
+use mathlib.Core.List.{List, [], _∷_, _++_}
+use Prim.Native.Nat.{ℕ, _+_, _≤_}
+use native.Mathlib.Omega.{arith}
+use lib.ListN.{length, length-append}
+use Rattle.text.specs.Text.{codes}
+use Rattle.text.specs.Put.{came, put}
+use Rattle.text.proofs.Standing.{less, room-after, join, join-4}
+use Rattle.ride.specs.declared.Line.{Line}
+use Rattle.ride.specs.declared.Lines.{Lines}
+use Rattle.ride.specs.declared.trace.Given.{Given}
+use Rattle.ride.specs.Over.{linesFor}
+use Rattle.ride.specs.Says.{saysWrong, saysLines, saysGiven}
+use Rattle.listing.specs.declared.Put.{Put}
+use Rattle.listing.specs.Put.{Filled}
+use Rattle.listing.specs.Says.{saysPut}
+use Rattle.listing.specs.Text.{text}
+use Rattle.explainer.specs.Text.{reasonText}
+use Rattle.explained.specs.Text.{faultText, lineText, linesText}
+use Rattle.explained.proofs.Texts.{why-is, asPut, put-alike, numbered, fault-is, one-is, two-is, line-length, lines-short, room-as}
+use borrow.Author.Needs.{needs}
+use Rattle.explained.proofs.lines.put_said.Statement.{statement}
+use Rattle.explained.proofs.lines.put_said.Tie as tie
+
+enum-told : tie.Need-enum-told
+enum-told c = search needs
+
+put-plain-requires : tie.Need-put-plain-requires
+put-plain-requires c κs = search needs
+
+enum-known-line : tie.Need-enum-known-line
+enum-known-line c = search needs
+
+explain-requires : tie.Need-explain-requires
+explain-requires c κs = search needs
+
+put-fault-requires : tie.Need-put-fault-requires
+unfolding lineText
+put-fault-requires c κs = 
+    let x = c .before in
+    let k = x .before .before in
+    let s = k .before .before .before in
+    let a = s .args in
+    let place = k .line .given .0 .0 in
+    let n = k .line .given .0 .1 .0 in
+    let is : faultText place n (reasonText (x .explain .result)) ≡ lineText (a .closed) (a .line) =
+    ap (faultText place n) (why-is (a .closed) (x .explain .result) (x .explain .ensures)) ∙ sym (ap (lineText (a .closed)) (k .line .given .1)) in
+    room-as (a .buf .now) (a .at) is (s .pre)
+
+enum-told-2 : tie.Need-enum-told-2
+enum-told-2 c = search needs
+
+put-plain-requires-2 : tie.Need-put-plain-requires-2
+put-plain-requires-2 c κs = search needs
+
+enum-told-3 : tie.Need-enum-told-3
+enum-told-3 c = search needs
+
+put-plain-requires-3 : tie.Need-put-plain-requires-3
+put-plain-requires-3 c κs = search needs
+
+enum-told-4 : tie.Need-enum-told-4
+enum-told-4 c = search needs
+
+put-plain-requires-4 : tie.Need-put-plain-requires-4
+put-plain-requires-4 c κs = search needs
+
+same-length : tie.Need-same-length
+same-length c = search needs
+
+returns : tie.Need-returns
+unfolding lineText
+returns c = 
+    let p = c .before .before in
+    let k = p .before .before in
+    let a = k .before .before .before .args in
+    let e = k .enum-told .given .1 in
+    p .put-plain .ensures
+    ∙ ap (λ (l : Line). put (text l) (a .buf .now) (a .at)) e
+    ∙ sym (ap (λ (l : Line). put (lineText (a .closed) l) (a .buf .now) (a .at)) e)
+
+same-length-2 : tie.Need-same-length-2
+same-length-2 c = search needs
+
+returns-2 : tie.Need-returns-2
+unfolding lineText
+returns-2 c = 
+    let p = c .before .before in
+    let x = p .before .before in
+    let k = x .before .before in
+    let a = k .before .before .before .args in
+    let place = k .line .given .0 .0 in
+    let n = k .line .given .0 .1 .0 in
+    p .put-fault .ensures
+    ∙ ap (λ (t : List ℕ). put (faultText place n t) (a .buf .now) (a .at)) (why-is (a .closed) (x .explain .result) (x .explain .ensures))
+    ∙ sym (ap (λ (l : Line). put (lineText (a .closed) l) (a .buf .now) (a .at)) (k .line .given .1))
+
+same-length-3 : tie.Need-same-length-3
+same-length-3 c = search needs
+
+returns-3 : tie.Need-returns-3
+unfolding lineText
+returns-3 c = 
+    let p = c .before .before in
+    let k = p .before .before in
+    let a = k .before .before .before .args in
+    let e = k .enum-told2 .given .1 in
+    p .put-plain2 .ensures
+    ∙ ap (λ (l : Line). put (text l) (a .buf .now) (a .at)) e
+    ∙ sym (ap (λ (l : Line). put (lineText (a .closed) l) (a .buf .now) (a .at)) e)
+
+same-length-4 : tie.Need-same-length-4
+same-length-4 c = search needs
+
+returns-4 : tie.Need-returns-4
+unfolding lineText
+returns-4 c = 
+    let p = c .before .before in
+    let k = p .before .before in
+    let a = k .before .before .before .args in
+    let e = k .enum-told3 .given .1 in
+    p .put-plain3 .ensures
+    ∙ ap (λ (l : Line). put (text l) (a .buf .now) (a .at)) e
+    ∙ sym (ap (λ (l : Line). put (lineText (a .closed) l) (a .buf .now) (a .at)) e)
+
+same-length-5 : tie.Need-same-length-5
+same-length-5 c = search needs
+
+returns-5 : tie.Need-returns-5
+unfolding lineText
+returns-5 c = 
+    let p = c .before .before in
+    let k = p .before .before in
+    let a = k .before .before .before .args in
+    let e = k .enum-told4 .given .1 in
+    p .put-plain4 .ensures
+    ∙ ap (λ (l : Line). put (text l) (a .buf .now) (a .at)) e
+    ∙ sym (ap (λ (l : Line). put (lineText (a .closed) l) (a .buf .now) (a .at)) e)
+
+pub put-said-spec : {M : Type 1} → statement M
+put-said-spec =
+    tie.close
+    (tie.spec
+    enum-told
+    put-plain-requires
+    enum-known-line
+    explain-requires
+    put-fault-requires
+    enum-told-2
+    put-plain-requires-2
+    enum-told-3
+    put-plain-requires-3
+    enum-told-4
+    put-plain-requires-4
+    same-length
+    returns
+    same-length-2
+    returns-2
+    same-length-3
+    returns-3
+    same-length-4
+    returns-4
+    same-length-5
+    returns-5)

@@ -1,0 +1,67 @@
+-- `list_under` asks the store for place 0, looks at the length, and then takes the records.
+use mathlib.Core.Path.{_≡_, ap, sym, _∙_}
+use borrow.Author.Tests.{eq-eqb, ne-eqb}
+use Rattle.settings.specs.Says.{saysAsked}
+use Rattle.settings.proofs.Holding.{held-given, store-refused}
+use Rattle.explained.proofs.Under.{under-refused, under-length, under-taken}
+use borrow.Author.Needs.{needs}
+use Rattle.explained.proofs.list_under.Statement.{statement}
+use Rattle.explained.proofs.list_under.Tie as tie
+
+at-requires : tie.Need-at-requires
+at-requires c κs = search needs
+
+enum-known-asked : tie.Need-enum-known-asked
+enum-known-asked c = search needs
+
+enum-known-asked-2 : tie.Need-enum-known-asked-2
+enum-known-asked-2 c = search needs
+
+returns : tie.Need-returns
+returns c =
+    let h = c .before .before in
+    let q = h .before .before in
+    let a = q .before .before .before .args in
+    let held = held-given (a .store) 0 _ (sym (q .at .ensures) ∙ ap saysAsked (h .asked2 .given .1)) in
+    under-length (a .ride) (a .store) (a .number) (a .trace .now) (a .out .now) (held .0) (ne-eqb _ _ (c .if1 .taken))
+
+over-requires : tie.Need-over-requires
+over-requires c κs =
+    let h = c .before .before .before in
+    let q = h .before .before in
+    let held = held-given (q .before .before .before .args .store) 0 _ (sym (q .at .ensures) ∙ ap saysAsked (h .asked2 .given .1)) in
+    (held .0, held .2)
+
+returns-2 : tie.Need-returns-2
+returns-2 c =
+    let v = c .before in
+    let q = v .before .before in
+    let a = q .before .before .before .args in
+    under-refused (a .ride) (a .store) (a .number) (a .trace .now) (a .out .now) _
+    (store-refused (a .store) _ (sym (q .at .ensures) ∙ ap saysAsked (v .asked .given .1)))
+
+same-length : tie.Need-same-length
+same-length c = search needs
+
+returns-3 : tie.Need-returns-3
+returns-3 c =
+    let o = c .before .before in
+    let e = o .before .before in
+    let h = e .before .before in
+    let q = h .before .before in
+    let a = q .before .before .before .args in
+    let held = held-given (a .store) 0 _ (sym (q .at .ensures) ∙ ap saysAsked (h .asked2 .given .1)) in
+    o .over .ensures ∙ under-taken (a .ride) (a .store) (a .number) (a .trace .now) (a .out .now) (held .0) (eq-eqb _ _ (e .if1 .left))
+
+pub list-under-spec : {M : Type 1} → statement M
+list-under-spec =
+    tie.close
+    (tie.spec
+    at-requires
+    enum-known-asked
+    enum-known-asked-2
+    returns
+    over-requires
+    returns-2
+    same-length
+    returns-3)

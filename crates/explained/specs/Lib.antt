@@ -1,0 +1,5 @@
+pub mod Text
+pub mod Told
+pub mod List
+pub mod Says
+pub mod Alike

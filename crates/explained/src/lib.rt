@@ -1,0 +1,68 @@
+// The listing of a trace with reasons: the checker's lines, each fault line with its reason after a colon.
+// Promises: the lines and the state are those of the ride; a fault line's reason is the explainer's, of the group that closed; bytes around the text stay.
+// Specification: specs/Text.antt (the words), Told.antt (a ride told), List.antt (the listing), Says.antt (the answers), Alike.antt (the checker's lines).
+ghost use mathlib.Core.Path.{_≡_};
+ghost use Rattle.text.specs.Put.{put, came};
+ghost use Rattle.explained.specs.Told.{endText};
+ghost use Rattle.explained.specs.List.{listUnder};
+ghost use Rattle.explained.specs.Says.{saysListed};
+
+mod lines;
+mod records;
+
+use ride::Ride;
+use settings::Asked;
+use settings::Bad;
+use settings::Store;
+
+// How a listing went: so many records taken and bytes written, or refused for the settings or the trace's length (16).
+pub enum Done {
+    Took { records: usize, bytes: usize },
+    Settings(Bad),
+    Length,
+}
+
+// What a listing answers: the state after it, the next record's number, and how it went.
+pub struct Listed {
+    pub ride: Ride,
+    pub number: u64,
+    pub done: Done,
+}
+
+// The text of the trace's records from `number` on, each with the gap in force at its odometer, at the start of out: as many records as
+// surely have room, 320 bytes each.
+pub fn list_under(ride: Ride, store: Store, number: u64, trace: &[u8], out: &mut [u8]) -> Listed
+    ensures { λ r. ⌜ saysListed r (now (out .exit)) ≡ listUnder ride store number (now (trace .entry)) (now (out .entry)) ⌝ }
+{
+    let asked = settings::at(store, 0);
+    match asked {
+        Asked::Refused(bad) => Listed {
+            ride,
+            number,
+            done: Done::Settings(bad),
+        },
+        Asked::InForce(held) => {
+            if trace.len() % 8 != 0 {
+                return Listed {
+                    ride,
+                    number,
+                    done: Done::Length,
+                };
+            }
+            records::over(ride, store, held, number, trace, out)
+        }
+    }
+}
+
+// The line of the end of a ride, with its reason, into buf from `at` on, and the place after it; without room buf stays as it is, and the
+// answer is `at`.
+pub fn put_end(ride: Ride, buf: &mut [u8], at: usize) -> usize
+    ensures { λ r. ⌜ came r (now (buf .exit)) ≡ put (endText ride) (now (buf .entry)) at ⌝ }
+{
+    let ended = ride::end(ride);
+    let closed = ended.closed;
+    let given = ended.lines;
+    let mut space = [0u8; 320];
+    let n = lines::put_lines(closed, given, &mut space, 0);
+    text::put(&space[..n], buf, at)
+}
