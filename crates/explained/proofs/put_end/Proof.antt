@@ -44,7 +44,7 @@ array-share-prefix-space : tie.Need-array-share-prefix-space
 array-share-prefix-space c = begins (c .before) .1
 
 slice-aggregate-put : tie.Need-slice-aggregate-put
-slice-aggregate-put c = 
+slice-aggregate-put c =
     let p = c .before .before in
     sym (length-take-le (p .put-lines .result) (p .put-lines .last .1 .1 .0) (begins p .1))
 
@@ -55,7 +55,7 @@ same-length : tie.Need-same-length
 same-length c = search needs
 
 returns : tie.Need-returns
-returns c = 
+returns c =
     let p = c .before .before in
     let q = p .before .before .before .before in
     let a = q .before .before .before .before .before .args in

@@ -31,7 +31,7 @@ refusal-requires : tie.Need-refusal-requires
 refusal-requires c κs = search needs
 
 put-said-requires : tie.Need-put-said-requires
-put-said-requires c κs = 
+put-said-requires c κs =
     let x = c .before in
     let s = c .before .before .before .before .before .before in
     let a = s .args in
@@ -49,7 +49,7 @@ same-length : tie.Need-same-length
 same-length c = search needs
 
 returns : tie.Need-returns
-returns c = 
+returns c =
     let p = c .before .before in
     let x = p .before .before in
     let k = x .before .before in
@@ -64,7 +64,7 @@ same-length-2 : tie.Need-same-length-2
 same-length-2 c = search needs
 
 returns-2 : tie.Need-returns-2
-returns-2 c = 
+returns-2 c =
     let p = c .before .before in
     let k = p .before .before .before in
     let a = k .before .before .before .args in

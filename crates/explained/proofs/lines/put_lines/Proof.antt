@@ -37,7 +37,7 @@ enum-known-lines : tie.Need-enum-known-lines
 enum-known-lines c = search needs
 
 put-said-requires : tie.Need-put-said-requires
-put-said-requires c κs = 
+put-said-requires c κs =
     let k = c .before .before in
     let s = k .before .before .before in
     let a = s .args in
@@ -48,7 +48,7 @@ enum-known-lines-2 : tie.Need-enum-known-lines-2
 enum-known-lines-2 c = search needs
 
 put-said-requires-2 : tie.Need-put-said-requires-2
-put-said-requires-2 c κs = 
+put-said-requires-2 c κs =
     let k = c .before .before in
     let s = k .before .before .before in
     let a = s .args in
@@ -56,7 +56,7 @@ put-said-requires-2 c κs =
     h
 
 put-said-requires-3 : tie.Need-put-said-requires-3
-put-said-requires-3 c κs = 
+put-said-requires-3 c κs =
     let p1 = c .before .before .before in
     let k = p1 .before .before .before in
     let s = k .before .before .before in
@@ -69,7 +69,7 @@ same-length c = search needs
 
 returns : tie.Need-returns
 unfolding linesText
-returns c = 
+returns c =
     let p = c .before .before in
     let k = p .before .before .before in
     let a = k .before .before .before .args in
@@ -79,7 +79,7 @@ same-length-2 : tie.Need-same-length-2
 same-length-2 c = search needs
 
 returns-2 : tie.Need-returns-2
-returns-2 c = 
+returns-2 c =
     let p = c .before .before in
     let k = p .before .before .before in
     let a = k .before .before .before .args in
@@ -91,7 +91,7 @@ same-length-3 : tie.Need-same-length-3
 same-length-3 c = search needs
 
 returns-3 : tie.Need-returns-3
-returns-3 c = 
+returns-3 c =
     let p2 = c .before .before in
     let p1 = p2 .before .before .before .before in
     let k = p1 .before .before .before in

@@ -38,7 +38,7 @@ explain-requires c κs = search needs
 
 put-fault-requires : tie.Need-put-fault-requires
 unfolding lineText
-put-fault-requires c κs = 
+put-fault-requires c κs =
     let x = c .before in
     let k = x .before .before in
     let s = k .before .before .before in
@@ -72,7 +72,7 @@ same-length c = search needs
 
 returns : tie.Need-returns
 unfolding lineText
-returns c = 
+returns c =
     let p = c .before .before in
     let k = p .before .before in
     let a = k .before .before .before .args in
@@ -86,7 +86,7 @@ same-length-2 c = search needs
 
 returns-2 : tie.Need-returns-2
 unfolding lineText
-returns-2 c = 
+returns-2 c =
     let p = c .before .before in
     let x = p .before .before in
     let k = x .before .before in
@@ -102,7 +102,7 @@ same-length-3 c = search needs
 
 returns-3 : tie.Need-returns-3
 unfolding lineText
-returns-3 c = 
+returns-3 c =
     let p = c .before .before in
     let k = p .before .before in
     let a = k .before .before .before .args in
@@ -116,7 +116,7 @@ same-length-4 c = search needs
 
 returns-4 : tie.Need-returns-4
 unfolding lineText
-returns-4 c = 
+returns-4 c =
     let p = c .before .before in
     let k = p .before .before in
     let a = k .before .before .before .args in
@@ -130,7 +130,7 @@ same-length-5 c = search needs
 
 returns-5 : tie.Need-returns-5
 unfolding lineText
-returns-5 c = 
+returns-5 c =
     let p = c .before .before in
     let k = p .before .before in
     let a = k .before .before .before .args in
