@@ -1,11 +1,11 @@
 -- The listing record by record: from each record on it comes to the same.
 -- Assumes nothing.
-use Prim.Native.Nat.{ℕ, zero, suc, _+_, _-_, _*_, _/_, _≤_, _<_}
+use Prim.Native.Nat.{ℕ, suc, _+_, _-_, _*_, _/_, _≤_, _<_}
 use native.Mathlib.Omega.{arith}
 use native.Mathlib.Nat.{add-zero, zero-add, sub-zero}
 use mathlib.Core.Path.{_≡_, refl, ap, sym, _∙_}
 use mathlib.Core.Bool.{Bool, true, false, _&&_}
-use mathlib.Core.List.{List, [], _∷_, _++_}
+use mathlib.Core.List.{List, _∷_, _++_}
 use lib.Dec.{ltb}
 use lib.ListN.{length, take, drop, length-append}
 use lib.Seq.{drop-drop}
@@ -18,7 +18,7 @@ use Rattle.ride.specs.Record.{odometerOf}
 use Rattle.ride.specs.Step.{Step, treat}
 use Rattle.ride.specs.Over.{firstRecords, records}
 use Rattle.explained.specs.Told.{stepText, Told, tellOver}
-use Rattle.explained.specs.List.{isTaken, taken, Taken, Listing, listOf}
+use Rattle.explained.specs.List.{isTaken, taken, Listing, listOf}
 
 abbrev pub listing : ℕ → ℕ → Ride → ℕ → List ℕ → Listing
 listing n bytes ride number out = record { answer = gives (record { records = n; bytes = bytes }); ride = ride; number = number; out = out }

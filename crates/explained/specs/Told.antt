@@ -4,7 +4,7 @@ use Prim.Native.Nat.{ℕ, suc}
 use mathlib.Core.List.{List, [], _∷_, _++_}
 use Rattle.ride.specs.declared.Ride.{Ride}
 use Rattle.ride.specs.Record.{odometerOf}
-use Rattle.ride.specs.Step.{Step, treat, End, end}
+use Rattle.ride.specs.Step.{Step, treat, end}
 use Rattle.ride.specs.Over.{linesFor}
 use Rattle.explained.specs.Text.{linesText}
 

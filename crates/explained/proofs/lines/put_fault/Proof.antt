@@ -1,25 +1,13 @@
 -- The place, the number, the colon, the reason and the newline, one after the other.
 -- Assumes nothing.
-use mathlib.Core.Path.{_≡_, sym, ap, _∙_}
-use mathlib.Core.List.{List, [], _∷_, _++_}
-use Prim.Native.Nat.{ℕ, _+_, _≤_}
-use native.Mathlib.Omega.{arith}
-use lib.ListN.{length, length-append}
+use mathlib.Core.Path.{ap, _∙_}
+use mathlib.Core.List.{List, _++_}
+use Prim.Native.Nat.{ℕ}
 use Rattle.text.specs.Text.{codes}
-use Rattle.text.specs.Put.{came, put}
-use Rattle.text.proofs.Standing.{less, room-after, join, join-4}
-use Rattle.ride.specs.declared.Line.{Line}
-use Rattle.ride.specs.declared.Lines.{Lines}
-use Rattle.ride.specs.declared.trace.Given.{Given}
-use Rattle.ride.specs.Over.{linesFor}
-use Rattle.ride.specs.Says.{saysWrong, saysLines, saysGiven}
-use Rattle.listing.specs.declared.Put.{Put}
-use Rattle.listing.specs.Put.{Filled}
-use Rattle.listing.specs.Says.{saysPut}
-use Rattle.listing.specs.Text.{text}
+use Rattle.text.specs.Put.{put}
+use Rattle.text.proofs.Standing.{less, join, join-4}
 use Rattle.explainer.specs.Text.{reasonText}
-use Rattle.explained.specs.Text.{faultText, lineText, linesText}
-use Rattle.explained.proofs.Texts.{why-is, asPut, put-alike, numbered, fault-is, one-is, two-is, line-length, lines-short, room-as}
+use Rattle.explained.proofs.Texts.{numbered, fault-is, room-as}
 use borrow.Author.Needs.{needs}
 use Rattle.explained.proofs.lines.put_fault.Statement.{statement}
 use Rattle.explained.proofs.lines.put_fault.Tie as tie

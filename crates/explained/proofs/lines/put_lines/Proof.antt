@@ -1,25 +1,16 @@
 -- One line after the other.
 -- Assumes nothing.
-use mathlib.Core.Path.{_≡_, sym, ap, _∙_}
-use mathlib.Core.List.{List, [], _∷_, _++_}
+use mathlib.Core.Path.{sym, ap, _∙_}
+use mathlib.Core.List.{List}
 use Prim.Native.Nat.{ℕ, _+_, _≤_}
 use native.Mathlib.Omega.{arith}
-use lib.ListN.{length, length-append}
-use Rattle.text.specs.Text.{codes}
-use Rattle.text.specs.Put.{came, put}
-use Rattle.text.proofs.Standing.{less, room-after, join, join-4}
-use Rattle.ride.specs.declared.Line.{Line}
+use lib.ListN.{length}
+use Rattle.text.specs.Put.{put}
+use Rattle.text.proofs.Standing.{room-after, join}
 use Rattle.ride.specs.declared.Lines.{Lines}
-use Rattle.ride.specs.declared.trace.Given.{Given}
-use Rattle.ride.specs.Over.{linesFor}
-use Rattle.ride.specs.Says.{saysWrong, saysLines, saysGiven}
-use Rattle.listing.specs.declared.Put.{Put}
-use Rattle.listing.specs.Put.{Filled}
-use Rattle.listing.specs.Says.{saysPut}
-use Rattle.listing.specs.Text.{text}
-use Rattle.explainer.specs.Text.{reasonText}
-use Rattle.explained.specs.Text.{faultText, lineText, linesText}
-use Rattle.explained.proofs.Texts.{why-is, asPut, put-alike, numbered, fault-is, one-is, two-is, line-length, two-fit, room-as}
+use Rattle.ride.specs.Says.{saysLines}
+use Rattle.explained.specs.Text.{lineText, linesText}
+use Rattle.explained.proofs.Texts.{one-is, two-is, line-length, two-fit}
 use borrow.Author.Needs.{needs}
 use Rattle.explained.proofs.lines.put_lines.Statement.{statement}
 use Rattle.explained.proofs.lines.put_lines.Tie as tie

@@ -1,0 +1,110 @@
+// The records of the cards, block by block: in through `list_under`, out to standard output.
+ghost use mathlib.Core.Path.{_≡_};
+ghost use lib.ListN.{length};
+use cards::How;
+use explained::Done;
+use libc::STDOUT_FILENO;
+use listing::Put;
+use ride::Line;
+use ride::Ride;
+use settings::Store;
+
+// Room for the lines of a block: 320 bytes for each of its records.
+pub fn room() -> [u8; 2621440]
+    ensures { λ r. ⌜ 2621440 ≡ length r ⌝ }
+{
+    [0; 2621440]
+}
+
+// Where the ride stands: the state, the next record's number, and whether all reads and writes so far succeeded.
+pub struct Stand {
+    ride: Ride,
+    number: u64,
+    is_good: bool,
+}
+
+// Writes a line.
+pub fn write_line(line: Line) -> bool {
+    let mut out = [0u8; 64];
+    let Put::Next(n) = listing::put_line(line, &mut out, 0) else {
+        return false;
+    };
+    io::write_all(STDOUT_FILENO, &out[..n])
+}
+
+// Lists the records and writes their lines. Where out has 320 bytes for each of them, one call of `list_under` takes them all.
+fn write_records(from: Stand, store: Store, records: &[u8], out: &mut [u8]) -> Stand {
+    let ride = from.ride;
+    let listed = explained::list_under(ride, store, from.number, records, out);
+    let done = listed.done;
+    let after = listed.ride;
+    let number = listed.number;
+    let Done::Took {
+        records: count,
+        bytes,
+    } = done
+    else {
+        return Stand {
+            ride: after,
+            number,
+            is_good: false,
+        };
+    };
+    let is_written = io::write_all(STDOUT_FILENO, &out[..bytes]);
+    Stand {
+        ride: after,
+        number,
+        is_good: is_written & (count * 8 == records.len()),
+    }
+}
+
+// Writes the line of a group that the end of the ride closes, with its reason.
+fn write_end(ride: Ride) {
+    let mut out = [0u8; 320];
+    let n = explained::put_end(ride, &mut out, 0);
+    if n <= out.len() {
+        io::write_all(STDOUT_FILENO, &out[..n]);
+    }
+}
+
+// What comes after the last block: the end's line where all cards were read, and nothing after a card that cannot be opened any more or a read that failed.
+fn finish(how: How, stand: Stand) {
+    match how {
+        How::End => {
+            let ride = stand.ride;
+            write_end(ride);
+        }
+        How::More => {}
+        How::CannotOpen(_) => {}
+        How::CannotRead(_) => {}
+        How::NoRoom => {}
+    }
+}
+
+// The lines of all records of the cards, whose lengths were kept, as one ride, and of its end. A proved loop has to end, and nothing says that
+// a file does: so it counts its turns down from a number that no run uses up.
+pub fn list_cards(store: Store, first: usize, lengths: &[u64], block: &mut [u8], out: &mut [u8]) {
+    let ride = ride::fresh();
+    let mut stand = Stand {
+        ride,
+        number: 1,
+        is_good: true,
+    };
+    let mut pass = cards::begin(first);
+    let mut turns = u64::MAX;
+    while turns > 0 {
+        let got = cards::next_block(pass, lengths, block);
+        let read = got.read;
+        stand = write_records(stand, store, &block[..read], out);
+        if !stand.is_good {
+            return;
+        }
+        let how = got.how;
+        let How::More = how else {
+            finish(how, stand);
+            return;
+        };
+        pass = got.pass;
+        turns -= 1;
+    }
+}
