@@ -23,13 +23,21 @@ pub struct Stand {
     is_good: bool,
 }
 
+// Writes the first bytes of a buffer.
+fn write(out: &[u8], count: usize) -> bool {
+    if count > out.len() {
+        return false;
+    }
+    io::write_all(STDOUT_FILENO, &out[..count])
+}
+
 // Writes a line.
 pub fn write_line(line: Line) -> bool {
     let mut out = [0u8; 64];
     let Put::Next(n) = listing::put_line(line, &mut out, 0) else {
         return false;
     };
-    io::write_all(STDOUT_FILENO, &out[..n])
+    write(&out, n)
 }
 
 // Lists the records and writes their lines. Where out has 320 bytes for each of them, one call of `list_under` takes them all.
@@ -50,11 +58,11 @@ fn write_records(from: Stand, store: Store, records: &[u8], out: &mut [u8]) -> S
             is_good: false,
         };
     };
-    let is_written = io::write_all(STDOUT_FILENO, &out[..bytes]);
+    let is_written = write(out, bytes);
     Stand {
         ride: after,
         number,
-        is_good: is_written & (count * 8 == records.len()),
+        is_good: is_written & (count == records.len() / 8),
     }
 }
 
@@ -62,9 +70,7 @@ fn write_records(from: Stand, store: Store, records: &[u8], out: &mut [u8]) -> S
 fn write_end(ride: Ride) {
     let mut out = [0u8; 320];
     let n = explained::put_end(ride, &mut out, 0);
-    if n <= out.len() {
-        io::write_all(STDOUT_FILENO, &out[..n]);
-    }
+    write(&out, n);
 }
 
 // What comes after the last block: the end's line where all cards were read, and nothing after a card that cannot be opened any more or a read that failed.

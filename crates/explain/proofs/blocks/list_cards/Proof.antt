@@ -14,10 +14,10 @@ abbrev same : List ℕ → List ℕ → Type 0
 same now before = length now ≡ length before
 
 abbrev Inv-loop : tie.InvT-loop
-Inv-loop lengths block₀ out₀ stand₀ pass₀ turns₀ block out stand pass turns = same block block₀ × same out out₀
+Inv-loop store first lengths block₀ out₀ stand₀ pass₀ turns₀ block out stand pass turns = same block block₀ × same out out₀
 
 abbrev μ-loop : tie.MeasureT-loop
-μ-loop lengths block₀ out₀ stand₀ pass₀ turns₀ block out stand pass turns = turns
+μ-loop store first lengths block₀ out₀ stand₀ pass₀ turns₀ block out stand pass turns = turns
 
 fresh-requires : tie.Need-fresh-requires Inv-loop μ-loop
 fresh-requires c κs = tt
@@ -48,11 +48,11 @@ write-records-requires c κs = tt
 kept : (c : tie.After-write-records Inv-loop μ-loop) →
     let n = c .before .before .before .before .before in
     let a = n .before .before .before .before .before .before .before .before .before .args in
-    same (n .next-block .last .1 .1 .0) (a .block .now) × same (c .write-records .last .1 .1 .0) (a .out .now)
+    same (n .next-block .last .1 .1 .0) (a .block .now) × same (c .write-records .last .1 .1 .1 .0) (a .out .now)
 kept c =
     let n = c .before .before .before .before .before in
     let l = n .before .before .before in
-    (n .next-block .kept .1 .1 .0 ∙ l .loop .inv .0, c .write-records .kept .1 .1 .0 ∙ l .loop .inv .1)
+    (n .next-block .kept .1 .1 .0 ∙ l .loop .inv .0, c .write-records .kept .1 .1 .1 .0 ∙ l .loop .inv .1)
 
 same-length : tie.Need-same-length Inv-loop μ-loop
 same-length c = kept (c .before .before .before .before) .0
