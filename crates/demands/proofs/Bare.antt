@@ -7,7 +7,7 @@ use Rattle.words.specs.Says.{saysShortRead, saysShortWritten, saysLongRead, say
 use Rattle.telegram.specs.Says.{saysPair, saysTelegramRead, saysFound, saysSurveyed}
 use Rattle.writer.specs.Write.{Writing, write}
 use Rattle.writer.specs.Says.{saysAnswer}
-use Rattle.contact.specs.Says.{saysBegun, saysNext, saysJudged}
+use Rattle.contact.specs.Says.{saysBegun, saysNext, saysJudged, saysJudgedUnder}
 use Rattle.walk.specs.Fitting.{saysFitted}
 use Rattle.group.specs.Says.{saysMeasured, saysJudged as saysGroup}
 use Rattle.ride.specs.Says.{saysChecked, saysReport, saysReply, saysWay}
@@ -17,6 +17,8 @@ use Rattle.listing.specs.Text.{text}
 use Rattle.listing.specs.Put.{Filled, put}
 use Rattle.listing.specs.List.{Listing, list}
 use Rattle.listing.specs.Says.{saysDone}
+use Rattle.settings.specs.Says.{saysVerdict, saysAsked}
+use Rattle.settings.proofs.Determined as settings-are
 use Rattle.words.proofs.Told.{told}
 use Rattle.words.proofs.Determined as words-are
 use Rattle.telegram.proofs.Determined as telegram-is
@@ -36,6 +38,7 @@ use Rattle.demands.proofs.Compacting.{compact-untouched, under-untouche
 use Rattle.compaction.specs.Says.{saysSize}
 use Rattle.compaction.specs.Compact.{Compaction, compact, compactUnder, Settling, blockUnder}
 use Rattle.compaction.proofs.Determined as compaction-is
+use Rattle.demands.proofs.Stores.{stores-untouched}
 
 pub untouched : Untouched
 untouched = record {
@@ -94,4 +97,8 @@ untouched = record {
   way = λ n r r′ p q. told saysWay ride-is.wayOf ride-is.way-back r r′ p q;
   done = λ n r r′ p q. told saysDone listing-is.doneOf listing-is.done-back r r′ p q;
   size = λ n r r′ p q. told saysSize compaction-is.sizeOf compaction-is.size-back r r′ p q;
+  store = λ n r r′ p q. told saysVerdict settings-are.verdictOf settings-are.verdict-back r r′ p q;
+  asked = λ n r r′ p q. told saysAsked settings-are.askedOf settings-are.asked-back r r′ p q;
+  judged-under = λ n r r′ p q. told saysJudgedUnder contact-is.judgedUnderOf contact-is.judged-under-back r r′ p q;
+  stores = stores-untouched;
 }

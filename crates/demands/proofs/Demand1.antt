@@ -24,6 +24,7 @@ use Rattle.demands.proofs.Rides.{checking, stepping, running}
 use Rattle.demands.proofs.Treats.{treated-is, treating}
 use Rattle.demands.proofs.Listings.{listing}
 use Rattle.demands.proofs.Compacting.{compacting}
+use Rattle.demands.proofs.Stores.{stores-decided}
 
 pub demand1 : Demand1
 demand1 = record {
@@ -54,4 +55,5 @@ demand1 = record {
   compact = λ ride gap before r after c.
       let e = ap (λ (x : Compaction). x .answer) (c .5 ∙ ap (compact ride gap) (c .3)) in
       rw e (compacting ride gap before);
+  stores = stores-decided;
 }

@@ -22,6 +22,7 @@ pub mod Compacting
 pub mod Writes
 pub mod Bare
 pub mod Spelled
+pub mod Stores
 pub mod Demand1
 pub mod Cases
 pub mod RoutePresent
@@ -60,3 +61,4 @@ pub mod MarksMet
 pub mod RidesMet
 pub mod NumbersMet
 pub mod SectionsMet
+pub mod SectionsUnder

@@ -4,7 +4,8 @@
 -- The first sentence is the record `Demand1`, the second the record `Untouched`. The conditions are specs/Table.antt, the
 -- lists specs/Lists.antt, what the contracts allow is specs/Contracts.antt. That every call ends is the kit's own check of each function, and no theorem here. The
 -- functions without a list give no number: `fresh`, `speed` and `end` always answer; `put_line` says that a line has no room, for which
--- document 01 has no number; `telegram::inside` says whether row 5's condition does not hold, and `ride::allowed` whether row 19's does not. For the
+-- document 01 has no number; `telegram::inside` says whether row 5's condition does not hold, and `settings::allowed` whether row 19's does not; what M-111 added without
+-- a number is named in specs/Stores.antt. For the
 -- face for C (crates/abi) crates/face says the same.
 -- Assumes nothing.
 use Prim.Native.Nat.{ℕ, _+_, _*_}
@@ -27,10 +28,11 @@ use Rattle.telegram.specs.declared.Pair.{Pair}
 use Rattle.telegram.specs.declared.TelegramRead.{TelegramRead}
 use Rattle.telegram.specs.declared.Found.{Found}
 use Rattle.telegram.specs.declared.Surveyed.{Surveyed}
+use Rattle.settings.specs.Says.{saysVerdict, saysAsked}
 use Rattle.writer.specs.Says.{saysAnswer}
 use Rattle.writer.specs.declared.Written.{Written}
 use Rattle.contact.specs.Contacts.{fromStart}
-use Rattle.contact.specs.Says.{saysBegun, saysNext, saysJudged}
+use Rattle.contact.specs.Says.{saysBegun, saysNext, saysJudged, saysJudgedUnder}
 use Rattle.contact.specs.declared.Search.{Search}
 use Rattle.contact.specs.declared.Begun.{Begun}
 use Rattle.contact.specs.declared.Next.{Next}
@@ -70,6 +72,7 @@ use Rattle.demands.specs.Contracts.{ReadShort, WriteShort, ReadLong, Wri
 use Rattle.demands.specs.Compacting.{CompactIn, CompactUnder, BlockUnder}
 use Rattle.demands.specs.Lists.{telegramRules, findRules, surveyRules, writeRules, nextRules, judgeRules, groupRules, recordRules, stepRules, runRules, findReads, surveyReads, JudgeReads, NextReads}
 use Rattle.demands.specs.Steps.{OneStep, LeavesBehind}
+use Rattle.demands.specs.Stores.{StoresDecided, StoresUntouched}
 
 -- A refusal carries no figure: two answers with the same refusal are the same answer, whatever was asked. A refusal is a number; that of a
 -- word is its number and its parity, that of a telegram these and the letter of its first bad word.
@@ -112,6 +115,8 @@ pub record Demand1 : Type 0 where
       → Decided Given (runRules gap trace) (saysDone (r .done))
   pub compact : (ride : Ride) (gap : ℕ) (before : List ℕ) (r : Compacted) (after : List ℕ) → CompactIn ride gap before r after
       → Decided Given (runRules gap before) (saysSize (r .size))
+  -- the functions that make a store of settings or take one
+  pub stores : StoresDecided
 
 -- "A refusal hands out no figure, and lent memory and state stay untouched unless the table says otherwise."
 -- Of the libraries only `listing`, `writer` and `compaction` are lent memory that they may write; a search is given by value, and a refusal of `next_contact` gives
@@ -178,3 +183,8 @@ pub record Untouched : Type 0 where
   pub way : Bare saysWay
   pub done : Bare saysDone
   pub size : Bare saysSize
+  pub store : Bare saysVerdict
+  pub asked : Bare saysAsked
+  pub judged-under : Bare saysJudgedUnder
+  -- the functions that make a store of settings or take one
+  pub stores : StoresUntouched

@@ -5,12 +5,14 @@ pub mod Contracts
 pub mod Compacting
 pub mod Steps
 pub mod Lists
+pub mod Stores
 pub mod Demand1
 pub mod Cases
 pub mod RowCases
 pub mod Ride
 pub mod Output
 pub mod Sections
+pub mod SectionsUnder
 pub mod Calls
 pub mod Said
 pub mod Demand2

@@ -2,9 +2,9 @@
 -- condition stands alone, and names no number.
 -- Assumes nothing.
 use Prim.Native.Nat.{ℕ, _+_, _*_}
-use mathlib.Core.Bool.{Bool, false, _||_}
+use mathlib.Core.Bool.{Bool, false, not, _||_}
 use mathlib.Core.List.{List}
-use lib.Dec.{eqb, ltb}
+use lib.Dec.{eqb, leb, ltb}
 use lib.ListN.{length}
 use Rattle.words.specs.Answer.{pick}
 use Rattle.demands.specs.Table.{above}
@@ -24,3 +24,22 @@ badCount n = ltb n 2 || ltb 1000 n
 -- 21: "a short buffer": "4n + 1 bytes" have no room in it
 unfoldable pub shortBuffer : ℕ → List ℕ → Bool
 shortBuffer n out = ltb (length out) (4 * n + 1)
+
+-- 18: "a place above 4,000,000,000, added or asked"
+unfoldable pub tooHigh : ℕ → Bool
+tooHigh place = ltb 4000000000 place
+
+-- 24: "an added place not above the last"
+unfoldable pub notAbove : ℕ → ℕ → Bool
+notAbove last place = leb place last
+
+-- 24, of a lent store: its first version is not at place 0
+unfoldable pub startsLate : ℕ → Bool
+startsLate place = not (eqb place 0)
+
+-- 25: "a 33rd version", added to a store of so many; and of a lent store, which has more than 32
+unfoldable pub full : ℕ → Bool
+full count = not (ltb count 32)
+
+unfoldable pub overfull : ℕ → Bool
+overfull count = ltb 32 count

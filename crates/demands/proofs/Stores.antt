@@ -1,0 +1,261 @@
+-- Demand 1 holds of the functions that make a store or take one: a store's judgement goes through its versions as the rules do.
+-- Assumes nothing.
+use Prim.Native.Nat.{ℕ, _%_}
+use mathlib.Core.Path.{_≡_, refl, sym, ap, ap₂, subst, _∙_}
+use mathlib.Core.Bool.{Bool, true, false, not}
+use mathlib.Core.List.{List, [], _∷_}
+use lib.Dec.{eqb, leb, ltb}
+use lib.ListN.{length, take}
+use Rattle.words.specs.Answer.{Outcome, gives, refuses, then, pick}
+use Rattle.telegram.specs.Sync.{Good, good, isGood, pairOf}
+use Rattle.settings.specs.declared.Version.{Version}
+use Rattle.settings.specs.declared.Store.{Store}
+use Rattle.settings.specs.declared.Held.{Held}
+use Rattle.settings.specs.Versions.{allowed, highest, Kept, kept, settingsOf, follows}
+use Rattle.settings.specs.Store.{noStore, versionsOf, firstOf, Change, openedIf, begun, allFollow, inOrder, judged, lastPlace, mayAdd, addedIf, added}
+use Rattle.settings.specs.At.{heldAt, gapAt, asked}
+use Rattle.contact.specs.Judge.{Contact, judged as judgedContact}
+use Rattle.contact.specs.Under.{judgedUnder}
+use Rattle.ride.specs.declared.Ride.{Ride}
+use Rattle.ride.specs.Over.{records, rideOver, through, Run}
+use Rattle.ride.specs.Under.{judgedFirst, runUnder}
+use Rattle.listing.specs.List.{Listing, listOf, listTaken, unlisted}
+use Rattle.listing.specs.Under.{judgedFirst as judgedFirstOf, listUnder}
+use Rattle.demands.specs.Table.{notSeven, badLength, badGap}
+use Rattle.demands.specs.Table02.{tooHigh, notAbove, startsLate, full, overfull}
+use Rattle.demands.specs.Rules.{Rule, row, Decided, Given, Is}
+use Rattle.demands.specs.Lists.{judgeRules, JudgeReads}
+use Rattle.demands.specs.Stores.{settingsRules, versionRules, laterRules, orderRules, storeRules, StoresDecided, StoresUntouched}
+use Rattle.demands.proofs.Rules.{true-not-false, if-so, if-not}
+use Rattle.demands.proofs.Contacts.{judging}
+use Rattle.demands.proofs.Rides.{gives-not}
+use Rattle.demands.proofs.Spelled.{bad-gap}
+
+-- ---- one test after the other
+
+module _ {A : Type 0} (Reading : Outcome A → Type 0) (rules : List (Rule (Outcome A))) where
+  -- what follows where the test asks for a refusal, and where it asks for what goes on
+  refuse-so : (n : ℕ) (o : Outcome Kept) (next : Kept → Outcome A) (b : Bool) → Decided Reading rules (then o next)
+      → Decided Reading (row n b ∷ rules) (then (pick b (refuses n) o) next)
+  refuse-so n o next true rest = (λ e. refl, λ e. absurd (true-not-false e))
+  refuse-so n o next false rest = (λ e. absurd (true-not-false (sym e)), λ e. rest)
+
+  refuse-not : (n : ℕ) (o : Outcome Kept) (next : Kept → Outcome A) (b : Bool) → Decided Reading rules (then o next)
+      → Decided Reading (row n (not b) ∷ rules) (then (pick b o (refuses n)) next)
+  refuse-not n o next true rest = (λ e. absurd (true-not-false (sym e)), λ e. rest)
+  refuse-not n o next false rest = (λ e. refl, λ e. absurd (true-not-false e))
+
+  pair-so : (next : Kept → Outcome A) (gap : ℕ) (b c : Bool) → Decided Reading rules (next kept)
+      → Decided Reading (row 4 (not b) ∷ row 19 (not c) ∷ rules)
+      (then (then (pick {A = Outcome Good} b (gives good) (refuses 4)) λ g. pick {A = Outcome Kept} c (gives kept) (refuses 19)) next)
+  pair-so next gap true true rest = (λ e. absurd (true-not-false (sym e)), λ e. (λ f. absurd (true-not-false (sym f)), λ f. rest))
+  pair-so next gap true false rest = (λ e. absurd (true-not-false (sym e)), λ e. (λ f. refl, λ f. absurd (true-not-false f)))
+  pair-so next gap false c rest = (λ e. refl, λ e. absurd (true-not-false e))
+
+  settings-so : (v : Version) (next : Kept → Outcome A) → Decided Reading rules (next kept)
+      → Decided Reading (settingsRules v rules) (then (settingsOf (v .gap) (v .s) (v .t)) next)
+  unfolding settingsOf pairOf notSeven isGood
+  settings-so v next rest =
+      subst (λ (b : Bool). Decided Reading (row 4 (notSeven (v .s) (v .t)) ∷ row 19 b ∷ rules) (then (settingsOf (v .gap) (v .s) (v .t)) next)) (sym (bad-gap (v .gap)))
+      (pair-so next (v .gap) (isGood (v .s) (v .t)) (allowed (v .gap)) rest)
+
+-- ---- a version, some versions, a store
+
+then-then : {A : Type 0} (o : Outcome Kept) (f : Kept → Outcome Kept) (g : Kept → Outcome A) → then (then o f) g ≡ then o (λ k. then (f k) g)
+then-then (gives k) f g = refl
+then-then (refuses n) f g = refl
+
+version-so : {A : Type 0} (Reading : Outcome A → Type 0) (next : Kept → Outcome A) (rules : List (Rule (Outcome A))) (last : ℕ) (v : Version)
+    → Decided Reading rules (next kept) → Decided Reading (versionRules last v rules) (then (follows last v) next)
+unfolding follows tooHigh notAbove
+version-so Reading next rules last v rest =
+    let place : Outcome Kept = pick {A = Outcome Kept} (ltb highest (v .place)) (refuses 18) (pick (leb (v .place) last) (refuses 24) (gives kept)) in
+    subst (λ o. Decided Reading (versionRules last v rules) o) (sym (then-then (settingsOf (v .gap) (v .s) (v .t)) (λ k. place) next))
+    (settings-so Reading (row 18 (tooHigh (v .place)) ∷ row 24 (notAbove last (v .place)) ∷ rules) v (λ k. then place next)
+    (refuse-so Reading (row 24 (notAbove last (v .place)) ∷ rules) 18 (pick (leb (v .place) last) (refuses 24) (gives kept)) next (ltb highest (v .place))
+    (refuse-so Reading rules 24 (gives kept) next (leb (v .place) last) rest)))
+
+later-so : {A : Type 0} (Reading : Outcome A → Type 0) (next : Kept → Outcome A) (rules : List (Rule (Outcome A))) (last : ℕ) (vs : List Version)
+    → Decided Reading rules (next kept) → Decided Reading (laterRules last vs rules) (then (allFollow last vs) next)
+unfolding allFollow
+later-so Reading next rules last [] rest = rest
+later-so Reading next rules last (v ∷ vs) rest =
+    subst (λ o. Decided Reading (versionRules last v (laterRules (v .place) vs rules)) o) (sym (then-then (follows last v) (λ k. allFollow (v .place) vs) next))
+    (version-so Reading (λ k. then (allFollow (v .place) vs) next) (laterRules (v .place) vs rules) last v (later-so Reading next rules (v .place) vs rest))
+
+order-so : {A : Type 0} (Reading : Outcome A → Type 0) (next : Kept → Outcome A) (rules : List (Rule (Outcome A))) (vs : List Version)
+    → Decided Reading rules (next kept) → Decided Reading (orderRules vs rules) (then (inOrder vs) next)
+unfolding inOrder startsLate
+order-so Reading next rules [] rest = (λ e. refl, λ e. absurd (true-not-false e))
+order-so Reading next rules (v ∷ vs) rest =
+    refuse-not Reading (settingsRules v (laterRules 0 vs rules)) 24 (then (settingsOf (v .gap) (v .s) (v .t)) λ k. allFollow 0 vs) next (eqb (v .place) 0)
+    (subst (λ o. Decided Reading (settingsRules v (laterRules 0 vs rules)) o) (sym (then-then (settingsOf (v .gap) (v .s) (v .t)) (λ k. allFollow 0 vs) next))
+    (settings-so Reading (laterRules 0 vs rules) v (λ k. then (allFollow 0 vs) next) (later-so Reading next rules 0 vs rest)))
+
+-- A lent store is judged first.
+store-so : {A : Type 0} (Reading : Outcome A → Type 0) (next : Kept → Outcome A) (rules : List (Rule (Outcome A))) (store : Store)
+    → Decided Reading rules (next kept) → Decided Reading (storeRules store rules) (then (judged store) next)
+unfolding judged versionsOf overfull
+store-so Reading next rules store rest =
+    refuse-so Reading (orderRules (take (store .count) (store .versions)) rules) 25 (inOrder (take (store .count) (store .versions))) next (ltb 32 (store .count))
+    (order-so Reading next rules (take (store .count) (store .versions)) rest)
+
+-- ---- each function
+
+no-more : (o : Outcome Kept) → then o (λ k. gives kept) ≡ o
+no-more (gives kept) = refl
+no-more (refuses n) = refl
+
+begin-so : (gap s t : ℕ) → Decided (Is kept) (settingsRules (firstOf gap s t) []) (settingsOf gap s t)
+begin-so gap s t =
+    subst (λ (o : Outcome Kept). Decided (Is kept) (settingsRules (firstOf gap s t) []) o) (no-more (settingsOf gap s t))
+    (settings-so (Is kept) [] (firstOf gap s t) (λ k. gives kept) refl)
+
+add-so : (store : Store) (v : Version) → Decided (Is kept) (storeRules store (versionRules (lastPlace store) v (row 25 (full (store .count)) ∷ []))) (mayAdd store v)
+unfolding mayAdd full
+add-so store v =
+    store-so (Is kept) (λ k. then (follows (lastPlace store) v) λ j. pick (ltb (store .count) 32) (gives kept) (refuses 25))
+    (versionRules (lastPlace store) v (row 25 (full (store .count)) ∷ [])) store
+    (version-so (Is kept) (λ j. pick (ltb (store .count) 32) (gives kept) (refuses 25)) (row 25 (full (store .count)) ∷ []) (lastPlace store) v
+    (if-not (Is kept) [] (refuses 25) (gives kept) refl (ltb (store .count) 32)))
+
+at-so : (store : Store) (place : ℕ) → Decided (Is (heldAt store place)) (storeRules store (row 18 (tooHigh place) ∷ [])) (asked store place)
+unfolding asked tooHigh
+at-so store place =
+    store-so (Is (heldAt store place)) (λ k. pick (ltb highest place) (refuses 18) (gives (heldAt store place))) (row 18 (tooHigh place) ∷ []) store
+    (if-so (Is (heldAt store place)) [] (refuses 18) (gives (heldAt store place)) refl (ltb highest place))
+
+asked-then : (o : Outcome Kept) (b : Bool) (h : Held) (f : Held → Outcome Contact)
+    → then (then o λ k. pick {A = Outcome Held} b (refuses 18) (gives h)) f ≡ then o (λ k. pick {A = Outcome Contact} b (refuses 18) (f h))
+asked-then (gives k) true h f = refl
+asked-then (gives k) false h f = refl
+asked-then (refuses n) b h f = refl
+
+judge-so : (store : Store) (odometer : ℕ) (b : List ℕ) (start len : ℕ)
+    → Decided (JudgeReads b start len (heldAt store odometer .s) (heldAt store odometer .t))
+    (storeRules store (row 18 (tooHigh odometer) ∷ judgeRules b start len (heldAt store odometer .s) (heldAt store odometer .t)))
+    (judgedUnder store odometer b start len)
+unfolding judgedUnder asked tooHigh
+judge-so store odometer b start len =
+    let h : Held = heldAt store odometer in
+    let read : Held → Outcome Contact = λ held. judgedContact b start len (held .s) (held .t) in
+    subst
+    (λ (o : Outcome Contact). Decided (JudgeReads b start len (h .s) (h .t)) (storeRules store (row 18 (tooHigh odometer) ∷ judgeRules b start len (h .s) (h .t))) o)
+    (sym (asked-then (judged store) (ltb highest odometer) h read))
+    (store-so (JudgeReads b start len (h .s) (h .t)) (λ k. pick (ltb highest odometer) (refuses 18) (read h)) (row 18 (tooHigh odometer) ∷ judgeRules b start len (h .s) (h .t)) store
+    (if-so (JudgeReads b start len (h .s) (h .t)) (judgeRules b start len (h .s) (h .t)) (refuses 18) (read h) (judging b start len (h .s) (h .t)) (ltb highest odometer)))
+
+-- a run and a listing under a store, by the store's judgement
+run-first : (o : Outcome Kept) (ride : Ride) (r : Run) → then o (λ k. r .answer) ≡ judgedFirst ride o r .answer
+run-first (gives k) ride r = refl
+run-first (refuses n) ride r = refl
+
+length-so : (b : Bool) (ride : Ride) (r : Ride) → Decided (Is through) (row 16 (not b) ∷ [])
+    (pick {A = Run} b (record { answer = gives through; ride = r }) (record { answer = refuses 16; ride = ride }) .answer)
+length-so true ride r = (λ e. absurd (true-not-false (sym e)), λ e. refl)
+length-so false ride r = (λ e. refl, λ e. absurd (true-not-false e))
+
+run-so : (ride : Ride) (store : Store) (trace : List ℕ) → Decided (Is through) (storeRules store (row 16 (badLength trace) ∷ [])) (runUnder ride store trace .answer)
+unfolding runUnder badLength
+run-so ride store trace =
+    let r : Run = pick (eqb (length trace % 8) 0) (record { answer = gives through; ride = rideOver (gapAt store) ride 1 (records trace) .ride }) (record { answer = refuses 16; ride = ride }) in
+    subst (λ o. Decided (Is through) (storeRules store (row 16 (badLength trace) ∷ [])) o) (run-first (judged store) ride r)
+    (store-so (Is through) (λ k. r .answer) (row 16 (badLength trace) ∷ []) store
+    (length-so (eqb (length trace % 8) 0) ride (rideOver (gapAt store) ride 1 (records trace) .ride)))
+
+list-first : (o : Outcome Kept) (ride : Ride) (number : ℕ) (out : List ℕ) (l : Listing) → then o (λ k. l .answer) ≡ judgedFirstOf ride number out o l .answer
+list-first (gives k) ride number out l = refl
+list-first (refuses n) ride number out l = refl
+
+taken-so : (b : Bool) (ride : Ride) (number : ℕ) (out : List ℕ) (l : Listing) → Given (l .answer) → Decided Given (row 16 (not b) ∷ []) (pick b l (unlisted ride number out 16) .answer)
+taken-so true ride number out l g = (λ e. absurd (true-not-false (sym e)), λ e. g)
+taken-so false ride number out l g = (λ e. refl, λ e. absurd (true-not-false e))
+
+list-so : (ride : Ride) (store : Store) (number : ℕ) (trace out : List ℕ)
+    → Decided Given (storeRules store (row 16 (badLength trace) ∷ [])) (listUnder ride store number trace out .answer)
+unfolding listUnder listOf badLength
+list-so ride store number trace out =
+    let l : Listing = pick (eqb (length trace % 8) 0) (listTaken (gapAt store) ride number (records trace) out) (unlisted ride number out 16) in
+    subst (λ o. Decided Given (storeRules store (row 16 (badLength trace) ∷ [])) o) (list-first (judged store) ride number out l)
+    (store-so Given (λ k. l .answer) (row 16 (badLength trace) ∷ []) store
+    (taken-so (eqb (length trace % 8) 0) ride number out (listTaken (gapAt store) ride number (records trace) out) (_, refl)))
+
+opened-answer : (v : Version) (o : Outcome Kept) → openedIf v o .answer ≡ o
+opened-answer v (gives k) = refl
+opened-answer v (refuses n) = refl
+
+added-answer : (store : Store) (v : Version) (o : Outcome Kept) → addedIf store v o .answer ≡ o
+added-answer store v (gives k) = refl
+added-answer store v (refuses n) = refl
+
+pub stores-decided : StoresDecided
+unfolding begun added
+stores-decided = record {
+  begin = λ gap s t r c.
+      let e = ap (λ (x : Change). x .answer) (c .1) ∙ opened-answer (firstOf gap s t) (settingsOf gap s t) in
+      rw e (begin-so gap s t);
+  add = λ store v r c.
+      let e = ap (λ (x : Change). x .answer) (c .1) ∙ added-answer store v (mayAdd store v) in
+      rw e (add-so store v);
+  at = λ store place r c. rw (c .1) (at-so store place);
+  judge-under = λ store odometer b start len r c.
+      let e = c .4 ∙ ap (λ (x : List ℕ). judgedUnder store odometer x start len) (c .3) in
+      rw e (judge-so store odometer b start len);
+  run-under = λ ride store trace r c.
+      let e = ap (λ (x : Run). x .answer) (c .4 ∙ ap (λ (x : List ℕ). runUnder ride store x) (c .3)) in
+      rw e (run-so ride store trace);
+  list-under = λ ride store number trace before r after c.
+      let e = ap (λ (l : Listing). l .answer) (c .7 ∙ ap₂ (λ (x y : List ℕ). listUnder ride store number x y) (c .4) (c .5)) in
+      rw e (list-so ride store number trace before);
+}
+
+-- ---- what a refusal leaves
+
+opened-none : (v : Version) (o : Outcome Kept) (n : ℕ) → openedIf v o .answer ≡ refuses n → openedIf v o .store .count ≡ 0
+unfolding noStore
+opened-none v (gives k) n e = absurd (gives-not e)
+opened-none v (refuses m) n e = refl
+
+added-none : (store : Store) (v : Version) (o : Outcome Kept) (n : ℕ) → addedIf store v o .answer ≡ refuses n → addedIf store v o .store ≡ store
+added-none store v (gives k) n e = absurd (gives-not e)
+added-none store v (refuses m) n e = refl
+
+run-none : (o : Outcome Kept) (b : Bool) (ride r : Ride) (n : ℕ)
+    → judgedFirst ride o (pick b (record { answer = gives through; ride = r }) (record { answer = refuses 16; ride = ride })) .answer ≡ refuses n
+    → judgedFirst ride o (pick b (record { answer = gives through; ride = r }) (record { answer = refuses 16; ride = ride })) .ride ≡ ride
+run-none (gives k) true ride r n e = absurd (gives-not e)
+run-none (gives k) false ride r n e = refl
+run-none (refuses m) b ride r n e = refl
+
+run-left : (ride : Ride) (store : Store) (trace : List ℕ) (n : ℕ) → runUnder ride store trace .answer ≡ refuses n → runUnder ride store trace .ride ≡ ride
+unfolding runUnder
+run-left ride store trace n e = run-none (judged store) (eqb (length trace % 8) 0) ride (rideOver (gapAt store) ride 1 (records trace) .ride) n e
+
+list-none : (o : Outcome Kept) (b : Bool) (ride : Ride) (number : ℕ) (out : List ℕ) (l : Listing) (n : ℕ) → Given (l .answer)
+    → judgedFirstOf ride number out o (pick b l (unlisted ride number out 16)) .answer ≡ refuses n
+    → judgedFirstOf ride number out o (pick b l (unlisted ride number out 16)) ≡ unlisted ride number out n
+list-none (gives k) true ride number out l n g e = absurd (gives-not (sym (g .1) ∙ e))
+list-none (gives k) false ride number out l n g e = let same : 16 ≡ n = cc in ap (unlisted ride number out) same
+list-none (refuses m) b ride number out l n g e = let same : m ≡ n = cc in ap (unlisted ride number out) same
+
+list-left : (ride : Ride) (store : Store) (number : ℕ) (trace out : List ℕ) (n : ℕ) → listUnder ride store number trace out .answer ≡ refuses n
+    → listUnder ride store number trace out ≡ unlisted ride number out n
+unfolding listUnder listOf
+list-left ride store number trace out n e =
+    list-none (judged store) (eqb (length trace % 8) 0) ride number out (listTaken (gapAt store) ride number (records trace) out) n (_, refl) e
+
+pub stores-untouched : StoresUntouched
+unfolding begun added
+stores-untouched = record {
+  begin = λ gap s t r n c e.
+      ap (λ (x : Change). x .store .count) (c .1) ∙ opened-none (firstOf gap s t) (settingsOf gap s t) n (sym (ap (λ (x : Change). x .answer) (c .1)) ∙ e);
+  add = λ store v r n c e.
+      ap (λ (x : Change). x .store) (c .1) ∙ added-none store v (mayAdd store v) n (sym (ap (λ (x : Change). x .answer) (c .1)) ∙ e);
+  run-under = λ ride store trace r n c e.
+      let is = c .4 ∙ ap (λ (x : List ℕ). runUnder ride store x) (c .3) in
+      ap (λ (x : Run). x .ride) is ∙ run-left ride store trace n (sym (ap (λ (x : Run). x .answer) is) ∙ e);
+  list-under = λ ride store number trace before r after n c e.
+      let is = c .7 ∙ ap₂ (λ (x y : List ℕ). listUnder ride store number x y) (c .4) (c .5) in
+      let left = is ∙ list-left ride store number trace before n (sym (ap (λ (l : Listing). l .answer) is) ∙ e) in
+      (ap (λ (l : Listing). l .ride) left, ap (λ (l : Listing). l .number) left, sym (c .6) ∙ ap (λ (l : Listing). l .out) left);
+}
