@@ -153,8 +153,7 @@ plain-lists ride gap number trace before p q u v c d =
     let same = one ∙ sym two in
     let done : p .done ≡ q .done = told saysDone listing-is.doneOf listing-is.done-back (p .done) (q .done) (ap (λ (l : Listing). l .answer) same) refl in
     let after : p .ride ≡ q .ride = ap (λ (l : Listing). l .ride) same in
-    let next : p .number ≡ q .number = ap (λ (l : Listing). l .number) same in
-    (
+    let next : p .number ≡ q .number = ap (λ (l : Listing). l .number) same in (
       ap {B = Listed} (λ (r : Ride). record { ride = r; number = p .number; done = p .done }) after
           ∙ ap {B = Listed} (λ (n : ℕ). record { ride = q .ride; number = n; done = p .done }) next
           ∙ ap {B = Listed} (λ (x : Done). record { ride = q .ride; number = q .number; done = x }) done,
