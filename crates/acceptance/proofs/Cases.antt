@@ -10,7 +10,6 @@ use lib.ListN.{length, take, getD, replicate}
 use lib.Seq.{take-at, getD-take}
 use borrow.Author.Tests.{leb-true, lt-ltb, le-ltb}
 use Rattle.words.specs.Answer.{pick}
-use Rattle.walk.specs.declared.Direction.{Direction}
 use Rattle.walk.specs.declared.Kind.{Kind}
 use Rattle.ride.specs.declared.Seen.{Seen}
 use Rattle.ride.specs.declared.Line.{Line}
@@ -22,7 +21,7 @@ use Rattle.acceptance.specs.declared.Took.{Took}
 use Rattle.acceptance.specs.declared.Reported.{Reported}
 use Rattle.acceptance.specs.declared.Sums.{Sums}
 use Rattle.acceptance.specs.Plan.{allGood, wellFormed, entriesOf, apart, noEntry, planWith}
-use Rattle.acceptance.specs.Taking.{planned, waiting, afterWanted, afterExtra, takeGroup, noPart, takeLine}
+use Rattle.acceptance.specs.Taking.{planned, isPresent, waiting, afterWanted, afterExtra, takeGroup, noPart, takeLine}
 use Rattle.acceptance.specs.Report.{report, metIn, upToMost, sums}
 use Rattle.acceptance.proofs.Filling.{entries-length}
 
@@ -97,10 +96,10 @@ module _ (s : Acceptance) (n : ℕ) (size : n ≡ length (planned s)) (whole : t
 
 -- ---- a line
 
-pub present-is : (s : Acceptance) (l : Line) (g : Seen) → l ≡ Line.Group g → g .direction ≡ Direction.Present → takeGroup s (g .place) (g .kind) ≡ takeLine s l
+pub present-is : (s : Acceptance) (l : Line) (g : Seen) → l ≡ Line.Group g → isPresent (g .direction) ≡ true → takeGroup s (g .place) (g .kind) ≡ takeLine s l
 unfolding takeLine
 present-is s l g e d = rw (e, d)
 
-pub opposite-is : (s : Acceptance) (l : Line) (g : Seen) → l ≡ Line.Group g → g .direction ≡ Direction.Opposite → noPart s ≡ takeLine s l
+pub opposite-is : (s : Acceptance) (l : Line) (g : Seen) → l ≡ Line.Group g → isPresent (g .direction) ≡ false → noPart s ≡ takeLine s l
 unfolding takeLine
 opposite-is s l g e d = rw (e, d)

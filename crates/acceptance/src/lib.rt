@@ -13,7 +13,6 @@ mod summing;
 mod taking;
 
 use ride::Line;
-use walk::Direction;
 use walk::Kind;
 
 // Whether an entry was met: not, or by a group with this A place.
@@ -109,9 +108,10 @@ pub fn take(run: Acceptance, line: Line) -> Took
         Line::Group(seen) => {
             let way = seen.direction;
             let kind = seen.kind;
-            match way {
-                Direction::Present => taking::group(run, seen.place, kind),
-                Direction::Opposite => taking::no_part(run),
+            if taking::is_present(way) {
+                taking::group(run, seen.place, kind)
+            } else {
+                taking::no_part(run)
             }
         }
         Line::Fault(_, _) => taking::no_part(run),

@@ -3,12 +3,13 @@ ghost use mathlib.Core.Path.{_≡_};
 ghost use Prim.Native.Nat.{_-_, _≤_, _<_};
 ghost use lib.ListN.{length, take};
 ghost use Rattle.acceptance.specs.Plan.{numberOf};
-ghost use Rattle.acceptance.specs.Taking.{isAbsent, within, waits, waiting, oneMore, afterWanted, afterExtra, takeGroup, noPart};
+ghost use Rattle.acceptance.specs.Taking.{isPresent, isAbsent, within, waits, waiting, oneMore, afterWanted, afterExtra, takeGroup, noPart};
 use crate::Acceptance;
 use crate::Entry;
 use crate::Met;
 use crate::Part;
 use crate::Took;
+use walk::Direction;
 use walk::Kind;
 
 // How many entries a plan with this count has: at most 64.
@@ -18,6 +19,16 @@ pub fn entries_in(entries: [Entry; 64], count: usize) -> usize
     ensures { λ r. ⌜ r ≤ 64 ⌝ }
 {
     if count < 64 { count } else { 64 }
+}
+
+// Whether a group is one of the present direction.
+pub fn is_present(way: Direction) -> bool
+    ensures { λ r. ⌜ r ≡ isPresent way ⌝ }
+{
+    match way {
+        Direction::Present => true,
+        Direction::Opposite => false,
+    }
 }
 
 // The number of a kind.

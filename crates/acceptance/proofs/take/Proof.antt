@@ -1,6 +1,6 @@
 -- By the line, and a group by its direction.
 -- Assumes nothing.
-use mathlib.Core.Path.{_∙_}
+use mathlib.Core.Path.{sym, _∙_}
 use Rattle.acceptance.specs.Taking.{takeLine}
 use Rattle.acceptance.proofs.Cases.{present-is, opposite-is}
 use borrow.Author.Needs.{needs}
@@ -10,86 +10,84 @@ use Rattle.acceptance.proofs.take.Tie as tie
 enum-known-line : tie.Need-enum-known-line
 enum-known-line c = search needs
 
-enum-told : tie.Need-enum-told
-enum-told c = search needs
+is-present-requires : tie.Need-is-present-requires
+is-present-requires c κs = search needs
 
 group-requires : tie.Need-group-requires
 group-requires c κs = search needs
 
-enum-told-2 : tie.Need-enum-told-2
-enum-told-2 c = search needs
-
 no-part-requires : tie.Need-no-part-requires
 no-part-requires c κs = search needs
 
-enum-told-3 : tie.Need-enum-told-3
-enum-told-3 c = search needs
+enum-told : tie.Need-enum-told
+enum-told c = search needs
 
 no-part-requires-2 : tie.Need-no-part-requires-2
 no-part-requires-2 c κs = search needs
 
-enum-told-4 : tie.Need-enum-told-4
-enum-told-4 c = search needs
+enum-told-2 : tie.Need-enum-told-2
+enum-told-2 c = search needs
 
 no-part-requires-3 : tie.Need-no-part-requires-3
 no-part-requires-3 c κs = search needs
 
-enum-told-5 : tie.Need-enum-told-5
-enum-told-5 c = search needs
+enum-told-3 : tie.Need-enum-told-3
+enum-told-3 c = search needs
 
 no-part-requires-4 : tie.Need-no-part-requires-4
 no-part-requires-4 c κs = search needs
 
-enum-told-6 : tie.Need-enum-told-6
-enum-told-6 c = search needs
+enum-told-4 : tie.Need-enum-told-4
+enum-told-4 c = search needs
 
 no-part-requires-5 : tie.Need-no-part-requires-5
 no-part-requires-5 c κs = search needs
 
 returns : tie.Need-returns
 returns c =
-    let k = c .before .before .before .before in
+    let p = c .before .before in
+    let k = p .before .before in
     let a = k .before .before .args in
-    c .group .ensures ∙ present-is (a .run) (a .line) (k .line .given .0 .0) (k .line .given .1) (c .before .enum-told .given .1)
+    c .group .ensures ∙ present-is (a .run) (a .line) (k .line .given .0 .0) (k .line .given .1) (sym (p .is-present .ensures) ∙ c .before .if1 .taken)
 
 returns-2 : tie.Need-returns-2
 returns-2 c =
-    let k = c .before .before .before .before in
+    let p = c .before .before in
+    let k = p .before .before in
     let a = k .before .before .args in
-    c .no-part .ensures ∙ opposite-is (a .run) (a .line) (k .line .given .0 .0) (k .line .given .1) (c .before .enum-told2 .given .1)
+    c .no-part .ensures ∙ opposite-is (a .run) (a .line) (k .line .given .0 .0) (k .line .given .1) (sym (p .is-present .ensures) ∙ c .before .if1 .left)
 
 returns-3 : tie.Need-returns-3
 unfolding takeLine
-returns-3 c = rw (c .no-part2 .ensures, c .before .enum-told3 .given .1)
+returns-3 c = rw (c .no-part2 .ensures, c .before .enum-told .given .1)
 
 returns-4 : tie.Need-returns-4
 unfolding takeLine
-returns-4 c = rw (c .no-part3 .ensures, c .before .enum-told4 .given .1)
+returns-4 c = rw (c .no-part3 .ensures, c .before .enum-told2 .given .1)
 
 returns-5 : tie.Need-returns-5
 unfolding takeLine
-returns-5 c = rw (c .no-part4 .ensures, c .before .enum-told5 .given .1)
+returns-5 c = rw (c .no-part4 .ensures, c .before .enum-told3 .given .1)
 
 returns-6 : tie.Need-returns-6
 unfolding takeLine
-returns-6 c = rw (c .no-part5 .ensures, c .before .enum-told6 .given .1)
+returns-6 c = rw (c .no-part5 .ensures, c .before .enum-told4 .given .1)
 
 pub take-spec : {M : Type 1} → statement M
 take-spec =
     tie.close
     (tie.spec
     enum-known-line
-    enum-told
+    is-present-requires
     group-requires
-    enum-told-2
     no-part-requires
-    enum-told-3
+    enum-told
     no-part-requires-2
-    enum-told-4
+    enum-told-2
     no-part-requires-3
-    enum-told-5
+    enum-told-3
     no-part-requires-4
-    enum-told-6
+    enum-told-4
     no-part-requires-5
     returns
     returns-2
