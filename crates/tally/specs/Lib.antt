@@ -1,0 +1,4 @@
+pub mod Contracts
+pub mod Lines
+pub mod Accepted
+pub mod Depot
