@@ -50,7 +50,7 @@ middle : Acceptance
 middle = takeLine start first .state
 
 the-run : Run
-unfolding read
+unfolding read takeLine middle
 the-run =
     record {
       bytes = bytes;

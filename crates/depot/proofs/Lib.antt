@@ -1,0 +1,4 @@
+pub mod Pieces
+pub mod Takings
+pub mod Determined
+pub mod Examples
