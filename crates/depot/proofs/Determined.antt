@@ -8,9 +8,12 @@ use denote.Ref.{now}
 use borrow.Fn.Kinds.{Dens, endedOf}
 use denote.Triple.Clauses.{AtExit}
 use Rattle.text.specs.Put.{Put, came}
+use Rattle.ride.specs.declared.Ride.{Ride}
 use Rattle.acceptance.specs.declared.Acceptance.{Acceptance}
 use Rattle.depot.specs.declared.Written.{Written}
+use Rattle.depot.specs.declared.records.Walked.{Walked}
 use Rattle.depot.specs.Taking.{Going, written}
+use Rattle.depot.specs.Record.{Walk, walked}
 use Rattle.depot.proofs.put_group.Kinds as put-group-kinds
 use Rattle.depot.proofs.put_group.Reads as put-group-reads
 use Rattle.depot.proofs.put_entry.Kinds as put-entry-kinds
@@ -21,8 +24,18 @@ use Rattle.depot.proofs.put_refused.Kinds as put-refused-kinds
 use Rattle.depot.proofs.put_refused.Reads as put-refused-reads
 use Rattle.depot.proofs.take_line.Kinds as take-line-kinds
 use Rattle.depot.proofs.take_line.Reads as take-line-reads
+use Rattle.depot.proofs.records.accept_at.Kinds as accept-at-kinds
+use Rattle.depot.proofs.records.accept_at.Reads as accept-at-reads
 use Rattle.depot.proofs.take_lines.Kinds as take-lines-kinds
 use Rattle.depot.proofs.take_lines.Reads as take-lines-reads
+
+-- The ride of a record likewise.
+same-walked : {r r′ : Walked} {x x′ : List ℕ} → walked r x ≡ walked r′ x′ → (r ≡ r′) × (x ≡ x′)
+same-walked e = (
+  ap₂ (λ (s : Ride) (w : Written). record { ride = s; run = w .run; next = w .next }) (ap (λ (w : Walk). w .ride) e)
+      (ap (λ (w : Walk). record { run = w .going .run; next = w .going .text .next }) e),
+  ap (λ (w : Walk). w .going .text .buffer) e,
+)
 
 -- A place and a buffer that came of the same text.
 same-put : {r r′ : ℕ} {x x′ : List ℕ} → came r x ≡ came r′ x′ → (r ≡ r′) × (x ≡ x′)
@@ -58,3 +71,7 @@ take-line-determined κs a r r′ x x′ p q = same-written (p ∙ sym q)
 pub take-lines-determined : (κs : Lfts 1) (a : Dens κs take-lines-kinds.ps) (r r′ : Written) (x x′ : AtExit (endedOf 1 take-lines-kinds.ps take-lines-kinds.r) κs)
     → take-lines-reads.Post κs a r x → take-lines-reads.Post κs a r′ x′ → (r ≡ r′) × (now (x .1 .1 .0) ≡ now (x′ .1 .1 .0))
 take-lines-determined κs a r r′ x x′ p q = same-written (p ∙ sym q)
+
+pub accept-at-determined : (κs : Lfts 2) (a : Dens κs accept-at-kinds.ps) (r r′ : Walked) (x x′ : AtExit (endedOf 2 accept-at-kinds.ps accept-at-kinds.r) κs)
+    → accept-at-reads.Post κs a r x → accept-at-reads.Post κs a r′ x′ → (r ≡ r′) × (now (x .1 .1 .1 .1 .1 .0) ≡ now (x′ .1 .1 .1 .1 .1 .0))
+accept-at-determined κs a r r′ x x′ p q = same-walked (p ∙ sym q)

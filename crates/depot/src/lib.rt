@@ -1,6 +1,6 @@
 // A depot's acceptance run as text: the ride's lines as they are taken, the report at the end, a refused plan.
 // Promises: a line is written to the letter and whole, or not at all; bytes around it stay; a run goes on as `acceptance` says.
-// Specification: specs/Lines.antt (the words), specs/Taking.antt (lines taken as text); a text in a buffer is `text`'s specs/Put.antt.
+// Specification: specs/Lines.antt (the words), specs/Taking.antt (lines taken as text), specs/Record.antt (a record); a text in a buffer is `text`'s specs/Put.antt.
 ghost use mathlib.Core.Path.{_≡_};
 ghost use Rattle.text.specs.Put.{put, came};
 ghost use Rattle.ride.specs.Says.{saysLines};
@@ -8,11 +8,14 @@ ghost use Rattle.depot.specs.Lines.{groupLine, entryLine, sumLine, refus
 ghost use Rattle.depot.specs.Taking.{written, takeOne, takeAll};
 
 mod lines;
+mod records;
 
 use acceptance::Acceptance;
 use acceptance::Entry;
 use acceptance::Part;
 use acceptance::Sums;
+pub use records::Walked;
+pub use records::accept_at;
 use ride::Line;
 use ride::Lines;
 use walk::Kind;

@@ -1,0 +1,89 @@
+// The depot's acceptance run: a plan of the test track, the cards of a ride, and the report.
+// Promises: it is safe and it ends; what it prints is made by the crates depot and acceptance, record by record.
+// Specification: none of its own; what cannot be said of a program's reads and writes stands in docs/EXCEPTIONS.md.
+mod out;
+mod plans;
+mod riding;
+
+use acceptance::Judged;
+use asked::How;
+use cards::Found;
+use plans::Tolerance;
+use ride::Line;
+use settings::Store;
+
+// One line of usage.
+fn usage() {
+    cards::say(
+        b"accept",
+        b"usage: accept [-s SETTINGS] PLAN TOLERANCE CARD..",
+    );
+}
+
+// The ride over the cards from this argument on, taken by a plan, and the report.
+fn ride_over(store: Store, run: acceptance::Acceptance, cards: usize) {
+    let mut lengths = [0u64; 8192];
+    let mut block = io::large_buffer();
+    let found = cards::go_over(cards, &mut lengths, &mut block);
+    match found {
+        Found::Cards => riding::accept(store, run, cards, &lengths, &mut block),
+        Found::BadLength(_) => out::write_line(Line::Trace(16)),
+        Found::NoCard => usage(),
+        Found::TooMany => cards::say_found(b"accept", found),
+        Found::CannotOpen(_) => cards::say_found(b"accept", found),
+        Found::CannotRead(_) => cards::say_found(b"accept", found),
+        Found::Once(_) => cards::say_found(b"accept", found),
+    }
+}
+
+// The plan of the argument `first`, with this tolerance, and the ride that the cards after it hold.
+fn by_plan(store: Store, first: usize, tolerance: u32, cards: usize) {
+    let fd = cards::open_card(first);
+    if fd < 0 {
+        cards::cannot_open(b"accept", first);
+        return;
+    }
+    let read = plans::read(fd, tolerance);
+    libc::close(fd);
+    if read.failed {
+        cards::cannot_read(b"accept", first);
+        return;
+    }
+    let run = read.plan;
+    let judged = read.judged;
+    match judged {
+        Judged::Good => ride_over(store, run, cards),
+        Judged::Tolerance => out::refuse(28),
+        Judged::Record => out::refuse(26),
+        Judged::Near => out::refuse(27),
+    }
+}
+
+// The arguments after the settings: the plan, the tolerance, and a card at least.
+fn accept(store: Store, first: usize) {
+    if first > 3 {
+        return;
+    }
+    if os::arg_count() <= first + 2 {
+        usage();
+        return;
+    }
+    let tolerance = plans::tolerance(first + 1);
+    match tolerance {
+        Tolerance::Dm(dm) => by_plan(store, first, dm, first + 2),
+        Tolerance::Odd => usage(),
+    }
+}
+
+fn main() {
+    let asked = asked::options(b"accept", false);
+    let store = asked.store;
+    let first = asked.first;
+    let how = asked.how;
+    match how {
+        How::Plain => accept(store, first),
+        How::Settings => accept(store, first),
+        How::Usage => usage(),
+        How::Said => {}
+    }
+}
