@@ -68,7 +68,7 @@ fn accept(store: Store, first: usize) {
         usage();
         return;
     }
-    let tolerance = plans::tolerance(first + 1);
+    let tolerance = plans::asked_for(first + 1);
     match tolerance {
         Tolerance::Dm(dm) => by_plan(store, first, dm, first + 2),
         Tolerance::Odd => usage(),

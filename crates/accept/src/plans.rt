@@ -10,7 +10,7 @@ pub enum Tolerance {
 }
 
 // A plan that was read, how it was judged, and whether reading it failed.
-pub struct Read {
+pub struct Plan {
     pub plan: Acceptance,
     pub judged: Judged,
     pub failed: bool,
@@ -20,7 +20,7 @@ pub struct Read {
 const MOST: u64 = 4294967295;
 
 // The tolerance of this argument.
-pub fn tolerance(number: usize) -> Tolerance {
+pub fn asked_for(number: usize) -> Tolerance {
     let mut text = io::buffer();
     let length = os::arg(number, &mut text);
     if os::errno() != 0 {
@@ -40,14 +40,14 @@ pub fn tolerance(number: usize) -> Tolerance {
 }
 
 // The plan of the open file, with this tolerance. A plan has 512 bytes at most; a longer file shows by one byte more.
-pub fn read(fd: i32, tolerance: u32) -> Read {
+pub fn read(fd: i32, tolerance: u32) -> Plan {
     let mut bytes = [0u8; 513];
     let got = cards::fill(fd, &mut bytes);
     let count = got.count;
     let planned = acceptance::plan(&bytes[..count], tolerance);
     let plan = planned.plan;
     let judged = planned.judged;
-    Read {
+    Plan {
         plan,
         judged,
         failed: got.failed,

@@ -96,15 +96,21 @@ fn ended(how: How, stand: Stand) {
 
 // The records of all cards, whose lengths were kept, as one ride. A proved loop has to end, and nothing says that a file does: so it counts
 // its turns down from a number that no run uses up.
-fn ride_on(start: Stand, store: Store, first: usize, lengths: &[u64], block: &mut [u8]) {
-    let mut out = room();
+fn ride_on(
+    start: Stand,
+    store: Store,
+    first: usize,
+    lengths: &[u64],
+    block: &mut [u8],
+    out: &mut [u8],
+) {
     let mut stand = start;
     let mut pass = cards::begin(first);
     let mut turns = u64::MAX;
     while turns > 0 {
         let got = cards::next_block(pass, lengths, block);
         let read = got.read;
-        stand = write_records(stand, store, &block[..read], &mut out);
+        stand = write_records(stand, store, &block[..read], out);
         if !stand.is_good {
             return;
         }
@@ -130,5 +136,6 @@ pub fn accept(store: Store, run: Acceptance, first: usize, lengths: &[u64], bloc
         held,
         is_good: true,
     };
-    ride_on(start, store, first, lengths, block);
+    let mut out = room();
+    ride_on(start, store, first, lengths, block, &mut out);
 }
