@@ -5,3 +5,4 @@ pub mod Over
 pub mod Parts
 pub mod Accepted
 pub mod Depot
+pub mod Refusals

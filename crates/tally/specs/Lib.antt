@@ -2,3 +2,4 @@ pub mod Contracts
 pub mod Lines
 pub mod Accepted
 pub mod Depot
+pub mod Refusals
