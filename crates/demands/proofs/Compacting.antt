@@ -15,6 +15,7 @@ use Rattle.ride.specs.declared.Ride.{Ride}
 use Rattle.ride.specs.Joining.{allowed}
 use Rattle.compaction.specs.declared.Waiting.{Waiting}
 use Rattle.compaction.specs.Compact.{Compaction, untouched, smallerTrace, compact, judgedFirst, compactUnder, Settling, unsettled, settledBlock, blockFirst, blockUnder}
+use Rattle.demands.specs.Compacting.{AfterStore}
 use Rattle.demands.specs.Rules.{row, Decided, Given}
 use Rattle.demands.specs.Table.{badLength}
 use Rattle.demands.specs.Lists.{runRules}
@@ -73,3 +74,20 @@ block-untouched w store block n e = go (judged store) (eqb (length block % 8) 0)
     go (refuses m) u q = (refl, refl)
     go (gives k) false q = (refl, refl)
     go (gives k) true q = absurd (gives-not q)
+
+-- under a store: its own refusal, then 16
+pub compacting-under : (ride : Ride) (store : Store) (trace : List ℕ) → AfterStore store (row 16 (badLength trace) ∷ []) (compactUnder ride store trace .answer)
+unfolding compactUnder smallerTrace badLength
+compacting-under ride store trace = (λ n e. rw e, λ e. rw e (go (eqb (length trace % 8) 0)))
+  where
+    go : (u : Bool) → Decided Given (row 16 (not u) ∷ []) (pick u (smallerTrace (gapAt store) ride trace) (untouched ride trace 16) .answer)
+    go false = (λ p. refl, λ p. absurd (true-not-false p))
+    go true = (λ p. absurd (true-not-false (sym p)), λ p. (_, refl))
+
+pub settling-under : (w : Waiting) (store : Store) (block : List ℕ) → AfterStore store (row 16 (badLength block) ∷ []) (blockUnder w store block .answer)
+unfolding blockUnder settledBlock badLength
+settling-under w store block = (λ n e. rw e, λ e. rw e (go (eqb (length block % 8) 0)))
+  where
+    go : (u : Bool) → Decided Given (row 16 (not u) ∷ []) (pick u (settledBlock (gapAt store) w block) (unsettled w block 16) .answer)
+    go false = (λ p. refl, λ p. absurd (true-not-false p))
+    go true = (λ p. absurd (true-not-false (sym p)), λ p. (_, refl))

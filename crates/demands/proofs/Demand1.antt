@@ -13,7 +13,7 @@ use Rattle.ride.specs.Step.{Step}
 use Rattle.ride.specs.At.{Treatment}
 use Rattle.ride.specs.Over.{Run, run}
 use Rattle.listing.specs.List.{Listing, list}
-use Rattle.compaction.specs.Compact.{Compaction, compact}
+use Rattle.compaction.specs.Compact.{Compaction, compact, compactUnder, Settling, blockUnder}
 use Rattle.demands.specs.Demand1.{Demand1}
 use Rattle.demands.proofs.Refusals.{reading, writing, pairing, wording, finding, surveying}
 use Rattle.demands.proofs.Writes.{writing-test}
@@ -23,7 +23,7 @@ use Rattle.demands.proofs.Groups.{fitting-to, grouping}
 use Rattle.demands.proofs.Rides.{checking, stepping, running}
 use Rattle.demands.proofs.Treats.{treated-is, treating}
 use Rattle.demands.proofs.Listings.{listing}
-use Rattle.demands.proofs.Compacting.{compacting}
+use Rattle.demands.proofs.Compacting.{compacting, compacting-under, settling-under}
 use Rattle.demands.proofs.Stores.{stores-decided}
 
 pub demand1 : Demand1
@@ -55,5 +55,11 @@ demand1 = record {
   compact = λ ride gap before r after c.
       let e = ap (λ (x : Compaction). x .answer) (c .5 ∙ ap (compact ride gap) (c .3)) in
       rw e (compacting ride gap before);
+  compact-under = λ ride store before r after c.
+      let e = ap (λ (x : Compaction). x .answer) (c .5 ∙ ap (compactUnder ride store) (c .3)) in
+      rw e (compacting-under ride store before);
+  block-under = λ w store before r after c.
+      let e = ap (λ (x : Settling). x .answer) (c .5 ∙ ap (blockUnder w store) (c .3)) in
+      rw e (settling-under w store before);
   stores = stores-decided;
 }

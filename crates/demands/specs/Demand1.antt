@@ -67,9 +67,9 @@ use Rattle.listing.specs.Says.{saysPut, saysDone}
 use Rattle.listing.specs.declared.Put.{Put}
 use Rattle.listing.specs.declared.Listed.{Listed}
 use Rattle.demands.specs.Rules.{rowOf, row, Decided, Given, Is}
-use Rattle.demands.specs.Table.{notCode, above, notSeven, beyond, noRow, noDistance, badGap}
+use Rattle.demands.specs.Table.{notCode, above, notSeven, beyond, noRow, noDistance, badGap, badLength}
 use Rattle.demands.specs.Contracts.{ReadShort, WriteShort, ReadLong, WriteLong, GoodPair, ReadTelegram, Find, Survey, Write, Begin, NextContact, JudgeContact, FitRow, Distance, JudgeGroup, CheckRecord, StepOf, TreatAt, EndOf, RunOver, PutLine, ListInto}
-use Rattle.demands.specs.Compacting.{CompactIn, CompactUnder, BlockUnder}
+use Rattle.demands.specs.Compacting.{CompactIn, CompactUnder, BlockUnder, AfterStore}
 use Rattle.demands.specs.Lists.{telegramRules, findRules, surveyRules, writeRules, nextRules, judgeRules, groupRules, recordRules, stepRules, runRules, findReads, surveyReads, JudgeReads, NextReads}
 use Rattle.demands.specs.Steps.{OneStep, LeavesBehind}
 use Rattle.demands.specs.Stores.{StoresDecided, StoresUntouched}
@@ -115,6 +115,10 @@ pub record Demand1 : Type 0 where
       → Decided Given (runRules gap trace) (saysDone (r .done))
   pub compact : (ride : Ride) (gap : ℕ) (before : List ℕ) (r : Compacted) (after : List ℕ) → CompactIn ride gap before r after
       → Decided Given (runRules gap before) (saysSize (r .size))
+  pub compact-under : (ride : Ride) (store : Store) (before : List ℕ) (r : Compacted) (after : List ℕ) → CompactUnder ride store before r after
+      → AfterStore store (row 16 (badLength before) ∷ []) (saysSize (r .size))
+  pub block-under : (w : Waiting) (store : Store) (before : List ℕ) (r : Block) (after : List ℕ) → BlockUnder w store before r after
+      → AfterStore store (row 16 (badLength before) ∷ []) (saysSize (r .size))
   -- the functions that make a store of settings or take one
   pub stores : StoresDecided
 
