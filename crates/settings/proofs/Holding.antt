@@ -73,7 +73,7 @@ from-by : (b : Bool) (v w : Version) (h : Held) → v .place < w .place → w .p
 from-by true v w h less rest = omega arith
 from-by false v w h less rest = omega arith
 
-from-above : (v : Version) (vs : List Version) (place : ℕ) → allFollow (v .place) vs ≡ gives kept → v .place ≤ heldFrom v vs place .from
+pub from-above : (v : Version) (vs : List Version) (place : ℕ) → allFollow (v .place) vs ≡ gives kept → v .place ≤ heldFrom v vs place .from
 unfolding heldFrom
 from-above v [] place h = omega arith
 from-above v (w ∷ vs) place h =
@@ -131,7 +131,7 @@ opened-of v vs h =
     let first : v .place ≡ 0 = eqb-true (v .place) 0 (zero .0) in
     record { first = first; settings = two .0; others = ap (λ (n : ℕ). allFollow n vs) first ∙ two .1 }
 
-no-versions : (A : Type 0) → inOrder [] ≡ gives kept → A
+pub no-versions : (A : Type 0) → inOrder [] ≡ gives kept → A
 unfolding inOrder
 no-versions A h = never A kept 19 h
 

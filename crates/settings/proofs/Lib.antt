@@ -4,3 +4,5 @@ pub mod Holding
 pub mod Plain
 pub mod Determined
 pub mod Examples
+pub mod Adding
+pub mod Laws
