@@ -30,10 +30,13 @@ fn in_order(bytes: [u8; 8]) -> bool
     ensures { λ r. ⌜ r ≡ inOrder bytes ⌝ }
 {
     let kind = bytes[4];
+    if kind == 0 {
+        return true;
+    }
     let x = bytes[5];
     let y = bytes[6];
     let z = bytes[7];
-    (kind <= 3) & ((kind == 0) | ((x == 0) & (y == 0) & (z == 0)))
+    (kind <= 3) & ((x == 0) & (y == 0) & (z == 0))
 }
 
 // What the record says beyond its odometer, by its kind.

@@ -1,12 +1,16 @@
--- `in_order` is the test of the definition, with `&` grouped from the left.
-use mathlib.Core.Path.{refl}
+-- `in_order` is the test of the definition, with `&` grouped from the left; the three bytes are looked at for the kinds 1 to 3 alone.
 use Rattle.ride.specs.Record.{inOrder}
+use borrow.Author.Tests.{ne-eqb}
 use borrow.Author.Needs.{needs}
 use Rattle.ride.proofs.records.in_order.Statement.{statement}
 use Rattle.ride.proofs.records.in_order.Tie as tie
 
 array-read-kind : tie.Need-array-read-kind
 array-read-kind c = search needs
+
+returns : tie.Need-returns
+unfolding inOrder
+returns c = rw (c .if1 .taken)
 
 array-read-x : tie.Need-array-read-x
 array-read-x c = search needs
@@ -17,9 +21,9 @@ array-read-y c = search needs
 array-read-z : tie.Need-array-read-z
 array-read-z c = search needs
 
-returns : tie.Need-returns
+returns-2 : tie.Need-returns-2
 unfolding inOrder
-returns c = refl
+returns-2 c = rw (ne-eqb _ _ (c .if1 .left))
 
 pub in-order-spec : {M : Type 1} → statement M
-in-order-spec = tie.close (tie.spec array-read-kind array-read-x array-read-y array-read-z returns)
+in-order-spec = tie.close (tie.spec array-read-kind returns array-read-x array-read-y array-read-z returns-2)
