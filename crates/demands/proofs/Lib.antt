@@ -22,6 +22,7 @@ pub mod Compacting
 pub mod Writes
 pub mod Bare
 pub mod Spelled
+pub mod StoreRules
 pub mod Stores
 pub mod Demand1
 pub mod Cases
