@@ -20,7 +20,8 @@ use Rattle.settings.specs.At.{ending, holds, heldFrom, heldAmong}
 use Rattle.settings.specs.Laws.{versionIn}
 use Rattle.settings.proofs.Walking.{first-of}
 use Rattle.settings.proofs.Counts.{at-least, at-most, in-order, room}
-use Rattle.settings.proofs.Holding.{first-kept, next-is, Next, follow-split, opened-of}
+use Rattle.settings.proofs.Following.{first-kept, next-is, Next, follow-split}
+use Rattle.settings.proofs.Holding.{opened-of}
 
 -- ---- among some versions
 

@@ -1,8 +1,10 @@
 pub mod Walking
 pub mod Counts
+pub mod Following
 pub mod Holding
 pub mod Plain
 pub mod Determined
 pub mod Examples
 pub mod Adding
+pub mod Standing
 pub mod Laws
