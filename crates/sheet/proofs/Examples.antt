@@ -2,12 +2,16 @@
 -- Assumes nothing.
 use mathlib.Core.Path.{_≡_, refl}
 use mathlib.Core.List.{[], _∷_}
-use Rattle.text.specs.Text.{codes}
+use Rattle.text.specs.Text.{codes, digits, decimal as spelled}
 use Rattle.arguments.specs.Figures.{allDigits, continued, decimal, hexDigit, hex}
 use Rattle.sheet.specs.declared.line.Line.{Line}
 use Rattle.sheet.specs.Words.{upTo, onward}
 use Rattle.sheet.specs.Line.{figure, version, wordsOf, lineOf}
-use Rattle.sheet.specs.Sheet.{linesOf}
+use Rattle.sheet.specs.declared.How.{How}
+use Rattle.sheet.specs.Taking.{given, taken}
+use Rattle.sheet.specs.Sheet.{linesOf, ended, linesFrom, sheetOf}
+use Rattle.sheet.specs.Told.{refusal, told}
+use Rattle.settings.specs.Store.{noStore}
 
 pub good : (lineOf (codes "0 40 72 0D") ≡ Line.Version 0 40 0x72 0x0d) × (lineOf (codes "\t5200\t60 00 7f # new antenna\r") ≡ Line.Version 5200 60 0 0x7f)
     × (lineOf (codes "007 0040 00 7F#") ≡ Line.Version 7 40 0 0x7f)
@@ -31,3 +35,15 @@ odd = (refl, refl, refl, refl, refl, refl)
 pub lines : (linesOf [] ≡ [] ∷ []) × (linesOf (codes "a\n\nb") ≡ codes "a" ∷ [] ∷ codes "b" ∷ []) × (linesOf (codes "a\n") ≡ codes "a" ∷ [] ∷ [])
 unfolding linesOf
 lines = (refl, refl, refl)
+
+-- The first bad line, counted with comments and blank ones; no version at all.
+pub bad-ones : (sheetOf (codes "# settings\n\n1 40 72 0D\nx") .line ≡ 3) × (sheetOf (codes "# settings\n\n1 40 72 0D\nx") .how ≡ How.Unreadable)
+    × (sheetOf [] .line ≡ 0) × (sheetOf [] .how ≡ How.Refused 19) × (sheetOf (codes "# nothing") .how ≡ How.Refused 19)
+unfolding sheetOf linesFrom linesOf ended taken given noStore lineOf wordsOf version figure upTo onward decimal allDigits continued hex hexDigit
+bad-ones = (refl, refl, refl, refl, refl)
+
+-- The request's own words.
+pub words-said : (told 3 (How.Refused 24) ≡ codes "settings line 3 refused 24\n") × (told 3 How.Unreadable ≡ codes "settings line 3 unreadable\n")
+    × (told 0 (How.Refused 19) ≡ codes "settings refused 19\n")
+unfolding told refusal spelled digits
+words-said = (refl, refl, refl)
