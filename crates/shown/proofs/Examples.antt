@@ -1,0 +1,26 @@
+-- The words of issue and guide, computed.
+-- Assumes nothing.
+use mathlib.Core.Path.{_≡_, refl}
+use Rattle.text.specs.Text.{codes, digits, decimal}
+use Rattle.arguments.specs.Figures.{allDigits, continued, decimal as figures}
+use Rattle.group.specs.declared.Number.{Number}
+use Rattle.group.specs.declared.Told.{Told}
+use Rattle.ride.specs.declared.Linking.{Linking}
+use Rattle.ride.specs.State.{noGroup, nothingKnown, freshRide}
+use Rattle.shown.specs.Text.{place, group, linking, speed, figure, speeds, state}
+use Rattle.shown.specs.Commands.{forward, back, goTo, quit, unknown, by, alone, command}
+
+-- at the start
+pub at-the-start : state 0 12 0 freshRide ≡ codes "0 of 12, kept 0\n  odometer 0\n  no group\n  no linking\n  main none, target none, number none\n"
+unfolding state place group linking speed figure speeds decimal digits noGroup nothingKnown freshRide
+at-the-start = refl
+
+-- after a signal
+pub after-a-signal : state 3 12 3 (record { odometer = 5000; group = noGroup; known = record { linking = Linking.Set 4000 1000; main = Told.Kmh 130; target = Told.Kmh 80; number = Number.None } })
+    ≡ codes "3 of 12, kept 3\n  odometer 5000\n  no group\n  linking 4000 from 1000\n  main 130, target 80, number none\n"
+unfolding state place group linking speed figure speeds decimal digits noGroup
+after-a-signal = refl
+
+pub letters : (command (codes "f") ≡ forward 1) × (command (codes "b 20") ≡ back 20) × (command (codes "g 1200") ≡ goTo 1200) × (command (codes "q") ≡ quit) × (command (codes "g 0") ≡ unknown)
+unfolding command by alone figures allDigits continued
+letters = (refl, refl, refl, refl, refl)

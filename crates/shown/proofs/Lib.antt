@@ -1,0 +1,4 @@
+pub mod Pieces
+pub mod Letters
+pub mod Determined
+pub mod Examples

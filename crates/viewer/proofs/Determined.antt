@@ -1,0 +1,149 @@
+-- Each contract fixes the whole answer: any two answers that it allows are equal. Of a viewer that was opened it fixes what lies behind its slice,
+-- not where that lies.
+-- Assumes nothing.
+use Prim.Native.Nat.{ℕ}
+use mathlib.Core.Path.{_≡_, refl, sym, ap, _∙_}
+use mathlib.Core.List.{List, []}
+use lib.Dec.{eqb}
+use contract.Lifetimes.{Lfts}
+use borrow.Fn.Kinds.{Dens, endedOf}
+use denote.Ref.{RefT, now}
+use denote.Triple.Clauses.{AtExit}
+use Rattle.words.specs.Answer.{Outcome, gives, refuses, pick}
+use Rattle.settings.specs.declared.Bad.{Bad}
+use Rattle.settings.specs.declared.Store.{Store}
+use Rattle.settings.proofs.Determined.{badOf}
+use Rattle.ride.specs.declared.Lines.{Lines}
+use Rattle.ride.proofs.Determined.{linesOf, lines-back}
+use Rattle.viewer.specs.declared.Begun.{Begun}
+use Rattle.viewer.specs.declared.How.{How}
+use Rattle.viewer.specs.declared.Opened.{Opened}
+use Rattle.viewer.specs.declared.Went.{Went}
+use Rattle.viewer.specs.declared.Came.{Came}
+use Rattle.viewer.specs.declared.Viewer.{Viewer}
+use Rattle.viewer.specs.declared.Started.{Started}
+use Rattle.viewer.specs.declared.Forwarded.{Forwarded}
+use Rattle.viewer.specs.declared.Backed.{Backed}
+use Rattle.viewer.specs.Viewing.{Done, Start, Forward, Back}
+use Rattle.viewer.specs.Says.{saysBegun, saysHow, saysOpened, saysWent, saysCame, Over, saysForwarded, saysBacked, saysStarted}
+use Rattle.viewer.specs.Laws.{Starts, StartsUnder, Forwards, Backs}
+use Rattle.viewer.proofs.opening.start_at.Kinds as start-at-kinds
+use Rattle.viewer.proofs.opening.start_at.Reads as start-at-reads
+use Rattle.viewer.proofs.opening.start_under_at.Kinds as start-under-at-kinds
+use Rattle.viewer.proofs.opening.start_under_at.Reads as start-under-at-reads
+use Rattle.viewer.proofs.moving.forward_at.Kinds as forward-at-kinds
+use Rattle.viewer.proofs.moving.forward_at.Reads as forward-at-reads
+use Rattle.viewer.proofs.moving.back_at.Kinds as back-at-kinds
+use Rattle.viewer.proofs.moving.back_at.Reads as back-at-reads
+
+-- From what an answer says, the answer.
+abbrev begunOf : Outcome Done → Begun
+begunOf (gives d) = Begun.Open
+begunOf (refuses n) = pick (eqb n 16) Begun.Length (Begun.Settings (badOf n))
+
+begun-back : (b : Begun) → begunOf (saysBegun b) ≡ b
+begun-back Begun.Open = refl
+begun-back Begun.Length = refl
+begun-back (Begun.Settings Bad.Pair) = refl
+begun-back (Begun.Settings Bad.Gap) = refl
+begun-back (Begun.Settings Bad.TooHigh) = refl
+begun-back (Begun.Settings Bad.NotAbove) = refl
+begun-back (Begun.Settings Bad.Full) = refl
+
+abbrev howOf : Outcome Done → How
+howOf (gives d) = How.Done
+howOf (refuses n) = pick (eqb n 22) How.NothingKept (pick (eqb n 23) How.AtEnd (How.Settings (badOf n)))
+
+how-back : (h : How) → howOf (saysHow h) ≡ h
+how-back How.Done = refl
+how-back How.NothingKept = refl
+how-back How.AtEnd = refl
+how-back (How.Settings Bad.Pair) = refl
+how-back (How.Settings Bad.Gap) = refl
+how-back (How.Settings Bad.TooHigh) = refl
+how-back (How.Settings Bad.NotAbove) = refl
+how-back (How.Settings Bad.Full) = refl
+
+abbrev openedOf : Start → Opened
+openedOf s = record { stand = s .stand; begun = begunOf (s .answer) }
+
+opened-back : (trace : List ℕ) (o : Opened) → openedOf (saysOpened o trace) ≡ o
+opened-back trace o = ap (λ (b : Begun). record { stand = o .stand; begun = b }) (begun-back (o .begun))
+
+abbrev wentOf : Forward → Went
+wentOf f = record { stand = f .stand; lines = linesOf (f .lines); closed = f .closed; how = howOf (f .answer) }
+
+went-back : (w : Went) → wentOf (saysWent w) ≡ w
+went-back w =
+    ap (λ (ls : Lines). record { stand = w .stand; lines = ls; closed = w .closed; how = howOf (saysHow (w .how)) }) (lines-back (w .lines))
+    ∙ ap (λ (h : How). record { stand = w .stand; lines = w .lines; closed = w .closed; how = h }) (how-back (w .how))
+
+abbrev cameOf : Back → Came
+cameOf b = record { stand = b .stand; how = howOf (b .answer) }
+
+came-back : (c : Came) → cameOf (saysCame c) ≡ c
+came-back c = ap (λ (h : How). record { stand = c .stand; how = h }) (how-back (c .how))
+
+-- ---- over a lent trace
+
+pub start-at-determined : (κs : Lfts 1) (a : Dens κs start-at-kinds.ps) (r r′ : Opened)
+    (x x′ : AtExit (endedOf 1 start-at-kinds.ps start-at-kinds.r) κs)
+    → start-at-reads.Post κs a r x → start-at-reads.Post κs a r′ x′ → r ≡ r′
+start-at-determined κs a r r′ x x′ p q = sym (opened-back [] r) ∙ ap openedOf (p ∙ sym q) ∙ opened-back [] r′
+
+pub start-under-at-determined : (κs : Lfts 1) (a : Dens κs start-under-at-kinds.ps) (r r′ : Opened)
+    (x x′ : AtExit (endedOf 1 start-under-at-kinds.ps start-under-at-kinds.r) κs)
+    → start-under-at-reads.Post κs a r x → start-under-at-reads.Post κs a r′ x′ → r ≡ r′
+start-under-at-determined κs a r r′ x x′ p q = sym (opened-back [] r) ∙ ap openedOf (p ∙ sym q) ∙ opened-back [] r′
+
+pub forward-at-determined : (κs : Lfts 1) (a : Dens κs forward-at-kinds.ps) (r r′ : Went)
+    (x x′ : AtExit (endedOf 1 forward-at-kinds.ps forward-at-kinds.r) κs)
+    → forward-at-reads.Post κs a r x → forward-at-reads.Post κs a r′ x′ → r ≡ r′
+forward-at-determined κs a r r′ x x′ p q = sym (went-back r) ∙ ap wentOf (p ∙ sym q) ∙ went-back r′
+
+pub back-at-determined : (κs : Lfts 0) (a : Dens κs back-at-kinds.ps) (r r′ : Came)
+    (x x′ : AtExit (endedOf 0 back-at-kinds.ps back-at-kinds.r) κs)
+    → back-at-reads.Post κs a r x → back-at-reads.Post κs a r′ x′ → r ≡ r′
+back-at-determined κs a r r′ x x′ p q = sym (came-back r) ∙ ap cameOf (p ∙ sym q) ∙ came-back r′
+
+-- ---- over a viewer
+
+-- A viewer that was opened: how it went, where it stands, and what lies behind its slice.
+pub record Alike (r r′ : Started) : Type 0 where
+  pub begun : r .begun ≡ r′ .begun
+  pub stand : r .viewer .stand ≡ r′ .viewer .stand
+  pub trace : now (r .viewer .trace) ≡ now (r′ .viewer .trace)
+
+alike : (r r′ : Started) → saysStarted r ≡ saysStarted r′ → Alike r r′
+alike r r′ e = record {
+  begun = sym (begun-back (r .begun)) ∙ ap (λ (s : Start). begunOf (s .answer)) e ∙ begun-back (r′ .begun);
+  stand = ap (λ (s : Start). s .stand) e;
+  trace = ap (λ (s : Start). s .trace) e;
+}
+
+pub start-determined : (gap : ℕ) (trace : RefT (List ℕ)) (r r′ : Started) → Starts gap trace r → Starts gap trace r′ → Alike r r′
+start-determined gap trace r r′ p q = alike r r′ (p ∙ sym q)
+
+pub start-under-determined : (store : Store) (trace : RefT (List ℕ)) (r r′ : Started) → StartsUnder store trace r → StartsUnder store trace r′ → Alike r r′
+start-under-determined store trace r r′ p q = alike r r′ (p ∙ sym q)
+
+abbrev forwardedOf : Over Forward → Forwarded
+forwardedOf o =
+    record { viewer = record { trace = o .trace; stand = o .answer .stand }; lines = linesOf (o .answer .lines); closed = o .answer .closed; how = howOf (o .answer .answer) }
+
+forwarded-back : (f : Forwarded) → forwardedOf (saysForwarded f) ≡ f
+forwarded-back f =
+    ap (λ (ls : Lines). record { viewer = f .viewer; lines = ls; closed = f .closed; how = howOf (saysHow (f .how)) }) (lines-back (f .lines))
+    ∙ ap (λ (h : How). record { viewer = f .viewer; lines = f .lines; closed = f .closed; how = h }) (how-back (f .how))
+
+pub forward-determined : (v : Viewer) (r r′ : Forwarded) → Forwards v r → Forwards v r′ → r ≡ r′
+forward-determined v r r′ p q = sym (forwarded-back r) ∙ ap forwardedOf (p ∙ sym q) ∙ forwarded-back r′
+
+abbrev backedOf : Over Back → Backed
+backedOf o = record { viewer = record { trace = o .trace; stand = o .answer .stand }; how = howOf (o .answer .answer) }
+
+backed-back : (b : Backed) → backedOf (saysBacked b) ≡ b
+backed-back b = ap (λ (h : How). record { viewer = b .viewer; how = h }) (how-back (b .how))
+
+pub back-determined : (v : Viewer) (r r′ : Backed) → Backs v r → Backs v r′ → r ≡ r′
+back-determined v r r′ p q = sym (backed-back r) ∙ ap backedOf (p ∙ sym q) ∙ backed-back r′

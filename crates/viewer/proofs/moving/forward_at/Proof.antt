@@ -1,0 +1,91 @@
+-- `forward_at` asks whether a record is left, then whether the settings are good; the record is then treated with what is held for it.
+use mathlib.Core.Path.{_≡_, ap, sym, _∙_}
+use Rattle.settings.specs.Says.{saysAsked}
+use Rattle.settings.proofs.Holding.{Holding, held-given, store-refused, holding-at}
+use Rattle.ride.proofs.Under.{turn}
+use Rattle.ride.specs.Step.{treat}
+use Rattle.ride.specs.At.{recordAt}
+use Rattle.viewer.specs.Viewing.{byStep, stepOf}
+use Rattle.viewer.proofs.Calls.{forward-end, forward-refused, forward-step}
+use borrow.Author.Needs.{needs}
+use Rattle.viewer.proofs.moving.forward_at.Statement.{statement}
+use Rattle.viewer.proofs.moving.forward_at.Tie as tie
+
+unmoved-requires : tie.Need-unmoved-requires
+unmoved-requires c κs = search needs
+
+returns : tie.Need-returns
+returns c =
+    let a = c .before .before .before .args in
+    c .unmoved .ensures ∙ forward-end (a .trace .now) (a .stand) (c .before .if1 .taken)
+
+at-requires : tie.Need-at-requires
+at-requires c κs = search needs
+
+enum-known-asked : tie.Need-enum-known-asked
+enum-known-asked c = search needs
+
+unmoved-requires-2 : tie.Need-unmoved-requires-2
+unmoved-requires-2 c κs = search needs
+
+enum-known-asked-2 : tie.Need-enum-known-asked-2
+enum-known-asked-2 c = search needs
+
+odometer-at-requires : tie.Need-odometer-at-requires
+odometer-at-requires c κs = search needs
+
+held-for-requires : tie.Need-held-for-requires
+held-for-requires c κs = search needs
+
+-- what is held for the record
+for-record : (c : tie.After-held-for) →
+    let a = c .before .before .before .before .before .before .before .before .before .args in
+    Holding (a .stand .settings) (c .held-for .result)
+    × (treat (a .stand .ride) (c .held-for .result .gap) (recordAt (a .trace .now) (a .stand .number)) ≡ stepOf (a .stand) (recordAt (a .trace .now) (a .stand .number)))
+for-record c =
+    let o = c .before in
+    let k = o .before .before in
+    let q = k .before .before in
+    let e = q .before .before in
+    let a = e .before .before .args in
+    let held = held-given (a .stand .settings) 0 _ (sym (q .at .ensures) ∙ ap saysAsked (k .asked2 .given .1)) in
+    turn (a .stand .settings) (k .asked2 .given .0 .0) (c .held-for .result) (a .stand .ride) (a .trace .now) (a .stand .number) (o .odometer-at .result) (held .0)
+    (rw (held .2) (holding-at (a .stand .settings) 0 (held .0))) (e .if1 .left) (o .odometer-at .ensures) (c .held-for .ensures)
+
+step-at-requires : tie.Need-step-at-requires
+step-at-requires c κs = (c .before .before .before .before .before .before .before .if1 .left, for-record c .0 .gap)
+
+returns-2 : tie.Need-returns-2
+returns-2 c =
+    let k = c .before .before in
+    let q = k .before .before in
+    let e = q .before .before in
+    let a = e .before .before .args in
+    c .unmoved2 .ensures
+    ∙ forward-refused (a .trace .now) (a .stand) _ (e .if1 .left) (store-refused (a .stand .settings) _ (sym (q .at .ensures) ∙ ap saysAsked (k .asked .given .1)))
+
+returns-3 : tie.Need-returns-3
+returns-3 c =
+    let h = c .before in
+    let k = h .before .before .before in
+    let q = k .before .before in
+    let e = q .before .before in
+    let a = e .before .before .args in
+    let held = held-given (a .stand .settings) 0 _ (sym (q .at .ensures) ∙ ap saysAsked (k .asked2 .given .1)) in
+    c .step-at .ensures ∙ ap (byStep (a .stand)) (for-record h .1) ∙ forward-step (a .trace .now) (a .stand) (e .if1 .left) (held .0)
+
+pub forward-at-spec : {M : Type 1} → statement M
+forward-at-spec =
+    tie.close
+    (tie.spec
+    unmoved-requires
+    returns
+    at-requires
+    enum-known-asked
+    unmoved-requires-2
+    enum-known-asked-2
+    odometer-at-requires
+    held-for-requires
+    step-at-requires
+    returns-2
+    returns-3)

@@ -1,0 +1,15 @@
+-- `unmoved` hands out no group.
+use Rattle.ride.specs.State.{noGroup, freshRide}
+use borrow.Author.Needs.{needs}
+use Rattle.viewer.proofs.moving.unmoved.Statement.{statement}
+use Rattle.viewer.proofs.moving.unmoved.Tie as tie
+
+fresh-requires : tie.Need-fresh-requires
+fresh-requires c κs = search needs
+
+returns : tie.Need-returns
+unfolding freshRide
+returns c = simp (c .before .fresh .ensures)
+
+pub unmoved-spec : {M : Type 1} → statement M
+unmoved-spec = tie.close (tie.spec fresh-requires returns)

@@ -1,0 +1,23 @@
+-- `seen` asks with the store of a plain gap.
+use mathlib.Core.Path.{ap, _∙_}
+use Rattle.settings.specs.declared.Store.{Store}
+use Rattle.settings.specs.Store.{Change}
+use Rattle.viewer.specs.Viewing.{startUnder}
+use borrow.Author.Needs.{needs}
+use Rattle.viewer.proofs.opening.seen.Statement.{statement}
+use Rattle.viewer.proofs.opening.seen.Tie as tie
+
+begin-requires : tie.Need-begin-requires
+begin-requires c κs = search needs
+
+seen-under-requires : tie.Need-seen-under-requires
+seen-under-requires c κs = search needs
+
+returns : tie.Need-returns
+returns c =
+    let b = c .before .before in
+    let a = b .before .before .args in
+    c .seen-under .ensures ∙ ap (λ (s : Store). startUnder s (a .trace .now) .trace) (ap (λ (x : Change). x .store) (b .begin .ensures))
+
+pub seen-spec : {M : Type 1} → statement M
+seen-spec = tie.close (tie.spec begin-requires seen-under-requires returns)

@@ -1,0 +1,44 @@
+-- `start_under_at` judges first, and stands at the first record whatever the judgement.
+use mathlib.Core.Path.{_≡_, refl, ap, _∙_}
+use mathlib.Core.Bool.{Bool, true, false}
+use Prim.Native.Nat.{ℕ, _%_}
+use mathlib.Core.List.{List}
+use lib.Dec.{eqb}
+use lib.ListN.{length}
+use Rattle.words.specs.Answer.{Outcome, gives, refuses}
+use Rattle.settings.specs.declared.Store.{Store}
+use Rattle.settings.specs.Versions.{Kept}
+use Rattle.settings.specs.Store.{judged}
+use Rattle.viewer.specs.Stand.{opened}
+use Rattle.viewer.specs.Viewing.{Done, Start, startUnder}
+use Rattle.viewer.specs.Says.{traceOf}
+use Rattle.viewer.specs.declared.Stand.{Stand}
+use borrow.Author.Needs.{needs}
+use Rattle.viewer.proofs.opening.start_under_at.Statement.{statement}
+use Rattle.viewer.proofs.opening.start_under_at.Tie as tie
+
+begins-requires : tie.Need-begins-requires
+begins-requires c κs = search needs
+
+fresh-requires : tie.Need-fresh-requires
+fresh-requires c κs = search needs
+
+-- what is answered tells what of the trace is held
+held-by : (o : Outcome Kept) (d : Bool) (store : Store) (trace : List ℕ) → judged store ≡ o → eqb (length trace % 8) 0 ≡ d
+    → _≡_ {A = Start} (record { answer = startUnder store trace .answer; trace = traceOf (startUnder store trace .answer) trace; stand = opened store }) (startUnder store trace)
+unfolding startUnder
+held-by (gives k) true store trace e h = rw (e, h)
+held-by (gives k) false store trace e h = rw (e, h)
+held-by (refuses n) d store trace e h = rw e
+
+returns : tie.Need-returns
+returns c =
+    let b = c .before in
+    let a = b .before .before .args in
+    let trace = a .trace .now in
+    ap {B = Start} (λ (o : Outcome Done). record { answer = o; trace = traceOf o trace; stand = c .fresh .result }) (b .begins .ensures)
+    ∙ ap {B = Start} (λ (s : Stand). record { answer = startUnder (a .store) trace .answer; trace = traceOf (startUnder (a .store) trace .answer) trace; stand = s }) (c .fresh .ensures)
+    ∙ held-by (judged (a .store)) (eqb (length trace % 8) 0) (a .store) trace refl refl
+
+pub start-under-at-spec : {M : Type 1} → statement M
+start-under-at-spec = tie.close (tie.spec begins-requires fresh-requires returns)

@@ -1,0 +1,5 @@
+pub mod Stand
+pub mod Viewing
+pub mod Says
+pub mod History
+pub mod Laws

@@ -1,0 +1,68 @@
+-- The numbers of document 02 for each case of this crate's answers, and what its viewers say.
+-- Assumes nothing.
+use mathlib.Core.List.{List, []}
+use denote.Ref.{RefT, now}
+use Prim.Native.Nat.{ℕ}
+use Rattle.words.specs.Answer.{Outcome, gives, refuses}
+use Rattle.settings.specs.Says.{saysBad}
+use Rattle.ride.specs.Says.{saysLines}
+use Rattle.viewer.specs.declared.Begun.{Begun}
+use Rattle.viewer.specs.declared.How.{How}
+use Rattle.viewer.specs.declared.Opened.{Opened}
+use Rattle.viewer.specs.declared.Went.{Went}
+use Rattle.viewer.specs.declared.Came.{Came}
+use Rattle.viewer.specs.declared.Viewer.{Viewer}
+use Rattle.viewer.specs.declared.Started.{Started}
+use Rattle.viewer.specs.declared.Forwarded.{Forwarded}
+use Rattle.viewer.specs.declared.Backed.{Backed}
+use Rattle.viewer.specs.Viewing.{Done, done, Start, Forward, Back}
+
+-- Settings that are refused have their own number ("gap outside 1 to 200" is 19); "trace length not a multiple of 8" is 16.
+abbrev pub saysBegun : Begun → Outcome Done
+saysBegun Begun.Open = gives done
+saysBegun (Begun.Settings bad) = refuses (saysBad bad)
+saysBegun Begun.Length = refuses 16
+
+-- "22 for back exactly if the kept count is 0; 23 for forward exactly at the end"; settings that are refused have their own number.
+abbrev pub saysHow : How → Outcome Done
+saysHow How.Done = gives done
+saysHow How.NothingKept = refuses 22
+saysHow How.AtEnd = refuses 23
+saysHow (How.Settings bad) = refuses (saysBad bad)
+
+-- Where a viewer stands that was opened, for a lent trace: a refused one holds an empty one.
+abbrev pub traceOf : Outcome Done → List ℕ → List ℕ
+traceOf (gives d) trace = trace
+traceOf (refuses n) trace = []
+
+abbrev pub saysOpened : Opened → List ℕ → Start
+saysOpened o trace = record { answer = saysBegun (o .begun); trace = traceOf (saysBegun (o .begun)) trace; stand = o .stand }
+
+-- Going forward over a lent trace, from where a viewer stands.
+abbrev pub saysWent : Went → Forward
+saysWent w = record { answer = saysHow (w .how); lines = saysLines (w .lines); closed = w .closed; stand = w .stand }
+
+-- Going back.
+abbrev pub saysCame : Came → Back
+saysCame c = record { answer = saysHow (c .how); stand = c .stand }
+
+-- A viewer that was opened: its trace is what lies behind the slice that it holds.
+abbrev pub saysStarted : Started → Start
+saysStarted s = record { answer = saysBegun (s .begun); trace = now (s .viewer .trace); stand = s .viewer .stand }
+
+-- A call over a viewer answers the viewer of the same slice, and what the call gave.
+pub record Over (A : Type 0) : Type 0 where
+  pub trace : RefT (List ℕ)
+  pub answer : A
+
+abbrev pub over : {A : Type 0} → RefT (List ℕ) → A → Over A
+over trace answer = record { trace = trace; answer = answer }
+
+-- Forward.
+abbrev pub saysForwarded : Forwarded → Over Forward
+saysForwarded f =
+    over (f .viewer .trace) (record { answer = saysHow (f .how); lines = saysLines (f .lines); closed = f .closed; stand = f .viewer .stand })
+
+-- Back.
+abbrev pub saysBacked : Backed → Over Back
+saysBacked b = over (b .viewer .trace) (record { answer = saysHow (b .how); stand = b .viewer .stand })

@@ -1,0 +1,154 @@
+// A viewer that goes forward and back over the records of a lent trace.
+// Promises: after any calls its state is that of a fresh ride over the records before its number; a refused call changes nothing.
+// Specification: specs/Stand.antt (where it stands, and the last 256 states), Viewing.antt (the calls), Says.antt (the answers).
+ghost use mathlib.Core.Path.{_≡_};
+ghost use Rattle.viewer.specs.Viewing.{start, startUnder, forward, back};
+ghost use Rattle.viewer.specs.Says.{over, saysStarted, saysForwarded, saysBacked};
+
+mod moving;
+mod opening;
+
+use group::Group;
+pub use moving::back_at;
+pub use moving::forward_at;
+pub use opening::start_at;
+pub use opening::start_under_at;
+use ride::Lines;
+use ride::Ride;
+use settings::Bad;
+use settings::Store;
+
+// Where a viewer stands: how many records lie before it, how many states are kept, the state there, the last states (that before record n,
+// the first with 0, at n % 256), and the settings.
+pub struct Stand {
+    pub number: usize,
+    pub kept: usize,
+    pub ride: Ride,
+    pub last: [Ride; 256],
+    pub settings: Store,
+}
+
+// How opening went: done, or refused for the settings (a plain gap: 19) or the trace's length (16).
+pub enum Begun {
+    Open,
+    Settings(Bad),
+    Length,
+}
+
+// How a call went: done, or refused since nothing is kept (22), at the end (23), or for settings that no opening lets in (their number).
+pub enum How {
+    Done,
+    NothingKept,
+    AtEnd,
+    Settings(Bad),
+}
+
+// What opening answers over a lent trace.
+pub struct Opened {
+    pub stand: Stand,
+    pub begun: Begun,
+}
+
+// What going forward over a lent trace answers: where the viewer stands, the lines that the record gave, and the group that closed.
+pub struct Went {
+    pub stand: Stand,
+    pub lines: Lines,
+    pub closed: Group,
+    pub how: How,
+}
+
+// What going back answers.
+pub struct Came {
+    pub stand: Stand,
+    pub how: How,
+}
+
+// A viewer: the lent trace, and where it stands.
+pub struct Viewer<'a> {
+    pub trace: &'a [u8],
+    pub stand: Stand,
+}
+
+// A viewer that was opened. A refused one holds an empty trace.
+pub struct Started<'a> {
+    pub viewer: Viewer<'a>,
+    pub begun: Begun,
+}
+
+// A viewer after a forward: the lines that the record gave, and the group that closed.
+pub struct Forwarded<'a> {
+    pub viewer: Viewer<'a>,
+    pub lines: Lines,
+    pub closed: Group,
+    pub how: How,
+}
+
+// A viewer after a back.
+pub struct Backed<'a> {
+    pub viewer: Viewer<'a>,
+    pub how: How,
+}
+
+// Opens a viewer at the first record: 19, then 16 refuse it.
+pub fn start<'a>(gap: u32, trace: &'a [u8]) -> Started<'a>
+    ensures { λ r. ⌜ saysStarted r ≡ start gap (now (trace .entry)) ⌝ }
+{
+    let opened = start_at(gap, trace);
+    let seen = opening::seen(gap, trace);
+    let viewer = Viewer {
+        trace: seen,
+        stand: opened.stand,
+    };
+    Started {
+        viewer,
+        begun: opened.begun,
+    }
+}
+
+// Opens a viewer under a store of settings: the store's own refusal, then 16.
+pub fn start_under<'a>(store: Store, trace: &'a [u8]) -> Started<'a>
+    ensures { λ r. ⌜ saysStarted r ≡ startUnder store (now (trace .entry)) ⌝ }
+{
+    let opened = start_under_at(store, trace);
+    let seen = opening::seen_under(store, trace);
+    let viewer = Viewer {
+        trace: seen,
+        stand: opened.stand,
+    };
+    Started {
+        viewer,
+        begun: opened.begun,
+    }
+}
+
+// One record forward: 23 at the end.
+pub fn forward<'a>(viewer: Viewer<'a>) -> Forwarded<'a>
+    ensures { λ r. ⌜ saysForwarded r ≡ over (viewer .entry .trace) (forward (now (viewer .entry .trace)) (viewer .entry .stand)) ⌝ }
+{
+    let went = forward_at(viewer.trace, viewer.stand);
+    let next = Viewer {
+        trace: viewer.trace,
+        stand: went.stand,
+    };
+    Forwarded {
+        viewer: next,
+        lines: went.lines,
+        closed: went.closed,
+        how: went.how,
+    }
+}
+
+// One record back: 22 where no state is kept.
+pub fn back<'a>(viewer: Viewer<'a>) -> Backed<'a>
+    ensures { λ r. ⌜ saysBacked r ≡ over (viewer .entry .trace) (back (viewer .entry .stand)) ⌝ }
+{
+    let came = back_at(viewer.stand);
+    let next = Viewer {
+        trace: viewer.trace,
+        stand: came.stand,
+    };
+    Backed {
+        viewer: next,
+        how: came.how,
+    }
+}

@@ -1,0 +1,185 @@
+// One record forward and back, over a lent trace.
+ghost use mathlib.Core.Path.{_≡_};
+ghost use Prim.Native.Nat.{_<_, _-_, _/_};
+ghost use mathlib.Core.List.{[]};
+ghost use mathlib.Core.Bool.{true};
+ghost use lib.ListN.{length};
+ghost use Rattle.settings.specs.Versions.{allowed};
+ghost use Rattle.settings.specs.At.{heldFor};
+ghost use Rattle.ride.specs.Step.{treat};
+ghost use Rattle.ride.specs.At.{recordAt};
+ghost use Rattle.ride.specs.Over.{linesFor};
+ghost use Rattle.ride.specs.Says.{saysWrong, saysLines, saysGiven};
+ghost use Rattle.ride.specs.State.{noGroup};
+ghost use Rattle.viewer.specs.Stand.{oneMore, passed, returned};
+ghost use Rattle.viewer.specs.Viewing.{byStep, forward, back};
+ghost use Rattle.viewer.specs.Says.{saysHow, saysWent, saysCame};
+use crate::Came;
+use crate::How;
+use crate::Stand;
+use crate::Went;
+use ride::Given;
+use ride::Line;
+use ride::Lines;
+use ride::Reply;
+use ride::Ride;
+use ride::Wrong;
+use settings::Asked;
+use settings::Held;
+use settings::Store;
+
+// One more state kept, up to 256.
+fn one_more(kept: usize) -> usize
+    ensures { λ r. ⌜ r ≡ oneMore kept ⌝ }
+{
+    if kept < 256 {
+        return kept + 1;
+    }
+    kept
+}
+
+// One record passed, which leaves this state.
+fn pass(stand: Stand, next: Ride) -> Stand
+    requires { ⌜ stand .number < 18446744073709551615 ⌝ }
+    ensures { λ r. ⌜ r ≡ passed stand next ⌝ }
+{
+    let number = stand.number;
+    let before = stand.ride;
+    let settings = stand.settings;
+    let mut last = stand.last;
+    let at = number % 256;
+    last[at] = before;
+    Stand {
+        number: number + 1,
+        kept: one_more(stand.kept),
+        ride: next,
+        last,
+        settings,
+    }
+}
+
+// The number of a refusal.
+fn refusal(wrong: Wrong) -> u8
+    ensures { λ r. ⌜ r ≡ saysWrong wrong ⌝ }
+{
+    match wrong {
+        Wrong::Malformed => 16,
+        Wrong::TooHigh => 18,
+        Wrong::TooLow => 17,
+    }
+}
+
+// The lines of the record with this number: those that it gives, or that it was refused.
+fn lines_of(number: u64, given: Given) -> Lines
+    ensures { λ r. ⌜ saysLines r ≡ linesFor number (saysGiven given) ⌝ }
+{
+    match given {
+        Given::Refused(wrong) => Lines::One(Line::Record(number, refusal(wrong))),
+        Given::Lines(lines) => lines,
+    }
+}
+
+// The settings to hold at an odometer.
+fn held_for(store: Store, first: Held, odometer: u32) -> Held
+    ensures { λ r. ⌜ r ≡ heldFor store first odometer ⌝ }
+{
+    if settings::leaves(first, odometer) {
+        return settings::hold(store, first, odometer);
+    }
+    first
+}
+
+// A refused forward.
+fn unmoved(stand: Stand, how: How) -> Went
+    ensures { λ r. ⌜ saysWent r ≡ record { answer = saysHow how; lines = []; closed = noGroup; stand = stand } ⌝ }
+{
+    let fresh = ride::fresh();
+    let closed = fresh.group;
+    Went {
+        stand,
+        lines: Lines::None,
+        closed,
+        how,
+    }
+}
+
+// The record that comes next, with the settings held for it.
+fn step_at(trace: &[u8], stand: Stand, held: Held) -> Went
+    requires { ⌜ (stand .number < length (now trace) / 8) × (allowed (held .gap) ≡ true) ⌝ }
+    ensures { λ r. ⌜ saysWent r ≡ byStep stand (treat (stand .ride) (held .gap) (recordAt (now (trace .entry)) (stand .number))) ⌝ }
+{
+    let number = stand.number;
+    let ride = stand.ride;
+    let treated = ride::treat_at(ride, held.gap, trace, number);
+    let reply = treated.reply;
+    let Reply::Record(given) = reply else {
+        return unmoved(stand, How::AtEnd);
+    };
+    let next = treated.ride;
+    let closed = treated.closed;
+    let lines = lines_of(number as u64 + 1, given);
+    let after = pass(stand, next);
+    Went {
+        stand: after,
+        lines,
+        closed,
+        how: How::Done,
+    }
+}
+
+// One record forward, over the lent trace: 23 at the end.
+pub fn forward_at(trace: &[u8], stand: Stand) -> Went
+    ensures { λ r. ⌜ saysWent r ≡ forward (now (trace .entry)) stand ⌝ }
+{
+    let number = stand.number;
+    if number >= trace.len() / 8 {
+        return unmoved(stand, How::AtEnd);
+    }
+    let store = stand.settings;
+    let asked = settings::at(store, 0);
+    match asked {
+        Asked::Refused(bad) => unmoved(stand, How::Settings(bad)),
+        Asked::InForce(first) => {
+            let odometer = ride::odometer_at(trace, number);
+            let held = held_for(store, first, odometer);
+            step_at(trace, stand, held)
+        }
+    }
+}
+
+// One less, and 0 at 0.
+fn one_less(n: usize) -> usize
+    ensures { λ r. ⌜ r ≡ n - 1 ⌝ }
+{
+    if n == 0 {
+        return 0;
+    }
+    n - 1
+}
+
+// One record back: 22 where no state is kept.
+pub fn back_at(stand: Stand) -> Came
+    ensures { λ r. ⌜ saysCame r ≡ back stand ⌝ }
+{
+    if stand.kept == 0 {
+        return Came {
+            stand,
+            how: How::NothingKept,
+        };
+    }
+    let number = one_less(stand.number);
+    let last = stand.last;
+    let settings = stand.settings;
+    let at = number % 256;
+    let ride = last[at];
+    Came {
+        stand: Stand {
+            number,
+            kept: stand.kept - 1,
+            ride,
+            last,
+            settings,
+        },
+        how: How::Done,
+    }
+}

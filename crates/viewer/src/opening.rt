@@ -1,0 +1,82 @@
+// Opening a viewer over a lent trace.
+ghost use mathlib.Core.Path.{_≡_};
+ghost use Rattle.viewer.specs.Stand.{opened};
+ghost use Rattle.viewer.specs.Viewing.{start, startUnder};
+ghost use Rattle.viewer.specs.Says.{saysBegun, saysOpened};
+use crate::Begun;
+use crate::Opened;
+use crate::Stand;
+use settings::Asked;
+use settings::Store;
+
+// A stand at the first record, with a fresh ride and nothing kept.
+fn fresh(store: Store) -> Stand
+    ensures { λ r. ⌜ r ≡ opened store ⌝ }
+{
+    let ride = ride::fresh();
+    let last = [ride; 256];
+    Stand {
+        number: 0,
+        kept: 0,
+        ride,
+        last,
+        settings: store,
+    }
+}
+
+// Whether a viewer opens: the settings' own refusal, then 16.
+fn begins(store: Store, trace: &[u8]) -> Begun
+    ensures { λ r. ⌜ saysBegun r ≡ startUnder store (now (trace .entry)) .answer ⌝ }
+{
+    let asked = settings::at(store, 0);
+    match asked {
+        Asked::Refused(bad) => Begun::Settings(bad),
+        Asked::InForce(_) => {
+            if trace.len() % 8 != 0 {
+                return Begun::Length;
+            }
+            Begun::Open
+        }
+    }
+}
+
+// Where a viewer stands that was opened over this trace under a store, and how that went.
+pub fn start_under_at(store: Store, trace: &[u8]) -> Opened
+    ensures { λ r. ⌜ saysOpened r (now (trace .entry)) ≡ startUnder store (now (trace .entry)) ⌝ }
+{
+    let begun = begins(store, trace);
+    let stand = fresh(store);
+    Opened { stand, begun }
+}
+
+// The same with a plain gap, a store of one version; no ride looks at the sync pair.
+pub fn start_at(gap: u32, trace: &[u8]) -> Opened
+    ensures { λ r. ⌜ saysOpened r (now (trace .entry)) ≡ start gap (now (trace .entry)) ⌝ }
+{
+    let begun = settings::begin(gap, 0x00, 0x7F);
+    let store = begun.store;
+    start_under_at(store, trace)
+}
+
+// What of the trace the viewer holds: all of it, or nothing where it is refused.
+pub fn seen_under<'a>(store: Store, trace: &'a [u8]) -> &'a [u8]
+    ensures { λ r. ⌜ now r ≡ startUnder store (now (trace .entry)) .trace ⌝ }
+{
+    let asked = settings::at(store, 0);
+    let Asked::InForce(_) = asked else {
+        return &trace[0..0];
+    };
+    if trace.len() % 8 != 0 {
+        return &trace[0..0];
+    }
+    trace
+}
+
+// The same with a plain gap.
+pub fn seen<'a>(gap: u32, trace: &'a [u8]) -> &'a [u8]
+    ensures { λ r. ⌜ now r ≡ start gap (now (trace .entry)) .trace ⌝ }
+{
+    let begun = settings::begin(gap, 0x00, 0x7F);
+    let store = begun.store;
+    seen_under(store, trace)
+}
