@@ -1,20 +1,21 @@
--- Whole bytes among the bits of a buffer: one taken out of a run of bits, one put behind it, the window moved on by one.
+-- Whole bytes among the bits of a buffer: one put after others; and some bits out of a run of them.
 -- Assumes nothing.
 use Prim.Native.Nat.{ℕ, zero, suc, _+_, _-_, _*_, _/_, _%_, _^_, _≤_, _<_}
 use mathlib.Core.Path.{_≡_, sym, ap, _∙_}
 use mathlib.Core.List.{List}
+use native.Mathlib.Nat.{le-trans}
 use native.Mathlib.Omega.{arith}
 use lib.ListN.{getD}
-use lib.Pow.{high, shr-shr}
+use lib.Pow.{high, low, pow-mono, shr-shr}
 use Rattle.telegram.specs.Stretch.{bitAt, bitsAt}
 use Rattle.telegram.proofs.Window.{bits-lt, cut}
 
--- A byte out of a run of bits: m bits stand before it, n after it.
-pub byte-of : (b : List ℕ) (p m n : ℕ) → bitsAt b p (m + 8 + n) / 2 ^ n % 256 ≡ bitsAt b (p + m) 8
-byte-of b p m n =
-    ap (λ (x : ℕ). x / 2 ^ n % 256) (cut b p (m + 8) n)
-    ∙ ap (λ (x : ℕ). x % 256) (high (bitsAt b p (m + 8)) n (bits-lt b (p + (m + 8)) n))
-    ∙ omega (arith, cut b p m 8, bits-lt b (p + m) 8)
+-- n bits out of a run of bits: m stand before them, l after them.
+pub run-of : (b : List ℕ) (p m n l : ℕ) → bitsAt b p (m + n + l) / 2 ^ l % 2 ^ n ≡ bitsAt b (p + m) n
+run-of b p m n l =
+    ap (λ (x : ℕ). x / 2 ^ l % 2 ^ n) (cut b p (m + n) l)
+    ∙ ap (λ (x : ℕ). x % 2 ^ n) (high (bitsAt b p (m + n)) l (bits-lt b (p + (m + n)) l) ∙ cut b p m n)
+    ∙ low (bitsAt b p m) n (bits-lt b (p + m) n)
 
 -- A whole byte of the buffer, bit by bit.
 bits-of-byte : (b : List ℕ) (i n : ℕ) → i % 8 ≡ 0 → getD b (i / 8) 0 < 256 → n ≤ 8 → bitsAt b i n ≡ getD b (i / 8) 0 / 2 ^ (8 - n)
@@ -35,11 +36,15 @@ bits-of-byte b i (suc n) whole small h =
 whole-byte : (b : List ℕ) (i : ℕ) → i % 8 ≡ 0 → getD b (i / 8) 0 < 256 → bitsAt b i 8 ≡ getD b (i / 8) 0
 whole-byte b i whole small = omega (arith, bits-of-byte b i 8 whole small (omega arith))
 
--- n bits and the whole byte that follows them.
-pub byte-more : (b : List ℕ) (p n w : ℕ) → w ≡ bitsAt b p n → (p + n) % 8 ≡ 0 → getD b ((p + n) / 8) 0 < 256
-    → w * 256 + getD b ((p + n) / 8) 0 ≡ bitsAt b p (n + 8)
-byte-more b p n w w-is whole small = omega (arith, cut b p n 8, whole-byte b (p + n) whole small)
+-- k whole bytes from byte i on: below 2 ^ 56 where there are at most seven, and one more.
+pub seven-bytes : (b : List ℕ) (i k : ℕ) → k < 8 → bitsAt b (8 * i) (8 * k) < 2 ^ 56
+seven-bytes b i k h = let few : 8 * k ≤ 56 = omega arith in le-trans (bits-lt b (8 * i) (8 * k)) (pow-mono few)
 
--- 47 bits without the first eight are the window eight bits further.
-pub rolls-by-byte : (b : List ℕ) (p : ℕ) → bitsAt b p 47 % 2 ^ 39 ≡ bitsAt b (p + 8) 39
-rolls-by-byte b p = omega (arith, cut b p 8 39, bits-lt b (p + 8) 39)
+pub byte-more : (b : List ℕ) (i k w : ℕ) → w ≡ bitsAt b (8 * i) (8 * k) → getD b (i + k) 0 < 256
+    → w * 256 + getD b (i + k) 0 ≡ bitsAt b (8 * i) (8 * (k + 1))
+byte-more b i k w w-is small =
+    let at : i + k ≡ (8 * i + 8 * k) / 8 = omega arith in
+    let more : 8 * (k + 1) ≡ 8 * k + 8 = omega arith in
+    let same : getD b (i + k) 0 ≡ getD b ((8 * i + 8 * k) / 8) 0 = ap (λ (n : ℕ). getD b n 0) at in
+    let the-byte = whole-byte b (8 * i + 8 * k) (omega arith) (omega arith) in
+    omega (arith, cut b (8 * i) (8 * k) 8, ap (bitsAt b (8 * i)) more)

@@ -1,5 +1,6 @@
 -- Each contract fixes its function's whole answer: any two answers that it allows are equal.
 -- Assumes nothing.
+use Prim.Native.Nat.{ℕ}
 use mathlib.Core.Path.{_≡_, refl, sym, ap, _∙_}
 use mathlib.Core.Bool.{Bool}
 use lib.Dec.{eqb}
@@ -24,6 +25,8 @@ use Rattle.telegram.proofs.read.Kinds as read-kinds
 use Rattle.telegram.proofs.read.Reads as read-reads
 use Rattle.telegram.proofs.stretch.inside.Kinds as inside-kinds
 use Rattle.telegram.proofs.stretch.inside.Reads as inside-reads
+use Rattle.telegram.proofs.bits.eight_bytes.Kinds as eight-bytes-kinds
+use Rattle.telegram.proofs.bits.eight_bytes.Reads as eight-bytes-reads
 use Rattle.telegram.proofs.find.Kinds as find-kinds
 use Rattle.telegram.proofs.find.Reads as find-reads
 use Rattle.telegram.proofs.survey.Kinds as survey-kinds
@@ -89,6 +92,11 @@ pub inside-determined : (κs : Lfts 1) (a : Dens κs inside-kinds.ps) (r r′ : 
     (x x′ : AtExit (endedOf 1 inside-kinds.ps inside-kinds.r) κs)
     → inside-reads.Post κs a r x → inside-reads.Post κs a r′ x′ → r ≡ r′
 inside-determined κs a r r′ x x′ p q = p ∙ sym q
+
+pub eight-bytes-determined : (κs : Lfts 1) (a : Dens κs eight-bytes-kinds.ps) (r r′ : ℕ)
+    (x x′ : AtExit (endedOf 1 eight-bytes-kinds.ps eight-bytes-kinds.r) κs)
+    → eight-bytes-reads.Post κs a r x → eight-bytes-reads.Post κs a r′ x′ → r ≡ r′
+eight-bytes-determined κs a r r′ x x′ p q = p ∙ sym q
 
 pub find-determined : (κs : Lfts 1) (a : Dens κs find-kinds.ps) (r r′ : Found)
     (x x′ : AtExit (endedOf 1 find-kinds.ps find-kinds.r) κs)

@@ -3,9 +3,10 @@ pub mod Pairs
 pub mod Taken
 pub mod Window
 pub mod Bytes
+pub mod Digits
 pub mod Places
 pub mod Outer
-pub mod Eight
+pub mod Many
 pub mod Rest
 pub mod SoFar
 pub mod Handed

@@ -1,6 +1,6 @@
 -- The places of a stretch one offset at a time: the first offset is one or not, and the rest is a stretch one bit shorter.
 -- Assumes nothing.
-use mathlib.Core.Path.{_≡_, refl, ap, _∙_}
+use mathlib.Core.Path.{_≡_, refl, ap, ap₂, _∙_}
 use mathlib.Core.Bool.{Bool, true, false, _&&_}
 use mathlib.Core.List.{List, [], _∷_}
 use Prim.Native.Nat.{ℕ, zero, suc, _+_, _-_, _/_, _%_, _^_, _≤_, _<_}
@@ -10,16 +10,11 @@ use borrow.Author.Tests.{le-leb, lt-leb}
 use Rattle.words.specs.Answer.{pick}
 use Rattle.telegram.specs.Stretch.{bitsAt}
 use Rattle.telegram.specs.Place.{areSyncs, accepted, wordsAt, isPlace, from, those, places}
-use Rattle.telegram.proofs.Taken.{both}
 use Rattle.telegram.proofs.Window.{first-word, last-word, inner, inner-is}
 
 -- Whether the forty bits v are a telegram between the sync words s and t.
 abbrev pub fits : ℕ → ℕ → ℕ → Bool
 fits s t v = areSyncs s t (v / 2 ^ 32) (v % 256) && accepted (inner v)
-
--- Where they are, their words are accepted.
-pub fit-accepted : (s t v : ℕ) → fits s t v ≡ true → accepted (inner v) ≡ true
-fit-accepted s t v e = both (areSyncs s t (v / 2 ^ 32) (v % 256)) (accepted (inner v)) e .1
 
 module _ (b : List ℕ) (s t : ℕ) where
   -- Which offsets pass depends on the stretch's end alone.
@@ -84,3 +79,14 @@ module _ (b : List ℕ) (s t : ℕ) where
   ahead-not-here stop p h e =
       let l : stop - p + 39 ≡ suc (stop - (p + 1) + 39) = omega arith in
       ap (λ (k : ℕ). places b p k s t) l ∙ not-here p (stop - (p + 1) + 39) (omega arith) e
+
+  -- Whether the outer bytes of the forty bits from p on are the sync words.
+  abbrev pub paired : ℕ → Bool
+  paired p = areSyncs s t (bitsAt b p 8) (bitsAt b (p + 32) 8)
+
+  -- Where they are not, no place begins.
+  pub ahead-unpaired : (stop p : ℕ) → p < stop → paired p ≡ false → ahead stop p ≡ ahead stop (p + 1)
+  ahead-unpaired stop p h e =
+      let v = bitsAt b p 40 in
+      ahead-not-here stop p h
+      (ap₂ (λ (x y : ℕ). areSyncs s t x y && accepted (inner v)) (first-word b p) (last-word b p) ∙ ap (λ (x : Bool). x && accepted (inner v)) e)

@@ -1,12 +1,10 @@
--- The bits of a buffer as a number: how large it is, where it can be cut, and how the window of forty bits rolls on.
+-- The bits of a buffer as a number: how large it is, and where it can be cut.
 -- Assumes nothing.
 use mathlib.Core.Path.{_≡_, sym, ap, _∙_, subst}
 use mathlib.Core.List.{List}
-use Prim.Native.Nat.{ℕ, zero, suc, _+_, _-_, _*_, _/_, _%_, _^_, _≤_, _<_}
-use native.Mathlib.Nat.{add-zero, add-suc, pow-suc, mod-lt, zero-lt-suc, mul-assoc, add-assoc, le-trans}
-use native.Mathlib.Numerals.{add-one}
+use Prim.Native.Nat.{ℕ, zero, suc, _+_, _-_, _*_, _/_, _%_, _^_, _<_}
+use native.Mathlib.Nat.{add-zero, add-suc, pow-suc, mod-lt, zero-lt-suc, mul-assoc, add-assoc}
 use native.Mathlib.Omega.{arith}
-use lib.Pow.{pow-mono}
 use lib.ListN.{getD}
 use Rattle.telegram.specs.Stretch.{bitAt, bitsAt}
 use Rattle.telegram.specs.Telegram.{Received, telegram}
@@ -25,15 +23,6 @@ bits-lt b p (suc n) =
     let k : bitAt b (p + n) < 2 = bit-lt b (p + n) in
     subst (λ (m : ℕ). bitsAt b p n * 2 + bitAt b (p + n) < m) (sym (pow-suc 2 n)) (omega arith)
 
--- Up to forty bits stay below 2 ^ 40.
-pub bits-small : (b : List ℕ) (p n : ℕ) → n ≤ 40 → bitsAt b p n < 2 ^ 40
-bits-small b p n h = le-trans (bits-lt b p n) (pow-mono h)
-
--- One bit more.
-pub one-more : (b : List ℕ) (p n : ℕ) → bitsAt b p n * 2 + bitAt b (p + n) ≡ bitsAt b p (n + 1)
-unfolding bitsAt
-one-more b p n = ap (bitsAt b p) (sym (add-one n))
-
 -- The first m bits stand above the n that follow.
 pub cut : (b : List ℕ) (p m n : ℕ) → bitsAt b p (m + n) ≡ bitsAt b p m * 2 ^ n + bitsAt b (p + m) n
 unfolding bitsAt
@@ -46,11 +35,8 @@ cut b p m (suc n) =
     ap (λ (k : ℕ). bitsAt b p m * k) (pow-suc 2 n) ∙ sym (mul-assoc (bitsAt b p m) (2 ^ n) 2) in
     omega arith
 
--- The forty bits from bit p on: the five words, and the window one bit further.
+-- The forty bits from bit p on: the five words.
 module _ (b : List ℕ) (p : ℕ) where
-  pub rolls : bitsAt b p 40 % 2 ^ 39 ≡ bitsAt b (p + 1) 39
-  rolls = omega (arith, cut b p 1 39, bits-lt b (p + 1) 39)
-
   pub first-word : bitsAt b p 40 / 2 ^ 32 ≡ bitsAt b p 8
   first-word = omega (arith, cut b p 8 32, bits-lt b (p + 8) 32)
 

@@ -1,54 +1,53 @@
-// Eight offsets at once: where no two bytes 32 bits apart differ as the sync words do, none of the eight is a place.
+// Up to 57 offsets at once: the outer bytes of a place stand 32 bits apart and differ as S and S* do, so where no two bytes that far
+// apart differ so, no place begins.
 ghost use mathlib.Core.Path.{_≡_};
-ghost use mathlib.Core.Bool.{true};
+ghost use mathlib.Core.Bool.{false};
 ghost use Prim.Native.Nat.{ℕ, _+_, _-_, _*_, _/_, _%_, _<_, _≤_, _^_};
-ghost use lib.ListN.{length};
 ghost use Rattle.telegram.specs.Stretch.{bitsAt};
-ghost use Rattle.telegram.specs.Place.{places};
-use crate::bits::with_byte;
+ghost use Rattle.telegram.specs.Place.{areSyncs};
+use crate::bits::eight_bytes;
 
-// The byte of x above its k lowest bits.
-fn byte_above(x: u64, k: u64) -> u64
-    requires { ⌜ k < 8 ⌝ }
-    ensures { λ r. ⌜ r ≡ x / 2 ^ k % 256 ⌝ }
+// Marks for the 57 - p % 8 offsets from p on, of which bit 56 - p % 8 is the first: one without a mark is no place.
+pub fn marks(buf: &[u8], p: usize, s: u8, t: u8) -> u64
+    ensures { λ r. ⌜ (r ≤ (2 ^ 64 - 1) / 2 ^ (7 + p % 8)) × ((j : ℕ) → j < 57 - p % 8 → r / 2 ^ (56 - p % 8 - j) % 2 ≡ 0 → areSyncs s t (bitsAt (now (buf .entry)) (p + j) 8) (bitsAt (now (buf .entry)) (p + j + 32) 8) ≡ false) ⌝ }
 {
-    (x >> k) % 256
+    let i = p / 8;
+    let differ = eight_bytes(buf, i + 4) ^ eight_bytes(buf, i);
+    where_stands(
+        s as u64 ^ t as u64,
+        differ,
+        18446744073709551615 >> (7 + p % 8),
+    )
 }
 
-// Whether none of the eight bytes above the lowest bits of x is d.
-fn none_is(x: u64, d: u64) -> bool
-    ensures { λ r. ⌜ (r ≡ true → (k : ℕ) → k < 8 → x / 2 ^ k % 256 ≡ d → ⊥) ⌝ }
+// How many offsets stand before the first mark.
+pub fn before_first(h: u64, o: usize) -> usize
+    requires { ⌜ (o < 8) × (h ≤ (2 ^ 64 - 1) / 2 ^ (7 + o)) ⌝ }
+    ensures { λ r. ⌜ (r ≤ 57 - o) × ((j : ℕ) → j < r → h / 2 ^ (56 - o - j) % 2 ≡ 0) ⌝ }
 {
-    (byte_above(x, 0) != d)
-        & (byte_above(x, 1) != d)
-        & (byte_above(x, 2) != d)
-        & (byte_above(x, 3) != d)
-        & (byte_above(x, 4) != d)
-        & (byte_above(x, 5) != d)
-        & (byte_above(x, 6) != d)
-        & (byte_above(x, 7) != d)
+    u64::leading_zeros(h) as usize - (7 + o)
 }
 
-// Whether a whole byte follows the window w, the 39 bits from p on, and at none of the eight offsets from p on the outer
-// bytes, which stand 32 bits apart, differ as s and t do: then none of the eight is a place.
-pub fn quiet(buf: &[u8], w: u64, p: usize, stop: usize, s: u8, t: u8) -> bool
-    requires { ⌜ (w ≡ bitsAt (now buf) p 39) × (p ≤ stop) × (stop + 39 ≤ 8 * length (now buf)) × (stop + 39 < 2 ^ 64) ⌝ }
-    ensures { λ r. ⌜ (r ≡ true → ((p + 39) % 8 ≡ 0) × (p + 8 ≤ stop) × (places (now (buf .entry)) p (stop - p + 39) s t ≡ places (now (buf .entry)) (p + 8) (stop - (p + 8) + 39) s t)) ⌝ }
+// The offset n after p, or `stop` if that comes first.
+pub fn up_to(p: usize, n: usize, stop: usize) -> usize
+    requires { ⌜ p ≤ stop ⌝ }
+    ensures { λ r. ⌜ r ≡ stop - (stop - (p + n)) ⌝ }
 {
-    if (p + 39) % 8 != 0 {
-        return false;
+    if stop - p <= n {
+        return stop;
     }
-    if stop - p < 8 {
-        return false;
-    }
-    let v = with_byte(buf, w, p, 39);
-    none_is(v ^ (v / 4294967296), s as u64 ^ t as u64)
+    p + n
 }
 
-// The window eight offsets further, where a whole byte follows it.
-pub fn eight_on(buf: &[u8], w: u64, p: usize) -> u64
-    requires { ⌜ (w ≡ bitsAt (now buf) p 39) × ((p + 39) % 8 ≡ 0) × (p + 39 < 8 * length (now buf)) × (p + 39 < 2 ^ 64) ⌝ }
-    ensures { λ r. ⌜ r ≡ bitsAt (now (buf .entry)) (p + 8) 39 ⌝ }
+// Of the bits of m those from which upwards the byte d stands in x.
+fn where_stands(d: u64, x: u64, m: u64) -> u64
+    ensures { λ r. ⌜ (r ≤ m) × ((k : ℕ) → k < 64 → m / 2 ^ k % 2 ≡ 1 → x / 2 ^ k % 256 ≡ d → r / 2 ^ k % 2 ≡ 1) ⌝ }
 {
-    with_byte(buf, w, p, 39) % 549755813888
+    let mut h = m;
+    let mut j: u64 = 0;
+    while j < 8 {
+        h = h & ((x >> j) ^ ((1 - (d >> j) % 2) * 18446744073709551615));
+        j += 1;
+    }
+    h
 }

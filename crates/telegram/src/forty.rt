@@ -19,7 +19,7 @@ pub fn is_place(v: u64, s: u8, t: u8) -> bool
 }
 
 // Whether the outer bytes are s and t, in either order.
-fn outer_are_syncs(v: u64, s: u8, t: u8) -> bool
+pub fn outer_are_syncs(v: u64, s: u8, t: u8) -> bool
     requires { ⌜ v < 2 ^ 40 ⌝ }
     ensures { λ r. ⌜ r ≡ areSyncs s t (v / 2 ^ 32) (v % 256) ⌝ }
 {

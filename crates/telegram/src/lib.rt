@@ -17,6 +17,7 @@ mod scan;
 mod stretch;
 mod sync;
 
+pub use bits::eight_bytes;
 pub use stretch::inside;
 use words::Parity;
 use words::ShortRead;

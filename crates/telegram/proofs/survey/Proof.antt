@@ -49,7 +49,7 @@ to-first-requires c κs =
     let h = at-first c in
     let f = h .first in
     let i = taken (a .buf .now) (a .start) (a .len) (h .taken) in
-    (omega arith, omega arith, omega arith, h .says)
+    (omega arith, h .says)
 
 enum-told : tie.Need-enum-told
 enum-told c = search needs

@@ -1,103 +1,142 @@
--- The window holds the 39 bits from p on, and the first place ahead of p is the first of all: no offset before p is one.
+-- Nothing before p is a place, and what stands and is read at p decides whether p is one.
 -- Assumes nothing.
-use Prim.Native.Nat.{ℕ, _-_, _%_, _^_, _≤_}
-use mathlib.Core.Path.{_≡_, refl, sym, ap, _∙_}
-use mathlib.Core.Bool.{Bool, true, false}
+use Prim.Native.Nat.{ℕ, _-_, _/_, _%_, _^_, _≤_}
+use mathlib.Core.Path.{_≡_, refl, sym, ap, ap₂, _∙_}
+use mathlib.Core.Bool.{Bool, true, false, _&&_, and-false}
+use mathlib.Core.Logic.{⊎-elim}
 use native.Mathlib.Omega.{arith}
+use borrow.Author.Needs.{needs}
 use Rattle.words.specs.Answer.{gives}
-use Rattle.telegram.specs.Stretch.{bitsAt}
-use Rattle.telegram.specs.Place.{at, firstOf}
 use Rattle.telegram.specs.Telegram.{Received}
-use Rattle.telegram.proofs.Window.{bits-lt, rolls, inner, inner-is}
-use Rattle.telegram.proofs.Places.{fits, fit-accepted, ahead, none-ahead, ahead-here, ahead-not-here}
+use Rattle.telegram.specs.Place.{areSyncs, accepted, at, firstOf}
+use Rattle.telegram.specs.Says.{saysTelegramRead}
+use Rattle.telegram.proofs.Window.{bits-lt, inner, inner-is}
+use Rattle.telegram.proofs.Places.{fits, ahead, none-ahead, ahead-here, ahead-not-here}
+use Rattle.telegram.proofs.Many.{past-all, to-mark}
 use Rattle.telegram.proofs.scan.first_place.Statement.{statement}
 use Rattle.telegram.proofs.scan.first_place.Tie as tie
 
 abbrev Inv-loop : tie.InvT-loop
-Inv-loop buf start stop s t w₀ p₀ w p =
-    (start ≤ p) × (p ≤ stop) × (w ≡ bitsAt buf p 39) × (firstOf buf (ahead buf s t stop start) ≡ firstOf buf (ahead buf s t stop p))
+Inv-loop buf start stop s t p₀ p =
+    (p ≤ stop) × (firstOf buf (ahead buf s t stop start) ≡ firstOf buf (ahead buf s t stop p))
 
 abbrev μ-loop : tie.MeasureT-loop
-μ-loop buf start stop s t w₀ p₀ w p = stop - p
-
-bits-requires : tie.Need-bits-requires Inv-loop μ-loop
-bits-requires c κs = omega arith
+μ-loop buf start stop s t p₀ p = stop - p
 
 loop-holds : tie.Need-loop-holds Inv-loop μ-loop
-loop-holds c = (omega arith, omega arith, c .bits .ensures, refl)
+loop-holds c = (omega arith, refl)
 
-quiet-requires : tie.Need-quiet-requires Inv-loop μ-loop
-quiet-requires c κs = (c .before .loop .inv .2, omega arith, omega arith, omega arith)
+marks-requires : tie.Need-marks-requires Inv-loop μ-loop
+marks-requires c κs = search needs
 
-eight-on-requires : tie.Need-eight-on-requires Inv-loop μ-loop
-eight-on-requires c κs =
-    let t = c .before .quiet .ensures (c .if1 .taken) in
-    (c .before .before .before .loop .inv .2, t .0, omega arith, omega arith)
+sub-up-to : tie.Need-sub-up-to Inv-loop μ-loop
+sub-up-to c = omega arith
 
-add-p : tie.Need-add-p Inv-loop μ-loop
-add-p c = omega (arith, c .before .before .quiet .ensures (c .before .if1 .taken))
+up-to-requires : tie.Need-up-to-requires Inv-loop μ-loop
+up-to-requires c κs = omega arith
 
 loop-less : tie.Need-loop-less Inv-loop μ-loop
-loop-less c = omega (arith, c .before .before .quiet .ensures (c .before .if1 .taken))
+loop-less c = omega (arith, c .up-to .ensures)
 
 loop-again : tie.Need-loop-again Inv-loop μ-loop
 loop-again c =
-    let a = c .before .before .before .before .before .before .before .args in
-    let l = c .before .before .before .before .loop in
-    let t = c .before .before .quiet .ensures (c .before .if1 .taken) in
-    (omega arith, omega arith, c .eight-on .ensures, l .inv .3 ∙ ap (firstOf (a .buf .now)) (t .2))
+    let m = c .before .before in
+    let a = m .before .before .before .before .args in
+    let l = m .before .before .loop in
+    let r = c .up-to .ensures in
+    let on = past-all (a .buf .now) (a .s) (a .t) (a .stop) (l .p) (c .up-to .result) (m .marks .result) (omega arith) r (m .marks .ensures .1) (c .before .if1 .taken) in
+    (omega arith, l .inv .1 ∙ ap (firstOf (a .buf .now)) on)
 
-with-bit-requires : tie.Need-with-bit-requires Inv-loop μ-loop
-with-bit-requires c κs = (c .before .before .before .loop .inv .2, omega arith, omega arith, omega arith)
+before-first-requires : tie.Need-before-first-requires Inv-loop μ-loop
+before-first-requires c κs = (omega arith, c .before .marks .ensures .0)
 
-is-place-requires : tie.Need-is-place-requires Inv-loop μ-loop
-is-place-requires c κs =
-    let a = c .before .before .before .before .before .before .before .args in
-    omega (arith, c .with-bit .ensures, bits-lt (a .buf .now) (c .before .before .before .before .loop .p) 40)
+up-to-requires-2 : tie.Need-up-to-requires-2 Inv-loop μ-loop
+up-to-requires-2 c κs = omega arith
 
--- what the test of the forty bits said
-fits-is : (c : tie.After-is-place Inv-loop μ-loop) (x : Bool) → c .is-place .result ≡ x
-    → fits (c .before .before .before .before .before .before .before .before .args .s) (c .before .before .before .before .before .before .before .before .args .t) (bitsAt (c .before .before .before .before .before .before .before .before .args .buf .now) (c .before .before .before .before .before .loop .p) 40) ≡ x
-fits-is c x e =
-    let a = c .before .before .before .before .before .before .before .before .args in
-    ap (fits (a .s) (a .t)) (sym (c .before .with-bit .ensures)) ∙ sym (c .is-place .ensures) ∙ e
+-- on to the first mark
+to-p : (c : tie.After-up-to2 Inv-loop μ-loop) → let m = c .before .before .before in
+    let a = m .before .before .before .before .args in
+    firstOf (a .buf .now) (ahead (a .buf .now) (a .s) (a .t) (a .stop) (a .start)) ≡ firstOf (a .buf .now) (ahead (a .buf .now) (a .s) (a .t) (a .stop) (c .up-to2 .result))
+to-p c =
+    let m = c .before .before .before in
+    let a = m .before .before .before .before .args in
+    let l = m .before .before .loop in
+    let n = c .before .before-first in
+    l .inv .1
+    ∙ ap (firstOf (a .buf .now)) (to-mark (a .buf .now) (a .s) (a .t) (a .stop) (l .p) (c .up-to2 .result) (m .marks .result) (n .result) (omega arith) (c .up-to2 .ensures) (m .marks .ensures .1) (n .ensures .0) (n .ensures .1))
 
-found-at-requires : tie.Need-found-at-requires Inv-loop μ-loop
-found-at-requires c κs =
-    let a = c .before .before .before .before .before .before .before .before .before .args in
-    fit-accepted (a .s) (a .t) (c .before .before .with-bit .result) (sym (c .before .is-place .ensures) ∙ c .if2 .taken)
+forty-requires : tie.Need-forty-requires Inv-loop μ-loop
+forty-requires c κs = search needs
+
+outer-are-syncs-requires : tie.Need-outer-are-syncs-requires Inv-loop μ-loop
+outer-are-syncs-requires c κs =
+    let u = c .before .before in
+    omega (arith, c .forty .ensures, bits-lt (u .before .before .before .before .before .before .before .args .buf .now) (u .up-to2 .result) 40)
+
+words-of-requires : tie.Need-words-of-requires Inv-loop μ-loop
+words-of-requires c κs = search needs
+
+enum-known-read : tie.Need-enum-known-read Inv-loop μ-loop
+enum-known-read c = search needs
 
 returns : tie.Need-returns Inv-loop μ-loop
 returns c =
-    let u = c .before .before in
-    let a = u .before .before .before .before .before .before .before .before .args in
-    let l = u .before .before .before .before .before .loop in
-    let on = u .before .before .before .before .loop-test .taken in
-    c .found-at .ensures
-    ∙ ap (λ (m : Received). gives (at (l .p) m)) (ap inner (u .before .with-bit .ensures) ∙ inner-is (a .buf .now) (l .p))
-    ∙ sym (l .inv .3 ∙ ap (firstOf (a .buf .now)) (ahead-here (a .buf .now) (a .s) (a .t) (a .stop) (l .p) on (fits-is u true (c .before .if2 .taken))))
+    let w = c .before .before .before in
+    let o = w .before .before in
+    let u = o .before .before .before in
+    let a = u .before .before .before .before .before .before .before .args in
+    let b = a .buf .now in
+    let p = u .up-to2 .result in
+    let v = o .before .forty in
+    let reads = sym (w .words-of .ensures) ∙ ap saysTelegramRead (c .before .read .given .1) in
+    let fit = ap (fits (a .s) (a .t)) (sym (v .ensures))
+    ∙ ap₂ (λ (x y : Bool). x && y) (sym (o .outer-are-syncs .ensures) ∙ w .before .if3 .taken) (ap accepted reads) in
+    ap (λ (m : Received). gives (at p m)) (sym reads ∙ ap inner (v .ensures) ∙ inner-is b p)
+    ∙ sym (to-p u ∙ ap (firstOf b) (ahead-here b (a .s) (a .t) (a .stop) p (o .before .before .if2 .taken) fit))
 
-add-p-2 : tie.Need-add-p-2 Inv-loop μ-loop
-add-p-2 c = omega arith
+enum-told : tie.Need-enum-told Inv-loop μ-loop
+enum-told c = search needs
+
+enum-told-2 : tie.Need-enum-told-2 Inv-loop μ-loop
+enum-told-2 c = search needs
+
+add-p : tie.Need-add-p Inv-loop μ-loop
+add-p c = omega arith
 
 loop-less-2 : tie.Need-loop-less-2 Inv-loop μ-loop
-loop-less-2 c = omega arith
+loop-less-2 c = omega (arith, c .before .before .before .before .up-to2 .ensures)
 
 loop-again-2 : tie.Need-loop-again-2 Inv-loop μ-loop
 loop-again-2 c =
-    let u = c .before in
-    let a = u .before .before .before .before .before .before .before .before .args in
-    let l = u .before .before .before .before .before .loop in
-    let on = u .before .before .before .before .loop-test .taken in
-    let w-is = ap (λ (v : ℕ). v % 2 ^ 39) (u .before .with-bit .ensures) ∙ rolls (a .buf .now) (l .p) in
-    let none-here = ahead-not-here (a .buf .now) (a .s) (a .t) (a .stop) (l .p) on (fits-is u false (c .if2 .left)) in
-    (omega arith, omega arith, w-is, l .inv .3 ∙ ap (firstOf (a .buf .now)) none-here)
+    let o = c .before in
+    let u = o .before .before .before in
+    let a = u .before .before .before .before .before .before .before .args in
+    let b = a .buf .now in
+    let p = u .up-to2 .result in
+    let v = o .before .forty in
+    let outer = areSyncs (a .s) (a .t) (v .result / 2 ^ 32) (v .result % 256) in
+    let refused : accepted (inner (v .result)) ≡ false → fits (a .s) (a .t) (v .result) ≡ false =
+    λ e. ap (λ (x : Bool). outer && x) e ∙ and-false outer in
+    let fit : fits (a .s) (a .t) (v .result) ≡ false =
+    ⊎-elim
+    (λ z. refused (ap accepted (sym (z .1 .ensures) ∙ ap saysTelegramRead (z .3 .given .1))))
+    (⊎-elim
+    (λ z. refused (ap accepted (sym (z .1 .ensures) ∙ ap saysTelegramRead (z .3 .given .1))))
+    (λ z. ap (λ (x : Bool). x && accepted (inner (v .result))) (sym (o .outer-are-syncs .ensures) ∙ z .left)))
+    (c .if3 .came) in
+    (omega arith, to-p u ∙ ap (firstOf b) (ahead-not-here b (a .s) (a .t) (a .stop) p (o .before .before .if2 .taken) (ap (fits (a .s) (a .t)) (sym (v .ensures)) ∙ fit)))
+
+loop-less-3 : tie.Need-loop-less-3 Inv-loop μ-loop
+loop-less-3 c = omega (arith, c .before .up-to2 .ensures)
+
+loop-again-3 : tie.Need-loop-again-3 Inv-loop μ-loop
+loop-again-3 c = (omega (arith, c .before .up-to2 .ensures), to-p (c .before))
 
 returns-2 : tie.Need-returns-2 Inv-loop μ-loop
 returns-2 c =
-    let a = c .before .before .before .before .args in
+    let a = c .before .before .before .args in
     let l = c .before .loop in
-    sym (l .inv .3 ∙ ap (firstOf (a .buf .now)) (none-ahead (a .buf .now) (a .s) (a .t) (a .stop) (l .p) (c .loop-test .left)))
+    sym (l .inv .1 ∙ ap (firstOf (a .buf .now)) (none-ahead (a .buf .now) (a .s) (a .t) (a .stop) (l .p) (c .loop-test .left)))
 
 pub first-place-spec : {M : Type 1} → statement M
 first-place-spec =
@@ -105,18 +144,24 @@ first-place-spec =
     (tie.spec
     Inv-loop
     μ-loop
-    bits-requires
     loop-holds
-    quiet-requires
-    eight-on-requires
-    add-p
+    marks-requires
+    sub-up-to
+    up-to-requires
     loop-less
     loop-again
-    with-bit-requires
-    is-place-requires
-    found-at-requires
+    before-first-requires
+    up-to-requires-2
+    forty-requires
+    outer-are-syncs-requires
+    words-of-requires
+    enum-known-read
     returns
-    add-p-2
+    enum-told
+    enum-told-2
+    add-p
     loop-less-2
     loop-again-2
+    loop-less-3
+    loop-again-3
     returns-2)
