@@ -1,8 +1,9 @@
 pub mod Counts
+pub mod Adders
 pub mod Steps
 pub mod Latest
 pub mod Stays
-pub mod Four
+pub mod Block
 pub mod Follows
 pub mod Law
 pub mod Calls

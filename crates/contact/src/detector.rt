@@ -1,88 +1,40 @@
-// The walk over the bits of a stretch: outside a contact to the bit that opens one, inside it to the bit that closes it.
+// The walk over the bits of a stretch: outside a contact to the bit that opens one, inside it to the bit that closes it. Up to 48 bits
+// are passed over at once where none of them can; the bit after those is judged by the zeroes among the latest sixteen.
 ghost use mathlib.Core.Path.{_≡_};
-ghost use mathlib.Core.Bool.{true};
-ghost use Prim.Native.Nat.{_+_, _-_, _*_, _%_, _<_, _≤_};
-ghost use lib.ListN.{length};
-ghost use Rattle.telegram.specs.Stretch.{bitAt};
-ghost use Rattle.contact.specs.History.{after, zeroesOf, zeroes};
+ghost use Prim.Native.Nat.{ℕ, _+_, _-_, _*_, _/_, _%_, _<_, _≤_, _^_};
+ghost use Rattle.words.specs.Bits.{bit};
+ghost use Rattle.telegram.specs.Stretch.{bitsAt};
+ghost use Rattle.contact.specs.History.{zeroes};
 ghost use Rattle.contact.specs.Contacts.{outside, since, contacts, first};
 ghost use Rattle.contact.specs.Says.{saysNext};
 use crate::Next;
 use crate::Search;
-
-// The latest sixteen bits after bit i of the buffer: that bit comes in, the oldest drops out.
-fn after(history: u32, buf: &[u8], i: usize) -> u32
-    requires { ⌜ (history < 65536) × (i < 8 * length (now buf)) ⌝ }
-    ensures { λ r. ⌜ (r ≡ after history (bitAt (now (buf .entry)) i)) × (r < 65536) ⌝ }
-{
-    let bit = (buf[i / 8] >> (7 - i % 8)) as u32 % 2;
-    (history * 2 + bit) % 65536
-}
-
-// The latest sixteen bits after the four bits of the buffer from bit i on, which lie in one byte.
-fn after_four(history: u32, buf: &[u8], i: usize) -> u32
-    requires { ⌜ (history < 65536) × (i % 4 ≡ 0) × (i < 8 * length (now buf)) ⌝ }
-    ensures { λ r. ⌜ (r ≡ after (after (after (after history (bitAt (now (buf .entry)) i)) (bitAt (now (buf .entry)) (i + 1))) (bitAt (now (buf .entry)) (i + 2))) (bitAt (now (buf .entry)) (i + 3))) × (r < 65536) ⌝ }
-{
-    let four = (buf[i / 8] >> (4 - i % 8)) as u32 % 16;
-    (history * 16 + four) % 65536
-}
-
-// The zeroes among the latest sixteen bits.
-fn zeroes(history: u32) -> u32
-    requires { ⌜ history < 65536 ⌝ }
-    ensures { λ r. ⌜ r ≡ zeroes history ⌝ }
-{
-    16 - u32::count_ones(history)
-}
-
-// Whether the four bits from bit i on lie in one byte, and before bit `end`.
-fn four_fit(i: usize, end: usize) -> bool
-    requires { ⌜ i ≤ end ⌝ }
-    ensures { λ r. ⌜ (r ≡ true → (i % 4 ≡ 0) × (i + 4 ≤ end)) ⌝ }
-{
-    (i % 4 == 0) & (4 <= end - i)
-}
-
-// Outside a contact: whether four bits fit that are too few to open one, since at most three of the latest sixteen are zeroes.
-fn four_open_none(history: u32, i: usize, end: usize) -> bool
-    requires { ⌜ (history < 65536) × (i ≤ end) ⌝ }
-    ensures { λ r. ⌜ (r ≡ true → (i % 4 ≡ 0) × (i + 4 ≤ end) × (zeroes history ≤ 3)) ⌝ }
-{
-    if !four_fit(i, end) {
-        return false;
-    }
-    zeroes(history) <= 3
-}
-
-// Inside a contact: whether four bits fit that cannot close it, since five or more of the latest twelve are zeroes.
-fn four_close_none(history: u32, i: usize, end: usize) -> bool
-    requires { ⌜ i ≤ end ⌝ }
-    ensures { λ r. ⌜ (r ≡ true → (i % 4 ≡ 0) × (i + 4 ≤ end) × (5 ≤ zeroesOf history 12)) ⌝ }
-{
-    if !four_fit(i, end) {
-        return false;
-    }
-    u32::count_ones(history % 4096) <= 7
-}
+use crate::count::closing;
+use crate::count::opening;
 
 // Outside a contact, from bit `from` to bit `end`: the first one that opens, or none.
 pub fn outside(buf: &[u8], from: usize, end: usize, history: u32) -> Next
-    requires { ⌜ (from ≤ end) × (end ≤ 8 * length (now buf)) × (history < 65536) ⌝ }
+    requires { ⌜ (from ≤ end) × (history < 65536) ⌝ }
     ensures { λ r. ⌜ saysNext r ≡ first (contacts (now (buf .entry)) outside history from (end - from)) ⌝ }
 {
     let mut h = history;
     let mut i = from;
     while i < end {
-        if four_open_none(h, i, end) {
-            h = after_four(h, buf, i);
-            i += 4;
-        } else {
-            h = after(h, buf, i);
+        let w = line(buf, i, h);
+        let n = before_first(opening(w));
+        if end - i <= n {
+            return Next::NoFurther;
+        }
+        if n < 48 {
+            h = latest(w, n + 1);
+            i += n;
             if 8 <= zeroes(h) {
                 return within(buf, i, end, h);
             }
             i += 1;
+        } else {
+            h = latest(w, 48);
+            i += 48;
         }
     }
     Next::NoFurther
@@ -90,17 +42,20 @@ pub fn outside(buf: &[u8], from: usize, end: usize, history: u32) -> Next
 
 // Inside a contact that the bit `opened` opens: on to the bit that closes it, which is not part of it.
 fn within(buf: &[u8], opened: usize, end: usize, history: u32) -> Next
-    requires { ⌜ (opened < end) × (end ≤ 8 * length (now buf)) × (history < 65536) ⌝ }
+    requires { ⌜ (opened < end) × (history < 65536) ⌝ }
     ensures { λ r. ⌜ saysNext r ≡ first (contacts (now (buf .entry)) (since opened) history (opened + 1) (end - (opened + 1))) ⌝ }
 {
     let mut h = history;
     let mut i = opened + 1;
     while i < end {
-        if four_close_none(h, i, end) {
-            h = after_four(h, buf, i);
-            i += 4;
-        } else {
-            h = after(h, buf, i);
+        let w = line(buf, i, h);
+        let n = before_first(closing(w));
+        if end - i <= n {
+            return Next::Cut;
+        }
+        if n < 48 {
+            h = latest(w, n + 1);
+            i += n;
             let behind = i + 1;
             if zeroes(h) <= 4 {
                 return Next::Contact {
@@ -114,7 +69,42 @@ fn within(buf: &[u8], opened: usize, end: usize, history: u32) -> Next
                 };
             }
             i = behind;
+        } else {
+            h = latest(w, 48);
+            i += 48;
         }
     }
     Next::Cut
+}
+
+// The latest sixteen bits, and after them the 48 of the buffer from bit i on.
+fn line(buf: &[u8], i: usize, history: u32) -> u64
+    requires { ⌜ history < 65536 ⌝ }
+    ensures { λ r. ⌜ r ≡ history * 2 ^ 48 + bitsAt (now (buf .entry)) i 48 ⌝ }
+{
+    history as u64 * 281474976710656
+        + (telegram::eight_bytes(buf, i / 8) >> (16 - i % 8)) % 281474976710656
+}
+
+// The latest sixteen bits after n of those 48.
+fn latest(w: u64, n: usize) -> u32
+    requires { ⌜ n ≤ 48 ⌝ }
+    ensures { λ r. ⌜ r ≡ w / 2 ^ (48 - n) % 65536 ⌝ }
+{
+    ((w >> (48 - n)) % 65536) as u32
+}
+
+// How many of those 48 come before the first that m marks; the first is marked by bit 47.
+fn before_first(m: u64) -> usize
+    ensures { λ r. ⌜ (r ≤ 48) × ((j : ℕ) → j < r → bit m (47 - j) ≡ 0) ⌝ }
+{
+    u64::leading_zeros(m % 281474976710656) as usize - 16
+}
+
+// The zeroes among the latest sixteen bits.
+fn zeroes(history: u32) -> u32
+    requires { ⌜ history < 65536 ⌝ }
+    ensures { λ r. ⌜ r ≡ zeroes history ⌝ }
+{
+    16 - u32::count_ones(history)
 }

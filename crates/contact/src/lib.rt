@@ -8,6 +8,7 @@ ghost use Rattle.contact.specs.Judge.{judged};
 ghost use Rattle.contact.specs.Under.{judgedUnder};
 ghost use Rattle.contact.specs.Says.{saysBegun, saysNext, saysJudged, saysJudgedUnder};
 
+mod count;
 mod detector;
 mod marker;
 mod under;

@@ -1,11 +1,15 @@
--- What the contacts are from the first bit on, they still are from each later bit on, until one opens.
+-- What the contacts are from the first bit on, they still are from each later bit on that the walk comes to, until one opens.
 -- Assumes nothing.
-use Prim.Native.Nat.{_-_, _≤_, _<_}
+use Prim.Native.Nat.{ℕ, suc, _+_, _-_, _≤_, _<_}
 use mathlib.Core.Path.{_≡_, refl, sym, ap, _∙_}
+use native.Mathlib.Numerals.{add-one}
 use native.Mathlib.Omega.{arith}
+use borrow.Author.Needs.{needs}
+use Rattle.contact.specs.History.{zeroes}
 use Rattle.contact.specs.Contacts.{outside, contacts, first}
 use Rattle.contact.proofs.Steps.{ends-outside, goes-in, stays-out}
-use Rattle.contact.proofs.Stays.{none-opens}
+use Rattle.contact.proofs.Stays.{on}
+use Rattle.contact.proofs.Block.{latest-is, few-before, none-opens}
 use Rattle.contact.proofs.detector.outside.Statement.{statement}
 use Rattle.contact.proofs.detector.outside.Tie as tie
 
@@ -21,62 +25,124 @@ abbrev μ-loop : tie.MeasureT-loop
 loop-holds : tie.Need-loop-holds Inv-loop μ-loop
 loop-holds c = (omega arith, omega arith, refl)
 
-four-open-none-requires : tie.Need-four-open-none-requires Inv-loop μ-loop
-four-open-none-requires c κs = omega arith
+line-requires : tie.Need-line-requires Inv-loop μ-loop
+line-requires c κs = omega arith
 
-after-four-requires : tie.Need-after-four-requires Inv-loop μ-loop
-after-four-requires c κs = omega (arith, c .before .four-open-none .ensures (c .if1 .taken))
+opening-requires : tie.Need-opening-requires Inv-loop μ-loop
+opening-requires c κs = search needs
 
-add-i : tie.Need-add-i Inv-loop μ-loop
-add-i c = omega (arith, c .before .before .four-open-none .ensures (c .before .if1 .taken))
+before-first-requires : tie.Need-before-first-requires Inv-loop μ-loop
+before-first-requires c κs = search needs
 
-loop-less : tie.Need-loop-less Inv-loop μ-loop
-loop-less c = omega (arith, c .before .before .four-open-none .ensures (c .before .if1 .taken))
+sub-if1 : tie.Need-sub-if1 Inv-loop μ-loop
+sub-if1 c = omega arith
 
-loop-again : tie.Need-loop-again Inv-loop μ-loop
-loop-again c =
+-- the bits before the first that is marked
+before : (c : tie.After-before-first Inv-loop μ-loop) (j : ℕ) → j < c .before-first .result
+    → zeroes (on (c .before .before .before .before .before .before .args .buf .now) (c .before .before .before .before .loop .h) (c .before .before .before .before .loop .i) (suc j)) < 8
+before c =
     let a = c .before .before .before .before .before .before .args in
     let l = c .before .before .before .before .loop in
-    let t = c .before .before .four-open-none .ensures (c .before .if1 .taken) in
-    let f = c .after-four in
-    let same = none-opens (a .buf .now) (l .h) (l .i) (a .end) (f .result) (t .1) (f .ensures .0) (t .2) in
-    (omega arith, omega arith, l .inv .2 ∙ same)
-
-after-requires : tie.Need-after-requires Inv-loop μ-loop
-after-requires c κs = omega arith
-
-zeroes-requires : tie.Need-zeroes-requires Inv-loop μ-loop
-zeroes-requires c κs = omega arith
-
-within-requires : tie.Need-within-requires Inv-loop μ-loop
-within-requires c κs = omega arith
+    let w = c .before .before .line in
+    let m = c .before .opening in
+    let n = c .before-first in
+    few-before (a .buf .now) (l .h) (l .i) (l .inv .1) (w .result) (w .ensures) (m .result) (n .result) (m .ensures) (n .ensures .0) (n .ensures .1)
 
 returns : tie.Need-returns Inv-loop μ-loop
 returns c =
-    let a = c .before .before .before .before .before .before .before .before .before .args in
-    let l = c .before .before .before .before .before .before .before .loop in
-    let n = c .before .before .before .after in
-    let z = c .before .before .zeroes in
-    let same = goes-in (a .buf .now) (l .h) (l .i) (a .end) (n .result) (z .result) (omega arith) (n .ensures .0) (z .ensures) (omega arith) in
-    simp (l .inv .2, same) (c .within .ensures)
+    let u = c .before in
+    let a = u .before .before .before .before .before .before .args in
+    let b = a .buf .now in
+    let l = u .before .before .before .before .loop in
+    let n = a .end - l .i in
+    let none = none-opens b (l .h) (l .i) (l .inv .1) (a .end) n (omega arith) (λ j less. before u j (omega arith)) in
+    sym (ap first (l .inv .2 ∙ none ∙ ends-outside b (on b (l .h) (l .i) n) (l .i + n) (a .end) (omega arith)))
+
+add-latest : tie.Need-add-latest Inv-loop μ-loop
+add-latest c = omega arith
+
+latest-requires : tie.Need-latest-requires Inv-loop μ-loop
+latest-requires c κs = omega arith
+
+add-i : tie.Need-add-i Inv-loop μ-loop
+add-i c = omega arith
+
+zeroes-requires : tie.Need-zeroes-requires Inv-loop μ-loop
+zeroes-requires c κs = omega (arith, c .latest .ensures)
+
+within-requires : tie.Need-within-requires Inv-loop μ-loop
+within-requires c κs = omega (arith, c .before .before .latest .ensures)
+
+-- the history after the bit that is marked
+now-is : (c : tie.After-latest Inv-loop μ-loop) → let u = c .before .before .before in
+    c .latest .result
+    ≡ on (u .before .before .before .before .before .before .args .buf .now) (u .before .before .before .before .loop .h) (u .before .before .before .before .loop .i) (suc (u .before-first .result))
+now-is c =
+    let u = c .before .before .before in
+    let b = u .before .before .before .before .before .before .args .buf .now in
+    let l = u .before .before .before .before .loop in
+    let w = u .before .before .line in
+    let k = u .before-first .result in
+    c .latest .ensures ∙ latest-is b (l .h) (l .i) (l .inv .1) (w .result) (w .ensures) (k + 1) (omega arith) ∙ ap (on b (l .h) (l .i)) (add-one k)
+
+returns-2 : tie.Need-returns-2 Inv-loop μ-loop
+returns-2 c =
+    let z = c .before .before in
+    let u = z .before .before .before .before in
+    let a = u .before .before .before .before .before .before .args in
+    let b = a .buf .now in
+    let l = u .before .before .before .before .loop in
+    let k = u .before-first .result in
+    let none = none-opens b (l .h) (l .i) (l .inv .1) (a .end) k (omega arith) (before u) in
+    let in-it = goes-in b (on b (l .h) (l .i) k) (l .i + k) (a .end) (z .before .latest .result) (z .zeroes .result) (omega arith) (now-is (z .before)) (z .zeroes .ensures) (c .before .if3 .taken) in
+    c .within .ensures ∙ sym (ap first (l .inv .2 ∙ none ∙ in-it))
 
 add-i-2 : tie.Need-add-i-2 Inv-loop μ-loop
 add-i-2 c = omega arith
+
+loop-less : tie.Need-loop-less Inv-loop μ-loop
+loop-less c = omega arith
+
+loop-again : tie.Need-loop-again Inv-loop μ-loop
+loop-again c =
+    let z = c .before in
+    let u = z .before .before .before .before in
+    let a = u .before .before .before .before .before .before .args in
+    let b = a .buf .now in
+    let l = u .before .before .before .before .loop in
+    let k = u .before-first .result in
+    let none = none-opens b (l .h) (l .i) (l .inv .1) (a .end) k (omega arith) (before u) in
+    let stays = stays-out b (on b (l .h) (l .i) k) (l .i + k) (a .end) (z .before .latest .result) (z .zeroes .result) (omega arith) (now-is (z .before)) (z .zeroes .ensures) (c .if3 .left) in
+    (omega arith, omega (arith, z .before .latest .ensures), l .inv .2 ∙ none ∙ stays)
+
+latest-requires-2 : tie.Need-latest-requires-2 Inv-loop μ-loop
+latest-requires-2 c κs = omega arith
+
+add-i-3 : tie.Need-add-i-3 Inv-loop μ-loop
+add-i-3 c = omega arith
 
 loop-less-2 : tie.Need-loop-less-2 Inv-loop μ-loop
 loop-less-2 c = omega arith
 
 loop-again-2 : tie.Need-loop-again-2 Inv-loop μ-loop
 loop-again-2 c =
-    let a = c .before .before .before .before .before .before .before .before .args in
-    let l = c .before .before .before .before .before .before .loop in
-    let n = c .before .before .after in
-    let z = c .before .zeroes in
-    let same = stays-out (a .buf .now) (l .h) (l .i) (a .end) (n .result) (z .result) (omega arith) (n .ensures .0) (z .ensures) (omega arith) in
-    (omega arith, omega arith, l .inv .2 ∙ same)
+    let u = c .before .before .before in
+    let a = u .before .before .before .before .before .before .args in
+    let b = a .buf .now in
+    let l = u .before .before .before .before .loop in
+    let w = u .before .before .line in
+    let n = u .before-first in
+    let all = c .before .if2 .left in
+    let then-is : c .latest2 .result ≡ on b (l .h) (l .i) 48 =
+    c .latest2 .ensures ∙ latest-is b (l .h) (l .i) (l .inv .1) (w .result) (w .ensures) 48 (omega arith) in
+    let none = none-opens b (l .h) (l .i) (l .inv .1) (a .end) 48 (omega arith) (λ j less. before u j (omega arith)) in (
+      omega arith,
+      omega (arith, c .latest2 .ensures),
+      l .inv .2 ∙ none ∙ ap (λ (h : ℕ). contacts b outside h (l .i + 48) (a .end - (l .i + 48))) (sym then-is),
+    )
 
-returns-2 : tie.Need-returns-2 Inv-loop μ-loop
-returns-2 c =
+returns-3 : tie.Need-returns-3 Inv-loop μ-loop
+returns-3 c =
     let a = c .before .before .before .args in
     let l = c .before .loop in
     sym (ap first (l .inv .2 ∙ ends-outside (a .buf .now) (l .h) (l .i) (a .end) (omega arith)))
@@ -88,16 +154,22 @@ outside-spec =
     Inv-loop
     μ-loop
     loop-holds
-    four-open-none-requires
-    after-four-requires
+    line-requires
+    opening-requires
+    before-first-requires
+    sub-if1
+    returns
+    add-latest
+    latest-requires
     add-i
-    loop-less
-    loop-again
-    after-requires
     zeroes-requires
     within-requires
-    returns
+    returns-2
     add-i-2
+    loop-less
+    loop-again
+    latest-requires-2
+    add-i-3
     loop-less-2
     loop-again-2
-    returns-2)
+    returns-3)

@@ -1,0 +1,21 @@
+-- More than four: one of the two highest digits is set, or the third beside a lower one.
+-- Assumes nothing.
+use Prim.Native.Nat.{_/_, _^_}
+use native.Mathlib.Omega.{arith}
+use Rattle.contact.specs.History.{zeroesOf}
+use Rattle.contact.proofs.Adders.{four}
+use borrow.Author.Needs.{needs}
+use Rattle.contact.proofs.count.closing.Statement.{statement}
+use Rattle.contact.proofs.count.closing.Tie as tie
+
+counted-requires : tie.Need-counted-requires
+counted-requires c κs = search needs
+
+returns : tie.Need-returns
+returns c k room none =
+    let n = c .before .before .before .counted in
+    let r = n .result in
+    four (r .a) (r .b) (r .c) (r .d) (r .e) k (zeroesOf (c .before .before .before .before .args .w / 2 ^ k) 16) (n .ensures k room) (omega arith) none
+
+pub closing-spec : {M : Type 1} → statement M
+closing-spec = tie.close (tie.spec counted-requires returns)

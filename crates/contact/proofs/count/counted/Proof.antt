@@ -1,0 +1,44 @@
+-- One bit, then two, four, eight, sixteen.
+-- Assumes nothing.
+use native.Mathlib.Omega.{arith}
+use lib.Bits.{bitXor}
+use Rattle.contact.proofs.Adders.{single, twice}
+use borrow.Author.Needs.{needs}
+use Rattle.contact.proofs.count.counted.Statement.{statement}
+use Rattle.contact.proofs.count.counted.Tie as tie
+
+doubled-requires : tie.Need-doubled-requires
+doubled-requires c κs = search needs
+
+doubled-requires-2 : tie.Need-doubled-requires-2
+doubled-requires-2 c κs = search needs
+
+doubled-requires-3 : tie.Need-doubled-requires-3
+doubled-requires-3 c κs = search needs
+
+doubled-requires-4 : tie.Need-doubled-requires-4
+doubled-requires-4 c κs = search needs
+
+returns : tie.Need-returns
+returns c =
+    let w = c .before .before .before .before .args .w in
+    let two = c .before .before .before .doubled in
+    let four = c .before .before .doubled2 in
+    let eight = c .before .doubled3 in
+    let all = c .doubled4 in
+    let t = two .result in
+    let f = four .result in
+    let g = eight .result in
+    let r = all .result in
+    twice w 8 (g .a) (g .b) (g .c) (g .d) (g .e) (r .a) (r .b) (r .c) (r .d) (r .e) (omega arith)
+    (twice w 4 (f .a) (f .b) (f .c) (f .d) (f .e) (g .a) (g .b) (g .c) (g .d) (g .e) (omega arith)
+    (twice w 2 (t .a) (t .b) (t .c) (t .d) (t .e) (f .a) (f .b) (f .c) (f .d) (f .e) (omega arith)
+    (twice w 1 (bitXor w 18446744073709551615) 0 0 0 0 (t .a) (t .b) (t .c) (t .d) (t .e) (omega arith) (single w) (two .ensures))
+    (four .ensures))
+    (eight .ensures))
+    (all .ensures)
+
+pub counted-spec : {M : Type 1} → statement M
+counted-spec =
+    tie.close
+    (tie.spec doubled-requires doubled-requires-2 doubled-requires-3 doubled-requires-4 returns)

@@ -1,0 +1,20 @@
+-- Fewer than eight: neither of the two highest digits is set.
+-- Assumes nothing.
+use Prim.Native.Nat.{_/_, _^_}
+use Rattle.contact.specs.History.{zeroesOf}
+use Rattle.contact.proofs.Adders.{eight}
+use borrow.Author.Needs.{needs}
+use Rattle.contact.proofs.count.opening.Statement.{statement}
+use Rattle.contact.proofs.count.opening.Tie as tie
+
+counted-requires : tie.Need-counted-requires
+counted-requires c κs = search needs
+
+returns : tie.Need-returns
+returns c k room none =
+    let n = c .before .counted in
+    let r = n .result in
+    eight (r .a) (r .b) (r .c) (r .d) (r .e) k (zeroesOf (c .before .before .args .w / 2 ^ k) 16) (n .ensures k room) none
+
+pub opening-spec : {M : Type 1} → statement M
+opening-spec = tie.close (tie.spec counted-requires returns)
