@@ -84,13 +84,13 @@ int32_t plain_read_telegram(uint8_t x, uint8_t y, uint8_t z)
     return fx * 65536 + fy * 256 + fz;
 }
 
-static bool is_good_pair(uint8_t s, uint8_t t)
+bool plain_is_good_pair(uint8_t s, uint8_t t)
 {
     return __builtin_popcount(s ^ t) == 7;
 }
 
 /* Whether a stretch lies in a buffer of n bytes and has at most 16,777,216 bits. */
-static bool is_good_stretch(size_t n, uint64_t start, uint64_t len)
+bool plain_is_good_stretch(size_t n, uint64_t start, uint64_t len)
 {
     uint64_t end = start + len;
     return len <= 16777216 && start <= end && end / 8 + (end % 8 != 0) <= n;
@@ -121,9 +121,9 @@ static inline int32_t telegram_in(uint64_t window, uint8_t s, uint8_t t)
 
 int32_t plain_find(const uint8_t *buf, size_t n, size_t start, size_t len, uint8_t s, uint8_t t, uint64_t out[2])
 {
-    if (!is_good_pair(s, t))
+    if (!plain_is_good_pair(s, t))
         return -4;
-    if (!is_good_stretch(n, start, len))
+    if (!plain_is_good_stretch(n, start, len))
         return -5;
     if (len < 40)
         return -6;
@@ -143,7 +143,7 @@ int32_t plain_find(const uint8_t *buf, size_t n, size_t start, size_t len, uint8
 /* ---- Contacts and readings ---- */
 
 /* At least 64 bits, zeroes followed by at most 11 ones. */
-static bool is_marker(const uint8_t *buf, size_t start, size_t len)
+bool plain_is_marker(const uint8_t *buf, size_t start, size_t len)
 {
     size_t zeroes = 0;
     while (zeroes < len && bit_at(buf, start + zeroes) == 0)
@@ -158,9 +158,9 @@ static bool is_marker(const uint8_t *buf, size_t start, size_t len)
 
 int32_t plain_judge(const uint8_t *buf, size_t n, size_t start, size_t len, uint8_t s, uint8_t t, uint64_t out[3])
 {
-    if (!is_good_pair(s, t))
+    if (!plain_is_good_pair(s, t))
         return -4;
-    if (!is_good_stretch(n, start, len))
+    if (!plain_is_good_stretch(n, start, len))
         return -5;
     int32_t read = -1;
     uint64_t first = 0, places = 0;
@@ -186,13 +186,13 @@ int32_t plain_judge(const uint8_t *buf, size_t n, size_t start, size_t len, uint
         out[2] = places;
         return 1;
     }
-    return is_marker(buf, start, len) ? 2 : -8;
+    return plain_is_marker(buf, start, len) ? 2 : -8;
 }
 
 int32_t plain_begin(const uint8_t *buf, size_t n, size_t start, size_t len, uint64_t search[3])
 {
     (void)buf;
-    if (!is_good_stretch(n, start, len))
+    if (!plain_is_good_stretch(n, start, len))
         return -5;
     search[0] = start;
     search[1] = len;
@@ -202,7 +202,7 @@ int32_t plain_begin(const uint8_t *buf, size_t n, size_t start, size_t len, uint
 
 int32_t plain_next_contact(const uint8_t *buf, size_t n, uint64_t search[3], uint64_t out[2])
 {
-    if (!is_good_stretch(n, search[0], search[1]))
+    if (!plain_is_good_stretch(n, search[0], search[1]))
         return -5;
     uint64_t at = search[0], end = search[0] + search[1];
     uint32_t history = search[2] & 0xFFFF;

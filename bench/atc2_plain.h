@@ -19,6 +19,11 @@ int32_t plain_write_long(uint16_t figure);
 /* The figures X*65536 + Y*256 + Z, or 12*65536 + the number; -1, -3. */
 int32_t plain_read_telegram(uint8_t x, uint8_t y, uint8_t z);
 
+/* Whether a sync pair is good; whether a stretch lies in a buffer of n bytes and has at most 16,777,216 bits; whether it is a marker's. */
+bool plain_is_good_pair(uint8_t s, uint8_t t);
+bool plain_is_good_stretch(size_t n, uint64_t start, uint64_t len);
+bool plain_is_marker(const uint8_t *buf, size_t start, size_t len);
+
 /* 0: out = the first place of the stretch, its telegram as above; -4, -5, -6. The buffer has n bytes. */
 int32_t plain_find(const uint8_t *buf, size_t n, size_t start, size_t len, uint8_t s, uint8_t t, uint64_t out[2]);
 

@@ -1,10 +1,11 @@
-/* The two sides of the bench under one type: the proved functions of include/atc2.h, and the plain ones. With EARLIER defined the
-   other side is the proved functions of an earlier library, whose names `bench/run since` begins with earlier_. */
+/* The sides of the bench under one type: the proved functions of include/atc2.h, the plain ones, and the searches by words. With EARLIER
+   defined the second is the proved functions of an earlier library, whose names `bench/run since` begins with earlier_. */
 #ifndef BENCH_SIDES_H
 #define BENCH_SIDES_H
 
 #include "../include/atc2.h"
 #include "atc2_plain.h"
+#include "atc2_wide.h"
 
 struct side {
     const char *name;
@@ -49,5 +50,7 @@ static const struct side other = {"earlier", earlier_atc2_read_short, earlier_at
 #else
 static const struct side other = {"plain", plain_read_short, plain_read_long, plain_find, plain_judge, plain_begin, plain_next_contact};
 #endif
+
+static const struct side wide = {"wide", NULL, NULL, wide_find, wide_judge, plain_begin, wide_next_contact};
 
 #endif

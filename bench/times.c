@@ -1,6 +1,6 @@
-/* times NAME FILE..: both sides read all words of the two codes again and again, then do the same jobs over each stretch of
+/* times NAME FILE..: the sides read all words of the two codes again and again, then do the same jobs over each stretch of
    16,777,216 bits. Their answers are compared first, and a difference ends the run with status 1; then each side does the job
-   five times, in turn, and a line says the least time of each in processor seconds and the ratio, proved to plain. NAME is
+   five times, in turn, and a line says the least time of each in processor seconds and the ratio of proved to it. NAME is
    what the line calls the stretch; that named `line` is gone over as a vehicle hears it, contact after contact, each judged. */
 #include "pair.h"
 #include "sides.h"
@@ -160,24 +160,34 @@ static bool load(const char *file)
     return whole;
 }
 
+/* The sides that a job has: all three, but that words are read by the first two alone. */
+static const struct side *const sides[] = {&proved, &other, &wide};
+
 static bool run_job(size_t i, const char *name)
 {
-    double least[2] = {1e9, 1e9};
-    measured(jobs[i].job, &other);
-    uint64_t wanted = digest, many = answers;
-    measured(jobs[i].job, &proved);
-    if (digest != wanted || answers != many) {
-        printf("%s, %s: the two sides DIFFER\n", jobs[i].name, name);
-        return false;
+    int many = jobs[i].over == WORDS ? 2 : 3;
+    uint64_t wanted = 0, answered = 0;
+    for (int k = 0; k < many; k++) {
+        measured(jobs[i].job, sides[k]);
+        if (k == 0) {
+            wanted = digest;
+            answered = answers;
+        } else if (digest != wanted || answers != answered) {
+            printf("%s, %s: %s and %s DIFFER\n", jobs[i].name, name, sides[0]->name, sides[k]->name);
+            return false;
+        }
     }
+    double least[3] = {1e9, 1e9, 1e9};
     for (int round = 0; round < ROUNDS; round++)
-        for (int k = 0; k < 2; k++) {
-            double took = measured(jobs[i].job, k == 0 ? &proved : &other);
+        for (int k = 0; k < many; k++) {
+            double took = measured(jobs[i].job, sides[k]);
             if (took < least[k])
                 least[k] = took;
         }
-    printf("%-20s %-10s %8" PRIu64 " answers alike; %s %.4f s, %s %.4f s, ratio %.2f\n", jobs[i].name, name, many, proved.name, least[0], other.name,
-           least[1], least[0] / least[1]);
+    printf("%-20s %-10s %8" PRIu64 " answers alike; %s %.4f s", jobs[i].name, name, answered, sides[0]->name, least[0]);
+    for (int k = 1; k < many; k++)
+        printf(", %s %.4f s, ratio %.2f", sides[k]->name, least[k], least[0] / least[k]);
+    printf("\n");
     fflush(stdout);
     return true;
 }
