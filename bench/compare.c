@@ -1,4 +1,4 @@
-/* compare CASES SEED: both sides on inputs by chance, good and damaged. Every short and every long word is read and written,
+/* compare CASES SEED: the sides on inputs by chance, good and damaged. Every short and every long word is read and written,
    every distance looked up; then so many cases of a buffer, a stretch and a pair for the searches. Every answer is compared,
    with every array that was lent. Writes the first difference and ends with status 1, or how many answers were alike. */
 #include "chance.h"
@@ -158,41 +158,51 @@ static bool same_arrays(const uint64_t a[3], const uint64_t b[3])
     return memcmp(a, b, sizeof before) == 0;
 }
 
-static void compare_stretch(uint64_t i, size_t start, size_t len, uint8_t s, uint8_t t)
+static void compare_stretch_with(const struct side *other, uint64_t i, size_t start, size_t len, uint8_t s, uint8_t t)
 {
     uint64_t a[3], b[3];
     lend(a, b);
-    int32_t ours = proved.find(buffer, bytes, start, len, s, t, a), theirs = other.find(buffer, bytes, start, len, s, t, b);
+    int32_t ours = proved.find(buffer, bytes, start, len, s, t, a), theirs = other->find(buffer, bytes, start, len, s, t, b);
     same(ours == theirs && same_arrays(a, b), "atc2_find", i);
     met[FIND][ours + 9]++;
     same(ours == 0 || same_arrays(a, before), "atc2_find leaves out", i);
     lend(a, b);
     ours = proved.judge(buffer, bytes, start, len, s, t, a);
-    theirs = other.judge(buffer, bytes, start, len, s, t, b);
+    theirs = other->judge(buffer, bytes, start, len, s, t, b);
     same(ours == theirs && same_arrays(a, b), "atc2_judge", i);
     met[JUDGE][ours + 9]++;
     same(ours == 1 || same_arrays(a, before), "atc2_judge leaves out", i);
     lend(a, b);
     ours = proved.begin(buffer, bytes, start, len, a);
-    theirs = other.begin(buffer, bytes, start, len, b);
+    theirs = other->begin(buffer, bytes, start, len, b);
     same(ours == theirs && same_arrays(a, b), "atc2_begin", i);
     met[BEGIN][ours + 9]++;
     same(ours == 0 || same_arrays(a, before), "atc2_begin leaves search", i);
 }
 
+static void compare_stretch(uint64_t i, size_t start, size_t len, uint8_t s, uint8_t t)
+{
+    compare_stretch_with(&other, i, start, len, s, t);
+    compare_stretch_with(&wide, i, start, len, s, t);
+}
+
 /* Contact after contact, each judged, from a search that is begun or invented. */
 static void compare_contacts(uint64_t i, size_t start, size_t len, uint8_t s, uint8_t t)
 {
-    uint64_t a[3] = {start, len, 65535}, b[3], was[3], out_a[3], out_b[3];
+    uint64_t a[3] = {start, len, 65535}, b[3], c[3], was[3], out_a[3], out_b[3];
     if (in_hundred(30))
         a[2] = in_hundred(50) ? below(65536) : next();
     memcpy(b, a, sizeof a);
+    memcpy(c, a, sizeof a);
     for (int32_t ours = 1; ours == 1;) {
         memcpy(was, a, sizeof a);
         lend(out_a, out_b);
         ours = proved.next_contact(buffer, bytes, a, out_a);
         int32_t theirs = other.next_contact(buffer, bytes, b, out_b);
         same(ours == theirs && same_arrays(a, b) && same_arrays(out_a, out_b), "atc2_next_contact", i);
+        memcpy(out_b, before, sizeof before);
+        theirs = wide.next_contact(buffer, bytes, c, out_b);
+        same(ours == theirs && same_arrays(a, c) && same_arrays(out_a, out_b), "wide_next_contact", i);
         met[NEXT][ours + 9]++;
         same(ours == 1 || (same_arrays(a, was) && same_arrays(out_a, before)), "atc2_next_contact leaves both", i);
         if (ours == 1)
