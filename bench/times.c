@@ -1,7 +1,8 @@
 /* times NAME FILE..: the sides read all words of the two codes again and again, then do the same jobs over each stretch of
    16,777,216 bits. Their answers are compared first, and a difference ends the run with status 1; then each side does the job
    five times, in turn, and a line says the least time of each in processor seconds and the ratio of proved to it. NAME is
-   what the line calls the stretch; that named `line` is gone over as a vehicle hears it, contact after contact, each judged. */
+   what the line calls the stretch; that named `line` is gone over as a vehicle hears it, contact after contact, each judged.
+   times grows NAME FILE..: the proved side's time over 1, 2, 4, 8 and 16 Mbit of each stretch. */
 #include "pair.h"
 #include "sides.h"
 
@@ -14,6 +15,7 @@
 #define ROUNDS 5
 
 static uint8_t stretch[BYTES];
+static size_t bytes = BYTES; /* how many of them a job goes over */
 
 /* ---- What a job answered, as one number: every value of every answer counts, and their order ---- */
 
@@ -69,7 +71,7 @@ static void find_all(const struct side *side)
     uint64_t out[2] = {0, 0};
     size_t start = 0;
     for (;;) {
-        int32_t answer = side->find(stretch, BYTES, start, 8 * BYTES - start, BENCH_S, BENCH_T, out);
+        int32_t answer = side->find(stretch, bytes, start, 8 * bytes - start, BENCH_S, BENCH_T, out);
         note_answer(answer);
         note(out[0]);
         note(out[1]);
@@ -83,7 +85,7 @@ static void find_all(const struct side *side)
 static void judge_whole(const struct side *side)
 {
     uint64_t out[3] = {0, 0, 0};
-    note_answer(side->judge(stretch, BYTES, 0, 8 * BYTES, BENCH_S, BENCH_T, out));
+    note_answer(side->judge(stretch, bytes, 0, 8 * bytes, BENCH_S, BENCH_T, out));
     for (int i = 0; i < 3; i++)
         note(out[i]);
 }
@@ -92,9 +94,9 @@ static void judge_whole(const struct side *side)
 static void pass(const struct side *side, bool judge)
 {
     uint64_t search[3] = {0, 0, 0}, out[2] = {0, 0}, said[3] = {0, 0, 0};
-    int32_t answer = side->begin(stretch, BYTES, 0, 8 * BYTES, search);
+    int32_t answer = side->begin(stretch, bytes, 0, 8 * bytes, search);
     while (answer >= 0) {
-        answer = side->next_contact(stretch, BYTES, search, out);
+        answer = side->next_contact(stretch, bytes, search, out);
         note_answer(answer);
         for (int i = 0; i < 3; i++)
             note(search[i]);
@@ -103,7 +105,7 @@ static void pass(const struct side *side, bool judge)
         if (answer != 1)
             return;
         if (judge) {
-            note_answer(side->judge(stretch, BYTES, (size_t)out[0], (size_t)out[1], BENCH_S, BENCH_T, said));
+            note_answer(side->judge(stretch, bytes, (size_t)out[0], (size_t)out[1], BENCH_S, BENCH_T, said));
             for (int i = 0; i < 3; i++)
                 note(said[i]);
         }
@@ -201,15 +203,46 @@ static bool run_jobs(enum input over, const char *name)
     return true;
 }
 
+/* How cost grows: each job over a sixteenth of the stretch, an eighth, and so on, so often that the bits are as many each time. */
+static void grow(const char *name)
+{
+    for (size_t i = 0; i < sizeof jobs / sizeof jobs[0]; i++) {
+        if (jobs[i].over != STRETCH)
+            continue;
+        double first = 0, took = 0;
+        printf("%-20s %-10s", jobs[i].name, name);
+        for (bytes = BYTES / 16; bytes <= BYTES; bytes *= 2) {
+            took = 1e9;
+            for (int round = 0; round < ROUNDS; round++) {
+                double sum = 0;
+                for (size_t times = 0; times < BYTES / bytes; times++)
+                    sum += measured(jobs[i].job, &proved);
+                if (sum < took)
+                    took = sum;
+            }
+            if (bytes == BYTES / 16)
+                first = took;
+            printf(" %2zu Mbit %.4f s,", bytes / (BYTES / 16), took * (double)bytes / BYTES);
+        }
+        bytes = BYTES;
+        printf(" last to first a bit %.2f\n", took / first);
+        fflush(stdout);
+    }
+}
+
 int main(int argc, char **argv)
 {
-    bool good = run_jobs(WORDS, "words");
-    for (int a = 1; good && a + 1 < argc; a += 2) {
+    bool grows = argc > 1 && strcmp(argv[1], "grows") == 0;
+    bool good = grows || run_jobs(WORDS, "words");
+    for (int a = grows ? 2 : 1; good && a + 1 < argc; a += 2) {
         if (!load(argv[a + 1])) {
             fprintf(stderr, "times: %s has no %d bytes\n", argv[a + 1], BYTES);
             return 2;
         }
-        good = run_jobs(strcmp(argv[a], "line") == 0 ? LINE : STRETCH, argv[a]);
+        if (grows)
+            grow(argv[a]);
+        else
+            good = run_jobs(strcmp(argv[a], "line") == 0 ? LINE : STRETCH, argv[a]);
     }
     return good ? 0 : 1;
 }
