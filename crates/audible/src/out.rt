@@ -1,0 +1,36 @@
+// Lines, gathered in a buffer and written when it is full.
+use libc::STDOUT_FILENO;
+
+// Writes the first bytes of the buffer.
+pub fn write(buf: &[u8], count: usize) -> bool {
+    if count > buf.len() {
+        return false;
+    }
+    io::write_all(STDOUT_FILENO, &buf[..count])
+}
+
+// The line of a telegram after those that stand; where it has no room, they are written first. The place after it.
+pub fn add(x: u8, y: u16, z: u8, buf: &mut [u8], at: usize) -> usize {
+    let next = unheard::put_telegram(x, y, z, buf, at);
+    if next > at {
+        return next;
+    }
+    if write(buf, at) {
+        return unheard::put_telegram(x, y, z, buf, 0);
+    }
+    at
+}
+
+// The last line.
+pub fn close(telegrams: u32, numbers: u32) {
+    let mut line = [0u8; 128];
+    let count = unheard::put_count(telegrams, numbers, &mut line, 0);
+    write(&line, count);
+}
+
+// The line of a refusal that stands by itself.
+pub fn refuse(number: u8) {
+    let mut line = [0u8; 64];
+    let count = hearing::put_refusal(number, &mut line, 0);
+    write(&line, count);
+}
