@@ -73,7 +73,7 @@ pub record SureToBeHeard : Type 0 where
   -- No balise is silent: some sixteen bits of its line have eight zeroes. So every balise is audible or broken.
   pub none-silent : (o : OneBalise) → Proper o → (j : ℕ) × (8 ≤ zeroesSent o j 16)
   pub one-or-other : (o : OneBalise) → Audible o ⊎ Broken o
-  -- Of a broken one every contact has at most 63 bits, and none is read.
+  -- Of a broken one every contact has at most 63 bits, and none is read where no place is false.
   pub broken-short : (o : OneBalise) → Broken o → (from to : ℕ) → Pass o from to
       → (w : Contacts) → Listened (o .buffer) from to w → AllShort o w
   pub broken-never : (o : OneBalise) → Proper o → Broken o → (from to : ℕ) → Pass o from to → NoFalse o
