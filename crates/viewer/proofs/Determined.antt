@@ -37,11 +37,11 @@ use Rattle.viewer.proofs.moving.back_at.Kinds as back-at-kinds
 use Rattle.viewer.proofs.moving.back_at.Reads as back-at-reads
 
 -- From what an answer says, the answer.
-abbrev begunOf : Outcome Done → Begun
+abbrev pub begunOf : Outcome Done → Begun
 begunOf (gives d) = Begun.Open
 begunOf (refuses n) = pick (eqb n 16) Begun.Length (Begun.Settings (badOf n))
 
-begun-back : (b : Begun) → begunOf (saysBegun b) ≡ b
+pub begun-back : (b : Begun) → begunOf (saysBegun b) ≡ b
 begun-back Begun.Open = refl
 begun-back Begun.Length = refl
 begun-back (Begun.Settings Bad.Pair) = refl
@@ -50,11 +50,11 @@ begun-back (Begun.Settings Bad.TooHigh) = refl
 begun-back (Begun.Settings Bad.NotAbove) = refl
 begun-back (Begun.Settings Bad.Full) = refl
 
-abbrev howOf : Outcome Done → How
+abbrev pub howOf : Outcome Done → How
 howOf (gives d) = How.Done
 howOf (refuses n) = pick (eqb n 22) How.NothingKept (pick (eqb n 23) How.AtEnd (How.Settings (badOf n)))
 
-how-back : (h : How) → howOf (saysHow h) ≡ h
+pub how-back : (h : How) → howOf (saysHow h) ≡ h
 how-back How.Done = refl
 how-back How.NothingKept = refl
 how-back How.AtEnd = refl

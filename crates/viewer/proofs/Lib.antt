@@ -5,3 +5,4 @@ pub mod Ring
 pub mod Laws
 pub mod Determined
 pub mod Refusals
+pub mod Examples
