@@ -39,6 +39,9 @@ use Rattle.compaction.specs.Says.{saysSize}
 use Rattle.compaction.specs.Compact.{Compaction, compact, compactUnder, Settling, blockUnder}
 use Rattle.compaction.proofs.Determined as compaction-is
 use Rattle.demands.proofs.Stores.{stores-untouched}
+use Rattle.viewer.specs.Says.{saysBegun as saysOpened, saysHow}
+use Rattle.viewer.proofs.Determined as viewer-is
+use Rattle.demands.proofs.Viewing.{viewers-untouched}
 
 pub untouched : Untouched
 untouched = record {
@@ -100,5 +103,8 @@ untouched = record {
   store = λ n r r′ p q. told saysVerdict settings-are.verdictOf settings-are.verdict-back r r′ p q;
   asked = λ n r r′ p q. told saysAsked settings-are.askedOf settings-are.asked-back r r′ p q;
   judged-under = λ n r r′ p q. told saysJudgedUnder contact-is.judgedUnderOf contact-is.judged-under-back r r′ p q;
+  viewer-opened = λ n r r′ p q. told saysOpened viewer-is.begunOf viewer-is.begun-back r r′ p q;
+  viewer-moved = λ n r r′ p q. told saysHow viewer-is.howOf viewer-is.how-back r r′ p q;
   stores = stores-untouched;
+  viewers = viewers-untouched;
 }

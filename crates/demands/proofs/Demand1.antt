@@ -25,6 +25,7 @@ use Rattle.demands.proofs.Treats.{treated-is, treating}
 use Rattle.demands.proofs.Listings.{listing}
 use Rattle.demands.proofs.Compacting.{compacting, compacting-under, settling-under}
 use Rattle.demands.proofs.Stores.{stores-decided}
+use Rattle.demands.proofs.Viewing.{viewers-decided}
 
 pub demand1 : Demand1
 demand1 = record {
@@ -62,4 +63,5 @@ demand1 = record {
       let e = ap (λ (x : Settling). x .answer) (c .5 ∙ ap (blockUnder w store) (c .3)) in
       rw e (settling-under w store before);
   stores = stores-decided;
+  viewers = viewers-decided;
 }

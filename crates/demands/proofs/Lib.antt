@@ -24,6 +24,7 @@ pub mod Bare
 pub mod Spelled
 pub mod StoreRules
 pub mod Stores
+pub mod Viewing
 pub mod Demand1
 pub mod Cases
 pub mod RoutePresent

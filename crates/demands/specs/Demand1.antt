@@ -1,12 +1,10 @@
 -- Demand 1: "Any bits, any trace, any settings: every call ends with a named reading or a numbered refusal of document 01,
 -- given exactly under the condition written there. A refusal hands out no figure, and lent memory and state stay untouched
 -- unless the table says otherwise."
--- The first sentence is the record `Demand1`, the second the record `Untouched`. The conditions are specs/Table.antt, the
--- lists specs/Lists.antt, what the contracts allow is specs/Contracts.antt. That every call ends is the kit's own check of each function, and no theorem here. The
--- functions without a list give no number: `fresh`, `speed` and `end` always answer; `put_line` says that a line has no room, for which
--- document 01 has no number; `telegram::inside` says whether row 5's condition does not hold, and `settings::allowed` whether row 19's does not; what M-111 added without
--- a number is named in specs/Stores.antt. For the
--- face for C (crates/abi) crates/face says the same.
+-- The first sentence is the record `Demand1`, the second the record `Untouched`. The conditions are specs/Table.antt and Table02.antt, the lists specs/Lists.antt, what the
+-- contracts allow is specs/Contracts.antt. That every call ends is the kit's own check of each function, and no theorem here. The functions without a list give no number: `fresh`,
+-- `speed` and `end` always answer; `put_line` says that a line has no room, for which document 01 has no number; `telegram::inside` says whether row 5's condition does not hold, and
+-- `settings::allowed` whether row 19's does not; what M-111 added without a number is named in specs/Stores.antt. For the face for C (crates/abi) crates/face says the same.
 -- Assumes nothing.
 use Prim.Native.Nat.{ℕ, _+_, _*_}
 use mathlib.Core.Bool.{true}
@@ -62,6 +60,7 @@ use Rattle.compaction.specs.Says.{saysSize}
 use Rattle.compaction.specs.declared.Waiting.{Waiting}
 use Rattle.compaction.specs.declared.Compacted.{Compacted}
 use Rattle.compaction.specs.declared.Block.{Block}
+use Rattle.viewer.specs.Says.{saysBegun as saysOpened, saysHow}
 use Rattle.listing.specs.Put.{noRoom}
 use Rattle.listing.specs.Says.{saysPut, saysDone}
 use Rattle.listing.specs.declared.Put.{Put}
@@ -73,6 +72,7 @@ use Rattle.demands.specs.Compacting.{CompactIn, CompactUnder, BlockUnder
 use Rattle.demands.specs.Lists.{telegramRules, findRules, surveyRules, writeRules, nextRules, judgeRules, groupRules, recordRules, stepRules, runRules, findReads, surveyReads, JudgeReads, NextReads}
 use Rattle.demands.specs.Steps.{OneStep, LeavesBehind}
 use Rattle.demands.specs.Stores.{StoresDecided, StoresUntouched}
+use Rattle.demands.specs.Viewing.{ViewersDecided, ViewersUntouched}
 
 -- A refusal carries no figure: two answers with the same refusal are the same answer, whatever was asked. A refusal is a number; that of a
 -- word is its number and its parity, that of a telegram these and the letter of its first bad word.
@@ -121,6 +121,8 @@ pub record Demand1 : Type 0 where
       → AfterStore store (row 16 (badLength before) ∷ []) (saysSize (r .size))
   -- the functions that make a store of settings or take one
   pub stores : StoresDecided
+  -- a viewer's `start`, `forward` and `back` (M-108)
+  pub viewers : ViewersDecided
 
 -- "A refusal hands out no figure, and lent memory and state stay untouched unless the table says otherwise."
 -- Of the libraries only `listing`, `writer` and `compaction` are lent memory that they may write; a search is given by value, and a refusal of `next_contact` gives
@@ -190,5 +192,9 @@ pub record Untouched : Type 0 where
   pub store : Bare saysVerdict
   pub asked : Bare saysAsked
   pub judged-under : Bare saysJudgedUnder
+  pub viewer-opened : Bare saysOpened
+  pub viewer-moved : Bare saysHow
   -- the functions that make a store of settings or take one
   pub stores : StoresUntouched
+  -- a viewer's calls
+  pub viewers : ViewersUntouched

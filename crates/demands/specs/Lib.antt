@@ -6,6 +6,7 @@ pub mod Compacting
 pub mod Steps
 pub mod Lists
 pub mod Stores
+pub mod Viewing
 pub mod Demand1
 pub mod Cases
 pub mod RowCases

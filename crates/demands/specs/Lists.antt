@@ -18,7 +18,7 @@ use Rattle.contact.specs.Judge.{firstPlace, Contact, read, marker}
 use Rattle.group.specs.declared.Group.{Group}
 use Rattle.ride.specs.declared.Ride.{Ride}
 use Rattle.demands.specs.Table.{notCode, fifteen, notSeven, beyond, noPlace, placesDiffer, isRead, neither, some, historyAfter, zeroesWith, toEight, laterToFour, cut, oneBalise, moreThanFive, isNumber, unread, partsOf, noRow, notAllowed, badLength, badRecord, wentBack, tooFar, badGap}
-use Rattle.demands.specs.Table02.{someAbove, someFifteen, badCount, shortBuffer}
+use Rattle.demands.specs.Table02.{someAbove, someFifteen, badCount, shortBuffer, nothingKept, atEnd}
 use Rattle.demands.specs.Rules.{Rule, rowOf, row}
 
 -- A word of a telegram, of n bits, is not a code word: 1, and the refusal passes on the word's letter and its parity.
@@ -80,6 +80,13 @@ stepRules ride gap bytes = row 19 (badGap gap) ∷ recordRules ride bytes
 -- `run`: 19, 16.
 abbrev pub runRules : {A : Type 0} → ℕ → List ℕ → List (Rule (Outcome A))
 runRules gap trace = row 19 (badGap gap) ∷ row 16 (badLength trace) ∷ []
+
+-- The viewer's `forward`: 23, and `back`: 22. (What comes after 23, for a viewer that no call made: specs/Viewing.antt.)
+abbrev pub forwardRules : {A : Type 0} → List ℕ → ℕ → List (Rule (Outcome A)) → List (Rule (Outcome A))
+forwardRules trace number rules = row 23 (atEnd trace number) ∷ rules
+
+abbrev pub backRules : {A : Type 0} → ℕ → List (Rule (Outcome A))
+backRules kept = row 22 (nothingKept kept) ∷ []
 
 -- `find` hands out the first place, with what its words read.
 abbrev pub findReads : List ℕ → ℕ → ℕ → ℕ → ℕ → Single

@@ -1,7 +1,7 @@
 -- The rows that document 02 adds to the table of refusal numbers, and what 2 and 3 are where several figures are written at once. Each
 -- condition stands alone, and names no number.
 -- Assumes nothing.
-use Prim.Native.Nat.{ℕ, _+_, _*_}
+use Prim.Native.Nat.{ℕ, _+_, _*_, _/_}
 use mathlib.Core.Bool.{Bool, false, not, _||_}
 use mathlib.Core.List.{List}
 use lib.Dec.{eqb, leb, ltb}
@@ -28,6 +28,14 @@ shortBuffer n out = ltb (length out) (4 * n + 1)
 -- 18: "a place above 4,000,000,000, added or asked"
 unfoldable pub tooHigh : ℕ → Bool
 tooHigh place = ltb 4000000000 place
+
+-- 22: "for back exactly if the kept count is 0"
+unfoldable pub nothingKept : ℕ → Bool
+nothingKept kept = eqb kept 0
+
+-- 23: "for forward exactly at the end": as many records lie before the viewer as the trace has, of 8 bytes each
+unfoldable pub atEnd : List ℕ → ℕ → Bool
+atEnd trace number = leb (length trace / 8) number
 
 -- 24: "an added place not above the last"
 unfoldable pub notAbove : ℕ → ℕ → Bool
