@@ -63,4 +63,5 @@ pub mod MarksMet
 pub mod RidesMet
 pub mod NumbersMet
 pub mod SectionsMet
+pub mod OneVersion
 pub mod SectionsUnder

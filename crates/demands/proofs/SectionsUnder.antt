@@ -1,4 +1,4 @@
--- Cards under one fixed store, by `run_under` and by `list_under`; and a plain gap as a store.
+-- Cards under one fixed store, by `run_under` and by `list_under`.
 -- Assumes nothing.
 use Prim.Native.Nat.{ℕ, _+_, _/_, _%_, _≤_}
 use native.Mathlib.Nat.{zero-add}
@@ -14,34 +14,31 @@ use Rattle.words.specs.Answer.{Outcome, gives, refuses, pick}
 use Rattle.words.proofs.Told.{told}
 use Rattle.settings.specs.declared.Store.{Store}
 use Rattle.settings.specs.Versions.{Kept, kept}
-use Rattle.settings.specs.Store.{plain, judged}
+use Rattle.settings.specs.Store.{judged}
 use Rattle.settings.specs.At.{gapAt}
 use Rattle.ride.specs.declared.Ran.{Ran}
 use Rattle.ride.specs.declared.Ride.{Ride}
-use Rattle.ride.specs.Over.{firstRecords, records, Ridden, rideOver, through, Run, run}
+use Rattle.ride.specs.Over.{firstRecords, records, Ridden, rideOver, through, Run}
 use Rattle.ride.specs.Under.{judgedFirst, runUnder}
 use Rattle.ride.specs.Says.{saysRan}
 use Rattle.ride.proofs.Cutting.{records-length}
 use Rattle.ride.proofs.Sections.{ride-joined, unnumbered}
-use Rattle.ride.proofs.Under.{plain-run}
 use Rattle.ride.proofs.Determined as ride-is
 use Rattle.listing.specs.declared.Done.{Done}
-use Rattle.listing.specs.declared.Listed.{Listed}
 use Rattle.listing.specs.Put.{placed}
-use Rattle.listing.specs.List.{textOf, taken as takenOf, Listing, listOf, listTaken, unlisted, list}
+use Rattle.listing.specs.List.{textOf, taken as takenOf, Listing, listOf}
 use Rattle.listing.specs.Under.{listUnder}
 use Rattle.listing.specs.Says.{saysDone, saysListed}
-use Rattle.listing.proofs.Plain.{under-taken, plain-list}
+use Rattle.listing.proofs.Plain.{under-taken}
 use Rattle.listing.proofs.Texts.{text-join}
 use Rattle.listing.proofs.Determined as listing-is
 use Rattle.demands.specs.Table.{badLength}
-use Rattle.demands.specs.Contracts.{RunOver, ListInto}
 use Rattle.demands.specs.Output.{recordsIn}
 use Rattle.demands.specs.Sections.{Whole, Call, taken, bytesOf}
 use Rattle.demands.specs.Stores.{RunUnder, ListUnder}
 use Rattle.demands.specs.SectionsUnder.{WholeCard, textBy, SectionsUnder}
 use Rattle.demands.proofs.Cards.{eights, whole-join}
-use Rattle.demands.proofs.Runs.{ran}
+use Rattle.demands.proofs.OneVersion.{one-runs, one-lists}
 
 -- ---- by `run_under`
 
@@ -143,23 +140,6 @@ two-lists ride store number a b p q both good v w c d e =
       all .next ∙ counted ∙ ap (λ (k : ℕ). k + recordsIn b) (sym (one .next)) ∙ sym (two .next),
     )
 
--- ---- a plain gap
-
-plain-lists : (ride : Ride) (gap number : ℕ) (trace before : List ℕ) (p q : Listed) (u v : List ℕ)
-    → ListUnder ride (plain gap) number trace before p u → ListInto ride gap number trace before q v → (p ≡ q) × (u ≡ v)
-plain-lists ride gap number trace before p q u v c d =
-    let one = c .7 ∙ ap₂ (λ (x y : List ℕ). listUnder ride (plain gap) number x y) (c .4) (c .5) ∙ plain-list ride gap number trace before in
-    let two = d .7 ∙ ap₂ (λ (x y : List ℕ). list ride gap number x y) (d .4) (d .5) in
-    let same = one ∙ sym two in
-    let done : p .done ≡ q .done = told saysDone listing-is.doneOf listing-is.done-back (p .done) (q .done) (ap (λ (l : Listing). l .answer) same) refl in
-    let after : p .ride ≡ q .ride = ap (λ (l : Listing). l .ride) same in
-    let next : p .number ≡ q .number = ap (λ (l : Listing). l .number) same in (
-      ap {B = Listed} (λ (r : Ride). record { ride = r; number = p .number; done = p .done }) after
-          ∙ ap {B = Listed} (λ (n : ℕ). record { ride = q .ride; number = n; done = p .done }) next
-          ∙ ap {B = Listed} (λ (x : Done). record { ride = q .ride; number = q .number; done = x }) done,
-      sym (c .6) ∙ ap (λ (l : Listing). l .out) same ∙ d .6,
-    )
-
 pub sections-under : SectionsUnder
 sections-under = record {
   two-by-run = λ ride store a b p q both v w c d e.
@@ -170,7 +150,6 @@ sections-under = record {
       (ran-on ride store (a ++ b) c ab last (whole-join a b u v) w p q ∙ ap (runUnder ride store) (append-assoc a b c))
       (ran-on ride store a (b ++ c) a′ bc u (whole-join b c v w) r s);
   empty-by-run = empty-run;
-  plain-by-run = λ ride gap trace p q c d.
-      same-run (run ride gap trace) p q (ran-under ride (plain gap) trace p c ∙ plain-run ride gap trace) (ran ride gap trace q d);
-  plain-by-list = plain-lists;
+  plain-by-run = λ gap s t r pair c. one-runs gap s t pair r c;
+  plain-by-list = λ gap s t r pair c. one-lists gap s t pair r c;
 }

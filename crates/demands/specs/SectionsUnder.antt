@@ -3,19 +3,22 @@
 -- Assumes nothing.
 use Prim.Native.Nat.{ℕ}
 use mathlib.Core.Path.{_≡_}
+use mathlib.Core.Bool.{false}
 use mathlib.Core.List.{List, [], _++_}
 use lib.ListN.{take}
 use Rattle.words.specs.Answer.{gives}
+use Rattle.settings.specs.declared.Begun.{Begun}
 use Rattle.settings.specs.declared.Store.{Store}
 use Rattle.settings.specs.Versions.{kept}
-use Rattle.settings.specs.Store.{plain, judged}
+use Rattle.settings.specs.Store.{judged}
 use Rattle.ride.specs.declared.Ran.{Ran}
 use Rattle.ride.specs.declared.Ride.{Ride}
 use Rattle.listing.specs.declared.Listed.{Listed}
+use Rattle.demands.specs.Table.{notSeven}
 use Rattle.demands.specs.Contracts.{RunOver, ListInto}
 use Rattle.demands.specs.Output.{recordsIn}
 use Rattle.demands.specs.Sections.{Whole, Call, taken, bytesOf}
-use Rattle.demands.specs.Stores.{RunUnder, ListUnder}
+use Rattle.demands.specs.Stores.{BeginStore, RunUnder, ListUnder}
 
 -- A call of `list_under` that took its whole card.
 pub record WholeCard (ride : Ride) (store : Store) (number : ℕ) (card : List ℕ) (c : Call) : Type 0 where
@@ -38,7 +41,9 @@ pub record SectionsUnder : Type 0 where
       → RunUnder ride store (a ++ b) ab → RunUnder (ab .ride) store c last → RunUnder ride store a a′ → RunUnder (a′ .ride) store (b ++ c) bc → last ≡ bc
   -- an empty card changes nothing
   pub empty-by-run : (ride : Ride) (store : Store) (q : Ran) → RunUnder ride store [] q → q .ride ≡ ride
-  -- "a store of one version": its answers are those of its plain gap, line for line
-  pub plain-by-run : (ride : Ride) (gap : ℕ) (trace : List ℕ) (p q : Ran) → RunUnder ride (plain gap) trace p → RunOver ride gap trace q → p ≡ q
-  pub plain-by-list : (ride : Ride) (gap number : ℕ) (trace before : List ℕ) (p q : Listed) (u v : List ℕ)
-      → ListUnder ride (plain gap) number trace before p u → ListInto ride gap number trace before q v → (p ≡ q) × (u ≡ v)
+  -- "a store of one version", opened with any good pair: its answers are those of its plain gap, line for line
+  pub plain-by-run : (gap s t : ℕ) (r : Begun) → notSeven s t ≡ false → BeginStore gap s t r
+      → (ride : Ride) (trace : List ℕ) (p q : Ran) → RunUnder ride (r .store) trace p → RunOver ride gap trace q → p ≡ q
+  pub plain-by-list : (gap s t : ℕ) (r : Begun) → notSeven s t ≡ false → BeginStore gap s t r
+      → (ride : Ride) (number : ℕ) (trace before : List ℕ) (p q : Listed) (u v : List ℕ)
+      → ListUnder ride (r .store) number trace before p u → ListInto ride gap number trace before q v → (p ≡ q) × (u ≡ v)
