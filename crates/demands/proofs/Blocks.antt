@@ -1,10 +1,11 @@
--- Cards by `list`: whatever blocks it is called with, each call goes on with the records that the ones before did not take.
+-- Cards by a function that lists, `list` or `list_under`: whatever blocks it is called with, each call goes on with the records that the
+-- ones before did not take.
 -- Assumes nothing.
 use Prim.Native.Nat.{ℕ, _+_, _*_, _/_, _≤_, _<_}
 use native.Mathlib.Omega.{arith}
-use mathlib.Core.Path.{_≡_, refl, sym, ap, ap₂, subst, _∙_}
-use mathlib.Core.Bool.{Bool, true, false, _||_}
-use mathlib.Core.List.{List, [], _∷_, _++_, append-assoc, append-nil}
+use mathlib.Core.Path.{_≡_, sym, ap, ap₂, _∙_}
+use mathlib.Core.Bool.{Bool, false}
+use mathlib.Core.List.{List, [], _∷_, _++_, append-assoc}
 use lib.ListN.{length, take, drop, length-append, length-drop}
 use Rattle.words.specs.Answer.{pick}
 use Rattle.ride.specs.State.{freshRide}
@@ -18,28 +19,30 @@ use Rattle.ride.proofs.Cutting.{records-length, take-records, front-records, cu
 use Rattle.ride.proofs.Sections.{ride-on, ride-joined}
 use Rattle.listing.specs.Text.{text}
 use Rattle.listing.specs.List.{textOf}
-use Rattle.listing.proofs.Texts.{text-one, text-join}
-use Rattle.demands.specs.Table.{badLength, badGap}
-use Rattle.demands.specs.Contracts.{Fresh, EndOf, ListInto}
-use Rattle.demands.specs.Output.{ridden, output, recordsIn, Takes}
-use Rattle.demands.specs.Sections.{Whole, Call, taken, bytesOf, Lent, ByList, textFrom, afterCalls, numberAfter, joined, anyBad, outputOf, Blocks}
+use Rattle.listing.specs.declared.Listed.{Listed}
+use Rattle.listing.proofs.Texts.{text-join}
+use Rattle.demands.specs.Table.{badLength}
+use Rattle.demands.specs.Contracts.{Fresh, EndOf}
+use Rattle.demands.specs.Output.{recordsIn, Takes}
+use Rattle.demands.specs.Sections.{Whole, Call, taken, bytesOf, Lent, ByCalls, textFrom, afterCalls, numberAfter, joined, anyBad, outputBy}
 use Rattle.demands.proofs.Cards.{eights, whole-join}
-use Rattle.demands.proofs.Output.{takes-so}
 
--- the ride over some records, with one gap
-abbrev over : ℕ → Ride → ℕ → List (List ℕ) → Ridden
-over gap = rideOver (λ odometer. gap)
+-- what a function that lists comes to, with the gap that a rule gives
+abbrev pub Taking : (ℕ → ℕ) → (Ride → ℕ → List ℕ → List ℕ → Listed → List ℕ → Type 0) → Type 0
+Taking gaps Lists =
+    (ride : Ride) (number : ℕ) (trace before : List ℕ) (l : Listed) (after : List ℕ) → badLength trace ≡ false → Lists ride number trace before l after
+    → Takes gaps ride number trace before l after
 
 -- what calls over a trace come to
-pub record Comes (gap : ℕ) (ride : Ride) (number : ℕ) (trace : List ℕ) (calls : List Call) : Type 0 where
-  pub text : textFrom calls ≡ textOf (over gap ride number (records trace) .lines)
-  pub after : afterCalls ride calls ≡ over gap ride number (records trace) .ride
+pub record Comes (gaps : ℕ → ℕ) (ride : Ride) (number : ℕ) (trace : List ℕ) (calls : List Call) : Type 0 where
+  pub text : textFrom calls ≡ textOf (rideOver gaps ride number (records trace) .lines)
+  pub after : afterCalls ride calls ≡ rideOver gaps ride number (records trace) .ride
   pub next : numberAfter number calls ≡ number + recordsIn trace
 
 -- ---- one call
 
-module _ (gap : ℕ) (ride : Ride) (number : ℕ) (left : List ℕ) (c : Call) (lent : Lent left c)
-    (t : Takes ride gap number (c .block) (c .before) (c .answer) (c .after)) where
+module _ (gaps : ℕ → ℕ) (ride : Ride) (number : ℕ) (left : List ℕ) (c : Call) (lent : Lent left c)
+    (t : Takes gaps ride number (c .block) (c .before) (c .answer) (c .after)) where
   -- what it took is the front of what was left
   within : t .n ≤ recordsIn left
   within = omega (arith, t .of-these, ap length (lent .front), length-append (c .block) (lent .rest))
@@ -56,33 +59,33 @@ module _ (gap : ℕ) (ride : Ride) (number : ℕ) (left : List ℕ) (c : Call) (
   rest = drop (t .n * 8) left
 
   -- the ride over all that was left is the one over what it took, and then over the rest
-  goes : over gap ride number (records left)
-      ≡ before (over gap ride number (firstRecords (t .n) left) .lines)
-      (over gap (over gap ride number (firstRecords (t .n) left) .ride) (number + t .n) (records rest))
+  goes : rideOver gaps ride number (records left)
+      ≡ before (rideOver gaps ride number (firstRecords (t .n) left) .lines)
+      (rideOver gaps (rideOver gaps ride number (firstRecords (t .n) left) .ride) (number + t .n) (records rest))
   goes =
-      let first : Ridden = over gap ride number (firstRecords (t .n) left) in
-      ap (over gap ride number) (cut-records (t .n) left within)
-      ∙ ride-on (λ odometer. gap) ride number (firstRecords (t .n) left) (records rest)
-      ∙ ap (λ (k : ℕ). before (first .lines) (over gap (first .ride) (number + k) (records rest))) (records-length (t .n) left)
+      let first : Ridden = rideOver gaps ride number (firstRecords (t .n) left) in
+      ap (rideOver gaps ride number) (cut-records (t .n) left within)
+      ∙ ride-on gaps ride number (firstRecords (t .n) left) (records rest)
+      ∙ ap (λ (k : ℕ). before (first .lines) (rideOver gaps (first .ride) (number + k) (records rest))) (records-length (t .n) left)
 
   -- the call's own answer says so
-  call-text : take (bytesOf (c .answer .done)) (c .after) ≡ textOf (over gap ride number (firstRecords (t .n) left) .lines)
+  call-text : take (bytesOf (c .answer .done)) (c .after) ≡ textOf (rideOver gaps ride number (firstRecords (t .n) left) .lines)
   call-text =
-      ap (λ (k : ℕ). take k (c .after)) (ap bytesOf (t .took)) ∙ t .written ∙ ap (λ (rs : List (List ℕ)). textOf (over gap ride number rs .lines)) those
+      ap (λ (k : ℕ). take k (c .after)) (ap bytesOf (t .took)) ∙ t .written ∙ ap (λ (rs : List (List ℕ)). textOf (rideOver gaps ride number rs .lines)) those
 
-  call-ride : c .answer .ride ≡ over gap ride number (firstRecords (t .n) left) .ride
-  call-ride = t .ridden-so ∙ ap (λ (rs : List (List ℕ)). over gap ride number rs .ride) those
+  call-ride : c .answer .ride ≡ rideOver gaps ride number (firstRecords (t .n) left) .ride
+  call-ride = t .ridden-so ∙ ap (λ (rs : List (List ℕ)). rideOver gaps ride number rs .ride) those
 
   -- with what the later calls come to
-  pub one-more : (cs : List Call) → Comes gap (c .answer .ride) (c .answer .number) (drop (taken (c .answer .done) * 8) left) cs
-      → Comes gap ride number left (c ∷ cs)
+  pub one-more : (cs : List Call) → Comes gaps (c .answer .ride) (c .answer .number) (drop (taken (c .answer .done) * 8) left) cs
+      → Comes gaps ride number left (c ∷ cs)
   one-more cs later =
-      let first : Ridden = over gap ride number (firstRecords (t .n) left) in
-      let then : Ridden = over gap (first .ride) (number + t .n) (records rest) in
+      let first : Ridden = rideOver gaps ride number (firstRecords (t .n) left) in
+      let then : Ridden = rideOver gaps (first .ride) (number + t .n) (records rest) in
       let left-is : drop (taken (c .answer .done) * 8) left ≡ rest = ap (λ (k : ℕ). drop (k * 8) left) (ap taken (t .took)) in
-      let then-is : over gap (c .answer .ride) (c .answer .number) (records (drop (taken (c .answer .done) * 8) left)) ≡ then =
-      ap (λ (l : List ℕ). over gap (c .answer .ride) (c .answer .number) (records l)) left-is
-      ∙ ap₂ (λ (r : Ride) (k : ℕ). over gap r k (records rest)) call-ride (t .counted-on) in
+      let then-is : rideOver gaps (c .answer .ride) (c .answer .number) (records (drop (taken (c .answer .done) * 8) left)) ≡ then =
+      ap (λ (l : List ℕ). rideOver gaps (c .answer .ride) (c .answer .number) (records l)) left-is
+      ∙ ap₂ (λ (r : Ride) (k : ℕ). rideOver gaps r k (records rest)) call-ride (t .counted-on) in
       record {
         text =
             ap₂ _++_ call-text (later .text ∙ ap (λ (r : Ridden). textOf (r .lines)) then-is)
@@ -96,68 +99,97 @@ module _ (gap : ℕ) (ride : Ride) (number : ℕ) (left : List ℕ) (c : Call) (
 
 -- ---- all of them
 
-pub comes : (gap : ℕ) (ride : Ride) (number : ℕ) (trace : List ℕ) (calls : List Call) → badGap gap ≡ false → ByList gap ride number trace calls
-    → Comes gap ride number trace calls
-unfolding firstRecords rideOver textOf
-comes gap ride number trace [] good none =
-    let here : recordsIn trace ≡ 0 = ap recordsIn none in
-    record {
-      text = ap (λ (l : List ℕ). textOf (over gap ride number (records l) .lines)) (sym none);
-      after = ap (λ (l : List ℕ). over gap ride number (records l) .ride) (sym none);
-      next = omega arith;
-    }
-comes gap ride number trace (c ∷ cs) good (lent, call, more) =
-    one-more gap ride number trace c lent (takes-so ride gap number (c .block) (c .before) (c .answer) (c .after) good (lent .whole) call) cs
-    (comes gap (c .answer .ride) (c .answer .number) (drop (taken (c .answer .done) * 8) trace) cs good more)
+module _ (gaps : ℕ → ℕ) (Lists : Ride → ℕ → List ℕ → List ℕ → Listed → List ℕ → Type 0) (takes : Taking gaps Lists) where
+  pub comes : (ride : Ride) (number : ℕ) (trace : List ℕ) (calls : List Call) → ByCalls Lists ride number trace calls
+      → Comes gaps ride number trace calls
+  unfolding firstRecords rideOver textOf
+  comes ride number trace [] none =
+      let here : recordsIn trace ≡ 0 = ap recordsIn none in
+      record {
+        text = ap (λ (l : List ℕ). textOf (rideOver gaps ride number (records l) .lines)) (sym none);
+        after = ap (λ (l : List ℕ). rideOver gaps ride number (records l) .ride) (sym none);
+        next = omega arith;
+      }
+  comes ride number trace (c ∷ cs) (lent, call, more) =
+      one-more gaps ride number trace c lent (takes ride number (c .block) (c .before) (c .answer) (c .after) (lent .whole) call) cs
+      (comes (c .answer .ride) (c .answer .number) (drop (taken (c .answer .done) * 8) trace) cs more)
 
--- ---- cards
+  -- ---- cards
 
--- two cards, each by its calls, come to what the joined card does
-pub comes-joined : (gap : ℕ) (ride : Ride) (number : ℕ) (a b : List ℕ) (p q : List Call) → badGap gap ≡ false → Whole a
-    → ByList gap ride number a p → ByList gap (afterCalls ride p) (number + recordsIn a) b q
-    → (textFrom p ++ textFrom q ≡ textOf (over gap ride number (records (a ++ b)) .lines))
-    × (afterCalls (afterCalls ride p) q ≡ over gap ride number (records (a ++ b)) .ride)
-    × (numberAfter (number + recordsIn a) q ≡ number + recordsIn a + recordsIn b)
-comes-joined gap ride number a b p q good whole c d =
-    let first : Ridden = over gap ride number (records a) in
-    let then : Ridden = over gap (first .ride) (number + recordsIn a) (records b) in
-    let one = comes gap ride number a p good c in
-    let two = comes gap (afterCalls ride p) (number + recordsIn a) b q good d in
-    let then-is : over gap (afterCalls ride p) (number + recordsIn a) (records b) ≡ then =
-    ap (λ (r : Ride). over gap r (number + recordsIn a) (records b)) (one .after) in
-    let all = ride-joined (λ odometer. gap) ride number a b (eights a whole) in (
-      ap₂ _++_ (one .text) (two .text ∙ ap (λ (r : Ridden). textOf (r .lines)) then-is)
-          ∙ sym (text-join (first .lines) (then .lines))
-          ∙ ap (λ (r : Ridden). textOf (r .lines)) (sym all),
-      two .after ∙ ap (λ (r : Ridden). r .ride) then-is ∙ ap (λ (r : Ridden). r .ride) (sym all),
-      two .next,
-    )
+  -- two cards, each by its calls, come to what the joined card does
+  pub comes-joined : (ride : Ride) (number : ℕ) (a b : List ℕ) (p q : List Call) → Whole a
+      → ByCalls Lists ride number a p → ByCalls Lists (afterCalls ride p) (number + recordsIn a) b q
+      → (textFrom p ++ textFrom q ≡ textOf (rideOver gaps ride number (records (a ++ b)) .lines))
+      × (afterCalls (afterCalls ride p) q ≡ rideOver gaps ride number (records (a ++ b)) .ride)
+      × (numberAfter (number + recordsIn a) q ≡ number + recordsIn a + recordsIn b)
+  comes-joined ride number a b p q whole c d =
+      let first : Ridden = rideOver gaps ride number (records a) in
+      let then : Ridden = rideOver gaps (first .ride) (number + recordsIn a) (records b) in
+      let one = comes ride number a p c in
+      let two = comes (afterCalls ride p) (number + recordsIn a) b q d in
+      let then-is : rideOver gaps (afterCalls ride p) (number + recordsIn a) (records b) ≡ then =
+      ap (λ (r : Ride). rideOver gaps r (number + recordsIn a) (records b)) (one .after) in
+      let all = ride-joined gaps ride number a b (eights a whole) in (
+        ap₂ _++_ (one .text) (two .text ∙ ap (λ (r : Ridden). textOf (r .lines)) then-is)
+            ∙ sym (text-join (first .lines) (then .lines))
+            ∙ ap (λ (r : Ridden). textOf (r .lines)) (sym all),
+        two .after ∙ ap (λ (r : Ridden). r .ride) then-is ∙ ap (λ (r : Ridden). r .ride) (sym all),
+        two .next,
+      )
 
-pub two-by-list : (ride : Ride) (gap number : ℕ) (a b : List ℕ) (p q both : List Call) → badGap gap ≡ false → Whole a → Whole b
-    → ByList gap ride number a p → ByList gap (afterCalls ride p) (number + recordsIn a) b q → ByList gap ride number (a ++ b) both
-    → (textFrom both ≡ textFrom p ++ textFrom q) × (afterCalls ride both ≡ afterCalls (afterCalls ride p) q)
-    × (numberAfter number both ≡ numberAfter (number + recordsIn a) q)
-two-by-list ride gap number a b p q both good v w c d e =
-    let parts = comes-joined gap ride number a b p q good v c d in
-    let all = comes gap ride number (a ++ b) both good e in
-    let many : number + recordsIn (a ++ b) ≡ number + recordsIn a + recordsIn b = omega (arith, eights a v, length-append a b) in
-    (all .text ∙ sym (parts .0), all .after ∙ sym (parts .1), all .next ∙ many ∙ sym (parts .2))
+  pub two-by-calls : (ride : Ride) (number : ℕ) (a b : List ℕ) (p q both : List Call) → Whole a → Whole b
+      → ByCalls Lists ride number a p → ByCalls Lists (afterCalls ride p) (number + recordsIn a) b q → ByCalls Lists ride number (a ++ b) both
+      → (textFrom both ≡ textFrom p ++ textFrom q) × (afterCalls ride both ≡ afterCalls (afterCalls ride p) q)
+      × (numberAfter number both ≡ numberAfter (number + recordsIn a) q)
+  two-by-calls ride number a b p q both v w c d e =
+      let parts = comes-joined ride number a b p q v c d in
+      let all = comes ride number (a ++ b) both e in
+      let many : number + recordsIn (a ++ b) ≡ number + recordsIn a + recordsIn b = omega (arith, eights a v, length-append a b) in
+      (all .text ∙ sym (parts .0), all .after ∙ sym (parts .1), all .next ∙ many ∙ sym (parts .2))
 
-pub three-by-list : (ride : Ride) (gap number : ℕ) (a b c : List ℕ) (ab last a′ bc : List Call) → badGap gap ≡ false → Whole a → Whole b → Whole c
-    → ByList gap ride number (a ++ b) ab → ByList gap (afterCalls ride ab) (number + recordsIn (a ++ b)) c last
-    → ByList gap ride number a a′ → ByList gap (afterCalls ride a′) (number + recordsIn a) (b ++ c) bc
-    → (textFrom ab ++ textFrom last ≡ textFrom a′ ++ textFrom bc) × (afterCalls (afterCalls ride ab) last ≡ afterCalls (afterCalls ride a′) bc)
-three-by-list ride gap number a b c ab last a′ bc good u v w p q r s =
-    let one = comes-joined gap ride number (a ++ b) c ab last good (whole-join a b u v) p q in
-    let two = comes-joined gap ride number a (b ++ c) a′ bc good u r s in
-    let same : over gap ride number (records ((a ++ b) ++ c)) ≡ over gap ride number (records (a ++ (b ++ c))) =
-    ap (λ (t : List ℕ). over gap ride number (records t)) (append-assoc a b c) in
-    (one .0 ∙ ap (λ (x : Ridden). textOf (x .lines)) same ∙ sym (two .0), one .1 ∙ ap (λ (x : Ridden). x .ride) same ∙ sym (two .1))
+  pub three-by-calls : (ride : Ride) (number : ℕ) (a b c : List ℕ) (ab last a′ bc : List Call) → Whole a → Whole b → Whole c
+      → ByCalls Lists ride number (a ++ b) ab → ByCalls Lists (afterCalls ride ab) (number + recordsIn (a ++ b)) c last
+      → ByCalls Lists ride number a a′ → ByCalls Lists (afterCalls ride a′) (number + recordsIn a) (b ++ c) bc
+      → (textFrom ab ++ textFrom last ≡ textFrom a′ ++ textFrom bc) × (afterCalls (afterCalls ride ab) last ≡ afterCalls (afterCalls ride a′) bc)
+  three-by-calls ride number a b c ab last a′ bc u v w p q r s =
+      let one = comes-joined ride number (a ++ b) c ab last (whole-join a b u v) p q in
+      let two = comes-joined ride number a (b ++ c) a′ bc u r s in
+      let same : rideOver gaps ride number (records ((a ++ b) ++ c)) ≡ rideOver gaps ride number (records (a ++ (b ++ c))) =
+      ap (λ (t : List ℕ). rideOver gaps ride number (records t)) (append-assoc a b c) in
+      (one .0 ∙ ap (λ (x : Ridden). textOf (x .lines)) same ∙ sym (two .0), one .1 ∙ ap (λ (x : Ridden). x .ride) same ∙ sym (two .1))
 
-pub empty-by-list : (ride : Ride) (gap number : ℕ) (q : List Call) → badGap gap ≡ false → ByList gap ride number [] q
-    → (textFrom q ≡ []) × (afterCalls ride q ≡ ride) × (numberAfter number q ≡ number)
-unfolding firstRecords rideOver textOf
-empty-by-list ride gap number q good c =
-    let e = comes gap ride number [] q good c in
-    let none : number + recordsIn [] ≡ number = omega arith in
-    (e .text, e .after, e .next ∙ none)
+  pub empty-by-calls : (ride : Ride) (number : ℕ) (q : List Call) → ByCalls Lists ride number [] q
+      → (textFrom q ≡ []) × (afterCalls ride q ≡ ride) × (numberAfter number q ≡ number)
+  unfolding firstRecords rideOver textOf
+  empty-by-calls ride number q c =
+      let e = comes ride number [] q c in
+      let none : number + recordsIn [] ≡ number = omega arith in
+      (e .text, e .after, e .next ∙ none)
+
+  -- ---- the program's blocks
+
+  pub goes-on-by : (ride : Ride) (number : ℕ) (c : Call) → Whole (c .block) → 1 ≤ recordsIn (c .block) → 128 ≤ length (c .before)
+      → number < 18446744073709551615 → Lists ride number (c .block) (c .before) (c .answer) (c .after) → 1 ≤ taken (c .answer .done)
+  goes-on-by ride number c whole some room small call =
+      let t = takes ride number (c .block) (c .before) (c .answer) (c .after) whole call in
+      omega (arith, ap taken (t .took), t .one-at-least some room small)
+
+  pub at-once-by : (ride : Ride) (number : ℕ) (c : Call) → Whole (c .block) → 128 * recordsIn (c .block) ≤ length (c .before)
+      → number + recordsIn (c .block) ≤ 18446744073709551615 → Lists ride number (c .block) (c .before) (c .answer) (c .after)
+      → taken (c .answer .done) ≡ recordsIn (c .block)
+  at-once-by ride number c whole room small call =
+      let t = takes ride number (c .block) (c .before) (c .answer) (c .after) whole call in
+      ap taken (t .took) ∙ t .all-with-room room small
+
+  pub program-by : (f : Ride) (cards : List (List ℕ)) (calls : List Call) (e : Ended) → anyBad cards ≡ false → Fresh f
+      → ByCalls Lists f 1 (joined cards) calls → EndOf (afterCalls f calls) e → textFrom calls ++ textOf (saysLines (e .lines)) ≡ outputBy gaps cards
+  unfolding outputBy
+  program-by f cards calls e good fresh c ended =
+      let came = comes f 1 (joined cards) calls c in
+      let all : Ridden = rideOver gaps freshRide 1 (records (joined cards)) in
+      let ride-is : afterCalls f calls ≡ all .ride = came .after ∙ ap (λ (r : Ride). rideOver gaps r 1 (records (joined cards)) .ride) (fresh .1) in
+      let lines : saysLines (e .lines) ≡ end (all .ride) .lines = ap (λ (v : End). v .lines) (ended .1) ∙ ap (λ (r : Ride). end r .lines) ride-is in
+      ap₂ (λ (t : List ℕ) (l : List Line). t ++ textOf l)
+      (came .text ∙ ap (λ (r : Ride). textOf (rideOver gaps r 1 (records (joined cards)) .lines)) (fresh .1)) lines
+      ∙ sym (text-join (all .lines) (end (all .ride) .lines))
+      ∙ ap (λ (b : Bool). pick b (text (Line.Trace 16)) (textOf (all .lines ++ end (all .ride) .lines))) (sym good)

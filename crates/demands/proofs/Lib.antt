@@ -39,6 +39,7 @@ pub mod Saying
 pub mod Handed
 pub mod Reading
 pub mod Room
+pub mod Taking
 pub mod Output
 pub mod InFull
 pub mod Cards

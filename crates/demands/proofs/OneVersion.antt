@@ -86,6 +86,12 @@ module _ (gap s t : ℕ) (pair : notSeven s t ≡ false) where
     store-is : r .store ≡ pick (allowed gap) (opened (firstOf gap s t)) noStore
     store-is = ap (λ (x : Change). x .store) (c .1) ∙ opened-is
 
+    -- with an allowed gap it is good, and has that gap everywhere
+    pub one-good : allowed gap ≡ true → (judged (r .store) ≡ gives kept) × (gapAt (r .store) ≡ (λ (odometer : ℕ). gap))
+    one-good e =
+        let is : r .store ≡ opened (firstOf gap s t) = store-is ∙ ap (λ (b : Bool). pick b (opened (firstOf gap s t)) noStore) e in
+        (ap judged is ∙ judged-so true e, ap gapAt is ∙ rule-so)
+
     pub one-runs : (ride : Ride) (trace : List ℕ) (p q : Ran) → RunUnder ride (r .store) trace p → RunOver ride gap trace q → p ≡ q
     one-runs ride trace p q d e =
         told saysRan ride-is.ranOf ride-is.ran-back p q

@@ -1,14 +1,13 @@
 -- A listing of all records, and then the end, is what the program writes.
 -- Assumes nothing.
 use Prim.Native.Nat.{ℕ, _+_, _-_, _*_, _%_, _≤_, _<_}
-use native.Mathlib.Nat.{zero-add}
 use native.Mathlib.Omega.{arith}
 use mathlib.Core.Path.{_≡_, refl, sym, ap, ap₂, _∙_, subst}
 use mathlib.Core.Bool.{Bool, true, false}
 use mathlib.Core.List.{List, [], _∷_, _++_, map}
 use lib.Dec.{eqb}
 use lib.ListN.{length, take, drop}
-use lib.Seq.{take-all, take-at, drop-at}
+use lib.Seq.{take-all, take-at}
 use borrow.Author.Tests.{le-leb, lt-leb}
 use Rattle.words.specs.Answer.{gives, pick}
 use Rattle.words.proofs.Told.{told}
@@ -18,23 +17,22 @@ use Rattle.ride.specs.Over.{records, rideOver}
 use Rattle.ride.specs.Says.{saysLines}
 use Rattle.ride.specs.declared.Line.{Line}
 use Rattle.ride.specs.declared.Ride.{Ride}
-use Rattle.ride.specs.Joining.{allowed}
 use Rattle.ride.proofs.Cutting.{records-length}
 use Rattle.listing.specs.Text.{text, seen, decimal, digits}
 use Rattle.listing.specs.Put.{next, noRoom, Filled, filled, placed, put}
-use Rattle.listing.specs.List.{textOf, taken, Listing, listOf, listTaken, list, unlisted}
+use Rattle.listing.specs.List.{textOf, Listing, listOf, listTaken, list, unlisted}
 use Rattle.listing.specs.Says.{saysPut, saysDone}
 use Rattle.listing.specs.declared.Done.{Done}
 use Rattle.listing.specs.declared.Listed.{Listed}
 use Rattle.listing.specs.declared.Put.{Put}
 use Rattle.listing.proofs.Texts.{text-one, text-join}
 use Rattle.listing.proofs.Determined as listing-is
-use Rattle.demands.specs.Table.{badLength, badGap}
+use Rattle.demands.specs.Table.{badLength}
 use Rattle.demands.specs.Contracts.{Fresh, PutLine, ListInto}
-use Rattle.demands.specs.Output.{ridden, output, recordsIn, Quoted, quoted, AllQuoted, Takes, Written}
+use Rattle.demands.specs.Output.{ridden, output, recordsIn, Quoted, quoted, AllQuoted, Written}
 use Rattle.demands.proofs.Rules.{not-false}
-use Rattle.demands.proofs.Spelled.{bad-gap}
-use Rattle.demands.proofs.Room.{all-taken, few-taken, one-taken}
+use Rattle.demands.proofs.Room.{all-taken}
+use Rattle.demands.proofs.Taking.{at-first, takes-so}
 
 -- ---- the listing
 
@@ -70,11 +68,6 @@ all-listed trace before good small enough =
           number = 1 + recordsIn trace;
           out = placed (textOf (rideOver (λ odometer. 40) freshRide 1 rs .lines)) before 0;
         }
-
--- A text put at the beginning.
-at-first : (t before : List ℕ) → placed t before 0 ≡ t ++ drop (length t) before
-unfolding placed
-at-first t before = ap (λ (k : ℕ). t ++ drop k before) (zero-add (length t))
 
 -- What `list` answers, where all records have room.
 pub listed-so : (f : Ride) (l : Listed) (trace before after : List ℕ) → badLength trace ≡ false → recordsIn trace < 18446744073709551615
@@ -135,35 +128,6 @@ each (q ∷ qs) e =
 all-quoted : AllQuoted quoted
 unfolding text seen decimal digits
 all-quoted = each quoted refl
-
--- ---- any listing
-
-pub takes-so : (ride : Ride) (gap number : ℕ) (trace before : List ℕ) (l : Listed) (after : List ℕ) → badGap gap ≡ false → badLength trace ≡ false
-    → ListInto ride gap number trace before l after → Takes ride gap number trace before l after
-unfolding list listOf badLength
-takes-so ride gap number trace before l after good-gap good c =
-    let n = taken (λ odometer. gap) ride number (length before) (records trace) in
-    let w = textOf (rideOver (λ odometer. gap) ride number (take n (records trace)) .lines) in
-    let is = c .7 ∙ ap₂ (λ (v w : List ℕ). list ride gap number v w) (c .4) (c .5)
-    ∙ ap₂ (λ (t u : Bool). pick t (pick u (listTaken (λ odometer. gap) ride number (records trace) before) (unlisted ride number before 16)) (unlisted ride number before 19))
-    (not-false (allowed gap) (sym (bad-gap gap) ∙ good-gap)) (not-false (eqb (length trace % 8) 0) good) in
-    let holds : after ≡ w ++ drop (length w) before = sym (c .6) ∙ ap (λ (v : Listing). v .out) is ∙ at-first w before in
-    let many : length (records trace) ≡ recordsIn trace = records-length (recordsIn trace) trace in
-    record {
-      n = n;
-      bytes = length w;
-      took = told saysDone listing-is.doneOf listing-is.done-back (l .done) (Done.Took n (length w)) (ap (λ (v : Listing). v .answer) is) refl;
-      of-these = subst (λ (k : ℕ). n ≤ k) many (few-taken (records trace) (λ odometer. gap) ride number (length before));
-      one-at-least = λ some room small. one-taken (records trace) (λ odometer. gap) ride number (length before) (subst (λ (k : ℕ). 1 ≤ k) (sym many) some) room small;
-      all-with-room = λ enough small.
-          all-taken (records trace) (λ odometer. gap) ride number (length before) (subst (λ (k : ℕ). 128 * k ≤ length before) (sym many) enough)
-          (subst (λ (k : ℕ). number + k ≤ 18446744073709551615) (sym many) small)
-          ∙ many;
-      written = ap (take (length w)) holds ∙ take-at w (drop (length w) before) (length w) refl;
-      rest-stays = ap (drop (length w)) holds ∙ drop-at w (drop (length w) before) (length w) refl;
-      ridden-so = ap (λ (v : Listing). v .ride) is;
-      counted-on = ap (λ (v : Listing). v .number) is;
-    }
 
 pub written : Written
 written = record {

@@ -41,7 +41,7 @@ use Rattle.demands.specs.Output.{recordsIn, ridden, oneRide}
 use Rattle.demands.specs.Sections.{Whole, Call, ByList, ByStep, linesFrom}
 use Rattle.demands.proofs.Rules.{not-false}
 use Rattle.demands.proofs.Spelled.{bad-gap}
-use Rattle.demands.proofs.Output.{takes-so}
+use Rattle.demands.proofs.Taking.{takes-so}
 use Rattle.demands.proofs.Cards.{eights}
 use Rattle.demands.proofs.CallsMet.{lent}
 

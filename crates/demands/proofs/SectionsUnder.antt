@@ -1,19 +1,15 @@
 -- Cards under one fixed store, by `run_under` and by `list_under`.
 -- Assumes nothing.
-use Prim.Native.Nat.{ℕ, _+_, _/_, _%_, _≤_}
-use native.Mathlib.Nat.{zero-add}
-use native.Mathlib.Omega.{arith}
-use mathlib.Core.Path.{_≡_, refl, sym, ap, ap₂, subst, _∙_}
-use mathlib.Core.Bool.{Bool, true, false}
-use mathlib.Core.List.{List, [], _∷_, _++_, append-assoc}
-use lib.Dec.{eqb}
-use lib.ListN.{length, take, drop, length-append}
-use lib.Seq.{take-all, take-at}
+use Prim.Native.Nat.{ℕ, _+_, _/_, _%_}
+use mathlib.Core.Path.{_≡_, refl, sym, ap, _∙_}
+use mathlib.Core.Bool.{Bool, false}
+use mathlib.Core.List.{List, [], _++_, append-assoc}
+use lib.ListN.{length}
 use borrow.Author.Tests.{eq-eqb}
 use Rattle.words.specs.Answer.{Outcome, gives, refuses, pick}
 use Rattle.words.proofs.Told.{told}
 use Rattle.settings.specs.declared.Store.{Store}
-use Rattle.settings.specs.Versions.{Kept, kept}
+use Rattle.settings.specs.Versions.{Kept}
 use Rattle.settings.specs.Store.{judged}
 use Rattle.settings.specs.At.{gapAt}
 use Rattle.ride.specs.declared.Ran.{Ran}
@@ -21,24 +17,17 @@ use Rattle.ride.specs.declared.Ride.{Ride}
 use Rattle.ride.specs.Over.{firstRecords, records, Ridden, rideOver, through, Run}
 use Rattle.ride.specs.Under.{judgedFirst, runUnder}
 use Rattle.ride.specs.Says.{saysRan}
-use Rattle.ride.proofs.Cutting.{records-length}
 use Rattle.ride.proofs.Sections.{ride-joined, unnumbered}
 use Rattle.ride.proofs.Determined as ride-is
-use Rattle.listing.specs.declared.Done.{Done}
-use Rattle.listing.specs.Put.{placed}
-use Rattle.listing.specs.List.{textOf, taken as takenOf, Listing, listOf}
-use Rattle.listing.specs.Under.{listUnder}
-use Rattle.listing.specs.Says.{saysDone, saysListed}
-use Rattle.listing.proofs.Plain.{under-taken}
-use Rattle.listing.proofs.Texts.{text-join}
-use Rattle.listing.proofs.Determined as listing-is
+use Rattle.listing.specs.declared.Listed.{Listed}
 use Rattle.demands.specs.Table.{badLength}
-use Rattle.demands.specs.Output.{recordsIn}
-use Rattle.demands.specs.Sections.{Whole, Call, taken, bytesOf}
+use Rattle.demands.specs.Sections.{Whole, outputBy}
 use Rattle.demands.specs.Stores.{RunUnder, ListUnder}
-use Rattle.demands.specs.SectionsUnder.{WholeCard, textBy, SectionsUnder}
+use Rattle.demands.specs.SectionsUnder.{Good, CardsUnder, BlocksUnder, SectionsUnder}
 use Rattle.demands.proofs.Cards.{eights, whole-join}
-use Rattle.demands.proofs.OneVersion.{one-runs, one-lists}
+use Rattle.demands.proofs.Taking.{takes-under}
+use Rattle.demands.proofs.Blocks.{Taking, comes, two-by-calls, three-by-calls, empty-by-calls, goes-on-by, at-once-by, program-by}
+use Rattle.demands.proofs.OneVersion.{one-good, one-runs, one-lists}
 
 -- ---- by `run_under`
 
@@ -89,67 +78,43 @@ empty-run ride store q c =
 
 -- ---- by `list_under`
 
--- what a call that took its whole card comes to
-record Comes (ride : Ride) (store : Store) (number : ℕ) (card : List ℕ) (c : Call) : Type 0 where
-  text : textBy c ≡ textOf (rideOver (gapAt store) ride number (records card) .lines)
-  after : c .answer .ride ≡ rideOver (gapAt store) ride number (records card) .ride
-  next : c .answer .number ≡ number + recordsIn card
+-- what `list_under` allows, and what it comes to with a good store
+abbrev Lists : Store → Ride → ℕ → List ℕ → List ℕ → Listed → List ℕ → Type 0
+Lists store ride number block before answer after = ListUnder ride store number block before answer after
 
-comes : (ride : Ride) (store : Store) (number : ℕ) (card : List ℕ) (c : Call) → judged store ≡ gives kept → Whole card → WholeCard ride store number card c
-    → Comes ride store number card c
-unfolding listOf placed
-comes ride store number card c good whole w =
-    let call = w .call in
-    let n : ℕ = takenOf (gapAt store) ride number (length (c .before)) (records card) in
-    let ridden : ℕ → Ridden = λ k. rideOver (gapAt store) ride number (take k (records card)) in
-    let is = call .7 ∙ ap₂ (λ (x y : List ℕ). listUnder ride store number x y) (call .4) (call .5)
-    ∙ sym (under-taken ride store number card (c .before) good (eq-eqb (length card % 8) 0 (eights card whole))) in
-    let done : c .answer .done ≡ Done.Took n (length (textOf (ridden n .lines))) =
-    told saysDone listing-is.doneOf listing-is.done-back (c .answer .done) (Done.Took n (length (textOf (ridden n .lines)))) (ap (λ (l : Listing). l .answer) is) refl in
-    let all : n ≡ recordsIn card = sym (ap taken done) ∙ w .all in
-    let many : length (records card) ≡ recordsIn card = records-length (recordsIn card) card in
-    let enough : length (records card) ≤ n = omega arith in
-    let whole-of : take n (records card) ≡ records card = take-all n (records card) enough in
-    let out : c .after ≡ textOf (ridden n .lines) ++ drop (0 + length (textOf (ridden n .lines))) (c .before) = sym (call .6) ∙ ap (λ (l : Listing). l .out) is in
-    record {
-      text =
-          ap (λ (k : ℕ). take k (c .after)) (ap bytesOf done)
-          ∙ ap (take (length (textOf (ridden n .lines)))) out
-          ∙ take-at (textOf (ridden n .lines)) (drop (0 + length (textOf (ridden n .lines))) (c .before)) (length (textOf (ridden n .lines))) refl
-          ∙ ap (λ (rs : List (List ℕ)). textOf (rideOver (gapAt store) ride number rs .lines)) whole-of;
-      after = ap (λ (l : Listing). l .ride) is ∙ ap (λ (rs : List (List ℕ)). rideOver (gapAt store) ride number rs .ride) whole-of;
-      next = ap (λ (l : Listing). l .number) is ∙ ap (λ (k : ℕ). number + k) all;
-    }
+takes : (store : Store) → Good store → Taking (gapAt store) (Lists store)
+takes store good ride number trace before l after whole c = takes-under ride store number trace before l after good whole c
 
-two-lists : (ride : Ride) (store : Store) (number : ℕ) (a b : List ℕ) (p q both : Call) → judged store ≡ gives kept → Whole a → Whole b
-    → WholeCard ride store number a p → WholeCard (p .answer .ride) store (p .answer .number) b q → WholeCard ride store number (a ++ b) both
-    → (textBy both ≡ textBy p ++ textBy q) × (both .answer .ride ≡ q .answer .ride) × (both .answer .number ≡ q .answer .number)
-two-lists ride store number a b p q both good v w c d e =
-    let one = comes ride store number a p good v c in
-    let two = comes (p .answer .ride) store (p .answer .number) b q good w d in
-    let all = comes ride store number (a ++ b) both good (whole-join a b v w) e in
-    let first : Ridden = rideOver (gapAt store) ride number (records a) in
-    let then : Ridden = rideOver (gapAt store) (first .ride) (number + recordsIn a) (records b) in
-    let then-is : rideOver (gapAt store) (p .answer .ride) (p .answer .number) (records b) ≡ then =
-    ap₂ (λ (r : Ride) (k : ℕ). rideOver (gapAt store) r k (records b)) (one .after) (one .next) in
-    let joined = ride-joined (gapAt store) ride number a b (eights a v) in
-    let counted : number + recordsIn (a ++ b) ≡ number + recordsIn a + recordsIn b = omega (arith, eights a v, length-append a b) in (
-      all .text ∙ ap (λ (x : Ridden). textOf (x .lines)) joined ∙ text-join (first .lines) (then .lines)
-          ∙ ap₂ _++_ (sym (one .text)) (ap (λ (x : Ridden). textOf (x .lines)) (sym then-is) ∙ sym (two .text)),
-      all .after ∙ ap (λ (x : Ridden). x .ride) joined ∙ ap (λ (x : Ridden). x .ride) (sym then-is) ∙ sym (two .after),
-      all .next ∙ counted ∙ ap (λ (k : ℕ). k + recordsIn b) (sym (one .next)) ∙ sym (two .next),
-    )
+-- ---- all of it
 
-pub sections-under : SectionsUnder
-sections-under = record {
+cards : CardsUnder
+cards = record {
   two-by-run = λ ride store a b p q both v w c d e.
       same-run (runUnder ride store (a ++ b)) both q (ran-under ride store (a ++ b) both e) (ran-on ride store a b p q v w c d);
-  two-by-list = two-lists;
+  two-by-list = λ ride store number a b p q both good. two-by-calls (gapAt store) (Lists store) (takes store good) ride number a b p q both;
   three-by-run = λ ride store a b c ab last a′ bc u v w p q r s.
       same-run (runUnder ride store (a ++ (b ++ c))) last bc
       (ran-on ride store (a ++ b) c ab last (whole-join a b u v) w p q ∙ ap (runUnder ride store) (append-assoc a b c))
       (ran-on ride store a (b ++ c) a′ bc u (whole-join b c v w) r s);
+  three-by-list = λ ride store number a b c ab last a′ bc good. three-by-calls (gapAt store) (Lists store) (takes store good) ride number a b c ab last a′ bc;
   empty-by-run = empty-run;
-  plain-by-run = λ gap s t r pair c. one-runs gap s t pair r c;
-  plain-by-list = λ gap s t r pair c. one-lists gap s t pair r c;
+  empty-by-list = λ ride store number q good. empty-by-calls (gapAt store) (Lists store) (takes store good) ride number q;
+}
+
+blocks : BlocksUnder
+blocks = record {
+  whole = λ ride store number trace calls good c. let e = comes (gapAt store) (Lists store) (takes store good) ride number trace calls c in (e .text, e .after, e .next);
+  goes-on = λ ride store number c good. goes-on-by (gapAt store) (Lists store) (takes store good) ride number c;
+  all-at-once = λ ride store number c good. at-once-by (gapAt store) (Lists store) (takes store good) ride number c;
+  program = λ store f cards calls e good. program-by (gapAt store) (Lists store) (takes store good) f cards calls e;
+  forty = λ s t r cards pair c.
+      let store = one-good 40 s t pair r c refl in
+      (store .0, ap (λ (gaps : ℕ → ℕ). outputBy gaps cards) (store .1));
+}
+
+pub sections-under : SectionsUnder
+sections-under = record {
+  cards = cards;
+  blocks = blocks;
+  one-version = record { by-run = λ gap s t r pair c. one-runs gap s t pair r c; by-list = λ gap s t r pair c. one-lists gap s t pair r c };
 }

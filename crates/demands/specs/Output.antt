@@ -71,19 +71,19 @@ abbrev pub AllQuoted : List Quoted → Type 0
 AllQuoted [] = Unit {0}
 AllQuoted (q ∷ qs) = (text (q .line) ≡ q .reads) × AllQuoted qs
 
--- What `list` comes to, from any ride, gap, number and room: so many records are taken, one at least where there is one and room for
+-- What `list` comes to, from any ride, number and room, with the gap that a rule gives for each record's odometer: so many records are taken, one at least where there is one and room for
 -- 128 bytes, and all where there is room for 128 bytes each; the bytes that it says it wrote are the text of their lines; the ride and the number are those after them; the buffer's
 -- other bytes stay.
-pub record Takes (ride : Ride) (gap number : ℕ) (trace before : List ℕ) (l : Listed) (after : List ℕ) : Type 0 where
+pub record Takes (gaps : ℕ → ℕ) (ride : Ride) (number : ℕ) (trace before : List ℕ) (l : Listed) (after : List ℕ) : Type 0 where
   pub n : ℕ
   pub bytes : ℕ
   pub took : l .done ≡ Done.Took n bytes
   pub of-these : n ≤ recordsIn trace
   pub one-at-least : 1 ≤ recordsIn trace → 128 ≤ length before → number < 18446744073709551615 → 1 ≤ n
   pub all-with-room : 128 * recordsIn trace ≤ length before → number + recordsIn trace ≤ 18446744073709551615 → n ≡ recordsIn trace
-  pub written : take bytes after ≡ textOf (rideOver (λ odometer. gap) ride number (take n (records trace)) .lines)
+  pub written : take bytes after ≡ textOf (rideOver gaps ride number (take n (records trace)) .lines)
   pub rest-stays : drop bytes after ≡ drop bytes before
-  pub ridden-so : l .ride ≡ rideOver (λ odometer. gap) ride number (take n (records trace)) .ride
+  pub ridden-so : l .ride ≡ rideOver gaps ride number (take n (records trace)) .ride
   pub counted-on : l .number ≡ number + n
 
 -- The library's functions come to what the program is to write. (The program lists card after card and block after block: that these join
@@ -98,7 +98,7 @@ pub record Written : Type 0 where
   pub quotes : AllQuoted quoted
   -- `list` takes records and writes their lines
   pub takes : (ride : Ride) (gap number : ℕ) (trace before : List ℕ) (l : Listed) (after : List ℕ) → badGap gap ≡ false → badLength trace ≡ false
-      → ListInto ride gap number trace before l after → Takes ride gap number trace before l after
+      → ListInto ride gap number trace before l after → Takes (λ odometer. gap) ride number trace before l after
   -- with room for 128 bytes a record it takes them all, and with the lines of `end` its bytes are the output
   pub whole : (f : Ride) (l : Listed) (e : Ended) (trace before after : List ℕ) → badLength trace ≡ false → recordsIn trace < 18446744073709551615
       → 128 * recordsIn trace ≤ length before → Fresh f → ListInto f 40 1 trace before l after → EndOf (l .ride) e

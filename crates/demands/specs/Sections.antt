@@ -11,8 +11,9 @@ use mathlib.Core.List.{List, [], _∷_, _++_}
 use lib.ListN.{length, take, drop}
 use Rattle.words.specs.Answer.{pick}
 use Rattle.ride.specs.Record.{odometerOf}
+use Rattle.ride.specs.State.{freshRide}
 use Rattle.ride.specs.Step.{end}
-use Rattle.ride.specs.Over.{records, linesFor, rideOver}
+use Rattle.ride.specs.Over.{records, linesFor, Ridden, rideOver}
 use Rattle.ride.specs.Says.{saysLines, saysStepped}
 use Rattle.ride.specs.declared.Ended.{Ended}
 use Rattle.ride.specs.declared.Line.{Line}
@@ -25,7 +26,7 @@ use Rattle.listing.specs.declared.Done.{Done}
 use Rattle.listing.specs.declared.Listed.{Listed}
 use Rattle.demands.specs.Table.{badLength, badGap}
 use Rattle.demands.specs.Contracts.{Fresh, StepOf, EndOf, RunOver, ListInto}
-use Rattle.demands.specs.Output.{ridden, output, recordsIn}
+use Rattle.demands.specs.Output.{output, recordsIn}
 
 -- "whole 8-byte records"
 abbrev pub Whole : List ℕ → Type 0
@@ -77,13 +78,17 @@ pub record Lent (left : List ℕ) (c : Call) : Type 0 where
   pub front : left ≡ c .block ++ rest
   pub whole : Whole (c .block)
 
--- These are calls of `list` over a trace, from a state and the first record's number: each goes on where the one before ended, with what
--- that one did not take, until nothing is left.
+-- These are calls over a trace of a function that lists, from a state and the first record's number: each goes on where the one before
+-- ended, with what that one did not take, until nothing is left. `Lists` is what the function's contract allows.
+abbrev pub ByCalls : (Ride → ℕ → List ℕ → List ℕ → Listed → List ℕ → Type 0) → Ride → ℕ → List ℕ → List Call → Type 0
+ByCalls Lists ride number left [] = left ≡ []
+ByCalls Lists ride number left (c ∷ cs) =
+    Lent left c × Lists ride number (c .block) (c .before) (c .answer) (c .after)
+    × ByCalls Lists (c .answer .ride) (c .answer .number) (drop (taken (c .answer .done) * 8) left) cs
+
+-- Calls of `list` with a gap.
 abbrev pub ByList : ℕ → Ride → ℕ → List ℕ → List Call → Type 0
-ByList gap ride number left [] = left ≡ []
-ByList gap ride number left (c ∷ cs) =
-    Lent left c × ListInto ride gap number (c .block) (c .before) (c .answer) (c .after)
-    × ByList gap (c .answer .ride) (c .answer .number) (drop (taken (c .answer .done) * 8) left) cs
+ByList gap = ByCalls λ ride number block before answer after. ListInto ride gap number block before answer after
 
 -- The texts that they write, one behind the other.
 abbrev pub textFrom : List Call → List ℕ
@@ -152,11 +157,16 @@ abbrev pub anyBad : List (List ℕ) → Bool
 anyBad [] = false
 anyBad (card ∷ cards) = badLength card || anyBad cards
 
--- What the program writes for some cards: the lines of the records of all of them as one ride, and then those of the end; if one has a
--- bad length, that alone.
-unfoldable pub outputOf : List (List ℕ) → List ℕ
-outputOf cards =
-    pick (anyBad cards) (text (Line.Trace 16)) (textOf (ridden (joined cards) .lines ++ end (ridden (joined cards) .ride) .lines))
+-- What the program writes for some cards, with a rule of the gap: the lines of the records of all of them as one ride, and then those of
+-- the end; if one has a bad length, that alone.
+unfoldable pub outputBy : (ℕ → ℕ) → List (List ℕ) → List ℕ
+outputBy gaps cards =
+    let all : Ridden = rideOver gaps freshRide 1 (records (joined cards)) in
+    pick (anyBad cards) (text (Line.Trace 16)) (textOf (all .lines ++ end (all .ride) .lines))
+
+-- "The program's gap is 40."
+abbrev pub outputOf : List (List ℕ) → List ℕ
+outputOf cards = outputBy (λ odometer. 40) cards
 
 -- Whatever blocks `list` is called with, and whatever room it has, the texts put one behind the other are the text of the whole.
 pub record Blocks : Type 0 where
