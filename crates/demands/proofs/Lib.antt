@@ -23,6 +23,7 @@ pub mod Writes
 pub mod Bare
 pub mod Spelled
 pub mod StoreRules
+pub mod Explaining
 pub mod Stores
 pub mod Viewing
 pub mod Demand1

@@ -29,6 +29,7 @@ use Rattle.demands.proofs.Rules.{true-not-false, if-so, if-not}
 use Rattle.demands.proofs.Contacts.{judging}
 use Rattle.demands.proofs.Rides.{gives-not}
 use Rattle.demands.proofs.StoreRules.{settings-so, version-so, store-so}
+use Rattle.demands.proofs.Explaining.{explained-so, explained-left}
 
 -- ---- each function
 
@@ -137,6 +138,7 @@ stores-decided = record {
   list-under = λ ride store number trace before r after c.
       let e = ap (λ (l : Listing). l .answer) (c .7 ∙ ap₂ (λ (x y : List ℕ). listUnder ride store number x y) (c .4) (c .5)) in
       rw e (list-so ride store number trace before);
+  explain-under = explained-so;
 }
 
 -- ---- what a refusal leaves
@@ -188,4 +190,5 @@ stores-untouched = record {
       let is = c .7 ∙ ap₂ (λ (x y : List ℕ). listUnder ride store number x y) (c .4) (c .5) in
       let left = is ∙ list-left ride store number trace before n (sym (ap (λ (l : Listing). l .answer) is) ∙ e) in
       (ap (λ (l : Listing). l .ride) left, ap (λ (l : Listing). l .number) left, sym (c .6) ∙ ap (λ (l : Listing). l .out) left);
+  explain-under = λ ride store number trace before r after n c. explained-left ride store number trace before r after c n;
 }

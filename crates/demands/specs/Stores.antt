@@ -29,6 +29,8 @@ use Rattle.ride.specs.declared.Ride.{Ride}
 use Rattle.ride.specs.declared.Ran.{Ran}
 use Rattle.listing.specs.Says.{saysDone}
 use Rattle.listing.specs.declared.Listed.{Listed}
+use Rattle.explained.specs.Says.{saysDone as saysExplained}
+use Rattle.explained.specs.declared.Listed.{Listed as Explained}
 use Rattle.settings.proofs.begin.Kinds as begin-kinds
 use Rattle.settings.proofs.begin.Reads as begin-reads
 use Rattle.settings.proofs.add.Kinds as add-kinds
@@ -41,6 +43,8 @@ use Rattle.ride.proofs.run_under.Kinds as run-kinds
 use Rattle.ride.proofs.run_under.Reads as run-reads
 use Rattle.listing.proofs.list_under.Kinds as list-kinds
 use Rattle.listing.proofs.list_under.Reads as list-reads
+use Rattle.explained.proofs.list_under.Kinds as explained-kinds
+use Rattle.explained.proofs.list_under.Reads as explained-reads
 use Rattle.demands.specs.Table.{notSeven, badLength, badGap}
 use Rattle.demands.specs.Table02.{tooHigh, notAbove, startsLate, full, overfull}
 use Rattle.demands.specs.Rules.{Rule, row, Decided, Given, Is}
@@ -78,6 +82,13 @@ ListUnder ride store number trace before r after =
     (κs : Lfts 2) × (lent : RefT (List ℕ)) × (out : RefT (List ℕ)) × (e : AtExit (endedOf 2 list-kinds.ps list-kinds.r) κs)
     × (now lent ≡ trace) × (now out ≡ before) × (now (e .1 .1 .1 .1 .0) ≡ after)
     × list-reads.Post κs (ride, (store, (number, (lent, (out, tt))))) r e
+
+-- The contract of `explained::list_under`, which tells reasons too, allows the answer r, and that the lent buffer holds `after` then.
+abbrev pub ExplainUnder : Ride → Store → ℕ → List ℕ → List ℕ → Explained → List ℕ → Type 0
+ExplainUnder ride store number trace before r after =
+    (κs : Lfts 2) × (lent : RefT (List ℕ)) × (out : RefT (List ℕ)) × (e : AtExit (endedOf 2 explained-kinds.ps explained-kinds.r) κs)
+    × (now lent ≡ trace) × (now out ≡ before) × (now (e .1 .1 .1 .1 .0) ≡ after)
+    × explained-reads.Post κs (ride, (store, (number, (lent, (out, tt))))) r e
 
 -- ---- the lists
 
@@ -121,6 +132,8 @@ pub record StoresDecided : Type 0 where
       → Decided (Is through) (storeRules store (row 16 (badLength trace) ∷ [])) (saysRan r .answer)
   pub list-under : (ride : Ride) (store : Store) (number : ℕ) (trace before : List ℕ) (r : Listed) (after : List ℕ)
       → ListUnder ride store number trace before r after → Decided Given (storeRules store (row 16 (badLength trace) ∷ [])) (saysDone (r .done))
+  pub explain-under : (ride : Ride) (store : Store) (number : ℕ) (trace before : List ℕ) (r : Explained) (after : List ℕ)
+      → ExplainUnder ride store number trace before r after → Decided Given (storeRules store (row 16 (badLength trace) ∷ [])) (saysExplained (r .done))
 
 -- "the store is unchanged", and so are the ride, the number and the lent buffer; a store that is not opened is none.
 pub record StoresUntouched : Type 0 where
@@ -129,4 +142,7 @@ pub record StoresUntouched : Type 0 where
   pub run-under : (ride : Ride) (store : Store) (trace : List ℕ) (r : Ran) (n : ℕ) → RunUnder ride store trace r → saysRan r .answer ≡ refuses n → r .ride ≡ ride
   pub list-under : (ride : Ride) (store : Store) (number : ℕ) (trace before : List ℕ) (r : Listed) (after : List ℕ) (n : ℕ)
       → ListUnder ride store number trace before r after → saysDone (r .done) ≡ refuses n
+      → (r .ride ≡ ride) × (r .number ≡ number) × (after ≡ before)
+  pub explain-under : (ride : Ride) (store : Store) (number : ℕ) (trace before : List ℕ) (r : Explained) (after : List ℕ) (n : ℕ)
+      → ExplainUnder ride store number trace before r after → saysExplained (r .done) ≡ refuses n
       → (r .ride ≡ ride) × (r .number ≡ number) × (after ≡ before)

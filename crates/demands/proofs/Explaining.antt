@@ -1,0 +1,59 @@
+-- A listing with reasons under a store refuses as the store's judgement and document 01's table say, and then leaves everything as it was.
+-- Assumes nothing.
+use Prim.Native.Nat.{ℕ, _%_}
+use mathlib.Core.Path.{_≡_, refl, sym, ap, ap₂, subst, _∙_}
+use mathlib.Core.Bool.{Bool, true, false}
+use mathlib.Core.List.{List, [], _∷_}
+use lib.Dec.{eqb}
+use lib.ListN.{length}
+use Rattle.words.specs.Answer.{Outcome, gives, refuses, then, pick}
+use Rattle.settings.specs.declared.Store.{Store}
+use Rattle.settings.specs.Versions.{Kept}
+use Rattle.settings.specs.Store.{judged}
+use Rattle.settings.specs.At.{gapAt}
+use Rattle.ride.specs.declared.Ride.{Ride}
+use Rattle.ride.specs.Over.{records}
+use Rattle.explained.specs.declared.Listed.{Listed}
+use Rattle.explained.specs.List.{Listing, listOf, listTaken, unlisted, judgedFirst, listUnder}
+use Rattle.explained.specs.Says.{saysDone}
+use Rattle.demands.specs.Table.{badLength}
+use Rattle.demands.specs.Rules.{row, Decided, Given}
+use Rattle.demands.specs.Stores.{ExplainUnder, storeRules}
+use Rattle.demands.proofs.Rules.{if-not}
+use Rattle.demands.proofs.Rides.{gives-not}
+use Rattle.demands.proofs.StoreRules.{store-so}
+
+-- the answer, test by test
+first : (o : Outcome Kept) (b : Bool) (ride : Ride) (number : ℕ) (out : List ℕ) (l : Listing)
+    → then o (λ k. pick b (l .answer) (refuses 16)) ≡ judgedFirst ride number out o (pick b l (unlisted ride number out 16)) .answer
+first (gives k) true ride number out l = refl
+first (gives k) false ride number out l = refl
+first (refuses n) b ride number out l = refl
+
+left : (o : Outcome Kept) (b : Bool) (ride : Ride) (number : ℕ) (out : List ℕ) (l : Listing) (n : ℕ) → Given (l .answer)
+    → judgedFirst ride number out o (pick b l (unlisted ride number out 16)) .answer ≡ refuses n
+    → judgedFirst ride number out o (pick b l (unlisted ride number out 16)) ≡ unlisted ride number out n
+left (gives k) true ride number out l n g e = absurd (gives-not (sym (g .1) ∙ e))
+left (gives k) false ride number out l n g e = let same : 16 ≡ n = cc in ap (unlisted ride number out) same
+left (refuses m) b ride number out l n g e = let same : m ≡ n = cc in ap (unlisted ride number out) same
+
+module _ (ride : Ride) (store : Store) (number : ℕ) (trace before : List ℕ) (r : Listed) (after : List ℕ)
+    (c : ExplainUnder ride store number trace before r after) where
+  -- the listing of as many records as have room
+  abbrev all : Listing
+  all = listTaken (gapAt store) ride number (records trace) before
+
+  pub explained-so : Decided Given (storeRules store (row 16 (badLength trace) ∷ [])) (saysDone (r .done))
+  unfolding listUnder listOf badLength
+  explained-so =
+      let whole : Bool = eqb (length trace % 8) 0 in
+      let e = ap (λ (l : Listing). l .answer) (c .7 ∙ ap₂ (λ (x y : List ℕ). listUnder ride store number x y) (c .4) (c .5)) in
+      subst (λ o. Decided Given (storeRules store (row 16 (badLength trace) ∷ [])) o) (first (judged store) whole ride number before all ∙ sym e)
+      (store-so Given (λ k. pick whole (all .answer) (refuses 16)) (row 16 (badLength trace) ∷ []) store (if-not Given [] (refuses 16) (all .answer) (_, refl) whole))
+
+  pub explained-left : (n : ℕ) → saysDone (r .done) ≡ refuses n → (r .ride ≡ ride) × (r .number ≡ number) × (after ≡ before)
+  unfolding listUnder listOf
+  explained-left n e =
+      let is = c .7 ∙ ap₂ (λ (x y : List ℕ). listUnder ride store number x y) (c .4) (c .5) in
+      let stays = is ∙ left (judged store) (eqb (length trace % 8) 0) ride number before all n (_, refl) (sym (ap (λ (l : Listing). l .answer) is) ∙ e) in
+      (ap (λ (l : Listing). l .ride) stays, ap (λ (l : Listing). l .number) stays, sym (c .6) ∙ ap (λ (l : Listing). l .out) stays)
