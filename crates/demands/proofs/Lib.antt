@@ -67,3 +67,4 @@ pub mod NumbersMet
 pub mod SectionsMet
 pub mod OneVersion
 pub mod SectionsUnder
+pub mod StoresMet

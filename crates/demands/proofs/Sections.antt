@@ -25,10 +25,10 @@ abbrev whole : List ℕ → List ℕ
 whole trace = textOf (ridden trace .lines ++ end (ridden trace .ride) .lines)
 
 -- what `list` with a gap allows, and what it comes to with a good one
-abbrev Lists : ℕ → Ride → ℕ → List ℕ → List ℕ → Listed → List ℕ → Type 0
+abbrev pub Lists : ℕ → Ride → ℕ → List ℕ → List ℕ → Listed → List ℕ → Type 0
 Lists gap ride number block before answer after = ListInto ride gap number block before answer after
 
-takes : (gap : ℕ) → badGap gap ≡ false → Taking (λ odometer. gap) (Lists gap)
+pub takes : (gap : ℕ) → badGap gap ≡ false → Taking (λ odometer. gap) (Lists gap)
 takes gap good ride number trace before l after whole c = takes-so ride gap number trace before l after good whole c
 
 one-card-so : (card : List ℕ) → outputOf (card ∷ []) ≡ output card

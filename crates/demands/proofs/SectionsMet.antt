@@ -34,35 +34,37 @@ use Rattle.ride.specs.declared.Ride.{Ride}
 use Rattle.listing.specs.Put.{placed}
 use Rattle.listing.specs.List.{textOf, taken, listOf, listTaken, unlisted, list}
 use Rattle.listing.specs.declared.Done.{Done}
+use Rattle.listing.specs.declared.Listed.{Listed}
 use Rattle.ride.proofs.Determined as ride-is
 use Rattle.demands.specs.Table.{badLength, badGap}
 use Rattle.demands.specs.Contracts.{ListInto, RunOver}
 use Rattle.demands.specs.Output.{recordsIn, ridden, oneRide}
-use Rattle.demands.specs.Sections.{Whole, Call, ByList, ByStep, linesFrom}
+use Rattle.demands.specs.Sections.{Whole, Call, ByCalls, ByList, ByStep, linesFrom}
 use Rattle.demands.proofs.Rules.{not-false}
 use Rattle.demands.proofs.Spelled.{bad-gap}
-use Rattle.demands.proofs.Taking.{takes-so}
 use Rattle.demands.proofs.Cards.{eights}
 use Rattle.demands.proofs.CallsMet.{lent}
+use Rattle.demands.proofs.Blocks.{Taking}
+use Rattle.demands.proofs.Sections.{Lists, takes}
 
 -- ---- by `list`
 
-module _ (gap : ℕ) (ride : Ride) (number : ℕ) (card : List ℕ) where
+module _ (gaps : ℕ → ℕ) (ride : Ride) (number : ℕ) (card : List ℕ) where
   -- a buffer with 128 bytes for each record
-  abbrev room : List ℕ
+  abbrev pub room : List ℕ
   room = replicate (128 * recordsIn card) 0
 
-  abbrev many : ℕ
-  many = taken (λ odometer. gap) ride number (length room) (records card)
+  abbrev pub many : ℕ
+  many = taken gaps ride number (length room) (records card)
 
-  abbrev over : Ridden
-  over = rideOver (λ odometer. gap) ride number (take many (records card))
+  abbrev pub over : Ridden
+  over = rideOver gaps ride number (take many (records card))
 
-  abbrev written : List ℕ
+  abbrev pub written : List ℕ
   written = textOf (over .lines)
 
   -- one call with the whole card
-  abbrev theCall : Call
+  abbrev pub theCall : Call
   theCall =
       record {
         block = card;
@@ -71,31 +73,11 @@ module _ (gap : ℕ) (ride : Ride) (number : ℕ) (card : List ℕ) where
         after = placed written room 0;
       }
 
-  allowed-so : badGap gap ≡ false → Whole card → listTaken (λ odometer. gap) ride number (records card) room ≡ list ride gap number card room
-  unfolding list badLength
-  allowed-so good whole =
-      sym
-      (ap₂ (λ (t u : Bool). pick t (pick u (listTaken (λ odometer. gap) ride number (records card) room) (unlisted ride number room 16)) (unlisted ride number room 19))
-      (not-false (allowed gap) (sym (bad-gap gap) ∙ good)) (not-false (eqb (length card % 8) 0) whole))
-
-  called : badGap gap ≡ false → Whole card → ListInto ride gap number card room (theCall .answer) (theCall .after)
-  unfolding listOf
-  called good whole = (
-    ([], ([], tt)),
-    lent card,
-    lent room,
-    (ride, (gap, (number, (lent card, (lent (theCall .after), tt))))),
-    refl,
-    refl,
-    refl,
-    allowed-so good whole,
-  )
-
   -- it takes all of the card
-  pub listed-met : badGap gap ≡ false → Whole card → number + recordsIn card ≤ 18446744073709551615 → ByList gap ride number card (theCall ∷ [])
-  listed-met good whole small =
-      let call = called good whole in
-      let t = takes-so ride gap number card room (theCall .answer) (theCall .after) good whole call in
+  pub all-met : (Lists : Ride → ℕ → List ℕ → List ℕ → Listed → List ℕ → Type 0) → Taking gaps Lists → Lists ride number card room (theCall .answer) (theCall .after)
+      → Whole card → number + recordsIn card ≤ 18446744073709551615 → ByCalls Lists ride number card (theCall ∷ [])
+  all-met Lists takes call whole small =
+      let t = takes ride number card room (theCall .answer) (theCall .after) whole call in
       let enough : 128 * recordsIn card ≤ length room = omega (arith, length-replicate {A = ℕ} (128 * recordsIn card) 0) in
       let all : many ≡ recordsIn card = took (t .n) (t .bytes) (t .took) ∙ t .all-with-room enough small in
       let behind : length card ≤ many * 8 = omega (arith, eights card whole) in
@@ -104,13 +86,44 @@ module _ (gap : ℕ) (ride : Ride) (number : ℕ) (card : List ℕ) where
       took : (n bytes : ℕ) → Done.Took many (length written) ≡ Done.Took n bytes → many ≡ n
       took n bytes e = cc
 
+module _ (gap : ℕ) (ride : Ride) (number : ℕ) (card : List ℕ) where
+  abbrev lentRoom : List ℕ
+  lentRoom = room (λ odometer. gap) ride number card
+
+  abbrev oneCall : Call
+  oneCall = theCall (λ odometer. gap) ride number card
+
+  allowed-so : badGap gap ≡ false → Whole card → listTaken (λ odometer. gap) ride number (records card) lentRoom ≡ list ride gap number card lentRoom
+  unfolding list badLength
+  allowed-so good whole =
+      sym
+      (ap₂ (λ (t u : Bool). pick t (pick u (listTaken (λ odometer. gap) ride number (records card) lentRoom) (unlisted ride number lentRoom 16)) (unlisted ride number lentRoom 19))
+      (not-false (allowed gap) (sym (bad-gap gap) ∙ good)) (not-false (eqb (length card % 8) 0) whole))
+
+  called : badGap gap ≡ false → Whole card → ListInto ride gap number card lentRoom (oneCall .answer) (oneCall .after)
+  unfolding listOf
+  called good whole = (
+    ([], ([], tt)),
+    lent card,
+    lent lentRoom,
+    (ride, (gap, (number, (lent card, (lent (oneCall .after), tt))))),
+    refl,
+    refl,
+    refl,
+    allowed-so good whole,
+  )
+
+  pub listed-met : badGap gap ≡ false → Whole card → number + recordsIn card ≤ 18446744073709551615 → ByList gap ride number card (oneCall ∷ [])
+  listed-met good whole small =
+      all-met (λ odometer. gap) ride number card (Lists gap) (takes gap good) (called good whole) whole small
+
 -- ---- by `step` and by `run`
 
 -- document 01's ride on two cards: its first record, and the other two
-abbrev firstCard : List ℕ
+abbrev pub firstCard : List ℕ
 firstCard = take 8 oneRide
 
-abbrev secondCard : List ℕ
+abbrev pub secondCard : List ℕ
 secondCard = drop 8 oneRide
 
 -- what the contracts' own right sides say
@@ -148,6 +161,6 @@ run-met = (
   (([], tt), lent secondCard, (ran freshRide firstCard .ride, (40, (lent secondCard, tt))), refl, refl),
 )
 
-whole-met : Whole firstCard × Whole secondCard
+pub whole-met : Whole firstCard × Whole secondCard
 unfolding badLength
 whole-met = (refl, refl)

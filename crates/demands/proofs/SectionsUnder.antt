@@ -79,10 +79,10 @@ empty-run ride store q c =
 -- ---- by `list_under`
 
 -- what `list_under` allows, and what it comes to with a good store
-abbrev Lists : Store → Ride → ℕ → List ℕ → List ℕ → Listed → List ℕ → Type 0
+abbrev pub Lists : Store → Ride → ℕ → List ℕ → List ℕ → Listed → List ℕ → Type 0
 Lists store ride number block before answer after = ListUnder ride store number block before answer after
 
-takes : (store : Store) → Good store → Taking (gapAt store) (Lists store)
+pub takes : (store : Store) → Good store → Taking (gapAt store) (Lists store)
 takes store good ride number trace before l after whole c = takes-under ride store number trace before l after good whole c
 
 -- ---- all of it

@@ -1,10 +1,12 @@
 -- Demand 1: "Any bits, any trace, any settings: every call ends with a named reading or a numbered refusal of document 01,
 -- given exactly under the condition written there. A refusal hands out no figure, and lent memory and state stay untouched
 -- unless the table says otherwise."
--- The first sentence is the record `Demand1`, the second the record `Untouched`. The conditions are specs/Table.antt and Table02.antt, the lists specs/Lists.antt, what the
--- contracts allow is specs/Contracts.antt. That every call ends is the kit's own check of each function, and no theorem here. The functions without a list give no number: `fresh`,
--- `speed` and `end` always answer; `put_line` says that a line has no room, for which document 01 has no number; `telegram::inside` says whether row 5's condition does not hold, and
--- `settings::allowed` whether row 19's does not; what M-111 added without a number is named in specs/Stores.antt. For the face for C (crates/abi) crates/face says the same.
+-- The first sentence is the record `Demand1`, the second the record `Untouched`. The conditions are specs/Table.antt and Table02.antt, the
+-- lists specs/Lists.antt and, for a store, Stores.antt; what the contracts allow is specs/Contracts.antt. That every call ends is the kit's own check of each
+-- function, and no theorem here. Of the crates whose functions have one, those without a list give no number: `fresh`, `speed` and `end` always answer; `put_line`
+-- says that a line has no room, for which document 01 has no number; `telegram::inside` says whether row 5's condition does not hold, and `settings::allowed`
+-- whether row 19's does not; what M-111 added without a number is named in specs/Stores.antt; but `writer::spell` gives the first two of `write`'s. Where
+-- the other crates say when they refuse, the face for C among them (crates/face), is in docs/DEMANDS.md.
 -- Assumes nothing.
 use Prim.Native.Nat.{ℕ, _+_, _*_}
 use mathlib.Core.Bool.{true}
@@ -125,8 +127,9 @@ pub record Demand1 : Type 0 where
   pub viewers : ViewersDecided
 
 -- "A refusal hands out no figure, and lent memory and state stay untouched unless the table says otherwise."
--- Of the libraries only `listing`, `writer` and `compaction` are lent memory that they may write; a search is given by value, and a refusal of `next_contact` gives
--- none back. (The face for C leaves every lent array as it was where it refuses: `left` of crates/abi/specs/Face.antt.)
+-- Of the functions with a list only those of `listing`, `explained`, `writer` and `compaction` are lent memory that they may write; a search is given by value,
+-- and a refusal of `next_contact` gives none back. Those that put a text into a lent buffer (of `text`, `hearing`, `explainer`, `explained`, `sheet`, `depot`,
+-- `shown`, `unheard`) refuse with no number: what they leave without room is in their contracts. (The face for C: `left` of crates/abi/specs/Face.antt.)
 pub record Untouched : Type 0 where
   -- a refused step closes no group, and it and a refused run leave the ride as it was
   pub step : (ride : Ride) (gap : ℕ) (bytes : List ℕ) (r : Stepped) (n : ℕ) → StepOf ride gap bytes r
