@@ -18,6 +18,7 @@ use Rattle.ride.specs.declared.Ride.{Ride}
 use Rattle.ride.specs.declared.Ran.{Ran}
 use Rattle.ride.specs.Joining.{allowed}
 use Rattle.ride.specs.Over.{records, rideOver, through, Run, run}
+use Rattle.ride.specs.Under.{runUnder}
 use Rattle.ride.specs.Says.{saysRan}
 use Rattle.ride.proofs.Determined as ride-is
 use Rattle.compaction.specs.Dropped.{compactOver}
@@ -31,6 +32,7 @@ use Rattle.compaction.proofs.Under.{under-whole}
 use Rattle.compaction.proofs.Smaller.{smaller}
 use Rattle.compaction.proofs.Determined as compaction-is
 use Rattle.demands.specs.Contracts.{RunOver}
+use Rattle.demands.specs.Stores.{RunUnder}
 use Rattle.demands.specs.Compacting.{CompactIn, CompactUnder}
 use Rattle.smaller.specs.Trace.{SmallerTrace, SmallerUnder}
 use Rattle.smaller.proofs.Made.{Was, was-plain, was-under, Made, made-so, same-lines}
@@ -76,26 +78,38 @@ under-made ride store before c after n h e =
 
 -- ---- by `run`
 
+-- a run that goes through all records of this trace
+abbrev over : (ℕ → ℕ) → Ride → List ℕ → Run
+over gaps ride trace = record { answer = gives through; ride = rideOver gaps ride 1 (records trace) .ride }
+
 ran : (ride : Ride) (gap : ℕ) (trace : List ℕ) (p : Ran) → RunOver ride gap trace p → allowed gap ≡ true → length trace % 8 ≡ 0
-    → saysRan p ≡ record { answer = gives through; ride = rideOver (λ odometer. gap) ride 1 (records trace) .ride }
+    → saysRan p ≡ over (λ odometer. gap) ride trace
 unfolding run
 ran ride gap trace p c good whole =
     let ok : eqb (length trace % 8) 0 ≡ true = eq-eqb (length trace % 8) 0 whole in
-    let is : run ride gap trace ≡ record { answer = gives through; ride = rideOver (λ odometer. gap) ride 1 (records trace) .ride } = rw (good, ok) in
+    let is : run ride gap trace ≡ over (λ odometer. gap) ride trace = rw (good, ok) in
     c .4 ∙ ap (run ride gap) (c .3) ∙ is
 
-by-run-so : (ride : Ride) (gap : ℕ) (before : List ℕ) (c : Compacted) (after : List ℕ) (n : ℕ) (p q : Ran) → CompactIn ride gap before c after
-    → c .size ≡ Size.Bytes n → RunOver ride gap before p → RunOver ride gap (take n after) q → (q ≡ p) × (c .ride ≡ p .ride)
-by-run-so ride gap before c after n p q h e f g =
-    let m = plain-made ride gap before c after n h e in
-    let gaps : ℕ → ℕ = λ odometer. gap in
-    let good : allowed gap ≡ true = m .was .good 0 in
-    let whole : length (take n after) % 8 ≡ 0 = ap (λ (b : List ℕ). length b % 8) (m .made .small) ∙ new-whole gaps ride before in
-    let first = ran ride gap before p f good (m .was .whole) in
+ran-under : (ride : Ride) (store : Store) (trace : List ℕ) (p : Ran) → RunUnder ride store trace p → judged store ≡ gives kept → length trace % 8 ≡ 0
+    → saysRan p ≡ over (gapAt store) ride trace
+unfolding runUnder
+ran-under ride store trace p c good whole =
+    let ok : eqb (length trace % 8) 0 ≡ true = eq-eqb (length trace % 8) 0 whole in
+    let is : runUnder ride store trace ≡ over (gapAt store) ride trace = rw (good, ok) in
+    c .4 ∙ ap (runUnder ride store) (c .3) ∙ is
+
+-- the compacted trace has whole records too
+whole-again : (gaps : ℕ → ℕ) (ride : Ride) (before : List ℕ) (n : ℕ) (end : Ride) (after : List ℕ) → Made gaps ride before n end after → length (take n after) % 8 ≡ 0
+whole-again gaps ride before n end after made = ap (λ (b : List ℕ). length b % 8) (made .small) ∙ new-whole gaps ride before
+
+-- runs over the original and over what was made
+same-run : (gaps : ℕ → ℕ) (ride : Ride) (before : List ℕ) (n : ℕ) (end : Ride) (after : List ℕ) → Made gaps ride before n end after → (p q : Ran)
+    → saysRan p ≡ over gaps ride before → saysRan q ≡ over gaps ride (take n after) → (q ≡ p) × (end ≡ p .ride)
+same-run gaps ride before n end after made p q first second =
     let state : rideOver gaps ride 1 (records (take n after)) .ride ≡ rideOver gaps ride 1 (records before) .ride =
-    ap (λ (rs : List (List ℕ)). rideOver gaps ride 1 rs .ride) (m .made .records-are) ∙ smaller .end-state gaps ride 1 1 (records before) in
-    let second = ran ride gap (take n after) q g good whole ∙ ap (λ (s : Ride). record { answer = gives through; ride = s }) state in
-    (told saysRan ride-is.ranOf ride-is.ran-back q p second first, m .made .state ∙ sym (ap (λ (r : Run). r .ride) first))
+    ap (λ (rs : List (List ℕ)). rideOver gaps ride 1 rs .ride) (made .records-are) ∙ smaller .end-state gaps ride 1 1 (records before) in
+    let same = second ∙ ap (λ (s : Ride). record { answer = gives through; ride = s }) state in
+    (told saysRan ride-is.ranOf ride-is.ran-back q p same first, made .state ∙ sym (ap (λ (r : Run). r .ride) first))
 
 -- ---- once more
 
@@ -120,7 +134,7 @@ unfolding compact
 once-plain ride gap before c after n c′ after′ h e h′ =
     let m = plain-made ride gap before c after n h e in
     let gaps : ℕ → ℕ = λ odometer. gap in
-    let whole : eqb (length (take n after) % 8) 0 ≡ true = eq-eqb _ 0 (ap (λ (b : List ℕ). length b % 8) (m .made .small) ∙ new-whole gaps ride before) in
+    let whole : eqb (length (take n after) % 8) 0 ≡ true = eq-eqb _ 0 (whole-again gaps ride before n (c .ride) after (m .made)) in
     let is : compact ride gap (take n after) ≡ smallerTrace gaps ride (take n after) = rw (m .was .good 0, whole) in
     same-answer c′ c after′ (take n after) (plain-is ride gap (take n after) c′ after′ h′ ∙ is ∙ again gaps ride before c after n e (m .made))
 
@@ -129,7 +143,7 @@ once-under : (ride : Ride) (store : Store) (before : List ℕ) (c : Compacted) (
 once-under ride store before c after n c′ after′ h e h′ =
     let m = under-made ride store before c after n h e in
     let gaps : ℕ → ℕ = gapAt store in
-    let whole : eqb (length (take n after) % 8) 0 ≡ true = eq-eqb _ 0 (ap (λ (b : List ℕ). length b % 8) (m .made .small) ∙ new-whole gaps ride before) in
+    let whole : eqb (length (take n after) % 8) 0 ≡ true = eq-eqb _ 0 (whole-again gaps ride before n (c .ride) after (m .made)) in
     same-answer c′ c after′ (take n after)
     (under-is ride store (take n after) c′ after′ h′ ∙ sym (under-whole ride store (take n after) (m .judged-so) whole) ∙ again gaps ride before c after n e (m .made))
 
@@ -137,7 +151,12 @@ once-under ride store before c after n c′ after′ h e h′ =
 
 pub smaller-trace : SmallerTrace
 smaller-trace = record {
-  by-run = by-run-so;
+  by-run = λ ride gap before c after n p q h e f g.
+      let x = plain-made ride gap before c after n h e in
+      let gaps : ℕ → ℕ = λ odometer. gap in
+      let good = x .was .good 0 in
+      same-run gaps ride before n (c .ride) after (x .made) p q (ran ride gap before p f good (x .was .whole))
+      (ran ride gap (take n after) q g good (whole-again gaps ride before n (c .ride) after (x .made)));
   by-step = λ ride gap before c after n k m all small h e p q.
       let x = plain-made ride gap before c after n h e in
       same-lines (λ odometer. gap) (x .was .good) ride before n (c .ride) after (x .made) k m all small p q .0;
@@ -150,6 +169,10 @@ smaller-trace = record {
 
 pub smaller-under : SmallerUnder
 smaller-under = record {
+  by-run = λ ride store before c after n p q h e f g.
+      let x = under-made ride store before c after n h e in
+      same-run (gapAt store) ride before n (c .ride) after (x .made) p q (ran-under ride store before p f (x .judged-so) (x .was .whole))
+      (ran-under ride store (take n after) q g (x .judged-so) (whole-again (gapAt store) ride before n (c .ride) after (x .made)));
   by-step = λ ride store before c after n k m all small h e p q.
       let x = under-made ride store before c after n h e in
       same-lines (gapAt store) (x .was .good) ride before n (c .ride) after (x .made) k m all small p q;

@@ -1,6 +1,6 @@
 -- Smaller traces (document 02, M-107): "The compacted trace has the same end state, any count of records apart, and gives the same group and
 -- missed lines; the refused lines agree but for the record number. The result says the new length; bytes beyond it stay." Claimed over the
--- contracts: of `compact` with `run` and `step`, from any state, and of `compact_under` with one fixed store on both sides.
+-- contracts: of `compact` with `run` and `step`, from any state, and of `compact_under` with `run_under` and `step`, with one fixed store on both sides.
 -- A compacted trace is the first n bytes of the lent buffer, where n is the length that the answer says.
 -- Assumes nothing.
 use Prim.Native.Nat.{ℕ}
@@ -17,6 +17,7 @@ use Rattle.compaction.specs.Smaller.{withoutRefused, refusals, Agree, KeptOf}
 use Rattle.compaction.specs.declared.Size.{Size}
 use Rattle.compaction.specs.declared.Compacted.{Compacted}
 use Rattle.demands.specs.Contracts.{RunOver}
+use Rattle.demands.specs.Stores.{RunUnder}
 use Rattle.demands.specs.Compacting.{CompactIn, CompactUnder}
 use Rattle.demands.specs.Sections.{ByStep, linesFrom, afterSteps}
 
@@ -51,6 +52,8 @@ pub record SmallerTrace : Type 0 where
 
 -- The same under a store: "M-107 .. hold with one fixed store on both sides."
 pub record SmallerUnder : Type 0 where
+  pub by-run : (ride : Ride) (store : Store) (before : List ℕ) (c : Compacted) (after : List ℕ) (n : ℕ) (p q : Ran) → CompactUnder ride store before c after
+      → c .size ≡ Size.Bytes n → RunUnder ride store before p → RunUnder ride store (take n after) q → (q ≡ p) × (c .ride ≡ p .ride)
   pub by-step : (ride : Ride) (store : Store) (before : List ℕ) (c : Compacted) (after : List ℕ) (n k m : ℕ) (all small : List Stepped)
       → CompactUnder ride store before c after → c .size ≡ Size.Bytes n → ByStep (gapAt store) ride (records before) all
       → ByStep (gapAt store) ride (records (take n after)) small → SameLines ride k m small all × (c .ride ≡ afterSteps ride all)
