@@ -19,7 +19,7 @@
 extern "C" {
 #endif
 
-/* The refusals that these functions give: minus document 01's number. */
+/* The refusals that these functions give: minus the documents' number. */
 enum {
     ATC2_NOT_CODE = -1,     /* not a code word */
     ATC2_TOO_LARGE = -2,    /* figure to write above 15 or above 2,047 */
