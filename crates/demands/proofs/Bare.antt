@@ -42,6 +42,7 @@ use Rattle.demands.proofs.Stores.{stores-untouched}
 use Rattle.viewer.specs.Says.{saysBegun as saysOpened, saysHow}
 use Rattle.viewer.proofs.Determined as viewer-is
 use Rattle.demands.proofs.Viewing.{viewers-untouched}
+use Rattle.demands.proofs.Plans.{plans-untouched}
 
 pub untouched : Untouched
 untouched = record {
@@ -107,4 +108,5 @@ untouched = record {
   viewer-moved = λ n r r′ p q. told saysHow viewer-is.howOf viewer-is.how-back r r′ p q;
   stores = stores-untouched;
   viewers = viewers-untouched;
+  plans = plans-untouched;
 }

@@ -26,6 +26,7 @@ use Rattle.demands.proofs.Listings.{listing}
 use Rattle.demands.proofs.Compacting.{compacting, compacting-under, settling-under}
 use Rattle.demands.proofs.Stores.{stores-decided}
 use Rattle.demands.proofs.Viewing.{viewers-decided}
+use Rattle.demands.proofs.Plans.{plans-decided}
 
 pub demand1 : Demand1
 demand1 = record {
@@ -64,4 +65,5 @@ demand1 = record {
       rw e (settling-under w store before);
   stores = stores-decided;
   viewers = viewers-decided;
+  plans = plans-decided;
 }

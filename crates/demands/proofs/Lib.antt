@@ -26,6 +26,7 @@ pub mod StoreRules
 pub mod Explaining
 pub mod Stores
 pub mod Viewing
+pub mod Plans
 pub mod Demand1
 pub mod Cases
 pub mod RoutePresent

@@ -75,6 +75,7 @@ use Rattle.demands.specs.Lists.{telegramRules, findRules, surveyRules, w
 use Rattle.demands.specs.Steps.{OneStep, LeavesBehind}
 use Rattle.demands.specs.Stores.{StoresDecided, StoresUntouched}
 use Rattle.demands.specs.Viewing.{ViewersDecided, ViewersUntouched}
+use Rattle.demands.specs.Plans.{PlansDecided, PlansUntouched}
 
 -- A refusal carries no figure: two answers with the same refusal are the same answer, whatever was asked. A refusal is a number; that of a
 -- word is its number and its parity, that of a telegram these and the letter of its first bad word.
@@ -125,6 +126,8 @@ pub record Demand1 : Type 0 where
   pub stores : StoresDecided
   -- a viewer's `start`, `forward` and `back` (M-108)
   pub viewers : ViewersDecided
+  -- a plan of the depot's library (M-113)
+  pub plans : PlansDecided
 
 -- "A refusal hands out no figure, and lent memory and state stay untouched unless the table says otherwise."
 -- Of the functions with a list only those of `listing`, `explained`, `writer` and `compaction` are lent memory that they may write; a search is given by value,
@@ -201,3 +204,5 @@ pub record Untouched : Type 0 where
   pub stores : StoresUntouched
   -- a viewer's calls
   pub viewers : ViewersUntouched
+  -- a refused plan
+  pub plans : PlansUntouched

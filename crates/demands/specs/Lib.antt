@@ -7,6 +7,7 @@ pub mod Steps
 pub mod Lists
 pub mod Stores
 pub mod Viewing
+pub mod Plans
 pub mod Demand1
 pub mod Cases
 pub mod RowCases

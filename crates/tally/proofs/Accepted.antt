@@ -26,7 +26,8 @@ use Rattle.acceptance.specs.Plan.{Good, good, Planning, entryOf, entriesOf, noE
 use Rattle.acceptance.specs.Taking.{planned, isAbsent, isFor, noPart, takeLine}
 use Rattle.acceptance.specs.Report.{report, metIn, upToMost, sums}
 use Rattle.acceptance.specs.Says.{saysJudged, saysPlanned}
-use Rattle.tally.specs.Contracts.{Plans, Takes, Reports, SumsUp}
+use Rattle.demands.specs.Plans.{Plans}
+use Rattle.tally.specs.Contracts.{Takes, Reports, SumsUp}
 use Rattle.tally.specs.Lines.{isGroup, groupsIn, placeIn, kindIn, isGroupFor, someFor, firstFor, wantedIn, extraIn}
 use Rattle.tally.specs.Accepted.{Taken, after, Run, ended, entries, entry, part, Accepted}
 use Rattle.tally.specs.Accepted as claim

@@ -16,7 +16,7 @@ use Rattle.acceptance.specs.declared.Sums.{Sums}
 use Rattle.acceptance.specs.Plan.{placeOf, kindOf, isGood, allGood, entryOf, entriesOf, apart, planWith, wellFormed, plan}
 use Rattle.acceptance.specs.Taking.{planned, waiting, afterWanted, afterExtra, takeGroup, takeLine}
 use Rattle.acceptance.specs.Report.{metIn, sums}
-use Rattle.tally.specs.Contracts.{Plans}
+use Rattle.demands.specs.Plans.{Plans}
 use Rattle.tally.specs.Lines.{firstFor}
 use Rattle.tally.specs.Accepted.{Run}
 use Rattle.tally.specs.Depot.{groupAt, TooNear, Depot}

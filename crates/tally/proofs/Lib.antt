@@ -5,4 +5,3 @@ pub mod Over
 pub mod Parts
 pub mod Accepted
 pub mod Depot
-pub mod Refusals

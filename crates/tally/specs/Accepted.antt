@@ -16,7 +16,8 @@ use Rattle.acceptance.specs.declared.Reported.{Reported}
 use Rattle.acceptance.specs.declared.Sums.{Sums}
 use Rattle.acceptance.specs.Plan.{entriesOf, noEntry}
 use Rattle.acceptance.specs.Taking.{isAbsent, noPart}
-use Rattle.tally.specs.Contracts.{Plans, Takes, Reports, SumsUp}
+use Rattle.demands.specs.Plans.{Plans}
+use Rattle.tally.specs.Contracts.{Takes, Reports, SumsUp}
 use Rattle.tally.specs.Lines.{isGroup, groupsIn, isGroupFor, someFor, firstFor, wantedIn, extraIn}
 
 -- These are the answers of `take` to some lines in turn, each in the run that the one before left.

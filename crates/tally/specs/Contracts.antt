@@ -1,34 +1,20 @@
 -- What the contracts of `acceptance` allow: the theorems take these as their hypotheses. `Post` of a function is its `ensures` line, made into
--- a statement by the kit: of what it was given, its answer r, and what is lent to it as it is at the end, e. Lent bytes are a reference
--- (`RefT`) whose bytes are `now` of it, and `Lfts` says how long they are lent.
+-- a statement by the kit: of what it was given, its answer r, and e, what is lent to it as it is at the end. That of `plan` stands in demands/specs/Plans.antt.
 -- Assumes nothing.
 use Prim.Native.Nat.{ℕ}
-use mathlib.Core.Path.{_≡_}
-use mathlib.Core.List.{List}
-use contract.Lifetimes.{Lfts}
-use denote.Ref.{RefT, now}
 use borrow.Fn.Kinds.{endedOf}
 use denote.Triple.Clauses.{AtExit}
 use Rattle.ride.specs.declared.Line.{Line}
 use Rattle.acceptance.specs.declared.Acceptance.{Acceptance}
-use Rattle.acceptance.specs.declared.Planned.{Planned}
 use Rattle.acceptance.specs.declared.Took.{Took}
 use Rattle.acceptance.specs.declared.Reported.{Reported}
 use Rattle.acceptance.specs.declared.Sums.{Sums}
-use Rattle.acceptance.proofs.plan.Kinds as plan-kinds
-use Rattle.acceptance.proofs.plan.Reads as plan-reads
 use Rattle.acceptance.proofs.take.Kinds as take-kinds
 use Rattle.acceptance.proofs.take.Reads as take-reads
 use Rattle.acceptance.proofs.report.Kinds as report-kinds
 use Rattle.acceptance.proofs.report.Reads as report-reads
 use Rattle.acceptance.proofs.sum_up.Kinds as sum-up-kinds
 use Rattle.acceptance.proofs.sum_up.Reads as sum-up-reads
-
--- The contract of `plan` allows the answer r for these bytes and this tolerance.
-abbrev pub Plans : List ℕ → ℕ → Planned → Type 0
-Plans bytes tolerance r =
-    (κs : Lfts 1) × (buf : RefT (List ℕ)) × (e : AtExit (endedOf 1 plan-kinds.ps plan-kinds.r) κs)
-    × (now buf ≡ bytes) × plan-reads.Post κs (buf, (tolerance, tt)) r e
 
 -- The contract of `take` allows the answer r for this run and line.
 abbrev pub Takes : Acceptance → Line → Took → Type 0

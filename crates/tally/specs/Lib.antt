@@ -2,4 +2,3 @@ pub mod Contracts
 pub mod Lines
 pub mod Accepted
 pub mod Depot
-pub mod Refusals

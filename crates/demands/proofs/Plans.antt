@@ -16,9 +16,8 @@ use Rattle.acceptance.specs.declared.Entry.{Entry}
 use Rattle.acceptance.specs.declared.Planned.{Planned}
 use Rattle.acceptance.specs.Plan.{Good, good, Planning, placeOf, isGood, allGood, entryOf, entriesOf, isBeyond, apart, planWith, emptyPlan, wellFormed, plan}
 use Rattle.acceptance.specs.Says.{saysPlanned}
 use Rattle.demands.specs.Rules.{Decided, Is}
-use Rattle.tally.specs.Contracts.{Plans}
-use Rattle.tally.specs.Refusals.{tooWide, badEntry, someBad, badPlan, nearNext, someNear, planRules, Refusals}
+use Rattle.demands.specs.Plans.{Plans, tooWide, badEntry, someBad, badPlan, nearNext, someNear, planRules, PlansDecided, PlansUntouched}
 
 -- A number that is not above another, and one that is.
 above-not : (a b : ℕ) → ltb b a ≡ not (leb a b)
@@ -98,8 +97,8 @@ plan-by b tolerance r p = p .4 ∙ ap (λ (c : List ℕ). plan c tolerance) (p .
 abbrev answer : List ℕ → ℕ → Outcome Good
 answer b tolerance = answered (leb tolerance 500) (wellFormed b) (apart tolerance (entriesOf b)) (planWith tolerance (entriesOf b)) .answer
 
-pub refusals : Refusals
-refusals =
+pub plans-decided : PlansDecided
+plans-decided =
     record {
       plan = λ b tolerance r p.
           subst (λ (o : Outcome Good). Decided (Is good) (planRules b tolerance) o) (sym (ap (λ (q : Planning). q .answer) (plan-by b tolerance r p)))
@@ -107,7 +106,12 @@ refusals =
           (subst (λ (t : Bool). Three (not (leb tolerance 500)) t (someNear tolerance (map placeOf (records b))) (answer b tolerance)) (sym (plan-is b))
           (subst (λ (t : Bool). Three (not (leb tolerance 500)) (not (wellFormed b)) t (answer b tolerance)) (sym (near-is tolerance (records b)))
           (three (leb tolerance 500) (wellFormed b) (apart tolerance (entriesOf b)) (planWith tolerance (entriesOf b))))));
-      left = λ b tolerance r n p e.
+    }
+
+pub plans-untouched : PlansUntouched
+plans-untouched =
+    record {
+      plan = λ b tolerance r n p e.
           ap (λ (q : Planning). q .plan) (plan-by b tolerance r p)
           ∙ empty (leb tolerance 500) (wellFormed b) (apart tolerance (entriesOf b)) (planWith tolerance (entriesOf b)) n
           (sym (ap (λ (q : Planning). q .answer) (plan-by b tolerance r p)) ∙ e);

@@ -1,11 +1,14 @@
 -- Demand 1 for the depot's library (document 02, M-113): "Refusals: 26 for a bad plan record, length or count above 64; 27 for entries out of order or too near;
 -- 28 for the tolerance; judged 28, 26, 27, with no report." Each condition stands alone, with its figures a second time. `take`, `report` and `sum_up` refuse nothing.
--- That all of it holds: proofs/Refusals.antt.
 -- Assumes nothing.
 use Prim.Native.Nat.{ℕ, _+_, _*_, _/_, _%_}
 use mathlib.Core.Path.{_≡_}
 use mathlib.Core.Bool.{Bool, false, not, _&&_, _||_}
 use mathlib.Core.List.{List, [], _∷_, map}
+use contract.Lifetimes.{Lfts}
+use denote.Ref.{RefT, now}
+use borrow.Fn.Kinds.{endedOf}
+use denote.Triple.Clauses.{AtExit}
 use lib.Dec.{eqb, leb, ltb}
 use lib.ListN.{length, getD}
 use Rattle.words.specs.Answer.{Outcome, refuses}
@@ -13,8 +16,15 @@ use Rattle.ride.specs.Over.{records}
 use Rattle.acceptance.specs.Plan.{Good, good, placeOf, emptyPlan}
 use Rattle.acceptance.specs.Says.{saysPlanned}
 use Rattle.acceptance.specs.declared.Planned.{Planned}
+use Rattle.acceptance.proofs.plan.Kinds as plan-kinds
+use Rattle.acceptance.proofs.plan.Reads as plan-reads
 use Rattle.demands.specs.Rules.{Rule, row, Decided, Is}
-use Rattle.tally.specs.Contracts.{Plans}
+
+-- The contract of `plan` allows the answer r for these bytes and this tolerance.
+abbrev pub Plans : List ℕ → ℕ → Planned → Type 0
+Plans bytes tolerance r =
+    (κs : Lfts 1) × (buf : RefT (List ℕ)) × (e : AtExit (endedOf 1 plan-kinds.ps plan-kinds.r) κs)
+    × (now buf ≡ bytes) × plan-reads.Post κs (buf, (tolerance, tt)) r e
 
 -- 28: the tolerance, "0 to 500 dm"
 abbrev pub tooWide : ℕ → Bool
@@ -47,8 +57,10 @@ abbrev pub planRules : {A : Type 0} → List ℕ → ℕ → List (Rule (Outcome
 planRules bytes tolerance =
     row 28 (tooWide tolerance) ∷ row 26 (badPlan bytes) ∷ row 27 (someNear tolerance (map placeOf (records bytes))) ∷ []
 
-pub record Refusals : Type 0 where
-  -- "given exactly under the condition written there"
+-- "given exactly under the condition written there"
+pub record PlansDecided : Type 0 where
   pub plan : (bytes : List ℕ) (tolerance : ℕ) (r : Planned) → Plans bytes tolerance r → Decided (Is good) (planRules bytes tolerance) (saysPlanned r .answer)
-  -- "with no report": a refused plan is the empty one
-  pub left : (bytes : List ℕ) (tolerance : ℕ) (r : Planned) (n : ℕ) → Plans bytes tolerance r → saysPlanned r .answer ≡ refuses n → r .plan ≡ emptyPlan
+
+-- "with no report": a refused plan is the empty one.
+pub record PlansUntouched : Type 0 where
+  pub plan : (bytes : List ℕ) (tolerance : ℕ) (r : Planned) (n : ℕ) → Plans bytes tolerance r → saysPlanned r .answer ≡ refuses n → r .plan ≡ emptyPlan
