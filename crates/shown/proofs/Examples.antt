@@ -1,4 +1,4 @@
--- The words of issue and guide, computed.
+-- The words of the guide, computed.
 -- Assumes nothing.
 use mathlib.Core.Path.{_≡_, refl}
 use Rattle.text.specs.Text.{codes, digits, decimal}
