@@ -16,6 +16,7 @@ mod under;
 use settings::Asked;
 use settings::Bad;
 use settings::Store;
+use telegram::Reach;
 use telegram::Surveyed;
 use telegram::Telegram;
 
@@ -78,14 +79,14 @@ pub enum JudgedUnder {
 pub fn begin(buf: &[u8], start: usize, len: usize) -> Begun
     ensures { λ r. ⌜ saysBegun r ≡ begun (now (buf .entry)) start len ⌝ }
 {
-    if telegram::inside(buf, start, len) {
-        Begun::Search(Search {
+    let reach = telegram::inside(buf, start, len);
+    match reach {
+        Reach::Inside => Begun::Search(Search {
             next: start,
             left: len,
             history: 65535,
-        })
-    } else {
-        Begun::Beyond
+        }),
+        Reach::Beyond => Begun::Beyond,
     }
 }
 
@@ -96,10 +97,10 @@ pub fn next_contact(search: Search, buf: &[u8]) -> Next
     let next = search.next;
     let left = search.left;
     let history = search.history;
-    if telegram::inside(buf, next, left) {
-        detector::outside(buf, next, next + left, history as u32)
-    } else {
-        Next::Beyond
+    let reach = telegram::inside(buf, next, left);
+    match reach {
+        Reach::Inside => detector::outside(buf, next, next + left, history as u32),
+        Reach::Beyond => Next::Beyond,
     }
 }
 

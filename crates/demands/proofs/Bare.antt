@@ -4,7 +4,7 @@ use mathlib.Core.Path.{sym, ap, ap₂, _∙_}
 use mathlib.Core.List.{List}
 use Prim.Native.Nat.{ℕ}
 use Rattle.words.specs.Says.{saysShortRead, saysShortWritten, saysLongRead, saysLongWritten}
-use Rattle.telegram.specs.Says.{saysPair, saysTelegramRead, saysFound, saysSurveyed}
+use Rattle.telegram.specs.Says.{saysPair, saysReach, saysTelegramRead, saysFound, saysSurveyed}
 use Rattle.writer.specs.Write.{Writing, write}
 use Rattle.writer.specs.Says.{saysAnswer}
 use Rattle.contact.specs.Says.{saysBegun, saysNext, saysJudged, saysJudgedUnder}
@@ -85,6 +85,7 @@ untouched = record {
   long-read = λ n r r′ p q. told saysLongRead words-are.longRead words-are.longRead-back r r′ p q;
   long-written = λ n r r′ p q. told saysLongWritten words-are.longWritten words-are.longWritten-back r r′ p q;
   pair = λ n r r′ p q. told saysPair telegram-is.pairOf telegram-is.pair-back r r′ p q;
+  reach = λ n r r′ p q. told saysReach telegram-is.reachOf telegram-is.reach-back r r′ p q;
   telegram-read = λ n r r′ p q. told saysTelegramRead telegram-is.readOf telegram-is.read-back r r′ p q;
   found = λ n r r′ p q. told saysFound telegram-is.foundOf telegram-is.found-back r r′ p q;
   surveyed = λ n r r′ p q. told saysSurveyed telegram-is.surveyedOf telegram-is.surveyed-back r r′ p q;

@@ -4,6 +4,7 @@ use mathlib.Core.Path.{ap, ap₂, _∙_}
 use mathlib.Core.List.{List}
 use Prim.Native.Nat.{ℕ}
 use lib.ListN.{take}
+use Rattle.telegram.specs.Stretch.{stretchOf}
 use Rattle.telegram.specs.Place.{found}
 use Rattle.telegram.specs.Survey.{surveyed}
 use Rattle.writer.specs.Write.{Writing, write}
@@ -15,7 +16,7 @@ use Rattle.ride.specs.Over.{Run, run}
 use Rattle.listing.specs.List.{Listing, list}
 use Rattle.compaction.specs.Compact.{Compaction, compact, compactUnder, Settling, blockUnder}
 use Rattle.demands.specs.Demand1.{Demand1}
-use Rattle.demands.proofs.Refusals.{reading, writing, pairing, wording, finding, surveying}
+use Rattle.demands.proofs.Refusals.{reading, writing, pairing, lying, wording, finding, surveying}
 use Rattle.demands.proofs.Writes.{writing-test}
 use Rattle.demands.proofs.Contacts.{beginning, nexting, judging}
 use Rattle.demands.proofs.Distances.{measuring}
@@ -35,6 +36,7 @@ demand1 = record {
   read-long = λ w r c. rw (c .1) (reading 16 w);
   write-long = λ x r c. rw (c .1) (writing 16 2047 x);
   good-pair = λ s t r c. rw (c .1) (pairing s t);
+  inside = λ b start len r c. let e = c .4 ∙ ap (λ (v : List ℕ). stretchOf v start len) (c .3) in rw e (lying b start len);
   read-telegram = λ x y z r c. rw (c .1) (wording x y z);
   find = λ b start len s t r c. let e = c .4 ∙ ap (λ (v : List ℕ). found v start len s t) (c .3) in rw e (finding b start len s t);
   survey = λ b start len s t r c. let e = c .4 ∙ ap (λ (v : List ℕ). surveyed v start len s t) (c .3) in rw e (surveying b start len s t);

@@ -15,7 +15,7 @@ use Rattle.telegram.specs.Sync.{good, isGood, pairOf}
 use Rattle.telegram.specs.Telegram.{Received, badWord, named, notFifteen, shortWord, longWord, telegram}
 use Rattle.telegram.specs.declared.Telegram.{Telegram}
 use Rattle.telegram.specs.declared.Word.{Word}
-use Rattle.telegram.specs.Stretch.{inside}
+use Rattle.telegram.specs.Stretch.{inside, taken, stretchOf}
 use Rattle.telegram.specs.Place.{at, firstOf, wordsAt, places, found}
 use Rattle.telegram.specs.Survey.{alike, allAs, together, surveyed}
 use Rattle.contact.specs.Judge.{allAlike, firstPlace}
@@ -134,6 +134,13 @@ beyond-is b start len =
     any-not true true z = refl
     any-not true false z = refl
     any-not false y z = refl
+
+-- A stretch: 5.
+pub lying : (b : List ℕ) (start len : ℕ) → Decided (Is taken) (row 5 (beyond b start len) ∷ []) (stretchOf b start len)
+unfolding stretchOf
+lying b start len =
+    subst (λ (t : Bool). Decided (Is taken) (row 5 t ∷ []) (stretchOf b start len)) (sym (beyond-is b start len))
+    (if-not (Is taken) [] (refuses 5) (gives taken) refl (inside b start len))
 
 -- The sync pair, 4, and the stretch, 5, before what follows them.
 pub stretch-then : {A : Type 0} (Reads : Outcome A → Type 0) (b : List ℕ) (start len s t : ℕ) (rules : List (Rule (Outcome A))) (o : Outcome A) → Decided Reads rules o

@@ -15,6 +15,7 @@ use Rattle.words.specs.declared.ShortWritten.{ShortWritten}
 use Rattle.words.specs.declared.LongRead.{LongRead}
 use Rattle.words.specs.declared.LongWritten.{LongWritten}
 use Rattle.telegram.specs.declared.Pair.{Pair}
+use Rattle.telegram.specs.declared.Reach.{Reach}
 use Rattle.telegram.specs.declared.TelegramRead.{TelegramRead}
 use Rattle.telegram.specs.declared.Found.{Found}
 use Rattle.telegram.specs.declared.Surveyed.{Surveyed}
@@ -48,6 +49,8 @@ use Rattle.words.proofs.write_long.Kinds as write-long-kinds
 use Rattle.words.proofs.write_long.Reads as write-long-reads
 use Rattle.telegram.proofs.good_pair.Kinds as good-pair-kinds
 use Rattle.telegram.proofs.good_pair.Reads as good-pair-reads
+use Rattle.telegram.proofs.inside.Kinds as inside-kinds
+use Rattle.telegram.proofs.inside.Reads as inside-reads
 use Rattle.telegram.proofs.read.Kinds as read-kinds
 use Rattle.telegram.proofs.read.Reads as read-reads
 use Rattle.telegram.proofs.find.Kinds as find-kinds
@@ -106,6 +109,12 @@ WriteLong x r = (e : AtExit (endedOf 0 write-long-kinds.ps write-long-kinds.r) t
 -- The contract of `good_pair` allows the answer r for the sync words s and t.
 abbrev pub GoodPair : ℕ → ℕ → Pair → Type 0
 GoodPair s t r = (e : AtExit (endedOf 0 good-pair-kinds.ps good-pair-kinds.r) tt) × good-pair-reads.Post tt (s, (t, tt)) r e
+
+-- The contract of `inside` allows the answer r for this stretch of the lent buffer, which holds the bytes b.
+abbrev pub InsideBuffer : List ℕ → ℕ → ℕ → Reach → Type 0
+InsideBuffer b start len r =
+    (κs : Lfts 1) × (buf : RefT (List ℕ)) × (e : AtExit (endedOf 1 inside-kinds.ps inside-kinds.r) κs)
+    × (now buf ≡ b) × inside-reads.Post κs (buf, (start, (len, tt))) r e
 
 -- The contract of `telegram::read` allows the answer r for the received words x, y and z.
 abbrev pub ReadTelegram : ℕ → ℕ → ℕ → TelegramRead → Type 0

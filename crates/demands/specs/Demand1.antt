@@ -4,8 +4,7 @@
 -- The first sentence is the record `Demand1`, the second the record `Untouched`. The conditions are specs/Table.antt and Table02.antt, the
 -- lists specs/Lists.antt and, for a store, Stores.antt; what the contracts allow is specs/Contracts.antt. That every call ends is the kit's own check of each
 -- function, and no theorem here. Of the crates whose functions have one, those without a list give no number: `fresh`, `speed` and `end` always answer; `put_line`
--- says that a line has no room, for which document 01 has no number; `telegram::inside` says whether row 5's condition does not hold, and `settings::allowed`
--- whether row 19's does not; what M-111 added without a number is named in specs/Stores.antt; but `writer::spell` gives the first two of `write`'s. Where
+-- says that a line has no room, for which document 01 has no number; `settings::allowed` says whether row 19's condition does not hold; what M-111 added without a number is named in specs/Stores.antt; but `writer::spell` gives the first two of `write`'s. Where
 -- the other crates say when they refuse, the face for C among them (crates/face), is in docs/DEMANDS.md.
 -- Assumes nothing.
 use Prim.Native.Nat.{ℕ, _+_, _*_}
@@ -23,8 +22,10 @@ use Rattle.words.specs.declared.ShortWritten.{ShortWritten}
 use Rattle.words.specs.declared.LongRead.{LongRead}
 use Rattle.words.specs.declared.LongWritten.{LongWritten}
 use Rattle.telegram.specs.Sync.{good}
-use Rattle.telegram.specs.Says.{saysPair, saysTelegramRead, saysFound, saysSurveyed}
+use Rattle.telegram.specs.Stretch.{taken}
+use Rattle.telegram.specs.Says.{saysPair, saysReach, saysTelegramRead, saysFound, saysSurveyed}
 use Rattle.telegram.specs.declared.Pair.{Pair}
+use Rattle.telegram.specs.declared.Reach.{Reach}
 use Rattle.telegram.specs.declared.TelegramRead.{TelegramRead}
 use Rattle.telegram.specs.declared.Found.{Found}
 use Rattle.telegram.specs.declared.Surveyed.{Surveyed}
@@ -69,7 +70,7 @@ use Rattle.listing.specs.declared.Put.{Put}
 use Rattle.listing.specs.declared.Listed.{Listed}
 use Rattle.demands.specs.Rules.{rowOf, row, Decided, Given, Is}
 use Rattle.demands.specs.Table.{notCode, above, notSeven, beyond, noRow, noDistance, badGap, badLength}
-use Rattle.demands.specs.Contracts.{ReadShort, WriteShort, ReadLong, WriteLong, GoodPair, ReadTelegram, Find, Survey, Write, Begin, NextContact, JudgeContact, FitRow, Distance, JudgeGroup, CheckRecord, StepOf, TreatAt, EndOf, RunOver, PutLine, ListInto}
+use Rattle.demands.specs.Contracts.{ReadShort, WriteShort, ReadLong, WriteLong, GoodPair, InsideBuffer, ReadTelegram, Find, Survey, Write, Begin, NextContact, JudgeContact, FitRow, Distance, JudgeGroup, CheckRecord, StepOf, TreatAt, EndOf, RunOver, PutLine, ListInto}
 use Rattle.demands.specs.Compacting.{CompactIn, CompactUnder, BlockUnder, AfterStore}
 use Rattle.demands.specs.Lists.{telegramRules, findRules, surveyRules, writeRules, nextRules, judgeRules, groupRules, recordRules, stepRules, runRules, findReads, surveyReads, JudgeReads, NextReads}
 use Rattle.demands.specs.Steps.{OneStep, LeavesBehind}
@@ -90,6 +91,7 @@ pub record Demand1 : Type 0 where
   pub read-long : (w : ℕ) (r : LongRead) → ReadLong w r → Decided (Is (figure 16 (exchanged 16 w))) (rowOf (notCodeWord 16 w) (notCode 16 w) ∷ []) (saysLongRead r)
   pub write-long : (x : ℕ) (r : LongWritten) → WriteLong x r → Decided (Is (sent 16 x)) (row 2 (above 2047 x) ∷ []) (saysLongWritten r)
   pub good-pair : (s t : ℕ) (r : Pair) → GoodPair s t r → Decided (Is good) (row 4 (notSeven s t) ∷ []) (saysPair r)
+  pub inside : (b : List ℕ) (start len : ℕ) (r : Reach) → InsideBuffer b start len r → Decided (Is taken) (row 5 (beyond b start len) ∷ []) (saysReach r)
   pub read-telegram : (x y z : ℕ) (r : TelegramRead) → ReadTelegram x y z r → Decided Given (telegramRules x y z) (saysTelegramRead r)
   pub find : (b : List ℕ) (start len s t : ℕ) (r : Found) → Find b start len s t r
       → Decided (Is (findReads b start len s t)) (findRules b start len s t) (saysFound r)
@@ -179,6 +181,7 @@ pub record Untouched : Type 0 where
   pub long-read : Bare saysLongRead
   pub long-written : Bare saysLongWritten
   pub pair : Bare saysPair
+  pub reach : Bare saysReach
   pub telegram-read : Bare saysTelegramRead
   pub found : Bare saysFound
   pub surveyed : Bare saysSurveyed

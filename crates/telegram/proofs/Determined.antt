@@ -2,7 +2,6 @@
 -- Assumes nothing.
 use Prim.Native.Nat.{ℕ}
 use mathlib.Core.Path.{_≡_, refl, sym, ap, _∙_}
-use mathlib.Core.Bool.{Bool}
 use lib.Dec.{eqb}
 use contract.Lifetimes.{Lfts}
 use borrow.Fn.Kinds.{Dens, endedOf}
@@ -10,11 +9,13 @@ use denote.Triple.Clauses.{AtExit}
 use Rattle.words.specs.Answer.{Outcome, gives, refuses, pick}
 use Rattle.words.specs.Why.{why, are, unsaid}
 use Rattle.telegram.specs.Sync.{Good}
+use Rattle.telegram.specs.Stretch.{Taken}
 use Rattle.telegram.specs.Telegram.{Received, badWord}
 use Rattle.telegram.specs.Place.{Single, at}
 use Rattle.telegram.specs.Survey.{Alike, alike}
-use Rattle.telegram.specs.Says.{saysPair, saysTelegramRead, saysFound, saysSurveyed}
+use Rattle.telegram.specs.Says.{saysPair, saysReach, saysTelegramRead, saysFound, saysSurveyed}
 use Rattle.telegram.specs.declared.Pair.{Pair}
+use Rattle.telegram.specs.declared.Reach.{Reach}
 use Rattle.telegram.specs.declared.Telegram.{Telegram}
 use Rattle.telegram.specs.declared.TelegramRead.{TelegramRead}
 use Rattle.telegram.specs.declared.Found.{Found}
@@ -23,8 +24,8 @@ use Rattle.telegram.proofs.good_pair.Kinds as pair-kinds
 use Rattle.telegram.proofs.good_pair.Reads as pair-reads
 use Rattle.telegram.proofs.read.Kinds as read-kinds
 use Rattle.telegram.proofs.read.Reads as read-reads
-use Rattle.telegram.proofs.stretch.inside.Kinds as inside-kinds
-use Rattle.telegram.proofs.stretch.inside.Reads as inside-reads
+use Rattle.telegram.proofs.inside.Kinds as inside-kinds
+use Rattle.telegram.proofs.inside.Reads as inside-reads
 use Rattle.telegram.proofs.bits.eight_bytes.Kinds as eight-bytes-kinds
 use Rattle.telegram.proofs.bits.eight_bytes.Reads as eight-bytes-reads
 use Rattle.telegram.proofs.find.Kinds as find-kinds
@@ -40,6 +41,14 @@ pairOf (refuses n) = Pair.NotSeven
 pub pair-back : (r : Pair) → pairOf (saysPair r) ≡ r
 pair-back Pair.Good = refl
 pair-back Pair.NotSeven = refl
+
+abbrev pub reachOf : Outcome Taken → Reach
+reachOf (gives t) = Reach.Inside
+reachOf (refuses n) = Reach.Beyond
+
+pub reach-back : (r : Reach) → reachOf (saysReach r) ≡ r
+reach-back Reach.Inside = refl
+reach-back Reach.Beyond = refl
 
 abbrev pub readOf : Received → TelegramRead
 readOf (gives m) = TelegramRead.Is m
@@ -88,10 +97,10 @@ pub read-determined : (κs : Lfts 0) (a : Dens κs read-kinds.ps) (r r′ : Tele
     → read-reads.Post κs a r x → read-reads.Post κs a r′ x′ → r ≡ r′
 read-determined κs a r r′ x x′ p q = sym (read-back r) ∙ ap readOf (p ∙ sym q) ∙ read-back r′
 
-pub inside-determined : (κs : Lfts 1) (a : Dens κs inside-kinds.ps) (r r′ : Bool)
+pub inside-determined : (κs : Lfts 1) (a : Dens κs inside-kinds.ps) (r r′ : Reach)
     (x x′ : AtExit (endedOf 1 inside-kinds.ps inside-kinds.r) κs)
     → inside-reads.Post κs a r x → inside-reads.Post κs a r′ x′ → r ≡ r′
-inside-determined κs a r r′ x x′ p q = p ∙ sym q
+inside-determined κs a r r′ x x′ p q = sym (reach-back r) ∙ ap reachOf (p ∙ sym q) ∙ reach-back r′
 
 pub eight-bytes-determined : (κs : Lfts 1) (a : Dens κs eight-bytes-kinds.ps) (r r′ : ℕ)
     (x x′ : AtExit (endedOf 1 eight-bytes-kinds.ps eight-bytes-kinds.r) κs)

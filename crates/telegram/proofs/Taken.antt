@@ -1,14 +1,17 @@
 -- What it says of a stretch that it is taken, and that a stretch inside one that is taken is taken.
 -- Assumes nothing.
 use Prim.Native.Nat.{ℕ, _+_, _*_, _^_, _≤_, _<_}
-use mathlib.Core.Path.{_≡_, refl}
+use mathlib.Core.Path.{_≡_, refl, sym, ap, _∙_}
 use mathlib.Core.Bool.{Bool, true, false, _&&_}
 use mathlib.Core.List.{List}
 use native.Mathlib.Omega.{arith}
 use borrow.Author.Tests.{leb-true, ltb-true, le-leb, lt-ltb}
 use lib.Dec.{leb, ltb}
 use lib.ListN.{length}
-use Rattle.telegram.specs.Stretch.{inside}
+use Rattle.words.specs.Answer.{Outcome, gives, refuses, pick}
+use Rattle.telegram.specs.Stretch.{inside, Taken, taken as is-taken, stretchOf}
+use Rattle.telegram.specs.Says.{saysReach}
+use Rattle.telegram.specs.declared.Reach.{Reach}
 
 -- Both of two tests hold.
 pub both : (a b : Bool) → a && b ≡ true → (a ≡ true) × (b ≡ true)
@@ -32,3 +35,24 @@ part-taken b start len from n e within shorter =
     let fits : from + n < 2 ^ 64 = omega arith in
     let small : n ≤ 16777216 = omega arith in
     simp (le-leb _ _ ends, lt-ltb _ _ fits, le-leb _ _ small)
+
+-- what the judgement of a stretch says, as a test
+abbrev isGiven : Outcome Taken → Bool
+isGiven (gives t) = true
+isGiven (refuses n) = false
+
+-- A stretch of which `inside` answers r.
+module _ (b : List ℕ) (start len : ℕ) (r : Reach) (says : saysReach r ≡ stretchOf b start len) where
+  as-judged : inside b start len ≡ isGiven (saysReach r)
+  unfolding stretchOf
+  as-judged = sym (ap isGiven says ∙ go (inside b start len))
+    where
+      go : (i : Bool) → isGiven (pick i (gives is-taken) (refuses 5)) ≡ i
+      go true = refl
+      go false = refl
+
+  pub judged-inside : r ≡ Reach.Inside → inside b start len ≡ true
+  judged-inside e = as-judged ∙ ap (λ (x : Reach). isGiven (saysReach x)) e
+
+  pub judged-beyond : r ≡ Reach.Beyond → inside b start len ≡ false
+  judged-beyond e = as-judged ∙ ap (λ (x : Reach). isGiven (saysReach x)) e

@@ -2,11 +2,13 @@
 -- Assumes nothing.
 use Rattle.words.specs.Answer.{Outcome, gives, refuses}
 use Rattle.words.specs.Why.{why, are, unsaid}
+use Rattle.telegram.specs.Stretch.{Taken, taken}
 use Rattle.telegram.specs.Sync.{Good, good}
 use Rattle.telegram.specs.Telegram.{Received, badWord}
 use Rattle.telegram.specs.Place.{Single, at}
 use Rattle.telegram.specs.Survey.{Alike, alike}
 use Rattle.telegram.specs.declared.Pair.{Pair}
+use Rattle.telegram.specs.declared.Reach.{Reach}
 use Rattle.telegram.specs.declared.TelegramRead.{TelegramRead}
 use Rattle.telegram.specs.declared.Found.{Found}
 use Rattle.telegram.specs.declared.Surveyed.{Surveyed}
@@ -16,14 +18,18 @@ abbrev pub saysPair : Pair → Outcome Good
 saysPair Pair.Good = gives good
 saysPair Pair.NotSeven = refuses 4
 
+-- A stretch that is taken; "stretch beyond the buffer, or above 16,777,216 bits" is 5.
+abbrev pub saysReach : Reach → Outcome Taken
+saysReach Reach.Inside = gives taken
+saysReach Reach.Beyond = refuses 5
+
 -- A telegram; "not a code word" is 1, "a short word of a telegram reads 15" is 3, each of the word named; with 1 goes the parity of its ones.
 abbrev pub saysTelegramRead : TelegramRead → Received
 saysTelegramRead (TelegramRead.Is t) = gives t
 saysTelegramRead (TelegramRead.NotCode w p) = refuses (badWord w (why 1 (are p)))
 saysTelegramRead (TelegramRead.Fifteen w) = refuses (badWord w (why 3 unsaid))
 
--- A place with its telegram; "sync pair doesn't differ in seven bits" is 4, "stretch beyond the buffer, or above
--- 16,777,216 bits" is 5, "no place in the stretch" is 6.
+-- A place with its telegram; 4 and 5 as above, "no place in the stretch" is 6.
 abbrev pub saysFound : Found → Outcome Single
 saysFound (Found.At p t) = gives (at p (gives t))
 saysFound Found.NotSeven = refuses 4

@@ -6,6 +6,7 @@ use mathlib.Core.Bool.{Bool, _&&_}
 use mathlib.Core.List.{List}
 use lib.Dec.{leb, ltb}
 use lib.ListN.{length, getD}
+use Rattle.words.specs.Answer.{Outcome, gives, refuses, pick}
 
 -- Bit i of the buffer b: 0 or 1.
 abbrev pub bitAt : List ℕ → ℕ → ℕ
@@ -20,3 +21,11 @@ bitsAt b p (suc n) = bitsAt b p n * 2 + bitAt b (p + n)
 -- has 64 bits: a buffer that no machine has could hold more, and what lies there is beyond it too.)
 unfoldable pub inside : List ℕ → ℕ → ℕ → Bool
 inside b start len = leb (start + len) (8 * length b) && ltb (start + len) (2 ^ 64) && leb len 16777216
+
+-- What is said of a stretch that is taken: that it is.
+pub data Taken : Type 0 where
+  taken : Taken
+
+-- The judgement of a stretch: taken, or refusal 5.
+unfoldable pub stretchOf : List ℕ → ℕ → ℕ → Outcome Taken
+stretchOf b start len = pick (inside b start len) (gives taken) (refuses 5)

@@ -2,11 +2,12 @@
 // Promises: a telegram is read whole or refused by its first bad word; every place of a stretch is found, and no other.
 // Specification: specs/Sync.antt, specs/Telegram.antt, specs/Stretch.antt, specs/Place.antt, specs/Survey.antt, specs/Says.antt (the answers).
 ghost use mathlib.Core.Path.{_≡_};
+ghost use Rattle.telegram.specs.Stretch.{stretchOf};
 ghost use Rattle.telegram.specs.Sync.{pairOf};
 ghost use Rattle.telegram.specs.Telegram.{telegram};
 ghost use Rattle.telegram.specs.Place.{found};
 ghost use Rattle.telegram.specs.Survey.{surveyed};
-ghost use Rattle.telegram.specs.Says.{saysPair, saysTelegramRead, saysFound, saysSurveyed};
+ghost use Rattle.telegram.specs.Says.{saysPair, saysReach, saysTelegramRead, saysFound, saysSurveyed};
 
 mod after_x;
 mod ahead;
@@ -18,7 +19,6 @@ mod stretch;
 mod sync;
 
 pub use bits::eight_bytes;
-pub use stretch::inside;
 use words::Parity;
 use words::ShortRead;
 
@@ -26,6 +26,12 @@ use words::ShortRead;
 pub enum Pair {
     Good,
     NotSeven,
+}
+
+// What the judgement of a stretch answers: it is taken, or it reaches beyond the lent buffer or is too long.
+pub enum Reach {
+    Inside,
+    Beyond,
 }
 
 // What a telegram says: three figures, or the number of a number balise.
@@ -81,6 +87,17 @@ pub fn good_pair(s: u8, t: u8) -> Pair
     }
 }
 
+// Whether a stretch of the lent buffer is taken, or refusal 5.
+pub fn inside(buf: &[u8], start: usize, len: usize) -> Reach
+    ensures { λ r. ⌜ saysReach r ≡ stretchOf (now (buf .entry)) start len ⌝ }
+{
+    if stretch::is_inside(buf, start, len) {
+        Reach::Inside
+    } else {
+        Reach::Beyond
+    }
+}
+
 // The telegram that three received words make, X judged before Y and Y before Z, or refusal 1 or 3.
 pub fn read(x: u8, y: u8, z: u8) -> TelegramRead
     ensures { λ r. ⌜ saysTelegramRead r ≡ telegram x y z ⌝ }
@@ -106,7 +123,7 @@ pub fn find(buf: &[u8], start: usize, len: usize, s: u8, t: u8) -> Found
     if !sync::is_good(s, t) {
         return Found::NotSeven;
     }
-    if !stretch::inside(buf, start, len) {
+    if !stretch::is_inside(buf, start, len) {
         return Found::Beyond;
     }
     if len < 40 {

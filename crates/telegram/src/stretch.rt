@@ -3,7 +3,7 @@ ghost use mathlib.Core.Path.{_≡_};
 ghost use Rattle.telegram.specs.Stretch.{inside};
 
 // Whether the stretch is taken. No sum here leaves 64 bits: the end is counted in whole bytes.
-pub fn inside(buf: &[u8], start: usize, len: usize) -> bool
+pub fn is_inside(buf: &[u8], start: usize, len: usize) -> bool
     ensures { λ r. ⌜ r ≡ inside (now (buf .entry)) start len ⌝ }
 {
     if 16777216 < len {

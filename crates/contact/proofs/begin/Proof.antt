@@ -1,6 +1,7 @@
 -- A search begins exactly where the stretch is taken; else it is refused with 5.
 -- Assumes nothing.
 use borrow.Author.Needs.{needs}
+use Rattle.telegram.proofs.Taken.{judged-inside, judged-beyond}
 use Rattle.contact.specs.Contacts.{begun, fromStart}
 use Rattle.contact.proofs.begin.Statement.{statement}
 use Rattle.contact.proofs.begin.Tie as tie
@@ -8,13 +9,25 @@ use Rattle.contact.proofs.begin.Tie as tie
 inside-requires : tie.Need-inside-requires
 inside-requires c κs = search needs
 
+enum-told : tie.Need-enum-told
+enum-told c = search needs
+
+enum-told-2 : tie.Need-enum-told-2
+enum-told-2 c = search needs
+
 returns : tie.Need-returns
 unfolding begun fromStart
-returns c = simp (← c .before .inside .ensures, c .if1 .taken)
+returns c =
+    let a = c .before .before .before .before .args in
+    let i = c .before .before .inside in
+    simp (judged-inside (a .buf .now) (a .start) (a .len) (i .result) (i .ensures) (c .enum-told .given .1))
 
 returns-2 : tie.Need-returns-2
 unfolding begun fromStart
-returns-2 c = simp (← c .before .inside .ensures, c .if1 .left)
+returns-2 c =
+    let a = c .before .before .before .before .args in
+    let i = c .before .before .inside in
+    simp (judged-beyond (a .buf .now) (a .start) (a .len) (i .result) (i .ensures) (c .enum-told2 .given .1))
 
 pub begin-spec : {M : Type 1} → statement M
-begin-spec = tie.close (tie.spec inside-requires returns returns-2)
+begin-spec = tie.close (tie.spec inside-requires enum-told enum-told-2 returns returns-2)

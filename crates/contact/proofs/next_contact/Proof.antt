@@ -1,42 +1,65 @@
 -- A stretch that is taken is walked from outside a contact; else the answer is 5.
 -- Assumes nothing.
 use Prim.Native.Nat.{_+_, _-_}
-use mathlib.Core.Path.{_≡_, sym, _∙_}
+use mathlib.Core.Path.{_≡_}
 use native.Mathlib.Omega.{arith}
 use borrow.Author.Needs.{needs}
 use Rattle.contact.specs.Contacts.{outside, contactsFrom, nextContact}
-use Rattle.telegram.proofs.Taken.{taken}
+use Rattle.telegram.proofs.Taken.{taken, judged-inside, judged-beyond}
 use Rattle.contact.proofs.next_contact.Statement.{statement}
 use Rattle.contact.proofs.next_contact.Tie as tie
 
 inside-requires : tie.Need-inside-requires
 inside-requires c κs = search needs
 
+enum-told : tie.Need-enum-told
+enum-told c = search needs
+
 add-outside : tie.Need-add-outside
 add-outside c =
-    let a = c .before .before .before .args in
-    omega (arith, taken (a .buf .now) (a .search .next) (a .search .left) (sym (c .before .inside .ensures) ∙ c .if1 .taken))
+    let a = c .before .before .before .before .args in
+    let i = c .before .before .inside in
+    let h = judged-inside (a .buf .now) (a .search .next) (a .search .left) (i .result) (i .ensures) (c .enum-told .given .1) in
+    omega (arith, taken (a .buf .now) (a .search .next) (a .search .left) h)
 
 cast-outside : tie.Need-cast-outside
 cast-outside c = search needs
 
 outside-requires : tie.Need-outside-requires
 outside-requires c κs =
-    let a = c .before .before .before .args in
-    omega (arith, taken (a .buf .now) (a .search .next) (a .search .left) (sym (c .before .inside .ensures) ∙ c .if1 .taken))
+    let a = c .before .before .before .before .args in
+    let i = c .before .before .inside in
+    let h = judged-inside (a .buf .now) (a .search .next) (a .search .left) (i .result) (i .ensures) (c .enum-told .given .1) in
+    omega (arith, taken (a .buf .now) (a .search .next) (a .search .left) h)
+
+enum-told-2 : tie.Need-enum-told-2
+enum-told-2 c = search needs
 
 returns : tie.Need-returns
 unfolding nextContact contactsFrom
 returns c =
-    let s = c .before .before .before .before .args .search in
+    let a = c .before .before .before .before .before .args in
+    let i = c .before .before .before .inside in
+    let s = a .search in
     let e : s .next + s .left - s .next ≡ s .left = omega arith in
-    simp (← c .before .before .inside .ensures, c .before .if1 .taken) (rw e at (c .outside .ensures))
+    simp (judged-inside (a .buf .now) (s .next) (s .left) (i .result) (i .ensures) (c .before .enum-told .given .1)) (rw e at (c .outside .ensures))
 
 returns-2 : tie.Need-returns-2
 unfolding nextContact contactsFrom
-returns-2 c = simp (← c .before .inside .ensures, c .if1 .left)
+returns-2 c =
+    let a = c .before .before .before .before .args in
+    let i = c .before .before .inside in
+    simp (judged-beyond (a .buf .now) (a .search .next) (a .search .left) (i .result) (i .ensures) (c .enum-told2 .given .1))
 
 pub next-contact-spec : {M : Type 1} → statement M
 next-contact-spec =
     tie.close
-    (tie.spec inside-requires add-outside cast-outside outside-requires returns returns-2)
+    (tie.spec
+    inside-requires
+    enum-told
+    add-outside
+    cast-outside
+    outside-requires
+    enum-told-2
+    returns
+    returns-2)

@@ -18,21 +18,21 @@ returns : tie.Need-returns
 unfolding found
 returns c = simp (← c .before .is-good .ensures, not-true (c .before .is-good .result) (c .if1 .taken))
 
-inside-requires : tie.Need-inside-requires
-inside-requires c κs = search needs
+is-inside-requires : tie.Need-is-inside-requires
+is-inside-requires c κs = search needs
 
 returns-2 : tie.Need-returns-2
 unfolding found
 returns-2 c =
     let g = c .before .before .before .is-good in
-    let i = c .before .inside in
+    let i = c .before .is-inside in
     simp (← g .ensures, not-false (g .result) (c .before .before .if1 .left), ← i .ensures, not-true (i .result) (c .if2 .taken))
 
 returns-3 : tie.Need-returns-3
 unfolding found
 returns-3 c =
     let g = c .before .before .before .before .is-good in
-    let i = c .before .before .inside in
+    let i = c .before .before .is-inside in
     let a = c .before .before .before .before .before .before .args in
     simp (
       ← g .ensures,
@@ -47,13 +47,13 @@ sub-first-place c = search needs
 
 add-first-place : tie.Need-add-first-place
 add-first-place c =
-    let i = c .before .before .inside in
+    let i = c .before .before .is-inside in
     let a = c .before .before .before .before .before .before .args in
     omega (arith, taken (a .buf .now) (a .start) (a .len) (sym (i .ensures) ∙ not-false (i .result) (c .before .if2 .left)))
 
 first-place-requires : tie.Need-first-place-requires
 first-place-requires c κs =
-    let i = c .before .before .inside in
+    let i = c .before .before .is-inside in
     let a = c .before .before .before .before .before .before .args in
     omega (arith, taken (a .buf .now) (a .start) (a .len) (sym (i .ensures) ∙ not-false (i .result) (c .before .if2 .left)))
 
@@ -61,7 +61,7 @@ returns-4 : tie.Need-returns-4
 unfolding found
 returns-4 c =
     let g = c .before .before .before .before .before .is-good in
-    let i = c .before .before .before .inside in
+    let i = c .before .before .before .is-inside in
     let a = c .before .before .before .before .before .before .before .args in
     let e : a .start + (a .len - 39) - a .start + 39 ≡ a .len = omega arith in
     simp (← g .ensures, not-false (g .result) (c .before .before .before .before .if1 .left), ← i .ensures, not-false (i .result) (c .before .before .if2 .left))
@@ -73,7 +73,7 @@ find-spec =
     (tie.spec
     is-good-requires
     returns
-    inside-requires
+    is-inside-requires
     returns-2
     returns-3
     sub-first-place

@@ -7,8 +7,8 @@ use borrow.Author.Needs.{needs}
 use borrow.Author.Tests.{le-leb, lt-leb, lt-ltb, le-ltb}
 use lib.ListN.{length}
 use Rattle.telegram.specs.Stretch.{inside}
-use Rattle.telegram.proofs.stretch.inside.Statement.{statement}
-use Rattle.telegram.proofs.stretch.inside.Tie as tie
+use Rattle.telegram.proofs.stretch.is_inside.Statement.{statement}
+use Rattle.telegram.proofs.stretch.is_inside.Tie as tie
 
 returns : tie.Need-returns
 unfolding inside
@@ -51,6 +51,6 @@ returns-4 c =
     let small : a .len ≤ 16777216 = omega arith in
     simp (le-leb _ _ ends, lt-ltb _ _ fits, le-leb _ _ small)
 
-pub inside-spec : {M : Type 1} → statement M
-inside-spec =
+pub is-inside-spec : {M : Type 1} → statement M
+is-inside-spec =
     tie.close (tie.spec returns sub-if2 returns-2 add-end add-if3 add-if3-2 returns-3 returns-4)
