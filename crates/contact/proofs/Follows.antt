@@ -1,5 +1,5 @@
 -- Of a search's contacts, those after the first are the contacts of the search that is handed out with the first; and the
--- first lies inside the search's stretch, with its closing bit right behind it.
+-- first lies inside the search's stretch, with its closing bit right after it.
 -- Assumes nothing.
 use Prim.Native.Nat.{ℕ, zero, suc, _+_, _-_, _≤_, _<_}
 use mathlib.Core.Path.{_≡_, refl, sym, _∙_}
@@ -13,8 +13,8 @@ use Rattle.contact.specs.Contacts.{Mode, outside, since, Contacts, conta
 use Rattle.contact.specs.declared.Search.{Search}
 use Rattle.telegram.proofs.Taken.{part-taken}
 
--- Of the contacts of the bits from low up to end: the first lies there, the bit behind it closes it, and the rest are those
--- of the bits behind that one.
+-- Of the contacts of the bits from low up to end: the first lies there, the bit after it closes it, and the rest are those
+-- of the bits after that one.
 abbrev Walked : List ℕ → ℕ → ℕ → Contacts → Type 0
 Walked b low end (contact start length then rest) =
     (low ≤ start)

@@ -33,7 +33,7 @@ module _ (b : List ℕ) (h i : ℕ) where
   on zero = h
   on (suc n) = after (on n) (bitAt b (i + n))
 
-  -- Where none of n bits opens or closes, the contacts are those from behind them on.
+  -- Where none of n bits opens or closes, the contacts are those from after them on.
   pub behind : (mode : Mode) (end n : ℕ) → i + n ≤ end
       → ((k : ℕ) → k < n → contacts b mode (on k) (i + k) (end - (i + k)) ≡ contacts b mode (on (suc k)) (i + k + 1) (end - (i + k + 1)))
       → contacts b mode h i (end - i) ≡ contacts b mode (on n) (i + n) (end - (i + n))

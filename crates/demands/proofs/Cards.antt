@@ -134,7 +134,7 @@ after-on ride (s ∷ ss) ts = after-on (s .ride) ss ts
 
 module _ (gaps : ℕ → ℕ) (ride : Ride) (a b : List ℕ) (p q : List Stepped) (whole : Whole a) (first : ByStep gaps ride (records a) p)
     (then : ByStep gaps (afterSteps ride p) (records b) q) where
-  -- one behind the other they are the answers to the joined card
+  -- one after the other they are the answers to the joined card
   as-joined : ByStep gaps ride (records (a ++ b)) (p ++ q)
   as-joined = subst (λ (rs : List (List ℕ)). ByStep gaps ride rs (p ++ q)) (sym (join-records a b (eights a whole))) (on gaps ride (records a) (records b) p q first then)
 

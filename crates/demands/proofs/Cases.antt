@@ -1,4 +1,4 @@
--- Document 01's proved cases hold: each is computed against the definitions.
+-- Document 01's proved cases hold: each is computed by the definitions.
 -- Assumes nothing.
 use mathlib.Core.Path.{ap}
 use Rattle.words.specs.Bits.{word}

@@ -1,5 +1,5 @@
 -- Both codes: a figure in range is written as a word that reads back as it, and a word that is read is written back. One law over
--- the width, against the contracts.
+-- the width, over the contracts.
 -- Assumes nothing.
 use Prim.Native.Nat.{ℕ, _<_, _≤_}
 use mathlib.Core.Path.{_≡_, sym, ap, _∙_}

@@ -1,4 +1,4 @@
--- The noise law against the readers' contracts: two instances of the one law of the codes.
+-- The noise law over the readers' contracts: two instances of the one law of the codes.
 -- Assumes nothing.
 use mathlib.Core.Path.{_≡_, refl, sym, ap, _∙_}
 use mathlib.Core.Bool.{Bool, true, false, not}

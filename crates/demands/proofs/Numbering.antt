@@ -35,7 +35,7 @@ unfolding numberOf
 among [] = no-figure (λ b n m e. List·Memᴰ·not-nil m)
 among (b ∷ bs) = go (b .part) refl (among bs)
   where
-    -- a balise that is none leaves what is found behind it
+    -- a balise that is none leaves what is found after it
     passes : (number : Number) → ((n : ℕ) → b .part ≡ Part.Number n → ⊥) → Its-number bs number → Its-number (b ∷ bs) number
     passes number other (figure c n m e) = figure c n (List·Memᴰ·tail m) e
     passes number other (no-figure none) =

@@ -1,4 +1,4 @@
--- The hypotheses of the theorems on numbers are met: the end of a ride closes a signal with its number balise behind it, in either
+-- The hypotheses of the theorems on numbers are met: the end of a ride closes a signal with its number balise after it, in either
 -- direction.
 -- Assumes nothing.
 use Prim.Native.Nat.{ℕ}

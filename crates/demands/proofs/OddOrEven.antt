@@ -1,4 +1,4 @@
--- Odd or even, against the readers' contracts: a received word is what was sent and its flips together, and what was sent is even.
+-- Odd or even, over the readers' contracts: a received word is what was sent and its flips together, and what was sent is even.
 -- Assumes nothing.
 use mathlib.Core.Path.{_≡_, refl, sym, ap, _∙_}
 use mathlib.Core.Bool.{Bool, true, false}

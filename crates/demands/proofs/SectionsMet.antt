@@ -1,5 +1,5 @@
 -- The hypotheses of the laws on rides in sections are met: every card of whole records can be listed by a call, and document 01's ride,
--- cut behind its first record, is ridden card by card.
+-- cut after its first record, is ridden card by card.
 -- Assumes nothing.
 use Prim.Native.Nat.{ℕ, _+_, _*_, _%_, _≤_}
 use native.Mathlib.Omega.{arith}

@@ -1,4 +1,4 @@
--- The record at an index: 19 for the gap, no record behind the last, and else what its step answers.
+-- The record at an index: 19 for the gap, no record after the last, and else what its step answers.
 -- Assumes nothing.
 use mathlib.Core.Path.{_≡_, refl, sym, ap, subst, _∙_}
 use mathlib.Core.Bool.{Bool, true, false, not}

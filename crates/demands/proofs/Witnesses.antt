@@ -73,7 +73,7 @@ three-flips-few : FewFlips (line 0x10)
 unfolding quietAt syncFlips dataFlips flips sum flip inStretch unequal receivedBit sentBit
 three-flips-few = few-flips (line 0x10) 5 (omega arith) tt
 
--- the two telegrams behind are handed out,
+-- the two telegrams after the flipped one are handed out,
 three-flips-comes : (w : List Found) → ComesOf (line 0x10) w → w ≡ one 48 ∷ one 80 ∷ []
 unfolding places those from isPlace areSyncs wordsAt bitsAt telegram shortWord longWord readWord isCode even count covers exchanged other word figure onwards isCheck
 three-flips-comes w c = comes-is (line 0x10) (line-proper 0x10) w c

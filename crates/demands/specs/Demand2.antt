@@ -1,8 +1,8 @@
 -- Demand 2: "Words, telegrams, groups, speeds, distances and linking marks are exactly those of document 01. Written and
 -- read back, a figure is itself; an accepted word read and written is itself."
 -- That each contract is an equation with document 01's definitions is in each crate; here every answer that the contracts allow
--- is held against document 01's own sentences and numbers, and the contracts against each other. What the contracts allow:
--- specs/Contracts.antt. The rows, to be held beside document 01: crates/group/specs/Rows.antt, and what a row is: Row.antt there; cases of
+-- is compared with document 01's own sentences and numbers, and the contracts with each other. What the contracts allow:
+-- specs/Contracts.antt. The rows, to be compared with document 01: crates/group/specs/Rows.antt, and what a row is: Row.antt there; cases of
 -- all of them: specs/RowCases.antt. What accepted groups say: specs/Said.antt. The ride, its marks and missed signals: specs/Ride.antt. The table of proved cases:
 -- specs/Cases.antt. The ride in full, and what the program writes: specs/Output.antt. That all of this holds: proofs/Demand2.antt.
 -- It does not say that the rows, tables and speeds of document 01 are those of the railway's own papers: source 000's tables are

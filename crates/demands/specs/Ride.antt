@@ -111,7 +111,7 @@ pub record Riding : Type 0 where
   pub fresh : (f : Ride) → Fresh f
       → (f .known ≡ record { linking = Linking.Unset; main = Told.Unknown; target = Told.Unknown; number = Number.None })
       × (isOpen (f .group) ≡ false) × (f .odometer ≡ 0)
-  -- the record at an index of a trace is treated as by its step, refused or not; behind the last there is none, and the state stays
+  -- the record at an index of a trace is treated as by its step, refused or not; after the last there is none, and the state stays
   pub treats : (ride : Ride) (gap : ℕ) (trace : List ℕ) (i : ℕ) (s : Stepped) (t : Treated) → badGap gap ≡ false → i < length trace / 8
       → StepOf ride gap (recordAt trace i) s → TreatAt ride gap trace i t → saysTreated t ≡ byStep (saysStepped s)
   pub treats-none : (ride : Ride) (gap : ℕ) (trace : List ℕ) (i : ℕ) (t : Treated) → badGap gap ≡ false → length trace / 8 ≤ i

@@ -90,7 +90,7 @@ ByCalls Lists ride number left (c ∷ cs) =
 abbrev pub ByList : ℕ → Ride → ℕ → List ℕ → List Call → Type 0
 ByList gap = ByCalls λ ride number block before answer after. ListInto ride gap number block before answer after
 
--- The texts that they write, one behind the other.
+-- The texts that they write, one after the other.
 abbrev pub textFrom : List Call → List ℕ
 textFrom [] = []
 textFrom (c ∷ cs) = take (bytesOf (c .answer .done)) (c .after) ++ textFrom cs
@@ -147,7 +147,7 @@ pub record EmptyCard : Type 0 where
 
 -- ---- 4. the program's blocks
 
--- The cards one behind the other.
+-- The cards one after the other.
 abbrev pub joined : List (List ℕ) → List ℕ
 joined [] = []
 joined (card ∷ cards) = card ++ joined cards
@@ -168,7 +168,7 @@ outputBy gaps cards =
 abbrev pub outputOf : List (List ℕ) → List ℕ
 outputOf cards = outputBy (λ odometer. 40) cards
 
--- Whatever blocks `list` is called with, and whatever room it has, the texts put one behind the other are the text of the whole.
+-- Whatever blocks `list` is called with, and whatever room it has, the texts put one after the other are the text of the whole.
 pub record Blocks : Type 0 where
   pub whole : (ride : Ride) (gap number : ℕ) (trace : List ℕ) (calls : List Call) → badGap gap ≡ false → ByList gap ride number trace calls
       → (textFrom calls ≡ textOf (rideOver (λ odometer. gap) ride number (records trace) .lines))

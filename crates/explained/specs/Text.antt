@@ -1,4 +1,4 @@
--- The lines of a ride as text, with reasons (request M-103): "the checker's lines, each fault line with its reason behind a colon",
+-- The lines of a ride as text, with reasons (request M-103): the checker's lines, each fault line with its reason after a colon,
 -- `1000 fault 12: balise 2 at 1030 word Y refused 1 odd`.
 -- Assumes nothing.
 use Prim.Native.Nat.{ℕ}

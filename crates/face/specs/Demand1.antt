@@ -1,4 +1,4 @@
--- Demand 1 for C and C++: each function of the face decides by the same list of refusals as the function behind it, and returns refusal N
+-- Demand 1 for C and C++: each function of the face decides by the same list of refusals as the function that it calls, and returns refusal N
 -- as -N; a refusal leaves every lent array as it was. The lists are those of crates/demands/specs/Lists.antt.
 -- Assumes nothing.
 use Prim.Native.Nat.{ℕ, suc, _+_, _*_}

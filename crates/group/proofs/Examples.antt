@@ -1,4 +1,4 @@
--- Document 01's distances, column 14, and the group of its ride, computed against the definitions.
+-- Document 01's distances, column 14, and the group of its ride, computed by the definitions.
 -- Assumes nothing.
 use Prim.Native.Nat.{ℕ, _-_, _*_, _≤_}
 use mathlib.Core.Path.{_≡_, refl}

@@ -51,7 +51,7 @@ number-after (b ∷ done) x = go (b .part) (number-after done x)
     go (Part.Figures f y z) e = e
     go Part.Marker e = e
 
--- It is that of the balises read so far, with the next one put behind them.
+-- It is that of the balises read so far, with the next one put after them.
 pub number-next : (done : List Placed) (i : ℕ) (x : Placed) → i < length done
     → elseNumber (numberOf (take i done)) (x .part) ≡ numberOf (take (i + 1) (set done i x))
 number-next done i x room =

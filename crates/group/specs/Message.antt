@@ -9,7 +9,7 @@ use Rattle.group.specs.Speed.{Told}
 
 -- What a group says beyond its kind. A present signal: its distance, whether it is a preset point, what it gives as
 -- main speed and as target; a present warning board: its distance, and whether it is a preset point; a route board: its
--- speed; any other group: nothing.
+-- speed; any other group: nothing. (The distance of a preset point is table DF's figure, BY being 14; it gives none for linking.)
 pub data Content : Type 0 where
   ofSignal : ℕ → Bool → Told → Told → Content
   ofWarning : ℕ → Bool → Content

@@ -5,11 +5,11 @@ use Rattle.group.specs.declared.Number.{Number}
 use Rattle.walk.specs.declared.Part.{Part}
 use Rattle.walk.specs.declared.Placed.{Placed}
 
--- The figure of a number balise (12); of any other, what is found behind it.
+-- The figure of a number balise (12); of any other, what is found after it.
 abbrev pub numberOr : Part → Number → Number
-numberOr (Part.Number m) behind = Number.Figure m
-numberOr (Part.Figures x y z) behind = behind
-numberOr Part.Marker behind = behind
+numberOr (Part.Number m) later = Number.Figure m
+numberOr (Part.Figures x y z) later = later
+numberOr Part.Marker later = later
 
 -- The figure of the number balise among these, or none. (No row allows two.)
 unfoldable pub numberOf : List Placed → Number

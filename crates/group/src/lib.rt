@@ -55,7 +55,7 @@ pub enum Measured {
     NotAllowed,
 }
 
-// What a group says beyond its kind.
+// What a group says beyond its kind. The distance of a preset point is table DF's figure (BY 14): it announces no signal, and a ride links nothing by it.
 pub enum Content {
     Signal {
         distance: u32,

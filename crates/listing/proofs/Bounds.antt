@@ -1,4 +1,4 @@
--- What a caller can count on: the place behind a line lies within the buffer, what a listing took within the trace, and what
+-- What a caller can count on: the place after a line lies within the buffer, what a listing took within the trace, and what
 -- it wrote within the buffer.
 -- Assumes nothing.
 use Prim.Native.Nat.{ℕ, zero, suc, _+_, _-_, _*_, _/_, _%_, _≤_}

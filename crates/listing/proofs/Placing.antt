@@ -1,4 +1,4 @@
--- Texts put into a buffer one behind the other are one text put into it.
+-- Texts put into a buffer one after the other are one text put into it.
 -- Assumes nothing.
 use mathlib.Core.Path.{_≡_, refl, sym, ap, _∙_}
 use mathlib.Core.List.{List, [], _∷_, _++_, append-assoc, append-nil}
@@ -16,7 +16,7 @@ unfolding placed
 placed-none b at = simp (append-nil, add-zero, take-append-drop)
 
 module _ (t b : List ℕ) (at : ℕ) (fits : at + length t ≤ length b) where
-  -- what stands before the text and the text end behind it
+  -- what stands before the text and the text, as long as both
   head-length : length (take at b ++ t) ≡ at + length t
   head-length =
       let before : at ≤ length b = omega arith in
@@ -27,7 +27,7 @@ module _ (t b : List ℕ) (at : ℕ) (fits : at + length t ≤ length b) where
   unfolding placed
   placed-length = ap (λ (s : List ℕ). length (take at b ++ s ++ drop (at + length t) b)) (sym (take-length t)) ∙ length-paste b at t (length t) fits (omega arith)
 
-  -- A second text behind the first.
+  -- A second text after the first.
   pub placed-join : (u : List ℕ) → placed u (placed t b at) (at + length t) ≡ placed (t ++ u) b at
   unfolding placed
   placed-join u =
@@ -46,7 +46,7 @@ pub placed-one : (b : List ℕ) (at d : ℕ) → at < length b → set b at d �
 unfolding placed
 placed-one b at d h = set-split b at d h ∙ sym (append-snoc (take at b) d (drop (suc at) b)) ∙ ap (λ (k : ℕ). take at b ++ (d ∷ []) ++ drop k b) (sym (add-one at))
 
--- The byte behind a text, put first.
+-- The byte after a text, put first.
 pub placed-last : (t b : List ℕ) (at d : ℕ) → at + length t < length b → placed t (set b (at + length t) d) at ≡ placed (t ++ (d ∷ [])) b at
 unfolding placed
 placed-last t b at d h =

@@ -6,11 +6,11 @@ use lib.Dec.{leb}
 use lib.ListN.{length, take, drop}
 use Rattle.words.specs.Answer.{pick}
 
--- The buffer with the text in it from the place `at` on: the bytes before and behind the text stay.
+-- The buffer with the text in it from the place `at` on: the bytes before and after the text stay.
 unfoldable pub placed : List ℕ → List ℕ → ℕ → List ℕ
 placed text buffer at = take at buffer ++ text ++ drop (at + length text) buffer
 
--- Where putting a text ends: with the place behind it, or for want of room (document 01 has no number for that).
+-- Where putting a text ends: with the place after it, or for want of room (document 01 has no number for that).
 pub data Ends : Type 0 where
   next : ℕ → Ends
   noRoom : Ends

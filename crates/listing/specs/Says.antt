@@ -10,7 +10,7 @@ use Rattle.listing.specs.declared.Listed.{Listed}
 use Rattle.listing.specs.Put.{Ends, next, noRoom}
 use Rattle.listing.specs.List.{Taken, Listing}
 
--- The place behind the line, or that there is no room for it.
+-- The place after the line, or that there is no room for it.
 abbrev pub saysPut : Put → Ends
 saysPut (Put.Next at) = next at
 saysPut Put.NoRoom = noRoom

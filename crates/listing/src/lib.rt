@@ -19,7 +19,7 @@ use settings::Asked;
 use settings::Bad;
 use settings::Store;
 
-// What putting a line answers: the place behind it, or that there is no room for it.
+// What putting a line answers: the place after it, or that there is no room for it.
 pub enum Put {
     Next(usize),
     NoRoom,

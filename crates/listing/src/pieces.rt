@@ -5,7 +5,7 @@ ghost use lib.ListN.{length};
 ghost use Rattle.listing.specs.Text.{decimal};
 ghost use Rattle.listing.specs.Put.{placed};
 
-// The bytes into buf from `at` on; the place behind them.
+// The bytes into buf from `at` on; the place after them.
 pub fn put(bytes: &[u8], buf: &mut [u8], at: usize) -> usize
     requires { ⌜ at + length (now bytes) ≤ length (now buf) ⌝ }
     ensures { λ r. ⌜ r ≡ at + length (now (bytes .entry)) ⌝ }
@@ -35,7 +35,7 @@ fn places(n: u64) -> usize
     count
 }
 
-// The number in decimal into buf from `at` on, from its last digit to its first; the place behind it.
+// The number in decimal into buf from `at` on, from its last digit to its first; the place after it.
 pub fn put_decimal(n: u64, buf: &mut [u8], at: usize) -> usize
     requires { ⌜ at + length (decimal n) ≤ length (now buf) ⌝ }
     ensures { λ r. ⌜ r ≡ at + length (decimal n) ⌝ }

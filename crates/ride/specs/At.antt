@@ -13,7 +13,7 @@ use Rattle.ride.specs.Record.{odometerOf}
 use Rattle.ride.specs.Joining.{allowed}
 use Rattle.ride.specs.Step.{Step, treat}
 
--- The record that stands behind i others: "records of one fixed size, no header: 8 bytes".
+-- The record that stands after i others: "records of one fixed size, no header: 8 bytes".
 abbrev pub recordAt : List ℕ → ℕ → List ℕ
 recordAt trace i = take 8 (drop (i * 8) trace)
 

@@ -34,8 +34,9 @@ pub record Ridden : Type 0 where
 abbrev pub before : List Line → Ridden → Ridden
 before lines rest = record { lines = lines ++ rest .lines; ride = rest .ride }
 
--- The ride over some records, the first of which has this number, with the gap that the rule gives for each record's
--- odometer: each record is treated in the state that the one before left.
+-- The ride over some records, the first of which has this number: each record is treated in the state that the one before left, with
+-- the gap that a rule gives for its odometer. The rule is one gap for all (`run`, below) or the gap that a store of settings has in force
+-- there (`runUnder` of specs/Under.antt), so that both rides are this one.
 unfoldable pub rideOver : (ℕ → ℕ) → Ride → ℕ → List (List ℕ) → Ridden
 rideOver gaps ride number [] = record { lines = []; ride = ride }
 rideOver gaps ride number (r ∷ rs) =

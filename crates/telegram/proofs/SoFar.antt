@@ -68,7 +68,7 @@ module _ (b : List ℕ) (p q : ℕ) where
       simp (ne-eqb _ _ z, and-false)
   one-other (suc (suc (suc k))) h other = absurd (not-suc-le-zero (le-of-suc-le-suc (le-of-suc-le-suc (le-of-suc-le-suc h))))
 
--- One offset more: p, whose forty bits are v, against `first`, whose forty bits are `kept`.
+-- One offset more: p, whose forty bits are v, compared with `first`, whose forty bits are `kept`.
 module _ (b : List ℕ) (s t stop first p n v kept : ℕ) (v-is : v ≡ bitsAt b p 40) (kept-is : kept ≡ bitsAt b first 40) (on : p < stop) where
   -- as many counted as m says
   counted : (m k : ℕ) → m ≡ k → soFar b first k (ahead b s t stop (p + 1)) ≡ soFar b first m (ahead b s t stop (p + 1))

@@ -1,4 +1,4 @@
--- A text that stands in a buffer, and how it grows: what is put behind it makes a longer one.
+-- A text that stands in a buffer, and how it grows: what is put after it makes a longer one.
 -- Assumes nothing.
 use mathlib.Core.Path.{_≡_, sym, ap, ap₂, subst, _∙_}
 use mathlib.Core.List.{List, _++_}

@@ -1,4 +1,4 @@
--- Document 01's table M8, and the words of its table of proved cases, computed against the definitions.
+-- Document 01's table M8, and the words of its table of proved cases, computed by the definitions.
 -- Assumes nothing.
 use mathlib.Core.Path.{_≡_, refl}
 use mathlib.Core.List.{List, [], _∷_, map}

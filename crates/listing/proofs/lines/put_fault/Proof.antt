@@ -1,4 +1,4 @@
--- `put_fault` puts the place, and behind it the word, the number and the newline.
+-- `put_fault` puts the place, and after it the word, the number and the newline.
 use mathlib.Core.Path.{_≡_, refl, sym, subst}
 use mathlib.Core.List.{List, [], _∷_, _++_, append-assoc}
 use Prim.Native.Nat.{ℕ, _+_, _≤_}
@@ -10,7 +10,7 @@ use Rattle.listing.proofs.Standing.{Stands, less, room, behind, reads-a
 use Rattle.listing.proofs.lines.put_fault.Statement.{statement}
 use Rattle.listing.proofs.lines.put_fault.Tie as tie
 
--- what stands behind the place
+-- what stands after the place
 abbrev after : ℕ → List ℕ
 after n = codes " fault " ++ decimal n ++ codes "\n"
 

@@ -1,4 +1,4 @@
--- `put_missed` puts the place, and behind it the word and the newline.
+-- `put_missed` puts the place, and after it the word and the newline.
 use mathlib.Core.Path.{_≡_, refl, sym, subst}
 use mathlib.Core.List.{List, [], _∷_, _++_, append-assoc}
 use Prim.Native.Nat.{ℕ, _+_, _≤_}
@@ -10,7 +10,7 @@ use Rattle.listing.proofs.Standing.{Stands, less, room, behind, reads-a
 use Rattle.listing.proofs.lines.put_missed.Statement.{statement}
 use Rattle.listing.proofs.lines.put_missed.Tie as tie
 
--- what stands behind the place
+-- what stands after the place
 abbrev after : List ℕ
 after = codes " missed\n"
 

@@ -1,4 +1,4 @@
--- `put_number` puts nothing for none; else the space and the `n`, and behind them the number.
+-- `put_number` puts nothing for none; else the space and the `n`, and after them the number.
 use mathlib.Core.Path.{_≡_, sym, ap, subst, _∙_}
 use mathlib.Core.List.{List, _++_}
 use Prim.Native.Nat.{ℕ, _+_, _≤_, _<_, _^_}

@@ -1,4 +1,4 @@
--- `put_record` puts the word, the number, and behind them the refusal.
+-- `put_record` puts the word, the number, and after them the refusal.
 use mathlib.Core.Path.{_≡_, refl, sym, subst}
 use mathlib.Core.List.{List, [], _∷_, _++_, append-assoc}
 use Prim.Native.Nat.{ℕ, _+_, _≤_}
@@ -10,7 +10,7 @@ use Rattle.listing.proofs.Standing.{Stands, less, room, behind, reads-a
 use Rattle.listing.proofs.lines.put_record.Statement.{statement}
 use Rattle.listing.proofs.lines.put_record.Tie as tie
 
--- what stands behind the number
+-- what stands after the number
 abbrev after : ℕ → List ℕ
 after n = codes " refused " ++ decimal n ++ codes "\n"
 

@@ -1,4 +1,4 @@
--- `put_seen` puts the place, the direction, the kind, the mark, the number and the newline one behind the other.
+-- `put_seen` puts the place, the direction, the kind, the mark, the number and the newline one after the other.
 use mathlib.Core.Path.{_≡_, refl}
 use mathlib.Core.List.{List, [], _∷_, _++_}
 use Prim.Native.Nat.{ℕ, _+_, _≤_}

@@ -1,4 +1,4 @@
--- `put_lines` puts at most two lines one behind the other.
+-- `put_lines` puts at most two lines one after the other.
 use mathlib.Core.Path.{_≡_, sym}
 use mathlib.Core.List.{List, _++_}
 use Prim.Native.Nat.{ℕ}

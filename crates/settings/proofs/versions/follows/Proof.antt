@@ -1,4 +1,4 @@
--- `follows` judges the settings, the place, and the place against the last.
+-- `follows` judges the settings, the place, and the place by the last.
 use mathlib.Core.Path.{sym, ap, _∙_}
 use borrow.Author.Tests.{le-ltb, lt-ltb, le-leb, lt-leb}
 use Rattle.settings.specs.Versions.{follows}
