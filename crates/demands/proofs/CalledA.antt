@@ -10,17 +10,16 @@ use Rattle.words.specs.Answer.{Outcome, gives, refuses, pick}
 use Rattle.group.specs.Balise.{balises, then, readAll}
 use Rattle.walk.specs.Row.{Figures, all, _to_, Asked, category, M, any, A, Member, Row, row, isCategory, isOneOf, within, Y, Z, meets, fits, Found, none, found, first, calledA, Fit, misfit, fit, fitWith, fitRow, orElse, fitRows}
 use Rattle.walk.specs.Rows.{signal, warning, annulled, line, route, present, nineThen, nineTwo, markerTwo, markerThree, opposite, howMany, fitIn}
-use Rattle.group.specs.Message.{Content, Message, nothing}
+use Rattle.group.specs.declared.Content.{Content}
 use Rattle.group.specs.Numbers.{numberOf}
 use Rattle.group.specs.Judge.{contentOf, messageOf, judgeRead, judge}
 use Rattle.walk.specs.Fitting.{speedOf, fitting}
 use Rattle.demands.proofs.Rules.{never}
 use Rattle.demands.proofs.Fits.{said, decide}
-use Rattle.group.specs.Says.{saysMessage}
 use Rattle.walk.specs.declared.Direction.{Direction}
 use Rattle.group.specs.declared.Group.{Group}
 use Rattle.walk.specs.declared.Kind.{Kind}
-use Rattle.group.specs.declared.Message.{Message as Said}
+use Rattle.group.specs.declared.Message.{Message}
 use Rattle.walk.specs.declared.Part.{Part}
 use Rattle.walk.specs.declared.Placed.{Placed}
 use Rattle.demands.specs.Table.{listOf, partsOf}
@@ -119,8 +118,8 @@ in-direction rows every bs k a e = go (leb (howMany 12 bs) 1) e
 -- ---- the message
 
 -- a message that takes its place, AY and AZ from this balise
-from-a : (bs : List Placed) (direction : Direction) (k : Kind) (a : Placed) (c : Content) (m : Said) → CanBeA bs k a → (direction ≡ Direction.Present → Board k → Head bs a)
-    → messageOf (said direction k a) (numberOf bs) c ≡ saysMessage m → Its-A bs m
+from-a : (bs : List Placed) (direction : Direction) (k : Kind) (a : Placed) (c : Content) (m : Message) → CanBeA bs k a → (direction ≡ Direction.Present → Board k → Head bs a)
+    → messageOf (said direction k a) (numberOf bs) c ≡ m → Its-A bs m
 from-a bs direction k a c m can heads e =
     record {
       a = a;
@@ -132,23 +131,23 @@ from-a bs direction k a c m can heads e =
       az-is = sym (ap (λ (v : Message). v .az) e);
     }
 
-decided-a : (bs : List Placed) (m : Said) (p o : Fit) → ((k : Kind) (a : Placed) → p ≡ fit k a → CanBeA bs k a) → ((k : Kind) (a : Placed) → o ≡ fit k a → CanBeA bs k a)
-    → ((k : Kind) (a : Placed) → p ≡ fit k a → Board k → Head bs a) → decide p o bs ≡ gives (saysMessage m) → Its-A bs m
+decided-a : (bs : List Placed) (m : Message) (p o : Fit) → ((k : Kind) (a : Placed) → p ≡ fit k a → CanBeA bs k a) → ((k : Kind) (a : Placed) → o ≡ fit k a → CanBeA bs k a)
+    → ((k : Kind) (a : Placed) → p ≡ fit k a → Board k → Head bs a) → decide p o bs ≡ gives m → Its-A bs m
 decided-a bs m misfit misfit here there heads e = absurd (never 13 e)
 decided-a bs m misfit (fit k a) here there heads e =
-    let is : messageOf (said Direction.Opposite k a) (numberOf bs) nothing ≡ saysMessage m = cc in from-a bs Direction.Opposite k a nothing m (there k a refl) (λ q. absurd (let z : _≡_ {A = ℕ} 0 1 = cc in omega arith)) is
+    let is : messageOf (said Direction.Opposite k a) (numberOf bs) Content.Nothing ≡ m = cc in from-a bs Direction.Opposite k a Content.Nothing m (there k a refl) (λ q. absurd (let z : _≡_ {A = ℕ} 0 1 = cc in omega arith)) is
 decided-a bs m (fit k a) o here there heads e = go (contentOf k (speedOf k a) (Y (a .part)) (Z (a .part)) bs) e
   where
-    go : (c : Outcome Content) → then c (λ more. gives (messageOf (said Direction.Present k a) (numberOf bs) more)) ≡ gives (saysMessage m) → Its-A bs m
+    go : (c : Outcome Content) → then c (λ more. gives (messageOf (said Direction.Present k a) (numberOf bs) more)) ≡ gives m → Its-A bs m
     go (refuses n) q = absurd (never n q)
-    go (gives c) q = let is : messageOf (said Direction.Present k a) (numberOf bs) c ≡ saysMessage m = cc in from-a bs Direction.Present k a c m (here k a refl) (λ q. heads k a refl) is
+    go (gives c) q = let is : messageOf (said Direction.Present k a) (numberOf bs) c ≡ m = cc in from-a bs Direction.Present k a c m (here k a refl) (λ q. heads k a refl) is
 
 -- Every accepted group has an A.
-pub has-a : (g : Group) (m : Said) → judge g ≡ gives (saysMessage m) → Its-A (partsOf g) m
+pub has-a : (g : Group) (m : Message) → judge g ≡ gives m → Its-A (partsOf g) m
 unfolding judge judgeRead fitting partsOf
 has-a g m e = go (eqb (g .count) 1) (ltb 5 (g .count)) (readAll (balises g)) e
   where
-    go : (t u : Bool) (o : Outcome (List Placed)) → pick t (refuses 10) (pick u (refuses 11) (then o judgeRead)) ≡ gives (saysMessage m) → Its-A (listOf o) m
+    go : (t u : Bool) (o : Outcome (List Placed)) → pick t (refuses 10) (pick u (refuses 11) (then o judgeRead)) ≡ gives m → Its-A (listOf o) m
     go true u o q = absurd (never 10 q)
     go false true o q = absurd (never 11 q)
     go false false (refuses n) q = absurd (never n q)

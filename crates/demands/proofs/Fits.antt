@@ -11,7 +11,7 @@ use Rattle.walk.specs.declared.Kind.{Kind}
 use Rattle.walk.specs.declared.Placed.{Placed}
 use Rattle.walk.specs.declared.Picked.{Picked}
 use Rattle.group.specs.Balise.{then}
-use Rattle.group.specs.Message.{Message}
+use Rattle.group.specs.declared.Message.{Message}
 use Rattle.group.specs.Judge.{judgeAs, judgeRead}
 
 -- What a row of this direction and kind says, with this balise as A.

@@ -11,7 +11,7 @@ use Rattle.walk.specs.Row.{Y, Z, Fit, misfit, fit}
 use Rattle.walk.specs.Rows.{present, opposite, fitIn}
 use Rattle.group.specs.Distance.{isPreset, noIncrease}
 use Rattle.group.specs.Speed.{signalSpeed, targetFigure}
-use Rattle.group.specs.Message.{ofSignal, ofWarning, nothing}
+use Rattle.group.specs.declared.Content.{Content}
 use Rattle.group.specs.Numbers.{numberOf}
 use Rattle.group.specs.Judge.{yOf, zOf, B, P, C, distanceOf, signalDistance, contentOf, messageOf, judgeRead, judge}
 use Rattle.walk.specs.declared.Direction.{Direction}
@@ -63,9 +63,9 @@ signal-refused az bs = go (isPreset (yOf (B bs)) && noIncrease az)
 content-fifteen : (kind : Kind) (v ay az : ℕ) (bs : List Placed) → Only 15 (contentOf kind v ay az bs)
 unfolding Only
 content-fifteen Kind.Signal v ay az bs =
-    only-then 15 (signalDistance az bs) (λ d. ofSignal d (isPreset (yOf (B bs))) (signalSpeed ay) (signalSpeed (targetFigure ay az (yOf (P bs)) (zOf (P bs)))))
+    only-then 15 (signalDistance az bs) (λ d. Content.Signal d (isPreset (yOf (B bs))) (signalSpeed ay) (signalSpeed (targetFigure ay az (yOf (P bs)) (zOf (P bs)))))
     (signal-fifteen az bs)
-content-fifteen Kind.Warning v ay az bs = only-then 15 (distanceOf bs) (λ d. ofWarning d (isPreset (yOf (B bs)))) (distanceOf-fifteen bs)
+content-fifteen Kind.Warning v ay az bs = only-then 15 (distanceOf bs) Content.Warning (distanceOf-fifteen bs)
 content-fifteen Kind.Annulled v ay az bs = tt
 content-fifteen Kind.Line v ay az bs = tt
 content-fifteen Kind.Route v ay az bs = tt
@@ -76,9 +76,9 @@ content-refused : (kind : Kind) (v : ℕ) (a : Placed) (bs : List Placed)
 content-refused Kind.Signal v a bs =
     let ay = Y (a .part) in
     let az = Z (a .part) in
-    refusal-then (signalDistance az bs) (λ d. ofSignal d (isPreset (yOf (B bs))) (signalSpeed ay) (signalSpeed (targetFigure ay az (yOf (P bs)) (zOf (P bs)))))
+    refusal-then (signalDistance az bs) (λ d. Content.Signal d (isPreset (yOf (B bs))) (signalSpeed ay) (signalSpeed (targetFigure ay az (yOf (P bs)) (zOf (P bs)))))
     ∙ signal-refused az bs
-content-refused Kind.Warning v a bs = refusal-then (distanceOf bs) (λ d. ofWarning d (isPreset (yOf (B bs))))
+content-refused Kind.Warning v a bs = refusal-then (distanceOf bs) Content.Warning
 content-refused Kind.Annulled v a bs = refl
 content-refused Kind.Line v a bs = refl
 content-refused Kind.Route v a bs = refl
@@ -89,7 +89,7 @@ decided : (p o : Fit) (bs : List Placed)
 decided misfit misfit bs = (λ q. refl, λ q. absurd (true-not-false q))
 decided misfit (fit k a) bs = (
   λ q. absurd (true-not-false (sym q)),
-  λ q. (λ t. absurd (true-not-false (sym t)), λ t. (messageOf (said Direction.Opposite k a) (numberOf bs) nothing, refl)),
+  λ q. (λ t. absurd (true-not-false (sym t)), λ t. (messageOf (said Direction.Opposite k a) (numberOf bs) Content.Nothing, refl)),
 )
 decided (fit k a) o bs = (
   λ q. absurd (true-not-false (sym q)),

@@ -9,17 +9,14 @@ use lib.Dec.{ltb, leb}
 use borrow.Author.Tests.{lt-ltb, le-ltb, le-leb, lt-leb, ltb-true, ltb-false, leb-true, leb-false}
 use Rattle.words.specs.Answer.{gives}
 use Rattle.group.specs.Judge.{judge}
-use Rattle.group.specs.Message.{Content}
-use Rattle.group.specs.Says.{saysTold, saysContent, saysMessage}
-use Rattle.group.specs.declared.Content.{Content as Said}
+use Rattle.group.specs.declared.Content.{Content}
 use Rattle.walk.specs.declared.Direction.{Direction}
 use Rattle.group.specs.declared.Group.{Group}
 use Rattle.walk.specs.declared.Kind.{Kind}
 use Rattle.group.specs.declared.Message.{Message}
 use Rattle.walk.specs.declared.Placed.{Placed}
-use Rattle.group.specs.declared.Told.{Told}
 use Rattle.ride.specs.Linking.{markAt, markOf}
-use Rattle.ride.specs.Closing.{targetFrom, knownFrom, markFrom}
+use Rattle.ride.specs.Closing.{knownFrom, markFrom}
 use Rattle.ride.specs.declared.Known.{Known}
 use Rattle.ride.specs.declared.Linking.{Linking}
 use Rattle.ride.specs.declared.Mark.{Mark}
@@ -30,10 +27,10 @@ use Rattle.demands.proofs.Messages.{not-signal, View, signal, warning, 
 -- The content of a group that is no present signal sets no mark and leaves what is known.
 abbrev Leaves : Message → Type 0
 Leaves m =
-    ((linking : Linking) → markFrom (saysContent (m .content)) (m .place) linking ≡ Mark.Unmarked)
-    × ((k : Known) → knownFrom (saysContent (m .content)) (m .place) (m .number) k ≡ k)
+    ((linking : Linking) → markFrom (m .content) (m .place) linking ≡ Mark.Unmarked)
+    × ((k : Known) → knownFrom (m .content) (m .place) (m .number) k ≡ k)
 
-other-leaves : (bs : List Placed) (m : Message) → (IsSignal m → ⊥) → View bs (saysMessage m) → Leaves m
+other-leaves : (bs : List Placed) (m : Message) → (IsSignal m → ⊥) → View bs m → Leaves m
 other-leaves bs m other (signal d k distance _ e) = absurd (other (d, k))
 other-leaves bs m other (warning _ k d distance e) =
     (λ l. ap (λ (v : Content). markFrom v (m .place) l) e, λ k. ap (λ (v : Content). knownFrom v (m .place) (m .number) k) e)
@@ -43,19 +40,19 @@ other-leaves bs m other (plain p e) =
     (λ l. ap (λ (v : Content). markFrom v (m .place) l) e, λ k. ap (λ (v : Content). knownFrom v (m .place) (m .number) k) e)
 
 -- A present signal is marked by the linking and its place.
-signal-marks : (bs : List Placed) (m : Message) (linking : Linking) → IsSignal m → View bs (saysMessage m)
-    → markFrom (saysContent (m .content)) (m .place) linking ≡ markOf linking (m .place)
+signal-marks : (bs : List Placed) (m : Message) (linking : Linking) → IsSignal m → View bs m
+    → markFrom (m .content) (m .place) linking ≡ markOf linking (m .place)
 signal-marks bs m linking s (signal d k distance _ e) = ap (λ (v : Content). markFrom v (m .place) linking) e
 signal-marks bs m linking s (warning _ k d distance e) = absurd (let f = s .1 in let z : _≡_ {A = ℕ} 0 1 = cc in omega arith)
 signal-marks bs m linking s (route _ k e) = absurd (let f = s .1 in let z : _≡_ {A = ℕ} 0 1 = cc in omega arith)
-signal-marks bs m linking s (plain other e) = absurd (not-signal (saysMessage m) other (s .0) (s .1))
+signal-marks bs m linking s (plain other e) = absurd (not-signal m other (s .0) (s .1))
 
-module _ (g : Group) (m : Message) (judged : judge g ≡ gives (saysMessage m)) where
-  abbrev seen : View (partsOf g) (saysMessage m)
-  seen = view g (saysMessage m) judged
+module _ (g : Group) (m : Message) (judged : judge g ≡ gives m) where
+  abbrev seen : View (partsOf g) m
+  seen = view g m judged
 
   -- The mark of its line is the one that document 01's sentence gives.
-  pub mark-so : (linking : Linking) (mark : Mark) → IsMarked linking m mark → markFrom (saysContent (m .content)) (m .place) linking ≡ mark
+  pub mark-so : (linking : Linking) (mark : Mark) → IsMarked linking m mark → markFrom (m .content) (m .place) linking ≡ mark
   unfolding markAt
   mark-so linking mark (first s e) = signal-marks (partsOf g) m linking s seen ∙ ap (λ (l : Linking). markOf l (m .place)) e
   mark-so linking mark (early D a s e h) =
@@ -69,20 +66,16 @@ module _ (g : Group) (m : Message) (judged : judge g ≡ gives (saysMessage m)) 
       ∙ simp (le-ltb (5 * (m .place - a)) (4 * D) k, lt-leb (5 * (m .place - a)) (6 * D) h)
   mark-so linking mark (unmarked other) = other-leaves (partsOf g) m other seen .0 linking
 
-  target-is : (t : Told) → targetFrom (saysTold t) ≡ t
-  target-is (Told.Kmh v) = refl
-  target-is Told.Unknown = refl
-
   -- What is known after it is what document 01's sentences give.
-  pub becomes : (k : Known) → Becomes k m (knownFrom (saysContent (m .content)) (m .place) (m .number) k)
+  pub becomes : (k : Known) → Becomes k m (knownFrom (m .content) (m .place) (m .number) k)
   becomes k =
       record {
-        main = λ d v preset target e. ap (λ (c : Said). knownFrom (saysContent c) (m .place) (m .number) k .main) e;
-        main-stays = λ d preset target e. ap (λ (c : Said). knownFrom (saysContent c) (m .place) (m .number) k .main) e;
-        target = λ d preset main target e. ap (λ (c : Said). knownFrom (saysContent c) (m .place) (m .number) k .target) e ∙ target-is target;
-        number = λ d preset main target e. ap (λ (c : Said). knownFrom (saysContent c) (m .place) (m .number) k .number) e;
-        anew = λ d main target e. ap (λ (c : Said). knownFrom (saysContent c) (m .place) (m .number) k .linking) e;
-        ends = λ d main target e. ap (λ (c : Said). knownFrom (saysContent c) (m .place) (m .number) k .linking) e;
+        main = λ d v preset target e. ap (λ (c : Content). knownFrom c (m .place) (m .number) k .main) e;
+        main-stays = λ d preset target e. ap (λ (c : Content). knownFrom c (m .place) (m .number) k .main) e;
+        target = λ d preset main target e. ap (λ (c : Content). knownFrom c (m .place) (m .number) k .target) e;
+        number = λ d preset main target e. ap (λ (c : Content). knownFrom c (m .place) (m .number) k .number) e;
+        anew = λ d main target e. ap (λ (c : Content). knownFrom c (m .place) (m .number) k .linking) e;
+        ends = λ d main target e. ap (λ (c : Content). knownFrom c (m .place) (m .number) k .linking) e;
         others = λ other. other-leaves (partsOf g) m other seen .1 k;
       }
 

@@ -14,7 +14,8 @@ use Rattle.walk.specs.Rows.{present, opposite, fitIn}
 use Rattle.group.specs.Distance.{isPreset}
 use Rattle.group.specs.Speed.{signalSpeed, targetFigure}
 use Rattle.walk.specs.Fitting.{routeSpeed, fitting}
-use Rattle.group.specs.Message.{Content, ofSignal, ofWarning, ofRoute, nothing, Message}
+use Rattle.group.specs.declared.Content.{Content}
+use Rattle.group.specs.declared.Message.{Message}
 use Rattle.group.specs.Numbers.{numberOf}
 use Rattle.group.specs.Judge.{yOf, zOf, B, P, distanceOf, signalDistance, messageOf, judgeAs, judgeRead, judge}
 use Rattle.walk.specs.declared.Direction.{Direction}
@@ -38,11 +39,11 @@ not-signal m (inr (inr o)) d k = let z : _≡_ {A = ℕ} 0 1 = cc in omega arith
 -- The content of a message of these balises, by its direction and kind.
 pub data View (bs : List Placed) (m : Message) : Type 0 where
   signal : m .direction ≡ Direction.Present → m .kind ≡ Kind.Signal → (d : ℕ) → signalDistance (m .az) bs ≡ gives d
-      → m .content ≡ ofSignal d (isPreset (yOf (B bs))) (signalSpeed (m .ay)) (signalSpeed (targetFigure (m .ay) (m .az) (yOf (P bs)) (zOf (P bs))))
+      → m .content ≡ Content.Signal d (isPreset (yOf (B bs))) (signalSpeed (m .ay)) (signalSpeed (targetFigure (m .ay) (m .az) (yOf (P bs)) (zOf (P bs))))
       → View bs m
-  warning : m .direction ≡ Direction.Present → m .kind ≡ Kind.Warning → (d : ℕ) → distanceOf bs ≡ gives d → m .content ≡ ofWarning d (isPreset (yOf (B bs))) → View bs m
-  route : m .direction ≡ Direction.Present → m .kind ≡ Kind.Route → m .content ≡ ofRoute (routeSpeed (m .ay) (m .az)) → View bs m
-  plain : Other m → m .content ≡ nothing → View bs m
+  warning : m .direction ≡ Direction.Present → m .kind ≡ Kind.Warning → (d : ℕ) → distanceOf bs ≡ gives d → m .content ≡ Content.Warning d → View bs m
+  route : m .direction ≡ Direction.Present → m .kind ≡ Kind.Route → m .content ≡ Content.Route (routeSpeed (m .ay) (m .az)) → View bs m
+  plain : Other m → m .content ≡ Content.Nothing → View bs m
 
 -- what goes on from a distance
 on-distance : (o : Outcome ℕ) (f : ℕ → Content) (g : Content → Message) (m : Message)
@@ -53,26 +54,26 @@ on-distance (refuses n) f g m e = absurd (never n e)
 present-view : (kind : Kind) (a : Placed) (bs : List Placed) (m : Message) → judgeAs Direction.Present (said Direction.Present kind a) bs ≡ gives m → View bs m
 present-view Kind.Signal a bs m e =
     let r = on-distance (signalDistance (Z (a .part)) bs)
-    (λ d. ofSignal d (isPreset (yOf (B bs))) (signalSpeed (Y (a .part))) (signalSpeed (targetFigure (Y (a .part)) (Z (a .part)) (yOf (P bs)) (zOf (P bs)))))
+    (λ d. Content.Signal d (isPreset (yOf (B bs))) (signalSpeed (Y (a .part))) (signalSpeed (targetFigure (Y (a .part)) (Z (a .part)) (yOf (P bs)) (zOf (P bs)))))
     (messageOf (said Direction.Present Kind.Signal a) (numberOf bs)) m e in
     subst (View bs) (r .2) (signal refl refl (r .0) (r .1) refl)
 present-view Kind.Warning a bs m e =
-    let r = on-distance (distanceOf bs) (λ d. ofWarning d (isPreset (yOf (B bs)))) (messageOf (said Direction.Present Kind.Warning a) (numberOf bs)) m e in
+    let r = on-distance (distanceOf bs) Content.Warning (messageOf (said Direction.Present Kind.Warning a) (numberOf bs)) m e in
     subst (View bs) (r .2) (warning refl refl (r .0) (r .1) refl)
 present-view Kind.Annulled a bs m e =
-    let is : messageOf (said Direction.Present Kind.Annulled a) (numberOf bs) nothing ≡ m = cc in
+    let is : messageOf (said Direction.Present Kind.Annulled a) (numberOf bs) Content.Nothing ≡ m = cc in
     subst (View bs) is (plain (inr (inl refl)) refl)
 present-view Kind.Line a bs m e =
-    let is : messageOf (said Direction.Present Kind.Line a) (numberOf bs) nothing ≡ m = cc in
+    let is : messageOf (said Direction.Present Kind.Line a) (numberOf bs) Content.Nothing ≡ m = cc in
     subst (View bs) is (plain (inr (inr refl)) refl)
 present-view Kind.Route a bs m e =
-    let is : messageOf (said Direction.Present Kind.Route a) (numberOf bs) (ofRoute (routeSpeed (Y (a .part)) (Z (a .part)))) ≡ m = cc in
+    let is : messageOf (said Direction.Present Kind.Route a) (numberOf bs) (Content.Route (routeSpeed (Y (a .part)) (Z (a .part)))) ≡ m = cc in
     subst (View bs) is (route refl refl refl)
 
 decided-view : (p o : Fit) (bs : List Placed) (m : Message) → decide p o bs ≡ gives m → View bs m
 decided-view misfit misfit bs m e = absurd (never 13 e)
 decided-view misfit (fit k a) bs m e =
-    let is : messageOf (said Direction.Opposite k a) (numberOf bs) nothing ≡ m = cc in
+    let is : messageOf (said Direction.Opposite k a) (numberOf bs) Content.Nothing ≡ m = cc in
     subst (View bs) is (plain (inl refl) refl)
 decided-view (fit k a) o bs m e = present-view k a bs m e
 

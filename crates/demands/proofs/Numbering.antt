@@ -9,13 +9,13 @@ use Rattle.words.specs.Answer.{Outcome, gives, refuses}
 use Rattle.group.specs.Balise.{then}
 use Rattle.walk.specs.Row.{Y, Z}
 use Rattle.walk.specs.Fitting.{fitting}
-use Rattle.group.specs.Message.{Content, nothing, Message}
+use Rattle.group.specs.declared.Content.{Content}
+use Rattle.group.specs.declared.Message.{Message}
 use Rattle.group.specs.Numbers.{numberOr, numberOf}
 use Rattle.group.specs.Judge.{contentOf, messageOf, judgeAs, judgeRead, judge}
 use Rattle.walk.specs.declared.Direction.{Direction}
 use Rattle.group.specs.declared.Group.{Group}
 use Rattle.walk.specs.declared.Kind.{Kind}
-use Rattle.group.specs.declared.Message.{Message as Said}
 use Rattle.group.specs.declared.Number.{Number}
 use Rattle.walk.specs.declared.Part.{Part}
 use Rattle.walk.specs.declared.Picked.{Picked}
@@ -53,7 +53,7 @@ among (b ∷ bs) = go (b .part) refl (among bs)
 -- The number of a message is that of its balises.
 as-number : (direction : Direction) (row : Picked) (bs : List Placed) (m : Message) → judgeAs direction row bs ≡ gives m → numberOf bs ≡ m .number
 as-number Direction.Opposite row bs m e =
-    let is : messageOf row (numberOf bs) nothing ≡ m = cc in
+    let is : messageOf row (numberOf bs) Content.Nothing ≡ m = cc in
     ap (λ (v : Message). v .number) is
 as-number Direction.Present row bs m e = go (contentOf (row .kind) (row .speed) (Y (row .a .part)) (Z (row .a .part)) bs) e
   where
@@ -78,7 +78,7 @@ has-number = of-group (λ bs m. Its-number bs (m .number)) (λ bs m e. subst (It
 -- ---- the number on its line
 
 -- The number on a line is the one that the sentence gives.
-pub number-so : (m : Said) (number : Number) → IsNumbered m number → numberOn (m .kind) (m .number) ≡ number
+pub number-so : (m : Message) (number : Number) → IsNumbered m number → numberOn (m .kind) (m .number) ≡ number
 number-so m number (of-signal is) = ap (λ (k : Kind). numberOn k (m .number)) is
 number-so m number (of-other other) = go (m .kind) refl
   where
@@ -90,7 +90,7 @@ number-so m number (of-other other) = go (m .kind) refl
     go Kind.Route e = refl
 
 -- Every line has a number, or none.
-pub number-on : (m : Said) → (number : Number) × IsNumbered m number
+pub number-on : (m : Message) → (number : Number) × IsNumbered m number
 number-on m = go (m .kind) refl
   where
     go : (k : Kind) → m .kind ≡ k → (number : Number) × IsNumbered m number

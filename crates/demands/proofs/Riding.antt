@@ -7,7 +7,6 @@ use Prim.Native.Nat.{_+_, _-_, _*_}
 use borrow.Author.Tests.{lt-ltb, le-ltb}
 use Rattle.words.specs.Answer.{gives, pick}
 use Rattle.group.specs.Judge.{judge}
-use Rattle.group.specs.Says.{saysContent, saysMessage}
 use Rattle.group.specs.declared.Group.{Group}
 use Rattle.group.specs.declared.Judged.{Judged}
 use Rattle.group.specs.declared.Message.{Message}
@@ -66,18 +65,18 @@ step3 o lines k given known =
 -- ---- a group closes
 
 -- Its line, with its mark and its number.
-line-so : (g : Group) (m : Message) → judge g ≡ gives (saysMessage m) → (linking : Linking) (mark : Mark) (number : Number) → IsMarked linking m mark → IsNumbered m number
-    → Line.Group (seenFrom (saysMessage m) linking) ≡ lineOf m mark number
+line-so : (g : Group) (m : Message) → judge g ≡ gives m → (linking : Linking) (mark : Mark) (number : Number) → IsMarked linking m mark → IsNumbered m number
+    → Line.Group (seenFrom m linking) ≡ lineOf m mark number
 line-so g m judged linking mark number marked numbered =
     ap₂ (λ (v : Mark) (n : Number). lineOf m v n) (mark-so g m judged linking mark marked) (number-so m number numbered)
 
 module _ (o : OneStep) (m : Message) (b : LeavesBehind o) (j : JudgeGroup (o .ride .group) (Judged.Accepted m)) where
   -- what is known after it, before step 3
   abbrev told : Known
-  told = knownFrom (saysContent (m .content)) (m .place) (m .number) (before o)
+  told = knownFrom (m .content) (m .place) (m .number) (before o)
 
-  closed-so : saysStepped (o .answer) ≡ afterClosing (entry o) (closeAs (o .ride .group) (before o) (gives (saysMessage m)))
-  closed-so = closes o b (gives (saysMessage m)) (sym (j .1))
+  closed-so : saysStepped (o .answer) ≡ afterClosing (entry o) (closeAs (o .ride .group) (before o) (gives m))
+  closed-so = closes o b (gives m) (sym (j .1))
 
   module _ (mark : Mark) (number : Number) (marked : IsMarked (before o .linking) m mark) (numbered : IsNumbered m number) where
     closed-step3 : Step3 o (lineOf m mark number ∷ []) told
@@ -134,13 +133,13 @@ moved o a = ap (λ (v : Step). v .ride .odometer) (goes-on o a)
 
 ended-so : (ride : Ride) (r : Ended) (m : Message) (mark : Mark) (number : Number) → EndOf ride r → isOpen (ride .group) ≡ true → JudgeGroup (ride .group) (Judged.Accepted m)
     → IsMarked (ride .known .linking) m mark → IsNumbered m number
-    → (saysEnded r ≡ ended (ride .odometer) (record { lines = lineOf m mark number ∷ []; closed = ride .group; group = noGroup; known = knownFrom (saysContent (m .content)) (m .place) (m .number) (ride .known) }))
+    → (saysEnded r ≡ ended (ride .odometer) (record { lines = lineOf m mark number ∷ []; closed = ride .group; group = noGroup; known = knownFrom (m .content) (m .place) (m .number) (ride .known) }))
 unfolding end close
 ended-so ride r m mark number c is j marked numbered =
     c .1
     ∙ ap (λ (t : Bool). ended (ride .odometer) (pick t (close (ride .group) (ride .known)) (leave (ride .group) (ride .known)))) is
     ∙ ap (λ (o : _). ended (ride .odometer) (closeAs (ride .group) (ride .known) o)) (sym (j .1))
-    ∙ ap (λ (l : Line). ended (ride .odometer) (record { lines = l ∷ []; closed = ride .group; group = noGroup; known = knownFrom (saysContent (m .content)) (m .place) (m .number) (ride .known) }))
+    ∙ ap (λ (l : Line). ended (ride .odometer) (record { lines = l ∷ []; closed = ride .group; group = noGroup; known = knownFrom (m .content) (m .place) (m .number) (ride .known) }))
     (line-so (ride .group) m (sym (j .1)) (ride .known .linking) mark number marked numbered)
 
 nothing-so : (ride : Ride) (r : Ended) → EndOf ride r → isOpen (ride .group) ≡ false → saysEnded r ≡ record { lines = []; closed = noGroup; ride = ride }

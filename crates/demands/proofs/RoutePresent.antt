@@ -10,7 +10,8 @@ use Rattle.words.specs.Answer.{Outcome, gives, refuses, pick}
 use Rattle.group.specs.Balise.{balises, then, readAll}
 use Rattle.walk.specs.Row.{Row, row, fits, Found, none, found, calledA, Fit, misfit, fit, fitWith, fitRow, orElse, fitRows}
 use Rattle.walk.specs.Rows.{present, opposite, howMany, fitIn}
-use Rattle.group.specs.Message.{Content, Message}
+use Rattle.group.specs.declared.Content.{Content}
+use Rattle.group.specs.declared.Message.{Message}
 use Rattle.group.specs.Numbers.{numberOf}
 use Rattle.group.specs.Judge.{contentOf, messageOf, judgeRead, judge}
 use Rattle.walk.specs.Fitting.{speedOf, fitting}

@@ -13,7 +13,7 @@ use Rattle.walk.specs.Rows.{howMany, fitIn}
 use Rattle.group.specs.Distance.{distance}
 use Rattle.group.specs.Speed.{signalSpeed, targetFigure}
 use Rattle.walk.specs.Fitting.{routeSpeed, fitting}
-use Rattle.group.specs.Message.{Message}
+use Rattle.group.specs.declared.Message.{Message}
 use Rattle.group.specs.Numbers.{numberOf}
 use Rattle.group.specs.Judge.{distanceOf, signalDistance, judgeRead, judge}
 use Rattle.demands.specs.RowCases.{RowCase, groupOf, presentCases, oppositeCases, outsideCases, AllJudged}

@@ -18,7 +18,7 @@ use Rattle.group.specs.Speed.{signalSpeed, targetFigure}
 use Rattle.walk.specs.Fitting.{routeSpeed}
 use Rattle.walk.proofs.OneWay.{one-way}
 use Rattle.group.specs.Judge.{yOf, zOf, B, C, P, distanceOf, signalDistance, judgeRead, judge}
-use Rattle.group.specs.Says.{saysMeasured, saysTold, saysContent, saysMessage}
+use Rattle.group.specs.Says.{saysMeasured}
 use Rattle.group.specs.declared.Content.{Content}
 use Rattle.group.specs.declared.Group.{Group}
 use Rattle.group.specs.declared.Measured.{Measured}
@@ -53,13 +53,9 @@ rows-judge g one five u =
 
 -- ---- distances
 
-announces : (bs : List Placed) (d : ℕ) (preset : Bool) → distanceOf bs ≡ gives d → preset ≡ isPreset (yOf (B bs)) → Announces bs d preset
+announces : (bs : List Placed) (d : ℕ) → distanceOf bs ≡ gives d → Announces bs d
 unfolding distanceOf
-announces bs d preset e p =
-    record {
-      distance = λ q c. told saysMeasured group-is.measured group-is.measured-back q (Measured.Dm d) (c .1) (sym (linked (yOf (B bs)) (zOf (B bs)) d (C bs) e));
-      preset-is = p;
-    }
+announces bs d e q c = told saysMeasured group-is.measured group-is.measured-back q (Measured.Dm d) (c .1) (sym (linked (yOf (B bs)) (zOf (B bs)) d (C bs) e))
 
 -- a distance that is given is table DF's, and no preset point's that cannot be
 given : (az : ℕ) (bs : List Placed) (d : ℕ) → signalDistance az bs ≡ gives d → (isPreset (yOf (B bs)) && noIncrease az ≡ false) × (distanceOf bs ≡ gives d)
@@ -72,76 +68,72 @@ given az bs d e = go (isPreset (yOf (B bs)) && noIncrease az) e
 
 -- ---- speeds
 
-same-told : (v w : Told) → saysTold v ≡ saysTold w → v ≡ w
-same-told v w e = told saysTold group-is.speed group-is.speed-back v w e refl
-
-nought : signalSpeed 0 ≡ saysTold (Told.Kmh 0)
+nought : signalSpeed 0 ≡ Told.Kmh 0
 unfolding signalSpeed
 nought = refl
 
-speeds-so : (bs : List Placed) (m : Message) (main target : Told) → saysTold main ≡ signalSpeed (m .ay)
-    → saysTold target ≡ signalSpeed (targetFigure (m .ay) (m .az) (yOf (P bs)) (zOf (P bs))) → Speeds bs m main target
+speeds-so : (bs : List Placed) (m : Message) (main target : Told) → main ≡ signalSpeed (m .ay)
+    → target ≡ signalSpeed (targetFigure (m .ay) (m .az) (yOf (P bs)) (zOf (P bs))) → Speeds bs m main target
 speeds-so bs m main target a z =
     record {
-      main-is = λ v c. same-told main v (a ∙ sym (c .1));
-      target-0 = λ p. same-told target (Told.Kmh 0) (z ∙ ap signalSpeed (target-prefixed (m .ay) (m .az) (yOf (P bs)) (zOf (P bs)) p) ∙ nought);
-      target-is = λ other v c. same-told target v (z ∙ ap signalSpeed (target-not (m .ay) (m .az) (yOf (P bs)) (zOf (P bs)) other) ∙ sym (c .1));
+      main-is = λ v c. a ∙ sym (c .1);
+      target-0 = λ p. z ∙ ap signalSpeed (target-prefixed (m .ay) (m .az) (yOf (P bs)) (zOf (P bs)) p) ∙ nought;
+      target-is = λ other v c. z ∙ ap signalSpeed (target-not (m .ay) (m .az) (yOf (P bs)) (zOf (P bs)) other) ∙ sym (c .1);
     }
 
 -- ---- what groups say
 
 signal-so : (bs : List Placed) (m : Message) (d : ℕ) (preset : Bool) (main target : Told) → m .content ≡ Content.Signal d preset main target
-    → View bs (saysMessage m) → Announces bs d preset × Speeds bs m main target
+    → View bs m → Announces bs d × (preset ≡ isPreset (yOf (B bs))) × Speeds bs m main target
 signal-so bs m d preset main target e (signal _ _ k far is) =
-    let both = sym (ap saysContent e) ∙ is in
+    let both = sym e ∙ is in
     let same-d : k ≡ d = cc in
     let same-p : preset ≡ isPreset (yOf (B bs)) = cc in
-    let same-m : saysTold main ≡ signalSpeed (m .ay) = cc in
-    let same-t : saysTold target ≡ signalSpeed (targetFigure (m .ay) (m .az) (yOf (P bs)) (zOf (P bs))) = cc in
-    (announces bs d preset (given (m .az) bs k far .1 ∙ ap gives same-d) same-p, speeds-so bs m main target same-m same-t)
+    let same-m : main ≡ signalSpeed (m .ay) = cc in
+    let same-t : target ≡ signalSpeed (targetFigure (m .ay) (m .az) (yOf (P bs)) (zOf (P bs))) = cc in
+    (announces bs d (given (m .az) bs k far .1 ∙ ap gives same-d), same-p, speeds-so bs m main target same-m same-t)
 signal-so bs m d preset main target e (warning _ _ k far is) =
-    absurd (let both = sym (ap saysContent e) ∙ is in let z : _≡_ {A = ℕ} 0 1 = cc in omega arith)
+    absurd (let both = sym e ∙ is in let z : _≡_ {A = ℕ} 0 1 = cc in omega arith)
 signal-so bs m d preset main target e (route _ _ is) =
-    absurd (let both = sym (ap saysContent e) ∙ is in let z : _≡_ {A = ℕ} 0 1 = cc in omega arith)
+    absurd (let both = sym e ∙ is in let z : _≡_ {A = ℕ} 0 1 = cc in omega arith)
 signal-so bs m d preset main target e (plain _ is) =
-    absurd (let both = sym (ap saysContent e) ∙ is in let z : _≡_ {A = ℕ} 0 1 = cc in omega arith)
+    absurd (let both = sym e ∙ is in let z : _≡_ {A = ℕ} 0 1 = cc in omega arith)
 
 -- an accepted preset point has a target above 40
 preset-so : (bs : List Placed) (m : Message) (d : ℕ) (main target : Told) → m .content ≡ Content.Signal d true main target
-    → View bs (saysMessage m) → noIncrease (m .az) ≡ false
+    → View bs m → noIncrease (m .az) ≡ false
 preset-so bs m d main target e (signal _ _ k far is) =
-    let both = sym (ap saysContent e) ∙ is in
+    let both = sym e ∙ is in
     let so : true ≡ isPreset (yOf (B bs)) = cc in
     let not-both = given (m .az) bs k far .0 in
     ap (λ (t : Bool). t && noIncrease (m .az)) so ∙ not-both
 preset-so bs m d main target e (warning _ _ k far is) =
-    absurd (let both = sym (ap saysContent e) ∙ is in let z : _≡_ {A = ℕ} 0 1 = cc in omega arith)
+    absurd (let both = sym e ∙ is in let z : _≡_ {A = ℕ} 0 1 = cc in omega arith)
 preset-so bs m d main target e (route _ _ is) =
-    absurd (let both = sym (ap saysContent e) ∙ is in let z : _≡_ {A = ℕ} 0 1 = cc in omega arith)
+    absurd (let both = sym e ∙ is in let z : _≡_ {A = ℕ} 0 1 = cc in omega arith)
 preset-so bs m d main target e (plain _ is) =
-    absurd (let both = sym (ap saysContent e) ∙ is in let z : _≡_ {A = ℕ} 0 1 = cc in omega arith)
+    absurd (let both = sym e ∙ is in let z : _≡_ {A = ℕ} 0 1 = cc in omega arith)
 
-warning-so : (bs : List Placed) (m : Message) (d : ℕ) (preset : Bool) → m .content ≡ Content.Warning d preset → View bs (saysMessage m) → Announces bs d preset
-warning-so bs m d preset e (warning _ _ k far is) =
-    let both = sym (ap saysContent e) ∙ is in
+warning-so : (bs : List Placed) (m : Message) (d : ℕ) → m .content ≡ Content.Warning d → View bs m → Announces bs d
+warning-so bs m d e (warning _ _ k far is) =
+    let both = sym e ∙ is in
     let same-d : k ≡ d = cc in
-    let same-p : preset ≡ isPreset (yOf (B bs)) = cc in
-    announces bs d preset (far ∙ ap gives same-d) same-p
-warning-so bs m d preset e (signal _ _ k far is) =
-    absurd (let both = sym (ap saysContent e) ∙ is in let z : _≡_ {A = ℕ} 0 1 = cc in omega arith)
-warning-so bs m d preset e (route _ _ is) =
-    absurd (let both = sym (ap saysContent e) ∙ is in let z : _≡_ {A = ℕ} 0 1 = cc in omega arith)
-warning-so bs m d preset e (plain _ is) =
-    absurd (let both = sym (ap saysContent e) ∙ is in let z : _≡_ {A = ℕ} 0 1 = cc in omega arith)
+    announces bs d (far ∙ ap gives same-d)
+warning-so bs m d e (signal _ _ k far is) =
+    absurd (let both = sym e ∙ is in let z : _≡_ {A = ℕ} 0 1 = cc in omega arith)
+warning-so bs m d e (route _ _ is) =
+    absurd (let both = sym e ∙ is in let z : _≡_ {A = ℕ} 0 1 = cc in omega arith)
+warning-so bs m d e (plain _ is) =
+    absurd (let both = sym e ∙ is in let z : _≡_ {A = ℕ} 0 1 = cc in omega arith)
 
-route-so : (bs : List Placed) (m : Message) (v : ℕ) → m .content ≡ Content.Route v → View bs (saysMessage m) → v ≡ routeSpeed (m .ay) (m .az)
-route-so bs m v e (route _ _ is) = let both = sym (ap saysContent e) ∙ is in cc
+route-so : (bs : List Placed) (m : Message) (v : ℕ) → m .content ≡ Content.Route v → View bs m → v ≡ routeSpeed (m .ay) (m .az)
+route-so bs m v e (route _ _ is) = let both = sym e ∙ is in cc
 route-so bs m v e (signal _ _ k far is) =
-    absurd (let both = sym (ap saysContent e) ∙ is in let z : _≡_ {A = ℕ} 0 1 = cc in omega arith)
+    absurd (let both = sym e ∙ is in let z : _≡_ {A = ℕ} 0 1 = cc in omega arith)
 route-so bs m v e (warning _ _ k far is) =
-    absurd (let both = sym (ap saysContent e) ∙ is in let z : _≡_ {A = ℕ} 0 1 = cc in omega arith)
+    absurd (let both = sym e ∙ is in let z : _≡_ {A = ℕ} 0 1 = cc in omega arith)
 route-so bs m v e (plain _ is) =
-    absurd (let both = sym (ap saysContent e) ∙ is in let z : _≡_ {A = ℕ} 0 1 = cc in omega arith)
+    absurd (let both = sym e ∙ is in let z : _≡_ {A = ℕ} 0 1 = cc in omega arith)
 
 pub groups : Groups
 unfolding routeSpeed
@@ -149,20 +141,20 @@ groups = record {
   by-rows = λ g r c one five u. c .1 ∙ rows-judge g one five u;
   one-way = one-way;
   its-a = λ g m c. has-a g m (sym (c .1));
-  its-number = λ g m c. has-number g (saysMessage m) (sym (c .1));
-  content = λ g m c. content-so (partsOf g) m (m .content) refl (view g (saysMessage m) (sym (c .1)));
-  signal = λ g m d preset main target c e. signal-so (partsOf g) m d preset main target e (view g (saysMessage m) (sym (c .1)));
+  its-number = λ g m c. has-number g m (sym (c .1));
+  content = λ g m c. content-so (partsOf g) m (m .content) refl (view g m (sym (c .1)));
+  signal = λ g m d preset main target c e. signal-so (partsOf g) m d preset main target e (view g m (sym (c .1)));
   preset-target = λ g m d main target c e.
-      let other = preset-so (partsOf g) m d main target e (view g (saysMessage m) (sym (c .1))) in (
+      let other = preset-so (partsOf g) m d main target e (view g m (sym (c .1))) in (
         λ z. true-not-false (ap noIncrease (sym z) ∙ other),
         λ z. true-not-false (ap noIncrease (sym z) ∙ other),
         λ z. true-not-false (ap noIncrease (sym z) ∙ other),
       );
-  warning = λ g m d preset c e. warning-so (partsOf g) m d preset e (view g (saysMessage m) (sym (c .1)));
+  warning = λ g m d c e. warning-so (partsOf g) m d e (view g m (sym (c .1)));
   route = λ g m v c e.
-      let is = route-so (partsOf g) m v e (view g (saysMessage m) (sym (c .1))) in
+      let is = route-so (partsOf g) m v e (view g m (sym (c .1))) in
       (λ two. is ∙ ap (λ (y : ℕ). routeSpeed y (m .az)) two, λ four. is ∙ ap (λ (y : ℕ). routeSpeed y (m .az)) four);
-  route-present = λ g m c. route-present g (saysMessage m) (sym (c .1));
+  route-present = λ g m c. route-present g m (sym (c .1));
   distances = λ by f r c l a b. c .1 ∙ entry by f l a b;
   preset = λ f d c. preset-range f d (sym (c .1));
   speed = λ f r c l. c .1 ∙ speed-in f l;

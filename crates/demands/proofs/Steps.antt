@@ -8,7 +8,7 @@ use lib.Dec.{ltb}
 use borrow.Author.Tests.{lt-ltb, le-ltb}
 use Rattle.words.specs.Answer.{Outcome, gives, refuses, pick}
 use Rattle.group.specs.Judge.{judge}
-use Rattle.group.specs.Message.{Message}
+use Rattle.group.specs.declared.Message.{Message}
 use Rattle.group.specs.Says.{saysJudged}
 use Rattle.group.specs.declared.Judged.{Judged}
 use Rattle.ride.specs.Record.{Entry}

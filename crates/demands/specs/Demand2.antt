@@ -12,6 +12,7 @@ use Prim.Native.Nat.{ℕ, _+_, _*_, _≤_, _<_}
 use mathlib.Core.Path.{_≡_}
 use mathlib.Core.Bool.{Bool, true, false}
 use mathlib.Core.List.{List, map, List·Memᴰ}
+use lib.Dec.{eqb}
 use lib.ListN.{getD}
 use Rattle.words.specs.Answer.{gives, refuses}
 use Rattle.words.specs.Why.{Why, why, are, unsaid}
@@ -29,12 +30,12 @@ use Rattle.telegram.specs.declared.Found.{Found}
 use Rattle.telegram.specs.declared.Telegram.{Telegram}
 use Rattle.telegram.specs.declared.TelegramRead.{TelegramRead}
 use Rattle.group.specs.Distance.{columns, Column, column, plus, inColumn}
-use Rattle.group.specs.Speed.{speeds, kmh, noInformation}
+use Rattle.group.specs.Speed.{speeds}
 use Rattle.walk.specs.OneWay.{OneWay}
 use Rattle.walk.specs.declared.Direction.{Direction}
 use Rattle.walk.specs.declared.Kind.{Kind}
-use Rattle.group.specs.Judge.{judgeRead}
-use Rattle.group.specs.Says.{saysMeasured, saysTold, saysJudged}
+use Rattle.group.specs.Judge.{yOf, B, judgeRead}
+use Rattle.group.specs.Says.{saysMeasured, saysJudged}
 use Rattle.group.specs.declared.Content.{Content}
 use Rattle.group.specs.declared.Group.{Group}
 use Rattle.group.specs.declared.Judged.{Judged}
@@ -130,12 +131,11 @@ pub record Groups : Type 0 where
   pub content : (g : Group) (m : Message) → JudgeGroup g (Judged.Accepted m) → Content-of m
   -- what present signals, present warning boards and route boards (10 x AZ km/h with AY 2, 140 km/h with AY 4) say
   pub signal : (g : Group) (m : Message) (d : ℕ) (preset : Bool) (main target : Told) → JudgeGroup g (Judged.Accepted m)
-      → m .content ≡ Content.Signal d preset main target → Announces (partsOf g) d preset × Speeds (partsOf g) m main target
+      → m .content ≡ Content.Signal d preset main target → Announces (partsOf g) d × (preset ≡ eqb (yOf (B (partsOf g))) 14) × Speeds (partsOf g) m main target
   -- "a present signal with BY = 14 and AZ of 0, 1 or 13 is refused with 15": an accepted preset point has another target figure
   pub preset-target : (g : Group) (m : Message) (d : ℕ) (main target : Told) → JudgeGroup g (Judged.Accepted m)
       → m .content ≡ Content.Signal d true main target → (m .az ≡ 0 → ⊥) × (m .az ≡ 1 → ⊥) × (m .az ≡ 13 → ⊥)
-  pub warning : (g : Group) (m : Message) (d : ℕ) (preset : Bool) → JudgeGroup g (Judged.Accepted m)
-      → m .content ≡ Content.Warning d preset → Announces (partsOf g) d preset
+  pub warning : (g : Group) (m : Message) (d : ℕ) → JudgeGroup g (Judged.Accepted m) → m .content ≡ Content.Warning d → Announces (partsOf g) d
   pub route : (g : Group) (m : Message) (v : ℕ) → JudgeGroup g (Judged.Accepted m) → m .content ≡ Content.Route v
       → (m .ay ≡ 2 → v ≡ 10 * m .az) × (m .ay ≡ 4 → v ≡ 140)
   -- "route, present only"
@@ -145,8 +145,8 @@ pub record Groups : Type 0 where
       → saysMeasured r ≡ gives (inColumn (getD columns by noColumn) figure)
   pub preset : (figure d : ℕ) → Distance 14 figure (Measured.Dm d) → (500 ≤ d) × (d ≤ 7000)
   -- every signal speed, and "14 means no information"; so does what is above 14, which no telegram carries
-  pub speed : (figure : ℕ) (r : Told) → Speed figure r → figure < 14 → saysTold r ≡ kmh (getD speeds figure 0)
-  pub no-speed : (figure : ℕ) (r : Told) → Speed figure r → 14 ≤ figure → saysTold r ≡ noInformation
+  pub speed : (figure : ℕ) (r : Told) → Speed figure r → figure < 14 → r ≡ Told.Kmh (getD speeds figure 0)
+  pub no-speed : (figure : ℕ) (r : Told) → Speed figure r → 14 ≤ figure → r ≡ Told.Unknown
 
 -- Demand 2.
 pub record Demand2 : Type 0 where

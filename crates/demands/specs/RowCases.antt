@@ -7,16 +7,17 @@ use mathlib.Core.Bool.{true, false}
 use mathlib.Core.List.{List, [], _∷_, _++_}
 use lib.ListN.{length, take, getD, replicate}
 use Rattle.words.specs.Answer.{Outcome, gives, refuses}
-use Rattle.group.specs.Message.{Content, ofSignal, ofWarning, ofRoute, nothing, Message}
-use Rattle.group.specs.Speed.{kmh, noInformation}
 use Rattle.group.specs.Says.{saysJudged}
 use Rattle.group.specs.declared.Balise.{Balise}
+use Rattle.group.specs.declared.Content.{Content}
 use Rattle.walk.specs.declared.Direction.{Direction}
 use Rattle.group.specs.declared.Group.{Group}
 use Rattle.group.specs.declared.Heard.{Heard}
 use Rattle.group.specs.declared.Judged.{Judged}
+use Rattle.group.specs.declared.Message.{Message}
 use Rattle.walk.specs.declared.Kind.{Kind}
 use Rattle.group.specs.declared.Number.{Number}
+use Rattle.group.specs.declared.Told.{Told}
 use Rattle.demands.specs.Cases.{M8}
 use Rattle.demands.specs.Contracts.{JudgeGroup}
 
@@ -65,7 +66,7 @@ present = is Direction.Present
 
 -- A group in the opposite direction: it says nothing more.
 abbrev pub opposite : List Heard → Kind → ℕ → ℕ → ℕ → Number → RowCase
-opposite hs kind place ay az number = is Direction.Opposite hs kind place ay az number nothing
+opposite hs kind place ay az number = is Direction.Opposite hs kind place ay az number Content.Nothing
 
 -- The number of a group with N; that of a group without.
 abbrev pub n1612 : Number
@@ -82,40 +83,40 @@ refusedAs n hs = record { balises = hs; judged = refuses n }
 abbrev pub presentCases : List RowCase
 presentCases =
     -- signal: [12] [8] 1 9 [14] [12]; the prefix makes target figure 1 read 0; AY 14 and AZ 14 give no information; BY 14 is preset
-    present (f 1 8 5 ∷ f 9 2 4 ∷ []) Kind.Signal 1000 8 5 noN (ofSignal 4000 false (kmh 130) (kmh 80))
-    ∷ present (N ∷ f 8 7 1 ∷ f 1 8 1 ∷ f 9 2 0 ∷ f 14 4 0 ∷ []) Kind.Signal 1060 8 1 n1612 (ofSignal 4000 false (kmh 130) (kmh 0))
-    ∷ present (f 8 7 0 ∷ f 1 8 1 ∷ f 9 2 0 ∷ f 14 4 0 ∷ N ∷ []) Kind.Signal 1030 8 1 n1612 (ofSignal 4000 false (kmh 130) (kmh 40))
-    ∷ present (f 1 14 14 ∷ f 9 14 1 ∷ []) Kind.Signal 1000 14 14 noN (ofSignal 7000 true noInformation noInformation)
+    present (f 1 8 5 ∷ f 9 2 4 ∷ []) Kind.Signal 1000 8 5 noN (Content.Signal 4000 false (Told.Kmh 130) (Told.Kmh 80))
+    ∷ present (N ∷ f 8 7 1 ∷ f 1 8 1 ∷ f 9 2 0 ∷ f 14 4 0 ∷ []) Kind.Signal 1060 8 1 n1612 (Content.Signal 4000 false (Told.Kmh 130) (Told.Kmh 0))
+    ∷ present (f 8 7 0 ∷ f 1 8 1 ∷ f 9 2 0 ∷ f 14 4 0 ∷ N ∷ []) Kind.Signal 1030 8 1 n1612 (Content.Signal 4000 false (Told.Kmh 130) (Told.Kmh 40))
+    ∷ present (f 1 14 14 ∷ f 9 14 1 ∷ []) Kind.Signal 1000 14 14 noN (Content.Signal 7000 true Told.Unknown Told.Unknown)
     -- a preset point with AZ 2, 12 or 14, with a 14 and without; BY 13 with AZ 13
-    ∷ present (f 1 1 2 ∷ f 9 14 14 ∷ []) Kind.Signal 1000 1 2 noN (ofSignal 500 true (kmh 40) (kmh 50))
-    ∷ present (f 1 1 2 ∷ f 9 14 0 ∷ f 14 1 0 ∷ []) Kind.Signal 1000 1 2 noN (ofSignal 7000 true (kmh 40) (kmh 50))
-    ∷ present (f 1 1 12 ∷ f 9 14 1 ∷ []) Kind.Signal 1000 1 12 noN (ofSignal 7000 true (kmh 40) (kmh 270))
-    ∷ present (f 1 1 12 ∷ f 9 14 0 ∷ f 14 14 0 ∷ []) Kind.Signal 1000 1 12 noN (ofSignal 500 true (kmh 40) (kmh 270))
-    ∷ present (f 1 14 14 ∷ f 9 14 0 ∷ f 14 1 0 ∷ []) Kind.Signal 1000 14 14 noN (ofSignal 7000 true noInformation noInformation)
-    ∷ present (f 1 1 13 ∷ f 9 13 1 ∷ []) Kind.Signal 1000 1 13 noN (ofSignal 106000 false (kmh 40) (kmh 0))
+    ∷ present (f 1 1 2 ∷ f 9 14 14 ∷ []) Kind.Signal 1000 1 2 noN (Content.Signal 500 true (Told.Kmh 40) (Told.Kmh 50))
+    ∷ present (f 1 1 2 ∷ f 9 14 0 ∷ f 14 1 0 ∷ []) Kind.Signal 1000 1 2 noN (Content.Signal 7000 true (Told.Kmh 40) (Told.Kmh 50))
+    ∷ present (f 1 1 12 ∷ f 9 14 1 ∷ []) Kind.Signal 1000 1 12 noN (Content.Signal 7000 true (Told.Kmh 40) (Told.Kmh 270))
+    ∷ present (f 1 1 12 ∷ f 9 14 0 ∷ f 14 14 0 ∷ []) Kind.Signal 1000 1 12 noN (Content.Signal 500 true (Told.Kmh 40) (Told.Kmh 270))
+    ∷ present (f 1 14 14 ∷ f 9 14 0 ∷ f 14 1 0 ∷ []) Kind.Signal 1000 14 14 noN (Content.Signal 7000 true Told.Unknown Told.Unknown)
+    ∷ present (f 1 1 13 ∷ f 9 13 1 ∷ []) Kind.Signal 1000 1 13 noN (Content.Signal 106000 false (Told.Kmh 40) (Told.Kmh 0))
     -- and the same with 4 for 1
-    ∷ present (f 4 8 5 ∷ f 9 13 14 ∷ []) Kind.Signal 1000 8 5 noN (ofSignal 119000 false (kmh 130) (kmh 80))
-    ∷ present (N ∷ f 8 14 14 ∷ f 4 14 1 ∷ f 9 0 0 ∷ f 14 1 0 ∷ []) Kind.Signal 1060 14 1 n1612 (ofSignal 125 false noInformation (kmh 0))
-    ∷ present (f 8 6 1 ∷ f 4 13 1 ∷ f 9 0 0 ∷ f 14 14 0 ∷ N ∷ []) Kind.Signal 1030 13 1 n1612 (ofSignal 1750 false (kmh 0) (kmh 40))
+    ∷ present (f 4 8 5 ∷ f 9 13 14 ∷ []) Kind.Signal 1000 8 5 noN (Content.Signal 119000 false (Told.Kmh 130) (Told.Kmh 80))
+    ∷ present (N ∷ f 8 14 14 ∷ f 4 14 1 ∷ f 9 0 0 ∷ f 14 1 0 ∷ []) Kind.Signal 1060 14 1 n1612 (Content.Signal 125 false Told.Unknown (Told.Kmh 0))
+    ∷ present (f 8 6 1 ∷ f 4 13 1 ∷ f 9 0 0 ∷ f 14 14 0 ∷ N ∷ []) Kind.Signal 1030 13 1 n1612 (Content.Signal 1750 false (Told.Kmh 0) (Told.Kmh 40))
     -- warning board: [8] 2 9 [14] [12], AZ 0 to 13 and BY 0 to 13
-    ∷ present (f 2 0 0 ∷ f 9 0 1 ∷ []) Kind.Warning 1000 0 0 noN (ofWarning 125 false)
-    ∷ present (f 8 0 0 ∷ f 2 14 13 ∷ f 9 13 0 ∷ f 14 14 0 ∷ N ∷ []) Kind.Warning 1030 14 13 n1612 (ofWarning 119000 false)
+    ∷ present (f 2 0 0 ∷ f 9 0 1 ∷ []) Kind.Warning 1000 0 0 noN (Content.Warning 125)
+    ∷ present (f 8 0 0 ∷ f 2 14 13 ∷ f 9 13 0 ∷ f 14 14 0 ∷ N ∷ []) Kind.Warning 1030 14 13 n1612 (Content.Warning 119000)
     -- annulled: [12] [8] 10 9 [14] [12]; no distance is judged
-    ∷ present (f 10 0 0 ∷ f 9 0 0 ∷ []) Kind.Annulled 1000 0 0 noN nothing
-    ∷ present (N ∷ f 8 0 0 ∷ f 10 14 14 ∷ f 9 14 14 ∷ f 14 0 0 ∷ []) Kind.Annulled 1060 14 14 n1612 nothing
-    ∷ present (f 8 0 0 ∷ f 10 14 14 ∷ f 9 14 14 ∷ f 14 0 0 ∷ N ∷ []) Kind.Annulled 1030 14 14 n1612 nothing
+    ∷ present (f 10 0 0 ∷ f 9 0 0 ∷ []) Kind.Annulled 1000 0 0 noN Content.Nothing
+    ∷ present (N ∷ f 8 0 0 ∷ f 10 14 14 ∷ f 9 14 14 ∷ f 14 0 0 ∷ []) Kind.Annulled 1060 14 14 n1612 Content.Nothing
+    ∷ present (f 8 0 0 ∷ f 10 14 14 ∷ f 9 14 14 ∷ f 14 0 0 ∷ N ∷ []) Kind.Annulled 1030 14 14 n1612 Content.Nothing
     -- line speed board: 3 5 if AY is 0 to 8; 3 M if AY is 9 to 14; AZ 0 to 13
-    ∷ present (f 3 0 0 ∷ f 5 0 0 ∷ []) Kind.Line 1000 0 0 noN nothing
-    ∷ present (f 3 8 13 ∷ f 5 14 14 ∷ []) Kind.Line 1000 8 13 noN nothing
-    ∷ present (f 3 9 0 ∷ M ∷ []) Kind.Line 1000 9 0 noN nothing
-    ∷ present (f 3 14 13 ∷ M ∷ []) Kind.Line 1000 14 13 noN nothing
+    ∷ present (f 3 0 0 ∷ f 5 0 0 ∷ []) Kind.Line 1000 0 0 noN Content.Nothing
+    ∷ present (f 3 8 13 ∷ f 5 14 14 ∷ []) Kind.Line 1000 8 13 noN Content.Nothing
+    ∷ present (f 3 9 0 ∷ M ∷ []) Kind.Line 1000 9 0 noN Content.Nothing
+    ∷ present (f 3 14 13 ∷ M ∷ []) Kind.Line 1000 14 13 noN Content.Nothing
     -- route board: 5 followed by 3, 5 or 7, with AY 2 and AZ 0 to 13 (10 x AZ km/h), or AY 4 and AZ 10 (140 km/h)
-    ∷ present (f 5 2 0 ∷ f 3 0 0 ∷ []) Kind.Route 1000 2 0 noN (ofRoute 0)
-    ∷ present (f 5 2 13 ∷ f 5 2 12 ∷ []) Kind.Route 1000 2 13 noN (ofRoute 130)
-    ∷ present (f 5 2 9 ∷ f 7 0 0 ∷ []) Kind.Route 1000 2 9 noN (ofRoute 90)
-    ∷ present (f 5 4 10 ∷ f 3 0 0 ∷ []) Kind.Route 1000 4 10 noN (ofRoute 140)
-    ∷ present (f 5 4 10 ∷ f 5 4 10 ∷ []) Kind.Route 1000 4 10 noN (ofRoute 140)
-    ∷ present (f 5 4 10 ∷ f 7 0 0 ∷ []) Kind.Route 1000 4 10 noN (ofRoute 140)
+    ∷ present (f 5 2 0 ∷ f 3 0 0 ∷ []) Kind.Route 1000 2 0 noN (Content.Route 0)
+    ∷ present (f 5 2 13 ∷ f 5 2 12 ∷ []) Kind.Route 1000 2 13 noN (Content.Route 130)
+    ∷ present (f 5 2 9 ∷ f 7 0 0 ∷ []) Kind.Route 1000 2 9 noN (Content.Route 90)
+    ∷ present (f 5 4 10 ∷ f 3 0 0 ∷ []) Kind.Route 1000 4 10 noN (Content.Route 140)
+    ∷ present (f 5 4 10 ∷ f 5 4 10 ∷ []) Kind.Route 1000 4 10 noN (Content.Route 140)
+    ∷ present (f 5 4 10 ∷ f 7 0 0 ∷ []) Kind.Route 1000 4 10 noN (Content.Route 140)
     ∷ []
 
 -- "Opposite direction, in the order passed"

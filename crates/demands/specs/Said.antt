@@ -5,7 +5,6 @@ use mathlib.Core.Path.{_≡_}
 use mathlib.Core.Logic.{_⊎_}
 use mathlib.Core.Bool.{Bool, true}
 use mathlib.Core.List.{List, [], _∷_, List·Memᴰ}
-use lib.Dec.{eqb}
 use Rattle.walk.specs.Row.{Found as Sought, none, found, isOneOf, Y as YOf, Z as ZOf}
 use Rattle.group.specs.Judge.{yOf, zOf, B, C, P}
 use Rattle.group.specs.declared.Content.{Content}
@@ -25,10 +24,9 @@ abbrev pub used : ℕ → Sought → ℕ
 used bz none = bz
 used bz (found c) = YOf (c .part)
 
--- The distance that a group of these balises announces, and whether it is a preset point: by column BY, with BZ or CY.
-pub record Announces (bs : List Placed) (d : ℕ) (preset : Bool) : Type 0 where
-  pub distance : (q : Measured) → Distance (yOf (B bs)) (used (zOf (B bs)) (C bs)) q → q ≡ Measured.Dm d
-  pub preset-is : preset ≡ eqb (yOf (B bs)) 14
+-- The distance that a group of these balises announces: by column BY, with BZ or CY.
+abbrev pub Announces : List Placed → ℕ → Type 0
+Announces bs d = (q : Measured) → Distance (yOf (B bs)) (used (zOf (B bs)) (C bs)) q → q ≡ Measured.Dm d
 
 -- "A prefix 8 with PY 7 to 14 and PZ not 0 makes target figure 1 read 0, if AY is 1 to 12 or 14."
 pub record Prefixed (ay az py pz : ℕ) : Type 0 where
@@ -48,7 +46,7 @@ pub record Speeds (bs : List Placed) (m : Message) (main target : Told) : Type 0
 -- What a message says beyond its kind: a present signal, a present warning board and a route board each its own, all others nothing.
 pub data Content-of (m : Message) : Type 0 where
   of-signal : IsSignal m → (d : ℕ) (preset : Bool) (main target : Told) → m .content ≡ Content.Signal d preset main target → Content-of m
-  of-warning : m .direction ≡ Direction.Present → m .kind ≡ Kind.Warning → (d : ℕ) (preset : Bool) → m .content ≡ Content.Warning d preset → Content-of m
+  of-warning : m .direction ≡ Direction.Present → m .kind ≡ Kind.Warning → (d : ℕ) → m .content ≡ Content.Warning d → Content-of m
   of-route : m .direction ≡ Direction.Present → m .kind ≡ Kind.Route → (v : ℕ) → m .content ≡ Content.Route v → Content-of m
   of-other : (m .direction ≡ Direction.Opposite) ⊎ ((m .kind ≡ Kind.Annulled) ⊎ (m .kind ≡ Kind.Line)) → m .content ≡ Content.Nothing → Content-of m
 

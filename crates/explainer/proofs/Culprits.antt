@@ -12,7 +12,6 @@ use Rattle.walk.specs.Row.{Y, Z, Found, none, found, first}
 use Rattle.walk.proofs.Bools.{false-true}
 use Rattle.group.specs.Balise as received
 use Rattle.group.specs.Distance.{noIncrease}
-use Rattle.group.specs.Message.{nothing}
 use Rattle.group.specs.Judge.{yOf, zOf, B, C, distanceOf}
 use Rattle.explainer.specs.Reason.{figure, noReason, because}
 use Rattle.explainer.specs.Explain.{indexOf, placeOf, isFound, bBreaks, cBreaks, whyDistance}

@@ -23,8 +23,10 @@ use Rattle.group.specs.Distance.{distance}
 use Rattle.group.specs.declared.Number.{Number}
 use Rattle.walk.specs.declared.Direction.{Direction}
 use Rattle.walk.specs.declared.Kind.{Kind}
-use Rattle.group.specs.Speed.{kmh, signalSpeed, targetFigure}
-use Rattle.group.specs.Message.{Message, ofSignal}
+use Rattle.group.specs.Speed.{signalSpeed, targetFigure}
+use Rattle.group.specs.declared.Told.{Told}
+use Rattle.group.specs.declared.Content.{Content}
+use Rattle.group.specs.declared.Message.{Message}
 use Rattle.group.specs.Numbers.{numberOf}
 use Rattle.group.specs.Judge.{distanceOf, signalDistance, judgeRead, judge}
 use Rattle.explainer.specs.Opening.{opensMembers, opensRows, isOpening, longestOf}
@@ -109,4 +111,4 @@ no-reason = refl
 pub accepted-of-the-ride : (m : Message) × (judge (two a-one a-nine) ≡ gives m)
 unfolding telegram shortWord longWord readWord parity onesOf isCode even count covers exchanged other bits figureOf onwards isCheck those judge readAll judgeRead numberOf fitting fitIn howMany fitRows fitRow fits first distanceOf signalDistance distance signalSpeed targetFigure
 accepted-of-the-ride =
-    (record { direction = Direction.Present; kind = Kind.Signal; place = 1000; ay = 8; az = 5; number = Number.None; content = ofSignal 4000 false (kmh 130) (kmh 80) }, refl)
+    (record { direction = Direction.Present; kind = Kind.Signal; place = 1000; ay = 8; az = 5; number = Number.None; content = Content.Signal 4000 false (Told.Kmh 130) (Told.Kmh 80) }, refl)

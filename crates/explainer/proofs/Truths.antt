@@ -22,7 +22,7 @@ use Rattle.group.specs.declared.Judged.{Judged}
 use Rattle.group.specs.Balise as received
 use Rattle.group.specs.Distance.{isPreset, noIncrease}
 use Rattle.group.specs.Numbers.{numberOf}
-use Rattle.group.specs.Message.{Message, nothing}
+use Rattle.group.specs.declared.Message.{Message}
 use Rattle.group.specs.Judge.{yOf, B, signalDistance, contentOf, messageOf, judgeAs, judgeRead, judge}
 use Rattle.group.specs.Says.{saysJudged}
 use Rattle.explainer.specs.declared.Reason.{Reason}

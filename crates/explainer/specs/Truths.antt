@@ -23,7 +23,7 @@ use Rattle.group.specs.declared.Group.{Group}
 use Rattle.group.specs.declared.Judged.{Judged}
 use Rattle.group.specs.Balise as received
 use Rattle.group.specs.Distance.{noIncrease}
-use Rattle.group.specs.Message.{Message}
+use Rattle.group.specs.declared.Message.{Message}
 use Rattle.group.specs.Judge.{B, C, judge}
 use Rattle.group.specs.Says.{saysJudged}
 use Rattle.explainer.specs.declared.Reason.{Reason}

@@ -1,7 +1,7 @@
 -- Each contract fixes its function's whole answer: any two answers that it allows are equal.
 -- Assumes nothing.
 use Prim.Native.Nat.{ℕ}
-use mathlib.Core.Path.{_≡_, refl}
+use mathlib.Core.Path.{_≡_, refl, sym, _∙_}
 use lib.Dec.{eqb}
 use contract.Lifetimes.{Lfts}
 use borrow.Fn.Kinds.{Dens, endedOf}
@@ -9,13 +9,10 @@ use denote.Triple.Clauses.{AtExit}
 use Rattle.words.specs.Answer.{Outcome, gives, refuses, pick}
 use Rattle.words.proofs.Told.{told}
 use Rattle.group.specs.declared.Measured.{Measured}
-use Rattle.group.specs.declared.Told.{Told as Speed}
-use Rattle.group.specs.declared.Content.{Content as More}
-use Rattle.group.specs.declared.Message.{Message as Said}
+use Rattle.group.specs.declared.Told.{Told}
+use Rattle.group.specs.declared.Message.{Message}
 use Rattle.group.specs.declared.Judged.{Judged}
-use Rattle.group.specs.Speed.{Told, kmh, noInformation}
-use Rattle.group.specs.Message.{Content, ofSignal, ofWarning, ofRoute, nothing, Message}
-use Rattle.group.specs.Says.{saysMeasured, saysTold, saysContent, saysMessage, saysJudged}
+use Rattle.group.specs.Says.{saysMeasured, saysJudged}
 use Rattle.group.proofs.distance.Kinds as distance-kinds
 use Rattle.group.proofs.distance.Reads as distance-reads
 use Rattle.group.proofs.speed.Kinds as speed-kinds
@@ -33,37 +30,8 @@ unfolding measured
 measured-back (Measured.Dm d) = refl
 measured-back Measured.NotAllowed = refl
 
-pub speed : Told → Speed
-speed (kmh v) = Speed.Kmh v
-speed noInformation = Speed.Unknown
-
-pub speed-back : (r : Speed) → speed (saysTold r) ≡ r
-unfolding speed
-speed-back (Speed.Kmh v) = refl
-speed-back Speed.Unknown = refl
-
-pub more : Content → More
-more (ofSignal d preset main target) = More.Signal d preset (speed main) (speed target)
-more (ofWarning d preset) = More.Warning d preset
-more (ofRoute v) = More.Route v
-more nothing = More.Nothing
-
-pub more-back : (r : More) → more (saysContent r) ≡ r
-unfolding more
-more-back (More.Signal d preset main target) = rw (speed-back main, speed-back target)
-more-back (More.Warning d preset) = refl
-more-back (More.Route v) = refl
-more-back More.Nothing = refl
-
-pub said : Message → Said
-said m = record { direction = m .direction; kind = m .kind; place = m .place; ay = m .ay; az = m .az; number = m .number; content = more (m .content) }
-
-pub said-back : (r : Said) → said (saysMessage r) ≡ r
-unfolding said
-said-back r = rw (more-back (r .content))
-
 pub judged : Outcome Message → Judged
-judged (gives m) = Judged.Accepted (said m)
+judged (gives m) = Judged.Accepted m
 judged (refuses n) =
     pick (eqb n 10) Judged.One
     (pick (eqb n 11) Judged.Many
@@ -72,7 +40,7 @@ judged (refuses n) =
 
 pub judged-back : (r : Judged) → judged (saysJudged r) ≡ r
 unfolding judged
-judged-back (Judged.Accepted m) = rw (said-back m)
+judged-back (Judged.Accepted m) = refl
 judged-back Judged.One = refl
 judged-back Judged.Many = refl
 judged-back Judged.Unread = refl
@@ -84,10 +52,10 @@ pub distance-determined : (κs : Lfts 0) (a : Dens κs distance-kinds.ps) (r r�
     → distance-reads.Post κs a r x → distance-reads.Post κs a r′ x′ → r ≡ r′
 distance-determined κs a r r′ x x′ p q = told saysMeasured measured measured-back r r′ p q
 
-pub speed-determined : (κs : Lfts 0) (a : Dens κs speed-kinds.ps) (r r′ : Speed)
+pub speed-determined : (κs : Lfts 0) (a : Dens κs speed-kinds.ps) (r r′ : Told)
     (x x′ : AtExit (endedOf 0 speed-kinds.ps speed-kinds.r) κs)
     → speed-reads.Post κs a r x → speed-reads.Post κs a r′ x′ → r ≡ r′
-speed-determined κs a r r′ x x′ p q = told saysTold speed speed-back r r′ p q
+speed-determined κs a r r′ x x′ p q = p ∙ sym q
 
 pub judge-determined : (κs : Lfts 0) (a : Dens κs judge-kinds.ps) (r r′ : Judged)
     (x x′ : AtExit (endedOf 0 judge-kinds.ps judge-kinds.r) κs)

@@ -16,7 +16,8 @@ use mir.Syntax.{w32}
 use mir.Val.{SFits, Fits, toZ, ofZ}
 use Rattle.words.specs.Answer.{Outcome, gives, refuses, pick}
 use Rattle.group.specs.Distance.{Column, columns, inTable, distance}
-use Rattle.group.specs.Speed.{kmh, noInformation, speeds, nth, signalSpeed}
+use Rattle.group.specs.declared.Told.{Told}
+use Rattle.group.specs.Speed.{speeds, nth, signalSpeed}
 use Rattle.group.proofs.Grid.{grid, grid-at}
 
 -- ---- table DF as the code holds it
@@ -120,20 +121,20 @@ figure-above by figure h =
 
 -- ---- the speeds
 
-told-in : (vs : List ℕ) (figure : ℕ) → figure < length vs → nth vs figure ≡ kmh (getD vs figure 0)
+told-in : (vs : List ℕ) (figure : ℕ) → figure < length vs → nth vs figure ≡ Told.Kmh (getD vs figure 0)
 told-in [] figure h = absurd (not-suc-le-zero h)
 told-in (v ∷ vs) zero h = refl
 told-in (v ∷ vs) (suc figure) h = told-in vs figure (le-of-suc-le-suc h)
 
-told-out : (vs : List ℕ) (figure : ℕ) → length vs ≤ figure → nth vs figure ≡ noInformation
+told-out : (vs : List ℕ) (figure : ℕ) → length vs ≤ figure → nth vs figure ≡ Told.Unknown
 told-out [] figure h = refl
 told-out (v ∷ vs) zero h = absurd (not-suc-le-zero h)
 told-out (v ∷ vs) (suc figure) h = told-out vs figure (le-of-suc-le-suc h)
 
-pub speed-in : (figure : ℕ) → figure < 14 → signalSpeed figure ≡ kmh (getD speeds figure 0)
+pub speed-in : (figure : ℕ) → figure < 14 → signalSpeed figure ≡ Told.Kmh (getD speeds figure 0)
 unfolding signalSpeed
 speed-in figure h = told-in speeds figure h
 
-pub speed-out : (figure : ℕ) → 14 ≤ figure → signalSpeed figure ≡ noInformation
+pub speed-out : (figure : ℕ) → 14 ≤ figure → signalSpeed figure ≡ Told.Unknown
 unfolding signalSpeed
 speed-out figure h = told-out speeds figure h

@@ -14,6 +14,8 @@ use Rattle.telegram.specs.Telegram.{shortWord, longWord, telegram}
 use Rattle.walk.specs.declared.Direction.{Direction}
 use Rattle.walk.specs.declared.Kind.{Kind}
 use Rattle.group.specs.declared.Number.{Number}
+use Rattle.group.specs.declared.Told.{Told}
+use Rattle.group.specs.declared.Content.{Content}
 use Rattle.group.specs.declared.Heard.{Heard}
 use Rattle.group.specs.declared.Balise.{Balise}
 use Rattle.group.specs.declared.Group.{Group}
@@ -24,9 +26,8 @@ use Rattle.walk.specs.Row.{fits, first, fitRow, fitRows}
 use Rattle.walk.specs.Rows.{howMany, fitIn}
 use Rattle.walk.specs.Fitting.{routeSpeed, fitting}
 use Rattle.group.specs.Distance.{distance}
-use Rattle.group.specs.Speed.{kmh, signalSpeed, targetFigure}
+use Rattle.group.specs.Speed.{signalSpeed, targetFigure}
 use Rattle.group.specs.Numbers.{numberOf}
-use Rattle.group.specs.Message.{ofSignal, ofRoute, nothing}
 use Rattle.group.specs.Judge.{distanceOf, signalDistance, judgeRead, judge}
 
 -- "distances (BY,BZ) (0,1) 125, (13,14) 119000, (14,1) 7000, (14,14) 500, (0,0) refused without a 14"
@@ -60,7 +61,7 @@ ofTheRide =
 
 -- "Distance is 3500 + 4 x 125 = 4000 dm." "Main speed 130, target 80."
 judged-of-the-ride : judge ofTheRide
-    ≡ gives (record { direction = Direction.Present; kind = Kind.Signal; place = 1000; ay = 8; az = 5; number = Number.None; content = ofSignal 4000 false (kmh 130) (kmh 80) })
+    ≡ gives (record { direction = Direction.Present; kind = Kind.Signal; place = 1000; ay = 8; az = 5; number = Number.None; content = Content.Signal 4000 false (Told.Kmh 130) (Told.Kmh 80) })
 unfolding ofTheRide empty numberOf judge balises readAll telegram shortWord longWord readWord isCode even count covers figure onwards isCheck exchanged other word judgeRead fitting fitIn howMany fitRows fitRow fits first distanceOf signalDistance distance signalSpeed targetFigure
 judged-of-the-ride = refl
 
@@ -72,19 +73,19 @@ at place part = record { place = place; part = part }
 judged-long : judgeRead
     (at 10 (Part.Number 1612) ∷ at 20 (Part.Figures 8 7 1) ∷ at 30 (Part.Figures 1 3 1) ∷ at 40 (Part.Figures 9 6 0)
     ∷ at 50 (Part.Figures 14 2 9) ∷ [])
-    ≡ gives (record { direction = Direction.Present; kind = Kind.Signal; place = 30; ay = 3; az = 1; number = Number.Figure 1612; content = ofSignal 15000 false (kmh 60) (kmh 0) })
+    ≡ gives (record { direction = Direction.Present; kind = Kind.Signal; place = 30; ay = 3; az = 1; number = Number.Figure 1612; content = Content.Signal 15000 false (Told.Kmh 60) (Told.Kmh 0) })
 unfolding at numberOf judgeRead fitting fitIn howMany fitRows fitRow fits first distanceOf signalDistance distance signalSpeed targetFigure
 judged-long = refl
 
 -- 5 5 with AY 2 and AZ 9: a route board, 90 km/h, its A the first of the two.
 judged-route : judgeRead (at 10 (Part.Figures 5 2 9) ∷ at 20 (Part.Figures 5 0 0) ∷ [])
-    ≡ gives (record { direction = Direction.Present; kind = Kind.Route; place = 10; ay = 2; az = 9; number = Number.None; content = ofRoute 90 })
+    ≡ gives (record { direction = Direction.Present; kind = Kind.Route; place = 10; ay = 2; az = 9; number = Number.None; content = Content.Route 90 })
 unfolding at numberOf judgeRead fitting fitIn howMany fitRows fitRow fits first routeSpeed
 judged-route = refl
 
 -- 12 M 2: an opposite warning board, AZ 14 allowed.
 judged-opposite : judgeRead (at 10 (Part.Number 5) ∷ at 20 Part.Marker ∷ at 30 (Part.Figures 2 6 14) ∷ [])
-    ≡ gives (record { direction = Direction.Opposite; kind = Kind.Warning; place = 30; ay = 6; az = 14; number = Number.Figure 5; content = nothing })
+    ≡ gives (record { direction = Direction.Opposite; kind = Kind.Warning; place = 30; ay = 6; az = 14; number = Number.Figure 5; content = Content.Nothing })
 unfolding at numberOf judgeRead fitting fitIn howMany fitRows fitRow fits first
 judged-opposite = refl
 

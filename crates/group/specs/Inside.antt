@@ -11,10 +11,9 @@ use Rattle.group.specs.declared.reading.PartRead.{PartRead}
 use Rattle.group.specs.declared.reading.AllRead.{AllRead}
 use Rattle.group.specs.declared.parts.Sought.{Sought}
 use Rattle.group.specs.declared.Number.{Number}
+use Rattle.group.specs.declared.Content.{Content}
 use Rattle.walk.specs.Row.{Found, none, found}
-use Rattle.group.specs.Message.{Content}
 use Rattle.group.specs.Numbers.{numberOr}
-use Rattle.group.specs.Says.{saysContent}
 
 -- A balise that was looked for.
 abbrev pub saysSought : Sought → Found
@@ -32,7 +31,7 @@ saysAllRead n r = pick (r .good) (gives (take n (r .parts))) (refuses 12)
 
 -- What a group says beyond its kind, if its distance is allowed; "distance not allowed" is 15.
 abbrev pub saysContained : Contained → Outcome Content
-saysContained (Contained.Is more) = gives (saysContent more)
+saysContained (Contained.Is more) = gives more
 saysContained Contained.NotAllowed = refuses 15
 
 -- The number found among the balises so far, or else that of the next one.

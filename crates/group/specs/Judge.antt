@@ -1,5 +1,8 @@
 -- The judgement of a closed group (document 01, "Groups" and "Refusal numbers"): 10, 11, 12, 13, 15 in this order, or the
 -- group's message. 14 is not used: no group fits a row of each direction (walk's specs/OneWay.antt).
+-- A message (`Message`) has the group's direction and kind, the place of its A balise, AY and AZ, the figure of its number balise or none, and
+-- its content (`Content`), what it says beyond its kind. That of a present signal: its distance, whether it is a preset point, its main speed and its
+-- target; of a present warning board: its distance; of a route board: its speed; of any other group: nothing.
 -- Assumes nothing.
 use Prim.Native.Nat.{ℕ}
 use mathlib.Core.Bool.{_&&_}
@@ -12,13 +15,14 @@ use Rattle.walk.specs.declared.Placed.{Placed}
 use Rattle.walk.specs.declared.Picked.{Picked}
 use Rattle.group.specs.declared.Group.{Group}
 use Rattle.group.specs.declared.Number.{Number}
+use Rattle.group.specs.declared.Content.{Content}
+use Rattle.group.specs.declared.Message.{Message}
 use Rattle.group.specs.Balise.{balises, then, readAll}
 use Rattle.walk.specs.Row.{any, Y, Z, Found, none, found, first}
 use Rattle.group.specs.Distance.{linkDistance, isPreset, noIncrease}
 use Rattle.walk.specs.Fitting.{fitting}
 use Rattle.group.specs.Speed.{signalSpeed, targetFigure}
 use Rattle.group.specs.Numbers.{numberOf}
-use Rattle.group.specs.Message.{Content, ofSignal, ofWarning, ofRoute, nothing, Message}
 
 -- The figure Y of a balise that was looked for; 0 if there is none.
 abbrev pub yOf : Found → ℕ
@@ -56,12 +60,12 @@ signalDistance az bs = pick (isPreset (yOf (B bs)) && noIncrease az) (refuses 15
 abbrev pub contentOf : Kind → ℕ → ℕ → ℕ → List Placed → Outcome Content
 contentOf Kind.Signal v ay az bs =
     then (signalDistance az bs) λ d.
-    gives (ofSignal d (isPreset (yOf (B bs))) (signalSpeed ay)
+    gives (Content.Signal d (isPreset (yOf (B bs))) (signalSpeed ay)
     (signalSpeed (targetFigure ay az (yOf (P bs)) (zOf (P bs)))))
-contentOf Kind.Warning v ay az bs = then (distanceOf bs) λ d. gives (ofWarning d (isPreset (yOf (B bs))))
-contentOf Kind.Annulled v ay az bs = gives nothing
-contentOf Kind.Line v ay az bs = gives nothing
-contentOf Kind.Route v ay az bs = gives (ofRoute v)
+contentOf Kind.Warning v ay az bs = then (distanceOf bs) λ d. gives (Content.Warning d)
+contentOf Kind.Annulled v ay az bs = gives Content.Nothing
+contentOf Kind.Line v ay az bs = gives Content.Nothing
+contentOf Kind.Route v ay az bs = gives (Content.Route v)
 
 -- The message of a group with what its row says, this number and this content.
 abbrev pub messageOf : Picked → Number → Content → Message
@@ -80,7 +84,7 @@ messageOf row number content =
 abbrev pub judgeAs : Direction → Picked → List Placed → Outcome Message
 judgeAs Direction.Present row bs =
     then (contentOf (row .kind) (row .speed) (Y (row .a .part)) (Z (row .a .part)) bs) λ more. gives (messageOf row (numberOf bs) more)
-judgeAs Direction.Opposite row bs = gives (messageOf row (numberOf bs) nothing)
+judgeAs Direction.Opposite row bs = gives (messageOf row (numberOf bs) Content.Nothing)
 
 -- The judgement of balises that were read: "no row fits" is 13.
 unfoldable pub judgeRead : List Placed → Outcome Message

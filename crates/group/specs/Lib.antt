@@ -2,7 +2,6 @@ pub mod Balise
 pub mod Distance
 pub mod Speed
 pub mod Numbers
-pub mod Message
 pub mod Judge
 pub mod Says
 pub mod Inside

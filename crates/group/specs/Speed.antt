@@ -1,15 +1,12 @@
--- Speeds in km/h (document 01, "Signal speeds"; tables HS and FS of source 000).
+-- Speeds in km/h (document 01, "Signal speeds"; tables HS and FS of source 000). What a figure tells of a speed (`Told`) is a number
+-- of km/h (`Kmh v`), or no information (`Unknown`).
 -- Assumes nothing.
 use Prim.Native.Nat.{ℕ, zero, suc}
 use mathlib.Core.Bool.{not, _&&_, _||_}
 use mathlib.Core.List.{List, [], _∷_}
 use lib.Dec.{eqb, leb}
 use Rattle.words.specs.Answer.{pick}
-
--- What a figure says of a speed.
-pub data Told : Type 0 where
-  kmh : ℕ → Told
-  noInformation : Told
+use Rattle.group.specs.declared.Told.{Told}
 
 -- "Signal speeds, km/h for figures 0 to 13"
 abbrev pub speeds : List ℕ
@@ -17,8 +14,8 @@ speeds = 0 ∷ 40 ∷ 50 ∷ 60 ∷ 70 ∷ 80 ∷ 90 ∷ 100 ∷ 130 ∷ 160 ∷
 
 -- The speed at this place of the list; past its end, "14 means no information".
 abbrev pub nth : List ℕ → ℕ → Told
-nth [] figure = noInformation
-nth (v ∷ vs) zero = kmh v
+nth [] figure = Told.Unknown
+nth (v ∷ vs) zero = Told.Kmh v
 nth (v ∷ vs) (suc figure) = nth vs figure
 
 -- The speed that a figure of a signal means.

@@ -136,13 +136,7 @@ fn of_warning(ay: u8, az: u8, p: [Placed; 5], n: usize) -> Contained
     ensures { λ r. ⌜ saysContained r ≡ contentOf Kind.Warning 0 ay az (take n p) ⌝ }
 {
     match distance_of(p, n) {
-        Measured::Dm(distance) => {
-            let b = parts::first_of(p, n, 9);
-            Contained::Is(Content::Warning {
-                distance,
-                preset: y_sought(b) == 14,
-            })
-        }
+        Measured::Dm(distance) => Contained::Is(Content::Warning { distance }),
         Measured::NotAllowed => Contained::NotAllowed,
     }
 }

@@ -4,7 +4,7 @@ ghost use Prim.Native.Nat.{_≤_};
 ghost use lib.ListN.{take};
 ghost use Rattle.group.specs.Numbers.{numberOf};
 ghost use Rattle.group.specs.Judge.{messageOf, judgeAs, judgeRead};
-ghost use Rattle.group.specs.Says.{saysContent, saysJudged, saysMessage};
+ghost use Rattle.group.specs.Says.{saysJudged};
 use crate::Content;
 use crate::Judged;
 use crate::Message;
@@ -19,7 +19,7 @@ use walk::Placed;
 
 // The message of a group with what its row says, this number and this content.
 fn message(row: Picked, number: Number, content: Content) -> Message
-    ensures { λ r. ⌜ saysMessage r ≡ messageOf row number (saysContent content) ⌝ }
+    ensures { λ r. ⌜ r ≡ messageOf row number content ⌝ }
 {
     let a = row.a;
     let part = a.part;

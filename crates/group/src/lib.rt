@@ -5,7 +5,7 @@ ghost use mathlib.Core.Path.{_≡_};
 ghost use Rattle.group.specs.Distance.{distance};
 ghost use Rattle.group.specs.Speed.{signalSpeed};
 ghost use Rattle.group.specs.Judge.{judge};
-ghost use Rattle.group.specs.Says.{saysMeasured, saysTold, saysJudged};
+ghost use Rattle.group.specs.Says.{saysMeasured, saysJudged};
 
 mod contents;
 mod judging;
@@ -65,7 +65,6 @@ pub enum Content {
     },
     Warning {
         distance: u32,
-        preset: bool,
     },
     Route(u16),
     Nothing,
@@ -111,7 +110,7 @@ pub fn distance(by: u8, figure: u8) -> Measured
 
 // What a figure of a signal tells of a speed.
 pub fn speed(figure: u8) -> Told
-    ensures { λ r. ⌜ saysTold r ≡ signalSpeed figure ⌝ }
+    ensures { λ r. ⌜ r ≡ signalSpeed figure ⌝ }
 {
     if figure < 14 {
         Told::Kmh(tables::SPEEDS[figure as usize])

@@ -11,10 +11,9 @@ use Rattle.group.specs.declared.Balise.{Balise}
 use Rattle.group.specs.declared.Group.{Group}
 use Rattle.walk.specs.declared.Kind.{Kind}
 use Rattle.group.specs.declared.Number.{Number}
-use Rattle.group.specs.declared.Told.{Told as Speed}
-use Rattle.group.specs.declared.Content.{Content as More}
-use Rattle.group.specs.Says.{saysTold, saysContent}
-use Rattle.group.specs.Message.{Message}
+use Rattle.group.specs.declared.Told.{Told}
+use Rattle.group.specs.declared.Content.{Content}
+use Rattle.group.specs.declared.Message.{Message}
 use Rattle.group.specs.Judge.{judge}
 use Rattle.ride.specs.declared.Linking.{Linking}
 use Rattle.ride.specs.declared.Known.{Known}
@@ -23,7 +22,7 @@ use Rattle.ride.specs.declared.Ride.{Ride}
 use Rattle.ride.specs.declared.closing.Verdict.{Verdict}
 use Rattle.ride.specs.State.{noBalise, noGroup, isOpen, nothingKnown}
 use Rattle.ride.specs.Linking.{markAt, markOf, isOverdue, missedPlace}
-use Rattle.ride.specs.Closing.{Closing, linkingFrom, mainFrom, targetFrom, knownFrom, knownAfter, markFrom, firstPlace, lineOf, close, leave}
+use Rattle.ride.specs.Closing.{Closing, linkingFrom, mainFrom, knownFrom, knownAfter, markFrom, firstPlace, lineOf, close, leave}
 use Rattle.ride.specs.Step.{end, ended}
 
 -- ---- linking that is set
@@ -39,24 +38,18 @@ missed-set l D a e = rw e
 
 -- ---- what an accepted group says
 
-target-same : (t : Speed) → t ≡ targetFrom (saysTold t)
-target-same (Speed.Kmh v) = refl
-target-same Speed.Unknown = refl
-
-pub main-kmh : (t : Speed) (v : ℕ) (before : Speed) → t ≡ Speed.Kmh v → Speed.Kmh v ≡ mainFrom (saysTold t) before
+pub main-kmh : (t : Told) (v : ℕ) (before : Told) → t ≡ Told.Kmh v → Told.Kmh v ≡ mainFrom t before
 main-kmh t v before e = rw e
 
-pub known-signal : (more : More) (D : ℕ) (preset : Bool) (main target : Speed) (place : ℕ) (number : Number) (known : Known)
-    → more ≡ More.Signal D preset main target
-    → _≡_ {A = Known} (record { linking = linkingFrom D preset place; main = mainFrom (saysTold main) (known .main); target = target; number = number })
-    (knownFrom (saysContent more) place number known)
+pub known-signal : (more : Content) (D : ℕ) (preset : Bool) (main target : Told) (place : ℕ) (number : Number) (known : Known)
+    → more ≡ Content.Signal D preset main target
+    → _≡_ {A = Known} (record { linking = linkingFrom D preset place; main = mainFrom main (known .main); target = target; number = number })
+    (knownFrom more place number known)
 known-signal more D preset main target place number known e =
     rw e
-    (ap (λ (t : Speed). record { linking = linkingFrom D preset place; main = mainFrom (saysTold main) (known .main); target = t; number = number })
-    (target-same target))
 
-pub mark-signal : (more : More) (D : ℕ) (preset : Bool) (main target : Speed) (place : ℕ) (l : Linking) → more ≡ More.Signal D preset main target
-    → markOf l place ≡ markFrom (saysContent more) place l
+pub mark-signal : (more : Content) (D : ℕ) (preset : Bool) (main target : Told) (place : ℕ) (l : Linking) → more ≡ Content.Signal D preset main target
+    → markOf l place ≡ markFrom more place l
 mark-signal more D preset main target place l e = rw e
 
 -- ---- a judgement

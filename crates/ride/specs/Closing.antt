@@ -8,9 +8,9 @@ use Rattle.words.specs.Answer.{Outcome, gives, refuses, pick}
 use Rattle.group.specs.declared.Group.{Group}
 use Rattle.walk.specs.declared.Kind.{Kind}
 use Rattle.group.specs.declared.Number.{Number}
-use Rattle.group.specs.declared.Told.{Told as Speed}
-use Rattle.group.specs.Speed.{Told, kmh, noInformation}
-use Rattle.group.specs.Message.{Content, ofSignal, ofWarning, ofRoute, nothing, Message}
+use Rattle.group.specs.declared.Told.{Told}
+use Rattle.group.specs.declared.Content.{Content}
+use Rattle.group.specs.declared.Message.{Message}
 use Rattle.group.specs.Judge.{judge}
 use Rattle.ride.specs.declared.Linking.{Linking}
 use Rattle.ride.specs.declared.Known.{Known}
@@ -25,23 +25,18 @@ abbrev pub linkingFrom : ℕ → Bool → ℕ → Linking
 linkingFrom D preset a = pick preset Linking.Unset (Linking.Set D a)
 
 -- "AY = 14 leaves the main speed as it was"
-abbrev pub mainFrom : Told → Speed → Speed
-mainFrom (kmh v) before = Speed.Kmh v
-mainFrom noInformation before = before
-
--- "the target becomes AZ's, or none"
-abbrev pub targetFrom : Told → Speed
-targetFrom (kmh v) = Speed.Kmh v
-targetFrom noInformation = Speed.Unknown
+abbrev pub mainFrom : Told → Told → Told
+mainFrom (Told.Kmh v) before = Told.Kmh v
+mainFrom Told.Unknown before = before
 
 -- What is known after an accepted group that says this, with its A balise at place a and this number or none. A present
--- signal sets it, the number "to none if it has no 12"; "all other groups leave these as they were."
+-- signal sets it: "the target becomes AZ's, or none", the number "to none if it has no 12"; "all other groups leave these as they were."
 abbrev pub knownFrom : Content → ℕ → Number → Known → Known
-knownFrom (ofSignal D preset main target) a number known =
-    record { linking = linkingFrom D preset a; main = mainFrom main (known .main); target = targetFrom target; number = number }
-knownFrom (ofWarning D preset) a number known = known
-knownFrom (ofRoute v) a number known = known
-knownFrom nothing a number known = known
+knownFrom (Content.Signal D preset main target) a number known =
+    record { linking = linkingFrom D preset a; main = mainFrom main (known .main); target = target; number = number }
+knownFrom (Content.Warning D) a number known = known
+knownFrom (Content.Route v) a number known = known
+knownFrom Content.Nothing a number known = known
 
 -- What is known after a judgement. "A refused group ends linking and clears main speed and target", and the number.
 abbrev pub knownAfter : Outcome Message → Known → Known
@@ -50,10 +45,10 @@ knownAfter (refuses n) known = nothingKnown
 
 -- The mark of an accepted group: "a mark stands on present signals alone".
 abbrev pub markFrom : Content → ℕ → Linking → Mark
-markFrom (ofSignal D preset main target) a linking = markOf linking a
-markFrom (ofWarning D preset) a linking = Mark.Unmarked
-markFrom (ofRoute v) a linking = Mark.Unmarked
-markFrom nothing a linking = Mark.Unmarked
+markFrom (Content.Signal D preset main target) a linking = markOf linking a
+markFrom (Content.Warning D) a linking = Mark.Unmarked
+markFrom (Content.Route v) a linking = Mark.Unmarked
+markFrom Content.Nothing a linking = Mark.Unmarked
 
 -- The number on a group's line: a signal of either direction shows its own, all others none.
 abbrev pub numberOn : Kind → Number → Number

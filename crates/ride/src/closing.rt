@@ -2,7 +2,6 @@
 ghost use mathlib.Core.Path.{_≡_};
 ghost use mathlib.Core.List.{[], _∷_};
 ghost use Rattle.words.specs.Answer.{gives, refuses};
-ghost use Rattle.group.specs.Says.{saysTold, saysContent, saysMessage};
 ghost use Rattle.group.specs.Judge.{judge};
 ghost use Rattle.ride.specs.State.{noGroup, nothingKnown};
 ghost use Rattle.ride.specs.Closing.{linkingFrom, mainFrom, knownFrom, knownAfter, lineOf, leave};
@@ -51,7 +50,7 @@ pub fn nothing_known() -> Known
 
 // The main speed after a present signal that tells this.
 fn main_from(told: Told, before: Told) -> Told
-    ensures { λ r. ⌜ r ≡ mainFrom (saysTold told) before ⌝ }
+    ensures { λ r. ⌜ r ≡ mainFrom told before ⌝ }
 {
     match told {
         Told::Kmh(v) => Told::Kmh(v),
@@ -74,7 +73,7 @@ fn linking_from(distance: u32, preset: bool, place: u32) -> Linking
 
 // What is known after an accepted group: a present signal sets it, all others leave it.
 fn known_from(content: Content, place: u32, number: Number, known: Known) -> Known
-    ensures { λ r. ⌜ r ≡ knownFrom (saysContent content) place number known ⌝ }
+    ensures { λ r. ⌜ r ≡ knownFrom content place number known ⌝ }
 {
     match content {
         Content::Signal {
@@ -91,10 +90,7 @@ fn known_from(content: Content, place: u32, number: Number, known: Known) -> Kno
                 number,
             }
         }
-        Content::Warning {
-            distance: _,
-            preset: _,
-        } => known,
+        Content::Warning { distance: _ } => known,
         Content::Route(_) => known,
         Content::Nothing => known,
     }
@@ -102,7 +98,7 @@ fn known_from(content: Content, place: u32, number: Number, known: Known) -> Kno
 
 // The verdict on an accepted group.
 fn accepted(group: Group, known: Known, message: Message) -> Verdict
-    ensures { λ r. ⌜ r ≡ record { line = lineOf group (known .linking) (gives (saysMessage message)); known = knownAfter (gives (saysMessage message)) known } ⌝ }
+    ensures { λ r. ⌜ r ≡ record { line = lineOf group (known .linking) (gives message); known = knownAfter (gives message) known } ⌝ }
 {
     let content = message.content;
     let number = message.number;

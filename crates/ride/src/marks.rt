@@ -1,7 +1,6 @@
 // Linking: the mark of a present signal, and when an expected one is missed.
 ghost use mathlib.Core.Path.{_≡_};
 ghost use Prim.Native.Nat.{_-_, _<_};
-ghost use Rattle.group.specs.Says.{saysContent};
 ghost use Rattle.ride.specs.Linking.{markAt, markOf, isOverdue, missedPlace};
 ghost use Rattle.ride.specs.Closing.{markFrom};
 use crate::Linking;
@@ -45,7 +44,7 @@ fn mark_of(linking: Linking, place: u32) -> Mark
 
 // The mark of an accepted group: present signals alone have one.
 pub fn mark_from(content: Content, place: u32, linking: Linking) -> Mark
-    ensures { λ r. ⌜ r ≡ markFrom (saysContent content) place linking ⌝ }
+    ensures { λ r. ⌜ r ≡ markFrom content place linking ⌝ }
 {
     match content {
         Content::Signal {
@@ -54,10 +53,7 @@ pub fn mark_from(content: Content, place: u32, linking: Linking) -> Mark
             main: _,
             target: _,
         } => mark_of(linking, place),
-        Content::Warning {
-            distance: _,
-            preset: _,
-        } => Mark::Unmarked,
+        Content::Warning { distance: _ } => Mark::Unmarked,
         Content::Route(_) => Mark::Unmarked,
         Content::Nothing => Mark::Unmarked,
     }

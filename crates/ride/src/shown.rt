@@ -1,6 +1,5 @@
 // What a line shows of an accepted group.
 ghost use mathlib.Core.Path.{_≡_};
-ghost use Rattle.group.specs.Says.{saysMessage};
 ghost use Rattle.ride.specs.Closing.{numberOn, seenFrom};
 use crate::Linking;
 use crate::Seen;
@@ -24,7 +23,7 @@ fn number_on(kind: Kind, number: Number) -> Number
 
 // An accepted group as its line shows it, from the linking before it.
 pub fn seen_from(message: Message, linking: Linking) -> Seen
-    ensures { λ r. ⌜ r ≡ seenFrom (saysMessage message) linking ⌝ }
+    ensures { λ r. ⌜ r ≡ seenFrom message linking ⌝ }
 {
     let content = message.content;
     let direction = message.direction;

@@ -82,10 +82,7 @@ fn content(out: &mut [u8], at: usize, c: Content) -> usize {
             let last = told(out, next, b", main ", main);
             told(out, last, b", target ", target)
         }
-        Content::Warning {
-            distance: dm,
-            preset,
-        } => distance(out, at, dm, preset),
+        Content::Warning { distance: dm } => distance(out, at, dm, false),
         Content::Route(v) => number(out, at, b", speed ", v as u32),
         Content::Nothing => at,
     }

@@ -1,4 +1,4 @@
--- The distance decides; whether it is a preset point is BY.
+-- The distance decides.
 -- Assumes nothing.
 use mathlib.Core.Path.{sym, ap, _∙_}
 use Rattle.group.specs.Says.{saysMeasured}
@@ -12,20 +12,13 @@ distance-of-requires c κs = search needs
 enum-known-distance : tie.Need-enum-known-distance
 enum-known-distance c = search needs
 
-first-of-requires : tie.Need-first-of-requires
-first-of-requires c κs = search needs
-
-y-sought-requires : tie.Need-y-sought-requires
-y-sought-requires c κs = search needs
-
 enum-told : tie.Need-enum-told
 enum-told c = search needs
 
 returns : tie.Need-returns
 returns c =
-    let k = c .before .before in
-    let d = sym (k .before .before .before .distance-of .ensures) ∙ ap saysMeasured (k .before .distance .given .1) in
-    rw (d, c .y-sought .ensures, c .before .first-of .ensures)
+    let d = sym (c .before .before .before .distance-of .ensures) ∙ ap saysMeasured (c .before .distance .given .1) in
+    rw d
 
 returns-2 : tie.Need-returns-2
 returns-2 c =
@@ -38,8 +31,6 @@ of-warning-spec =
     (tie.spec
     distance-of-requires
     enum-known-distance
-    first-of-requires
-    y-sought-requires
     enum-told
     returns
     returns-2)

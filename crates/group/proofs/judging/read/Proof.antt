@@ -10,7 +10,7 @@ use Rattle.walk.specs.declared.Picked.{Picked}
 use Rattle.walk.specs.declared.Fitted.{Fitted}
 use Rattle.walk.specs.Fitting.{fitting, saysFitted}
 use Rattle.group.specs.declared.Number.{Number}
-use Rattle.group.specs.Message.{Message, nothing}
+use Rattle.group.specs.declared.Content.{Content}
 use Rattle.group.specs.Balise.{then}
 use Rattle.group.specs.Judge.{messageOf, judgeAs, judgeRead}
 use borrow.Author.Needs.{needs}
@@ -61,7 +61,7 @@ returns c = c .as-present .ensures ∙ in-direction (c .before .before .before .
 returns-2 : tie.Need-returns-2
 returns-2 c =
     let k = c .before .before .before .before in
-    ap gives (c .message .ensures ∙ ap (λ (n : Number). messageOf (k .row .given .0 .0) n nothing) (k .before .before .before .pre .1))
+    ap gives (c .message .ensures ∙ ap (λ (n : Number). messageOf (k .row .given .0 .0) n Content.Nothing) (k .before .before .before .pre .1))
     ∙ in-direction k (c .before .enum-told2 .given .1)
 
 returns-3 : tie.Need-returns-3
