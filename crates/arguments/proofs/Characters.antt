@@ -12,7 +12,9 @@ use lib.ListN.{length, getD, drop}
 use lib.Seq.{drop-cons, drop-length}
 use borrow.Author.Tests.{le-leb, lt-leb, leb-true, eq-eqb, lt-ltb, le-ltb}
 use Rattle.words.specs.Answer.{pick}
-use Rattle.arguments.specs.Figures.{between, allDigits, continued, number, above, none, decimal, hexDigit, byte, noWord, hex}
+use Rattle.arguments.specs.Figures.{between, allDigits, continued, decimal, hexDigit, hex}
+use Rattle.arguments.specs.declared.Figure.{Figure}
+use Rattle.arguments.specs.declared.Byte.{Byte}
 
 both : (a b : Bool) → a && b ≡ true → (a ≡ true) × (b ≡ true)
 both true b e = (refl, e)
@@ -46,7 +48,7 @@ module _ (text : List ℕ) (i : ℕ) (in-text : i < length text) where
       let q = both (leb 48 c) (leb c 57) (p .0) in
       (leb-true 48 c (q .0), leb-true c 57 (q .1), p .1)
 
-  -- The number goes on with it.
+  -- The Figure.Number goes on with it.
   pub number-on : (n : ℕ) → continued n (drop i text) ≡ continued (n * 10 + (c - 48)) (drop (i + 1) text)
   unfolding continued
   number-on n = ap (continued n) next
@@ -67,11 +69,11 @@ grows n [] = le-refl n
 grows n (c ∷ cs) = let h : n ≤ n * 10 + (c - 48) = omega arith in le-trans h (grows (n * 10 + (c - 48)) cs)
 
 -- What the number so far says of the whole.
-pub is-above : (v most : ℕ) → most < v → above ≡ pick (leb v most) (number v) above
+pub is-above : (v most : ℕ) → most < v → Figure.Above ≡ pick (leb v most) (Figure.Number v) Figure.Above
 is-above v most h = simp (lt-leb _ _ h)
 
-pub is-number : (n v most : ℕ) → n ≡ v → v ≤ most → number n ≡ pick (leb v most) (number v) above
-is-number n v most e h = ap number e ∙ simp (le-leb _ _ h)
+pub is-number : (n v most : ℕ) → n ≡ v → v ≤ most → Figure.Number n ≡ pick (leb v most) (Figure.Number v) Figure.Above
+is-number n v most e h = ap Figure.Number e ∙ simp (le-leb _ _ h)
 
 -- Hex digits.
 module _ (c : ℕ) where
@@ -125,29 +127,29 @@ module _ (c : ℕ) where
 
 -- A text of two characters as a word.
 module _ (text : List ℕ) (two : length text ≡ 2) where
-  pub no-high : 16 ≤ hexDigit (getD text 0 0) → noWord ≡ hex text
+  pub no-high : 16 ≤ hexDigit (getD text 0 0) → Byte.Odd ≡ hex text
   unfolding hex
   no-high h = simp (eq-eqb _ _ two, le-ltb _ _ h)
 
-  pub no-low : hexDigit (getD text 0 0) < 16 → 16 ≤ hexDigit (getD text 1 0) → noWord ≡ hex text
+  pub no-low : hexDigit (getD text 0 0) < 16 → 16 ≤ hexDigit (getD text 1 0) → Byte.Odd ≡ hex text
   unfolding hex
   no-low l h = simp (eq-eqb _ _ two, lt-ltb _ _ l, le-ltb _ _ h)
 
-  pub two-digits : hexDigit (getD text 0 0) < 16 → hexDigit (getD text 1 0) < 16 → byte (hexDigit (getD text 0 0) * 16 + hexDigit (getD text 1 0)) ≡ hex text
+  pub two-digits : hexDigit (getD text 0 0) < 16 → hexDigit (getD text 1 0) < 16 → Byte.Is (hexDigit (getD text 0 0) * 16 + hexDigit (getD text 1 0)) ≡ hex text
   unfolding hex
   two-digits h l = simp (eq-eqb _ _ two, lt-ltb _ _ h, lt-ltb _ _ l)
 
 -- A text as a number.
 module _ (text : List ℕ) (most : ℕ) where
-  pub no-text : length text ≡ 0 → none ≡ decimal text most
+  pub no-text : length text ≡ 0 → Figure.Odd ≡ decimal text most
   unfolding decimal
   no-text e = let h : length text ≤ 0 = omega arith in simp (le-ltb _ _ h)
 
   module _ (some : 0 < length text) where
-    pub no-digits : allDigits text ≡ false → none ≡ decimal text most
+    pub no-digits : allDigits text ≡ false → Figure.Odd ≡ decimal text most
     unfolding decimal
     no-digits e = simp (lt-ltb _ _ some, e)
 
-    pub by-digits : allDigits text ≡ true → pick (leb (continued 0 text) most) (number (continued 0 text)) above ≡ decimal text most
+    pub by-digits : allDigits text ≡ true → pick (leb (continued 0 text) most) (Figure.Number (continued 0 text)) Figure.Above ≡ decimal text most
     unfolding decimal
     by-digits e = simp (lt-ltb _ _ some, e)

@@ -2,22 +2,24 @@
 -- Assumes nothing.
 use mathlib.Core.Path.{_≡_, refl}
 use mathlib.Core.List.{[]}
-use Rattle.arguments.specs.Figures.{allDigits, continued, number, above, none, decimal, hexDigit, byte, noWord, hex}
+use Rattle.arguments.specs.Figures.{allDigits, continued, decimal, hexDigit, hex}
+use Rattle.arguments.specs.declared.Figure.{Figure}
+use Rattle.arguments.specs.declared.Byte.{Byte}
 use Rattle.text.specs.Text.{codes}
 
-pub numbers : (decimal (codes "0") 15 ≡ number 0) × (decimal (codes "0015") 15 ≡ number 15) × (decimal (codes "16") 15 ≡ above)
-    × (decimal (codes "18446744073709551616") 18446744073709551615 ≡ above) × (decimal (codes "99999999999999999999999999") 255 ≡ above)
+pub numbers : (decimal (codes "0") 15 ≡ Figure.Number 0) × (decimal (codes "0015") 15 ≡ Figure.Number 15) × (decimal (codes "16") 15 ≡ Figure.Above)
+    × (decimal (codes "18446744073709551616") 18446744073709551615 ≡ Figure.Above) × (decimal (codes "99999999999999999999999999") 255 ≡ Figure.Above)
 unfolding decimal allDigits continued
 numbers = (refl, refl, refl, refl, refl)
 
-pub odd-ones : (decimal [] 15 ≡ none) × (decimal (codes "1 ") 15 ≡ none) × (decimal (codes "-1") 15 ≡ none) × (decimal (codes "99x") 15 ≡ none)
+pub odd-ones : (decimal [] 15 ≡ Figure.Odd) × (decimal (codes "1 ") 15 ≡ Figure.Odd) × (decimal (codes "-1") 15 ≡ Figure.Odd) × (decimal (codes "99x") 15 ≡ Figure.Odd)
 unfolding decimal allDigits continued
 odd-ones = (refl, refl, refl, refl)
 
-pub words : (hex (codes "00") ≡ byte 0) × (hex (codes "fF") ≡ byte 255) × (hex (codes "1e") ≡ byte 0x1e) × (hex (codes "A9") ≡ byte 0xa9)
+pub words : (hex (codes "00") ≡ Byte.Is 0) × (hex (codes "fF") ≡ Byte.Is 255) × (hex (codes "1e") ≡ Byte.Is 0x1e) × (hex (codes "A9") ≡ Byte.Is 0xa9)
 unfolding hex hexDigit
 words = (refl, refl, refl, refl)
 
-pub no-words : (hex [] ≡ noWord) × (hex (codes "7") ≡ noWord) × (hex (codes "100") ≡ noWord) × (hex (codes "g0") ≡ noWord) × (hex (codes "0x") ≡ noWord)
+pub no-words : (hex [] ≡ Byte.Odd) × (hex (codes "7") ≡ Byte.Odd) × (hex (codes "100") ≡ Byte.Odd) × (hex (codes "g0") ≡ Byte.Odd) × (hex (codes "0x") ≡ Byte.Odd)
 unfolding hex hexDigit
 no-words = (refl, refl, refl, refl, refl)

@@ -5,8 +5,8 @@ ghost use lib.ListN.{length, getD};
 ghost use mathlib.Core.Bool.{true};
 ghost use lib.Dec.{leb};
 ghost use Rattle.words.specs.Answer.{pick};
-ghost use Rattle.arguments.specs.Figures.{allDigits, continued, number, above, hexDigit};
-ghost use Rattle.arguments.specs.Says.{saysFigure};
+ghost use Rattle.arguments.specs.Figures.{allDigits, continued, hexDigit};
+ghost use Rattle.arguments.specs.declared.Figure.{Figure};
 use crate::Figure;
 
 // Whether all characters are decimal digits.
@@ -30,7 +30,7 @@ pub fn all_digits(text: &[u8]) -> bool
 // The number that the digits make, or that it is above `most`.
 pub fn up_to(text: &[u8], most: u64) -> Figure
     requires { ⌜ allDigits (now text) ≡ true ⌝ }
-    ensures { λ r. ⌜ saysFigure r ≡ pick (leb (continued 0 (now (text .entry))) most) (number (continued 0 (now (text .entry)))) above ⌝ }
+    ensures { λ r. ⌜ r ≡ pick (leb (continued 0 (now (text .entry))) most) (Figure.Number (continued 0 (now (text .entry)))) Figure.Above ⌝ }
 {
     let mut sum: u64 = 0;
     let mut i = 0;

@@ -1,9 +1,8 @@
 // Figures from a command line: numbers in decimal, words as two hex digits.
 // Promises: every text is answered; an odd one or one that is too large is told apart, and nothing is wrapped round.
-// Specification: specs/Figures.antt, specs/Says.antt (the answers).
+// Specification: specs/Figures.antt.
 ghost use mathlib.Core.Path.{_≡_};
 ghost use Rattle.arguments.specs.Figures.{decimal, hex};
-ghost use Rattle.arguments.specs.Says.{saysFigure, saysByte};
 
 mod digits;
 
@@ -22,7 +21,7 @@ pub enum Byte {
 
 // The decimal number that the text is, of which `most` is the largest asked for.
 pub fn decimal(text: &[u8], most: u64) -> Figure
-    ensures { λ r. ⌜ saysFigure r ≡ decimal (now (text .entry)) most ⌝ }
+    ensures { λ r. ⌜ r ≡ decimal (now (text .entry)) most ⌝ }
 {
     if text.len() == 0 {
         return Figure::Odd;
@@ -35,7 +34,7 @@ pub fn decimal(text: &[u8], most: u64) -> Figure
 
 // The byte that the text is, in two hex digits of either case.
 pub fn hex(text: &[u8]) -> Byte
-    ensures { λ r. ⌜ saysByte r ≡ hex (now (text .entry)) ⌝ }
+    ensures { λ r. ⌜ r ≡ hex (now (text .entry)) ⌝ }
 {
     if text.len() != 2 {
         return Byte::Odd;

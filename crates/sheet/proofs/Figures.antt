@@ -9,14 +9,15 @@ use lib.Dec.{leb, ltb}
 use lib.ListN.{length}
 use borrow.Author.Tests.{leb-true}
 use Rattle.words.specs.Answer.{pick}
-use Rattle.arguments.specs.Figures.{allDigits, continued, Number, number, above, none, decimal}
+use Rattle.arguments.specs.Figures.{allDigits, continued, decimal}
+use Rattle.arguments.specs.declared.Figure.{Figure}
 
-by-tests : (a b : Bool) (v n most : ℕ) → (b ≡ true → v ≤ most) → number n ≡ pick a (pick b (number v) above) none → n ≤ most
+by-tests : (a b : Bool) (v n most : ℕ) → (b ≡ true → v ≤ most) → Figure.Number n ≡ pick a (pick b (Figure.Number v) Figure.Above) Figure.Odd → n ≤ most
 by-tests true true v n most h e = let same : n ≡ v = cc in let w = h refl in omega arith
 by-tests true false v n most h e = let z : _≡_ {A = ℕ} 0 1 = cc in omega arith
 by-tests false b v n most h e = let z : _≡_ {A = ℕ} 0 1 = cc in omega arith
 
-pub no-larger : (t : List ℕ) (most n : ℕ) → number n ≡ decimal t most → n ≤ most
+pub no-larger : (t : List ℕ) (most n : ℕ) → Figure.Number n ≡ decimal t most → n ≤ most
 unfolding decimal
 no-larger t most n e =
     by-tests (ltb 0 (length t) && allDigits t) (leb (continued 0 t) most) (continued 0 t) n most (leb-true (continued 0 t) most) e

@@ -9,7 +9,8 @@ use lib.Dec.{eqb}
 use lib.ListN.{length, take, drop, length-drop}
 use lib.Seq.{length-take-le}
 use borrow.Author.Tests.{eq-eqb, ne-eqb}
-use Rattle.arguments.specs.Figures.{Word, hex}
+use Rattle.arguments.specs.Figures.{hex}
+use Rattle.arguments.specs.declared.Byte.{Byte}
 use Rattle.sheet.specs.declared.line.Figure.{Figure}
 use Rattle.sheet.specs.Words.{upTo, onward, word, rest}
 use Rattle.sheet.specs.Line.{empty, figure, version, wordsOf}
@@ -25,7 +26,7 @@ is-empty t w s e h k is = by-length w s e h (ap length (sym is) ∙ length-take-
 -- Four words, each read from where the one before ended, and whether there is a fifth.
 module _ (t : List ℕ) (i j k l : ℕ)
     (d1 : drop i t ≡ rest t) (d2 : drop j t ≡ rest (drop i t)) (d3 : drop k t ≡ rest (drop j t)) (d4 : drop l t ≡ rest (drop k t)) where
-  pub words-are : (p g : Figure) (a b : Word) (w : Bool) → p ≡ figure (word t) → g ≡ figure (word (drop i t)) → a ≡ hex (word (drop j t)) → b ≡ hex (word (drop k t))
+  pub words-are : (p g : Figure) (a b : Byte) (w : Bool) → p ≡ figure (word t) → g ≡ figure (word (drop i t)) → a ≡ hex (word (drop j t)) → b ≡ hex (word (drop k t))
       → w ≡ empty (word (drop l t)) → empty (word t) ≡ false → version p g a b w ≡ wordsOf t
   unfolding wordsOf
   words-are p g a b w ep eg ea eb ew some =

@@ -4,7 +4,9 @@ use Prim.Native.Nat.{ℕ}
 use mathlib.Core.Bool.{Bool, true, false}
 use mathlib.Core.List.{List, [], _∷_}
 use Rattle.words.specs.Answer.{pick}
-use Rattle.arguments.specs.Figures.{Number, number, above, none, decimal, Word, byte, noWord, hex}
+use Rattle.arguments.specs.Figures.{decimal, hex}
+use Rattle.arguments.specs.declared.Figure.{Figure as Decimal}
+use Rattle.arguments.specs.declared.Byte.{Byte}
 use Rattle.sheet.specs.declared.cutting.Stop.{Stop}
 use Rattle.sheet.specs.declared.line.Figure.{Figure}
 use Rattle.sheet.specs.declared.line.Line.{Line}
@@ -20,10 +22,10 @@ abbrev pub largest : ℕ
 largest = 4294967295
 
 -- What a number of a line is as a place or a gap.
-abbrev pub figureOf : Number → Figure
-figureOf (number n) = Figure.Is n
-figureOf above = Figure.Is largest
-figureOf none = Figure.Odd
+abbrev pub figureOf : Decimal → Figure
+figureOf (Decimal.Number n) = Figure.Is n
+figureOf Decimal.Above = Figure.Is largest
+figureOf Decimal.Odd = Figure.Odd
 
 -- A word of a line as a place or a gap: a text of decimal digits.
 unfoldable pub figure : List ℕ → Figure
@@ -34,12 +36,12 @@ abbrev pub withFigure : Figure → (ℕ → Line) → Line
 withFigure (Figure.Is n) next = next n
 withFigure Figure.Odd next = Line.Unreadable
 
-abbrev pub withWord : Word → (ℕ → Line) → Line
-withWord (byte b) next = next b
-withWord noWord next = Line.Unreadable
+abbrev pub withWord : Byte → (ℕ → Line) → Line
+withWord (Byte.Is b) next = next b
+withWord Byte.Odd next = Line.Unreadable
 
 -- Four words, and no fifth, are a version: its place, its gap, S and S*.
-unfoldable pub version : Figure → Figure → Word → Word → Bool → Line
+unfoldable pub version : Figure → Figure → Byte → Byte → Bool → Line
 version place gap s t isAll =
     withFigure place λ p.
     withFigure gap λ g.

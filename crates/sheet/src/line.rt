@@ -3,7 +3,6 @@ ghost use mathlib.Core.Path.{_≡_};
 ghost use Prim.Native.Nat.{_≤_};
 ghost use lib.ListN.{length, drop};
 ghost use Rattle.arguments.specs.Figures.{hex};
-ghost use Rattle.arguments.specs.Says.{saysByte};
 ghost use Rattle.sheet.specs.Words.{word, rest};
 ghost use Rattle.sheet.specs.Line.{empty, figure, version, wordsOf, lineOf};
 use crate::cutting::Stop;
@@ -68,7 +67,7 @@ fn next_figure(text: &[u8], from: usize) -> FigureTo
 fn next_byte(text: &[u8], from: usize) -> ByteTo
     requires { ⌜ from ≤ length (now text) ⌝ }
     ensures { λ r. ⌜ r .end ≤ length (now (text .entry)) ⌝ }
-    ensures { λ r. ⌜ saysByte (r .byte) ≡ hex (word (drop from (now (text .entry)))) ⌝ }
+    ensures { λ r. ⌜ r .byte ≡ hex (word (drop from (now (text .entry)))) ⌝ }
     ensures { λ r. ⌜ drop (r .end) (now (text .entry)) ≡ rest (drop from (now (text .entry))) ⌝ }
 {
     let word = next_word(text, from);
@@ -80,7 +79,7 @@ fn next_byte(text: &[u8], from: usize) -> ByteTo
 
 // Four words as a version, if no fifth follows.
 fn version_of(place: Figure, gap: Figure, s: Byte, t: Byte, whole: bool) -> Line
-    ensures { λ r. ⌜ r ≡ version place gap (saysByte s) (saysByte t) whole ⌝ }
+    ensures { λ r. ⌜ r ≡ version place gap s t whole ⌝ }
 {
     let Figure::Is(place) = place else {
         return Line::Unreadable;

@@ -8,7 +8,8 @@ use Rattle.group.specs.declared.Told.{Told}
 use Rattle.ride.specs.declared.Linking.{Linking}
 use Rattle.ride.specs.State.{noGroup, nothingKnown, freshRide}
 use Rattle.shown.specs.Text.{place, group, linking, speed, figure, speeds, state}
-use Rattle.shown.specs.Commands.{forward, back, goTo, quit, unknown, by, alone, command}
+use Rattle.shown.specs.Commands.{by, alone, command}
+use Rattle.shown.specs.declared.commands.Command.{Command}
 
 -- at the start
 pub at-the-start : state 0 12 0 freshRide ≡ codes "0 of 12, kept 0\n  odometer 0\n  no group\n  no linking\n  main none, target none, number none\n"
@@ -21,6 +22,6 @@ pub after-a-signal : state 3 12 3 (record { odometer = 5000; group = noGroup; kn
 unfolding state place group linking speed figure speeds decimal digits noGroup
 after-a-signal = refl
 
-pub letters : (command (codes "f") ≡ forward 1) × (command (codes "b 20") ≡ back 20) × (command (codes "g 1200") ≡ goTo 1200) × (command (codes "q") ≡ quit) × (command (codes "g 0") ≡ unknown)
+pub letters : (command (codes "f") ≡ Command.Forward 1) × (command (codes "b 20") ≡ Command.Back 20) × (command (codes "g 1200") ≡ Command.Go 1200) × (command (codes "q") ≡ Command.Quit) × (command (codes "g 0") ≡ Command.Unknown)
 unfolding command by alone figures allDigits continued
 letters = (refl, refl, refl, refl, refl)

@@ -8,9 +8,10 @@ use lib.Dec.{eqb}
 use lib.ListN.{length, getD, drop}
 use Rattle.words.specs.Answer.{pick}
 use Rattle.arguments.specs.Figures.{decimal}
-use Rattle.shown.specs.Commands.{Command, unknown, largest, alone, numbered, command}
+use Rattle.shown.specs.Commands.{largest, alone, numbered, command}
+use Rattle.shown.specs.declared.commands.Command.{Command}
 
-pub no-letter : (l : List ℕ) → length l ≡ 0 → unknown ≡ command l
+pub no-letter : (l : List ℕ) → length l ≡ 0 → Command.Unknown ≡ command l
 unfolding command
 no-letter [] h = refl
 no-letter (a ∷ l) h = absurd (omega arith)
@@ -21,7 +22,7 @@ one-letter [] h = absurd (omega arith)
 one-letter (a ∷ []) h = refl
 one-letter (a ∷ b ∷ l) h = absurd (omega arith)
 
-pub more-letters : (l : List ℕ) → 2 ≤ length l → pick (eqb (getD l 1 0) 32) (numbered (getD l 0 0) (decimal (drop 2 l) largest)) unknown ≡ command l
+pub more-letters : (l : List ℕ) → 2 ≤ length l → pick (eqb (getD l 1 0) 32) (numbered (getD l 0 0) (decimal (drop 2 l) largest)) Command.Unknown ≡ command l
 unfolding command
 more-letters [] h = absurd (omega arith)
 more-letters (a ∷ []) h = absurd (omega arith)

@@ -1,4 +1,3 @@
 pub mod Text
 pub mod Pieces
 pub mod Commands
-pub mod Says

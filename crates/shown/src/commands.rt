@@ -1,7 +1,6 @@
 // The commands, a line each without its newline.
 ghost use mathlib.Core.Path.{_≡_};
 ghost use Rattle.shown.specs.Commands.{by, alone, command};
-ghost use Rattle.shown.specs.Says.{saysCommand};
 use arguments::Figure;
 
 // What a line asks for: so many records forward or back, to just before a record, forward to a place, the end, or nothing that is known.
@@ -16,7 +15,7 @@ pub enum Command {
 
 // A letter with a number after it.
 fn by(letter: u8, n: u64) -> Command
-    ensures { λ r. ⌜ saysCommand r ≡ by letter n ⌝ }
+    ensures { λ r. ⌜ r ≡ by letter n ⌝ }
 {
     if letter == b'f' {
         return Command::Forward(n);
@@ -38,7 +37,7 @@ fn by(letter: u8, n: u64) -> Command
 
 // A letter alone.
 fn alone(letter: u8) -> Command
-    ensures { λ r. ⌜ saysCommand r ≡ alone letter ⌝ }
+    ensures { λ r. ⌜ r ≡ alone letter ⌝ }
 {
     if letter == b'f' {
         return Command::Forward(1);
@@ -54,7 +53,7 @@ fn alone(letter: u8) -> Command
 
 // What a line asks for.
 pub fn read(line: &[u8]) -> Command
-    ensures { λ r. ⌜ saysCommand r ≡ command (now (line .entry)) ⌝ }
+    ensures { λ r. ⌜ r ≡ command (now (line .entry)) ⌝ }
 {
     if line.len() == 0 {
         return Command::Unknown;

@@ -1,6 +1,6 @@
 // What the program `view` is told and shows: its commands, and where it stands as text.
 // Promises: every line is answered; a text is written whole or not at all, and the bytes around it stay.
-// Specification: specs/Text.antt (what is shown), specs/Commands.antt (the commands), Says.antt (the answers).
+// Specification: specs/Text.antt (what is shown), specs/Commands.antt (the commands).
 ghost use mathlib.Core.Path.{_≡_};
 ghost use Rattle.text.specs.Put.{put, came};
 ghost use Rattle.shown.specs.Text.{state};

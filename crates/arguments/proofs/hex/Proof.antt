@@ -2,7 +2,8 @@
 use mathlib.Core.Path.{ap₂, _∙_, subst}
 use Prim.Native.Nat.{ℕ, _+_, _*_, _≤_, _<_}
 use borrow.Author.Tests.{ne-eqb}
-use Rattle.arguments.specs.Figures.{byte, hex}
+use Rattle.arguments.specs.Figures.{hex}
+use Rattle.arguments.specs.declared.Byte.{Byte}
 use Rattle.arguments.proofs.Characters.{no-high, no-low, two-digits}
 use borrow.Author.Needs.{needs}
 use Rattle.arguments.proofs.hex.Statement.{statement}
@@ -49,7 +50,7 @@ returns-4 c =
     let p = c .before .before in
     let q = p .before .before in
     let t = q .before .before .before .before .args .text .now in
-    ap₂ (λ (h l : ℕ). byte (h * 16 + l)) (q .hex-digit .ensures) (p .hex-digit2 .ensures)
+    ap₂ (λ (h l : ℕ). Byte.Is (h * 16 + l)) (q .hex-digit .ensures) (p .hex-digit2 .ensures)
     ∙ two-digits t (q .before .before .if1 .left) (subst (λ (k : ℕ). k < 16) (q .hex-digit .ensures) (c .before .if2 .left))
     (subst (λ (k : ℕ). k < 16) (p .hex-digit2 .ensures) (c .if3 .left))
 

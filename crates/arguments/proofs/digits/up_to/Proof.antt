@@ -6,7 +6,8 @@ use native.Mathlib.Omega.{arith}
 use lib.ListN.{length, getD, drop}
 use lib.Dec.{leb}
 use Rattle.words.specs.Answer.{pick}
-use Rattle.arguments.specs.Figures.{allDigits, continued, number, above}
+use Rattle.arguments.specs.Figures.{allDigits, continued}
+use Rattle.arguments.specs.declared.Figure.{Figure}
 use Rattle.arguments.proofs.Characters.{is-digit, number-on, number-end, grows, is-above, is-number}
 use Rattle.arguments.proofs.digits.up_to.Statement.{statement}
 use Rattle.arguments.proofs.digits.up_to.Tie as tie
@@ -40,7 +41,7 @@ over : (l : tie.At-loop Inv-loop μ-loop) →
     let t = l .before .args .text .now in
     let most = l .before .args .most in
     l .loop .i < length t → most < l .loop .sum * 10 + (getD t (l .loop .i) 0 - 48)
-    → above ≡ pick (leb (continued 0 t) most) (number (continued 0 t)) above
+    → Figure.Above ≡ pick (leb (continued 0 t) most) (Figure.Number (continued 0 t)) Figure.Above
 over l in-text more =
     let t = l .before .args .text .now in
     let n = l .loop .sum * 10 + (getD t (l .loop .i) 0 - 48) in

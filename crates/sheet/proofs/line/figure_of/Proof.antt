@@ -2,8 +2,7 @@
 use mathlib.Core.Path.{_≡_, sym, ap, _∙_}
 use Prim.Native.Nat.{_≤_}
 use native.Mathlib.Omega.{arith}
-use Rattle.arguments.specs.Figures.{number, decimal}
-use Rattle.arguments.specs.Says.{saysFigure}
+use Rattle.arguments.specs.Figures.{decimal}
 use Rattle.arguments.specs.declared.Figure.{Figure}
 use Rattle.sheet.specs.Line.{figure, figureOf}
 use Rattle.sheet.proofs.Figures.{no-larger}
@@ -22,7 +21,7 @@ cast-t5 c =
     let d = c .before .before .before in
     let a = d .before .before .args in
     let n = c .before .n .given .0 .0 in
-    let e : number n ≡ decimal (a .text .now) 4294967295 = ap saysFigure (sym (c .before .n .given .1)) ∙ d .decimal .ensures in
+    let e : Figure.Number n ≡ decimal (a .text .now) 4294967295 = sym (c .before .n .given .1) ∙ d .decimal .ensures in
     omega (arith, no-larger (a .text .now) 4294967295 n e)
 
 enum-told : tie.Need-enum-told
@@ -35,19 +34,19 @@ returns : tie.Need-returns
 unfolding figure
 returns c =
     let d = c .before .before .before in
-    ap (λ (f : Figure). figureOf (saysFigure f)) (sym (c .before .n .given .1)) ∙ ap figureOf (d .decimal .ensures)
+    ap figureOf (sym (c .before .n .given .1)) ∙ ap figureOf (d .decimal .ensures)
 
 returns-2 : tie.Need-returns-2
 unfolding figure
 returns-2 c =
     let d = c .before .before in
-    ap (λ (f : Figure). figureOf (saysFigure f)) (sym (c .enum-told .given .1)) ∙ ap figureOf (d .decimal .ensures)
+    ap figureOf (sym (c .enum-told .given .1)) ∙ ap figureOf (d .decimal .ensures)
 
 returns-3 : tie.Need-returns-3
 unfolding figure
 returns-3 c =
     let d = c .before .before in
-    ap (λ (f : Figure). figureOf (saysFigure f)) (sym (c .enum-told2 .given .1)) ∙ ap figureOf (d .decimal .ensures)
+    ap figureOf (sym (c .enum-told2 .given .1)) ∙ ap figureOf (d .decimal .ensures)
 
 pub figure-of-spec : {M : Type 1} → statement M
 figure-of-spec =

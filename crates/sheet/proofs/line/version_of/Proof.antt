@@ -1,5 +1,4 @@
 -- `version_of` takes the four words apart one after the other.
-use Rattle.arguments.specs.Says.{saysByte}
 use Rattle.sheet.specs.Line.{version}
 use borrow.Author.Needs.{needs}
 use Rattle.sheet.proofs.line.version_of.Statement.{statement}

@@ -1,6 +1,5 @@
 -- `words_of` reads four words one after the other, and looks whether there is a fifth.
 use mathlib.Core.Path.{sym, _∙_}
-use Rattle.arguments.specs.Says.{saysByte}
 use Rattle.sheet.specs.Line.{wordsOf}
 use Rattle.sheet.proofs.Wording.{words-are}
 use borrow.Author.Needs.{needs}
@@ -44,7 +43,7 @@ returns-2 c =
     c .version-of .ensures
     ∙ words-are t (f1 .next-figure .result .end) (f2 .next-figure2 .result .end) (b3 .next-byte .result .end) (b4 .next-byte2 .result .end)
     (f1 .next-figure .ensures .1 .1) (f2 .next-figure2 .ensures .1 .1) (b3 .next-byte .ensures .1 .1) (b4 .next-byte2 .ensures .1 .1)
-    (f1 .next-figure .result .figure) (f2 .next-figure2 .result .figure) (saysByte (b3 .next-byte .result .byte)) (saysByte (b4 .next-byte2 .result .byte)) (e .is-at-end2 .result)
+    (f1 .next-figure .result .figure) (f2 .next-figure2 .result .figure) (b3 .next-byte .result .byte) (b4 .next-byte2 .result .byte) (e .is-at-end2 .result)
     (f1 .next-figure .ensures .1 .0) (f2 .next-figure2 .ensures .1 .0) (b3 .next-byte .ensures .1 .0) (b4 .next-byte2 .ensures .1 .0) (e .is-at-end2 .ensures)
     (sym (s .before .is-at-end .ensures) ∙ s .if1 .left)
 

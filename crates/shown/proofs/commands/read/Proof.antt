@@ -10,9 +10,9 @@ use lib.ListN.{length, getD, take, drop, length-drop}
 use lib.Seq.{take-length}
 use Rattle.words.specs.Answer.{pick}
 use Rattle.arguments.specs.declared.Figure.{Figure}
-use Rattle.arguments.specs.Figures.{Number, decimal}
-use Rattle.arguments.specs.Says.{saysFigure}
-use Rattle.shown.specs.Commands.{Command, unknown, largest, numbered, command}
+use Rattle.arguments.specs.Figures.{decimal}
+use Rattle.shown.specs.Commands.{largest, numbered, command}
+use Rattle.shown.specs.declared.commands.Command.{Command}
 use Rattle.shown.proofs.Letters.{no-letter, one-letter, more-letters}
 use borrow.Author.Needs.{needs}
 use Rattle.shown.proofs.commands.read.Statement.{statement}
@@ -47,15 +47,15 @@ part : (l : List ℕ) → take (length l - 2) (drop 2 l) ≡ drop 2 l
 part l = ap (λ (n : ℕ). take n (drop 2 l)) (sym (length-drop 2 l)) ∙ take-length (drop 2 l)
 
 -- what a letter, a space and a figure come to
-spaced : (l : List ℕ) (f : Figure) → 2 ≤ length l → eqb (getD l 1 0) 32 ≡ true → saysFigure f ≡ decimal (take (length l - 2) (drop 2 l)) largest → numbered (getD l 0 0) (saysFigure f) ≡ command l
+spaced : (l : List ℕ) (f : Figure) → 2 ≤ length l → eqb (getD l 1 0) 32 ≡ true → f ≡ decimal (take (length l - 2) (drop 2 l)) largest → numbered (getD l 0 0) f ≡ command l
 spaced l f two e d =
-    ap (numbered (getD l 0 0)) (d ∙ ap (λ (t : List ℕ). decimal t largest) (part l)) ∙ sym (ap (λ (b : Bool). pick b (numbered (getD l 0 0) (decimal (drop 2 l) largest)) unknown) e) ∙ more-letters l two
+    ap (numbered (getD l 0 0)) (d ∙ ap (λ (t : List ℕ). decimal t largest) (part l)) ∙ sym (ap (λ (b : Bool). pick b (numbered (getD l 0 0) (decimal (drop 2 l) largest)) Command.Unknown) e) ∙ more-letters l two
 
 returns-3 : tie.Need-returns-3
 returns-3 c =
     let e = c .before .before in
     let l = e .before .before .before .before .args .line .now in
-    sym (ap (λ (b : Bool). pick b (numbered (getD l 0 0) (decimal (drop 2 l) largest)) unknown) (ne-eqb _ _ (c .if3 .taken))) ∙ more-letters l (long e)
+    sym (ap (λ (b : Bool). pick b (numbered (getD l 0 0) (decimal (drop 2 l) largest)) Command.Unknown) (ne-eqb _ _ (c .if3 .taken))) ∙ more-letters l (long e)
 
 sub-decimal : tie.Need-sub-decimal
 sub-decimal c = search needs
@@ -91,7 +91,7 @@ returns-4 c =
     let i = d .before .before in
     let e = i .before .before in
     let l = e .before .before .before .before .args .line .now in
-    c .by .ensures ∙ ap (λ (f : Figure). numbered (getD l 0 0) (saysFigure f)) (sym (n .n .given .1)) ∙ spaced l (d .decimal .result) (long e) (eq-eqb _ _ (i .if3 .left)) (d .decimal .ensures)
+    c .by .ensures ∙ ap (numbered (getD l 0 0)) (sym (n .n .given .1)) ∙ spaced l (d .decimal .result) (long e) (eq-eqb _ _ (i .if3 .left)) (d .decimal .ensures)
 
 returns-5 : tie.Need-returns-5
 returns-5 c =
@@ -100,7 +100,7 @@ returns-5 c =
     let i = d .before .before in
     let e = i .before .before in
     let l = e .before .before .before .before .args .line .now in
-    c .by2 .ensures ∙ ap (λ (f : Figure). numbered (getD l 0 0) (saysFigure f)) (sym (n .enum-told .given .1)) ∙ spaced l (d .decimal .result) (long e) (eq-eqb _ _ (i .if3 .left)) (d .decimal .ensures)
+    c .by2 .ensures ∙ ap (numbered (getD l 0 0)) (sym (n .enum-told .given .1)) ∙ spaced l (d .decimal .result) (long e) (eq-eqb _ _ (i .if3 .left)) (d .decimal .ensures)
 
 returns-6 : tie.Need-returns-6
 returns-6 c =
@@ -108,7 +108,7 @@ returns-6 c =
     let i = d .before .before in
     let e = i .before .before in
     let l = e .before .before .before .before .args .line .now in
-    ap (λ (f : Figure). numbered (getD l 0 0) (saysFigure f)) (sym (c .enum-told2 .given .1)) ∙ spaced l (d .decimal .result) (long e) (eq-eqb _ _ (i .if3 .left)) (d .decimal .ensures)
+    ap (numbered (getD l 0 0)) (sym (c .enum-told2 .given .1)) ∙ spaced l (d .decimal .result) (long e) (eq-eqb _ _ (i .if3 .left)) (d .decimal .ensures)
 
 pub read-spec : {M : Type 1} → statement M
 read-spec =
