@@ -12,7 +12,7 @@ use Rattle.ride.specs.declared.Mark.{Mark}
 use Rattle.ride.specs.declared.Seen.{Seen}
 use Rattle.ride.specs.declared.Line.{Line}
 use Rattle.listing.specs.Text.{codes, digits, decimal, direction, kind, mark, number, seen, text}
-use Rattle.listing.proofs.Decimal.{at-most, decimal-length}
+use Rattle.text.proofs.Decimal.{at-most, decimal-length}
 
 direction-length : (d : Direction) → length (direction d) ≤ 8
 direction-length Direction.Present = omega arith

@@ -1,14 +1,11 @@
 -- A text put into a lent buffer: every byte of the buffer after it.
 -- Assumes nothing.
 use Prim.Native.Nat.{ℕ, _+_}
-use mathlib.Core.List.{List, _++_}
+use mathlib.Core.List.{List}
 use lib.Dec.{leb}
-use lib.ListN.{length, take, drop}
+use lib.ListN.{length}
 use Rattle.words.specs.Answer.{pick}
-
--- The buffer with the text in it from the place `at` on: the bytes before and after the text stay.
-unfoldable pub placed : List ℕ → List ℕ → ℕ → List ℕ
-placed text buffer at = take at buffer ++ text ++ drop (at + length text) buffer
+unfoldable pub use Rattle.text.specs.Put.{placed}
 
 -- Where putting a text ends: with the place after it, or for want of room (document 01 has no number for that).
 pub data Ends : Type 0 where

@@ -1,35 +1,15 @@
 -- The lines of a listing as text (document 01, "One ride in full"): ASCII codes, with a newline at the end of each line.
 -- Assumes nothing.
-use Prim.Native.Nat.{ℕ, zero, suc, _+_, _/_, _%_}
-use Prim.Native.Char.{code}
-use Prim.Native.String.{String, [] as empty, _∷_ as _then_}
-use mathlib.Core.List.{List, [], _∷_, _++_}
-use lib.Dec.{ltb}
-use Rattle.words.specs.Answer.{pick}
+use Prim.Native.Nat.{ℕ}
+use mathlib.Core.List.{List, [], _++_}
+pub use Rattle.text.specs.Text.{codes}
+unfoldable pub use Rattle.text.specs.Text.{digits, decimal}
 use Rattle.walk.specs.declared.Direction.{Direction}
 use Rattle.walk.specs.declared.Kind.{Kind}
 use Rattle.group.specs.declared.Number.{Number}
 use Rattle.ride.specs.declared.Mark.{Mark}
 use Rattle.ride.specs.declared.Seen.{Seen}
 use Rattle.ride.specs.declared.Line.{Line}
-
--- A quoted text as the codes of its characters.
-abbrev pub codes : String → List ℕ
-codes empty = []
-codes (c then s) = code c ∷ codes s
-
--- The code of a digit.
-abbrev pub digit : ℕ → ℕ
-digit d = 48 + d
-
--- The digits of a number, the highest first, of which there are at most so many.
-unfoldable pub digits : ℕ → ℕ → List ℕ
-digits zero n = []
-digits (suc most) n = pick (ltb n 10) (digit n ∷ []) (digits most (n / 10) ++ (digit (n % 10) ∷ []))
-
--- A number in decimal without leading zeroes. A number of a line is below 2^64 and has at most 20 digits.
-unfoldable pub decimal : ℕ → List ℕ
-decimal n = digits 20 n
 
 -- The word for a direction.
 abbrev pub direction : Direction → List ℕ

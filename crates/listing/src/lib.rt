@@ -10,7 +10,6 @@ ghost use Rattle.listing.specs.Under.{listUnder};
 ghost use Rattle.listing.specs.Says.{saysPut, saysListed};
 
 mod lines;
-mod pieces;
 mod records;
 
 use ride::Line;
@@ -52,7 +51,7 @@ pub fn put_line(line: Line, buf: &mut [u8], at: usize) -> Put
     if n > buf.len() - at {
         return Put::NoRoom;
     }
-    Put::Next(pieces::put(&space[..n], buf, at))
+    Put::Next(text::put(&space[..n], buf, at))
 }
 
 // The lines of the trace's records from `number` on as text at the start of out: as many records as surely have room.

@@ -47,13 +47,18 @@ decimal-last n h small =
     let less : n / 10 < 10 ^ 20 = omega arith in
     last-digit 19 n h ∙ ap (λ (s : List ℕ). s ++ (digit (n % 10) ∷ [])) (enough 18 19 (n / 10) (tenth 19 n twenty) less)
 
+-- A number below 2^16 has at most five digits.
+pub five-digits : (n : ℕ) → n < 2 ^ 16 → digits 5 n ≡ decimal n
+unfolding decimal
+five-digits n small = enough 4 19 n (omega arith) (omega arith)
+
 -- one digit, or one more than the tenth has
 between : (b : Bool) (k d e : ℕ) (s : List ℕ) → length s ≤ k
     → (1 ≤ length (pick b (d ∷ []) (s ++ (e ∷ [])))) × (length (pick b (d ∷ []) (s ++ (e ∷ []))) ≤ suc k)
 between true k d e s h = omega arith
 between false k d e s h = simp length-append (omega arith)
 
-at-most : (k n : ℕ) → length (digits k n) ≤ k
+pub at-most : (k n : ℕ) → length (digits k n) ≤ k
 unfolding digits
 at-most zero n = omega arith
 at-most (suc k) n = between (ltb n 10) k (digit n) (digit (n % 10)) (digits k (n / 10)) (at-most k (n / 10)) .1

@@ -90,6 +90,19 @@ pub join-4 : {x y z w : List ℕ} {m n o r : ℕ} (b : List ℕ) (at : ℕ) (t u
     → came m x ≡ put t b at → came n y ≡ put u x m → came o z ≡ put v y n → came r w ≡ put s z o → came r w ≡ put (t ++ u ++ v ++ s) b at
 join-4 b at t u v s h e f g k = join b at (t ++ u ++ v) s h (join-3 b at t u v (less b at (t ++ u ++ v) s h) e f g) k
 
+-- The same text in other words has the same room.
+pub room-as : {t u : List ℕ} (b : List ℕ) (at : ℕ) → t ≡ u → at + length u ≤ length b → at + length t ≤ length b
+room-as b at e h = rw e h
+
+-- Two texts put one after the other are the one that they read as.
+pub join-as : {x y : List ℕ} {m r : ℕ} {w : List ℕ} (b : List ℕ) (at : ℕ) (t u : List ℕ) → t ++ u ≡ w → at + length w ≤ length b
+    → came m x ≡ put t b at → came r y ≡ put u x m → came r y ≡ put w b at
+join-as b at t u is h e f = join b at t u (room-as b at is h) e f ∙ ap (λ (v : List ℕ). put v b at) is
+
+-- A text chosen by a case: what is put for the case is put for the value.
+pub by-case : {A : Type 0} {x y : A} {p : Put} (words : A → List ℕ) (b : List ℕ) (at : ℕ) → x ≡ y → p ≡ put (words y) b at → p ≡ put (words x) b at
+by-case {A} {p = p} words b at is e = subst (λ (z : A). p ≡ put (words z) b at) (sym is) e
+
 -- A text put at the start of a buffer is the buffer's beginning.
 pub spelled : {x : List ℕ} {m : ℕ} (b t : List ℕ) → length t ≤ length b → came m x ≡ put t b 0 → (take m x ≡ t) × (m ≤ length x)
 spelled {x} {m} b t h e =

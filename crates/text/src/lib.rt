@@ -31,9 +31,10 @@ pub fn put_number(words: &[u8], n: u64, buf: &mut [u8], at: usize) -> usize
     if words.len() > buf.len() - at {
         return at;
     }
-    if pieces::places(n) > buf.len() - at - words.len() {
+    let count = pieces::places(n);
+    if count > buf.len() - at - words.len() {
         return at;
     }
     let next = pieces::copy(words, buf, at);
-    pieces::spell(n, buf, next)
+    pieces::spell(n, buf, next, next + count)
 }

@@ -35,13 +35,12 @@ pub fn places(n: u64) -> usize
     count
 }
 
-// The number in decimal into buf from `at` on, from its last digit to its first; the place after it.
-pub fn spell(n: u64, buf: &mut [u8], at: usize) -> usize
-    requires { ⌜ at + length (decimal n) ≤ length (now buf) ⌝ }
+// The number in decimal into buf from `at` on and up to `end`, from its last digit to its first; the place after it.
+pub fn spell(n: u64, buf: &mut [u8], at: usize, end: usize) -> usize
+    requires { ⌜ (end ≡ at + length (decimal n)) × (end ≤ length (now buf)) ⌝ }
     ensures { λ r. ⌜ r ≡ at + length (decimal n) ⌝ }
     ensures { λ r. ⌜ now (buf .exit) ≡ placed (decimal n) (now (buf .entry)) at ⌝ }
 {
-    let end = at + places(n);
     let mut i = end - 1;
     let mut rest = n;
     while rest >= 10 {

@@ -6,15 +6,14 @@ use native.Mathlib.Omega.{arith}
 use lib.ListN.{length, take, replicate, length-replicate}
 use borrow.Author.Tests.{le-leb, lt-leb}
 use Rattle.listing.specs.Text.{text}
-use Rattle.listing.specs.Put.{placed, put, filled, next}
-use Rattle.listing.proofs.Placing.{placed-length, placed-start}
+use Rattle.text.specs.Put.{put as text-put}
+use Rattle.text.proofs.Placing.{placed-start}
+use Rattle.text.proofs.Standing.{stands}
+use Rattle.listing.specs.Put.{put, filled, next}
 use Rattle.listing.proofs.Longest.{longest}
 use borrow.Author.Needs.{needs}
 use Rattle.listing.proofs.put_line.Statement.{statement}
 use Rattle.listing.proofs.put_line.Tie as tie
-
-slice-aggregate-put-text : tie.Need-slice-aggregate-put-text
-slice-aggregate-put-text c = search needs
 
 -- the beginning of the space is the line's text
 spelled : (c : tie.After-put-text) → take (c .put-text .result) (c .put-text .last .1 .0) ≡ text (c .before .before .before .args .line)
@@ -32,9 +31,6 @@ returns c =
     let a = c .before .before .before .before .before .args in
     let over : length (a .buf .now) < a .at + length (text (a .line)) = omega arith in
     simp (lt-leb _ _ over)
-
-sub-if2 : tie.Need-sub-if2
-sub-if2 c = search needs
 
 returns-2 : tie.Need-returns-2
 unfolding put
@@ -55,16 +51,6 @@ slice-aggregate-put c =
     let size : p .put-text .result ≡ 0 + length (text (p .before .before .before .args .line)) = p .put-text .ensures .0 in
     omega (arith, ap length (spelled p))
 
-put-requires : tie.Need-put-requires
-put-requires c κs =
-    let p = c .before .before .before .before .before in
-    let a = p .before .before .before .args in
-    let size : p .put-text .result ≡ 0 + length (text (a .line)) = p .put-text .ensures .0 in
-    omega (arith, ap length (spelled p))
-
-same-length : tie.Need-same-length
-same-length c = search needs
-
 returns-3 : tie.Need-returns-3
 unfolding put
 returns-3 c =
@@ -73,24 +59,21 @@ returns-3 c =
     let a = p .before .before .before .args in
     let size : p .put-text .result ≡ 0 + length (text (a .line)) = p .put-text .ensures .0 in
     let room : a .at + length (text (a .line)) ≤ length (a .buf .now) = omega arith in
-    let place-is : q .put .result ≡ a .at + length (text (a .line)) = q .put .ensures .0 ∙ ap (λ (w : List ℕ). a .at + length w) (spelled p) in
-    let buffer-is : q .put .last .1 .0 ≡ placed (text (a .line)) (a .buf .now) (a .at) =
-    q .put .ensures .1 ∙ ap (λ (w : List ℕ). placed w (a .buf .now) (a .at)) (spelled p) in
-    ap (λ (n : ℕ). filled (next n) (q .put .last .1 .0)) place-is
-    ∙ ap (filled (next (a .at + length (text (a .line))))) buffer-is
+    let stood = stands room (q .put .ensures ∙ ap (λ (w : List ℕ). text-put w (a .buf .now) (a .at)) (spelled p)) .put in
+    ap (λ (n : ℕ). filled (next n) (q .put .last .1 .0)) (stood .0)
+    ∙ ap (filled (next (a .at + length (text (a .line))))) (stood .1)
     ∙ simp (le-leb _ _ room)
 
 pub put-line-spec : {M : Type 1} → statement M
 put-line-spec =
     tie.close
     (tie.spec
-    slice-aggregate-put-text
+    (λ c. search needs)
     put-text-requires
     returns
-    sub-if2
+    (λ c. search needs)
     returns-2
     array-share-prefix-space
     slice-aggregate-put
-    put-requires
-    same-length
+    (λ c κs. search needs) (λ c. search needs)
     returns-3)

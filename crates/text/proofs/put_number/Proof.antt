@@ -54,11 +54,17 @@ words-stand c =
     let room-for : a .at + length (a .words .now) ≤ length (a .buf .now) = omega (arith, fits (c .before .before), length-append (a .words .now) (decimal (a .n))) in
     record { put = c .copy .ensures; fits = room-for }
 
+add-spell : tie.Need-add-spell
+add-spell c =
+    let q = c .before .before .before in
+    let a = q .before .before .before .before .before .before .before .before .args in
+    omega (arith, room (decimal (a .n)) (words-stand q) (fits (q .before .before)))
+
 spell-requires : tie.Need-spell-requires
 spell-requires c κs =
     let q = c .before .before .before in
     let a = q .before .before .before .before .before .before .before .before .args in
-    room (decimal (a .n)) (words-stand q) (fits (q .before .before))
+    (omega arith, omega (arith, room (decimal (a .n)) (words-stand q) (fits (q .before .before))))
 
 same-length : tie.Need-same-length
 same-length c = search needs
@@ -82,6 +88,7 @@ put-number-spec =
     sub-if3-2
     returns-3
     copy-requires
+    add-spell
     spell-requires
     same-length
     returns-4)

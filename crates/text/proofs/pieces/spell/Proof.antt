@@ -23,18 +23,12 @@ Inv-loop n buf₀ at end i₀ rest₀ buf i rest =
 abbrev μ-loop : tie.MeasureT-loop
 μ-loop n buf₀ at end i₀ rest₀ buf i rest = rest
 
-places-requires : tie.Need-places-requires Inv-loop μ-loop
-places-requires c κs = tt
-
-add-end : tie.Need-add-end Inv-loop μ-loop
-add-end c = omega arith
-
 sub-i : tie.Need-sub-i Inv-loop μ-loop
-sub-i c = omega (arith, decimal-some (c .before .before .args .n))
+sub-i c = omega (arith, decimal-some (c .args .n))
 
 loop-holds : tie.Need-loop-holds Inv-loop μ-loop
 loop-holds c =
-    let a = c .before .before .args in
+    let a = c .args in
     let some : 1 ≤ length (decimal (a .n)) = decimal-some (a .n) in
     (omega arith, omega arith, omega arith, refl, refl, omega arith)
 
@@ -61,7 +55,7 @@ loop-less c = omega arith
 loop-again : tie.Need-loop-again Inv-loop μ-loop
 loop-again c =
     let l = c .before in
-    let a = l .before .before .before .args in
+    let a = l .before .args in
     let rest = l .loop .rest in
     let buf = l .loop .buf in
     let d = digit (rest % 10) in
@@ -97,7 +91,7 @@ same-length c =
 returns : tie.Need-returns Inv-loop μ-loop
 returns c =
     let l = c .before in
-    let a = l .before .before .before .args in
+    let a = l .before .args in
     let rest = l .loop .rest in
     let buf = l .loop .buf in
     let digit-is : decimal rest ≡ digit rest ∷ [] = decimal-one rest (c .loop-test .left) in
@@ -117,8 +111,6 @@ spell-spec =
     (tie.spec
     Inv-loop
     μ-loop
-    places-requires
-    add-end
     sub-i
     loop-holds
     cast-buf
