@@ -11,7 +11,8 @@ use Rattle.words.specs.Answer.{refuses, pick}
 use Rattle.ride.specs.Joining.{allowed}
 use Rattle.ride.specs.Over.{records}
 use Rattle.ride.specs.declared.Ride.{Ride}
-use Rattle.listing.specs.Put.{next, noRoom, filled, placed, put}
+use Rattle.listing.specs.Put.{filled, placed, put}
+use Rattle.listing.specs.declared.Put.{Put}
 use Rattle.listing.specs.List.{Listing, listOf, listTaken, unlisted, list}
 use Rattle.demands.specs.Rules.{row, Decided, Given}
 use Rattle.demands.specs.Table.{badLength}
@@ -51,11 +52,11 @@ list-untouched ride gap number trace out n e = go (allowed gap) (eqb (length tra
     go true true q = absurd (gives-not q)
 
 -- what is put without room
-pub put-untouched : (text buffer : List ℕ) (at : ℕ) → put text buffer at .ends ≡ noRoom → put text buffer at .buffer ≡ buffer
+pub put-untouched : (text buffer : List ℕ) (at : ℕ) → put text buffer at .ends ≡ Put.NoRoom → put text buffer at .buffer ≡ buffer
 unfolding put
 put-untouched text buffer at e = go (leb (at + length text) (length buffer)) e
   where
-    go : (t : Bool) → pick t (filled (next (at + length text)) (placed text buffer at)) (filled noRoom buffer) .ends ≡ noRoom
-        → pick t (filled (next (at + length text)) (placed text buffer at)) (filled noRoom buffer) .buffer ≡ buffer
+    go : (t : Bool) → pick t (filled (Put.Next (at + length text)) (placed text buffer at)) (filled Put.NoRoom buffer) .ends ≡ Put.NoRoom
+        → pick t (filled (Put.Next (at + length text)) (placed text buffer at)) (filled Put.NoRoom buffer) .buffer ≡ buffer
     go false q = refl
     go true q = absurd (let z : _≡_ {A = ℕ} 0 1 = cc in omega arith)

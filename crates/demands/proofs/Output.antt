@@ -19,9 +19,9 @@ use Rattle.ride.specs.declared.Line.{Line}
 use Rattle.ride.specs.declared.Ride.{Ride}
 use Rattle.ride.proofs.Cutting.{records-length}
 use Rattle.listing.specs.Text.{text, seen, decimal, digits}
-use Rattle.listing.specs.Put.{next, noRoom, Filled, filled, placed, put}
+use Rattle.listing.specs.Put.{Filled, filled, placed, put}
 use Rattle.listing.specs.List.{textOf, Listing, listOf, listTaken, list, unlisted}
-use Rattle.listing.specs.Says.{saysPut, saysDone}
+use Rattle.listing.specs.Says.{saysDone}
 use Rattle.listing.specs.declared.Done.{Done}
 use Rattle.listing.specs.declared.Listed.{Listed}
 use Rattle.listing.specs.declared.Put.{Put}
@@ -98,24 +98,24 @@ output-refused trace bad =
 
 -- ---- one line
 
-put-so : (line : Line) (before : List ℕ) (at : ℕ) (r : Put) (after : List ℕ) → PutLine line before at r after → filled (saysPut r) after ≡ put (text line) before at
-put-so line before at r after c = ap (filled (saysPut r)) (sym (c .4)) ∙ c .5 ∙ ap (λ (v : List ℕ). put (text line) v at) (c .3)
+put-so : (line : Line) (before : List ℕ) (at : ℕ) (r : Put) (after : List ℕ) → PutLine line before at r after → filled r after ≡ put (text line) before at
+put-so line before at r after c = ap (filled r) (sym (c .4)) ∙ c .5 ∙ ap (λ (v : List ℕ). put (text line) v at) (c .3)
 
 puts-so : (line : Line) (before : List ℕ) (at : ℕ) (r : Put) (after : List ℕ) → PutLine line before at r after → at + length (text line) ≤ length before
     → (r ≡ Put.Next (at + length (text line))) × (after ≡ placed (text line) before at)
 unfolding put
 puts-so line before at r after c fits =
     let e = put-so line before at r after c
-    ∙ ap (λ (t : Bool). pick t (filled (next (at + length (text line))) (placed (text line) before at)) (filled noRoom before)) (le-leb (at + length (text line)) (length before) fits) in
-    (told saysPut listing-is.putOf listing-is.put-back r (Put.Next (at + length (text line))) (ap (λ (f : Filled). f .ends) e) refl, ap (λ (f : Filled). f .buffer) e)
+    ∙ ap (λ (t : Bool). pick t (filled (Put.Next (at + length (text line))) (placed (text line) before at)) (filled Put.NoRoom before)) (le-leb (at + length (text line)) (length before) fits) in
+    (ap (λ (f : Filled). f .ends) e, ap (λ (f : Filled). f .buffer) e)
 
 no-room-so : (line : Line) (before : List ℕ) (at : ℕ) (r : Put) (after : List ℕ) → PutLine line before at r after → length before < at + length (text line)
     → (r ≡ Put.NoRoom) × (after ≡ before)
 unfolding put
 no-room-so line before at r after c full =
     let e = put-so line before at r after c
-    ∙ ap (λ (t : Bool). pick t (filled (next (at + length (text line))) (placed (text line) before at)) (filled noRoom before)) (lt-leb (at + length (text line)) (length before) full) in
-    (told saysPut listing-is.putOf listing-is.put-back r Put.NoRoom (ap (λ (f : Filled). f .ends) e) refl, ap (λ (f : Filled). f .buffer) e)
+    ∙ ap (λ (t : Bool). pick t (filled (Put.Next (at + length (text line))) (placed (text line) before at)) (filled Put.NoRoom before)) (lt-leb (at + length (text line)) (length before) full) in
+    (ap (λ (f : Filled). f .ends) e, ap (λ (f : Filled). f .buffer) e)
 
 -- The lines that document 01 quotes, computed at once.
 each : (qs : List Quoted) → map (λ q. text (q .line)) qs ≡ map (λ q. q .reads) qs → AllQuoted qs

@@ -19,7 +19,6 @@ use Rattle.ride.specs.Over.{linesFor}
 use Rattle.ride.specs.declared.Known.{Known}
 use Rattle.ride.specs.declared.Line.{Line}
 use Rattle.ride.specs.declared.Ride.{Ride}
-use Rattle.listing.specs.Put.{next}
 use Rattle.listing.specs.List.{textOf, isTaken, taken}
 use Rattle.listing.proofs.Longest.{longest}
 use Rattle.listing.proofs.Texts.{text-one, text-join}

@@ -64,8 +64,7 @@ use Rattle.compaction.specs.declared.Waiting.{Waiting}
 use Rattle.compaction.specs.declared.Compacted.{Compacted}
 use Rattle.compaction.specs.declared.Block.{Block}
 use Rattle.viewer.specs.Says.{saysBegun as saysOpened, saysHow}
-use Rattle.listing.specs.Put.{noRoom}
-use Rattle.listing.specs.Says.{saysPut, saysDone}
+use Rattle.listing.specs.Says.{saysDone}
 use Rattle.listing.specs.declared.Put.{Put}
 use Rattle.listing.specs.declared.Listed.{Listed}
 use Rattle.demands.specs.Rules.{rowOf, row, Decided, Given, Is}
@@ -147,7 +146,7 @@ pub record Untouched : Type 0 where
       → ListInto ride gap number trace before r after → saysDone (r .done) ≡ refuses n
       → (r .ride ≡ ride) × (r .number ≡ number) × (after ≡ before)
   pub put-line : (line : Line) (before : List ℕ) (at : ℕ) (r : Put) (after : List ℕ) → PutLine line before at r after
-      → saysPut r ≡ noRoom → after ≡ before
+      → r ≡ Put.NoRoom → after ≡ before
   -- so does a refused writing
   pub write : (x y z s t n : ℕ) (before : List ℕ) (r : Written) (after : List ℕ) (k : ℕ) → Write x y z s t n before r after → saysAnswer r ≡ refuses k → after ≡ before
   -- so does a refused compaction, of a trace or of a block of it

@@ -19,6 +19,7 @@ use Rattle.ride.specs.declared.trace.Given.{Given}
 use Rattle.ride.specs.Over.{linesFor}
 use Rattle.ride.specs.Says.{saysWrong, saysLines, saysGiven}
 use Rattle.listing.specs.Text.{text}
+use Rattle.listing.specs.declared.Put.{Put}
 use Rattle.listing.specs.Put as listed
 use Rattle.listing.proofs.Longest.{longest}
 use Rattle.explainer.specs.declared.Bad.{Bad as Badly}
@@ -51,16 +52,16 @@ why-is g r e = ap reasonText (sym (answer-back r) ∙ ap answer e)
 -- ---- a line as the checker puts it
 
 -- from where the checker's put ends
-abbrev pub asPut : ℕ → listed.Ends → List ℕ → texts.Put
-asPut at (listed.next k) b = texts.came k b
-asPut at listed.noRoom b = texts.came at b
+abbrev pub asPut : ℕ → Put → List ℕ → texts.Put
+asPut at (Put.Next k) b = texts.came k b
+asPut at Put.NoRoom b = texts.came at b
 
 pub put-alike : (at : ℕ) (t b : List ℕ) → asPut at (listed.put t b at .ends) (listed.put t b at .buffer) ≡ texts.put t b at
 unfolding listed.put texts.put listed.placed texts.placed
 put-alike at t b = go (leb (at + length t) (length b))
   where
     go : (so : Bool)
-        → asPut at (pick so (listed.filled (listed.next (at + length t)) (listed.placed t b at)) (listed.filled listed.noRoom b) .ends) (pick so (listed.filled (listed.next (at + length t)) (listed.placed t b at)) (listed.filled listed.noRoom b) .buffer)
+        → asPut at (pick so (listed.filled (Put.Next (at + length t)) (listed.placed t b at)) (listed.filled Put.NoRoom b) .ends) (pick so (listed.filled (Put.Next (at + length t)) (listed.placed t b at)) (listed.filled Put.NoRoom b) .buffer)
         ≡ pick so (texts.came (at + length t) (texts.placed t b at)) (texts.came at b)
     go true = refl
     go false = refl

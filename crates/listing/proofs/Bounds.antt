@@ -23,24 +23,24 @@ use Rattle.ride.proofs.Cutting.{records-length}
 use Rattle.listing.specs.declared.Put.{Put}
 use Rattle.listing.specs.declared.Done.{Done}
 use Rattle.listing.specs.declared.Listed.{Listed}
-use Rattle.listing.specs.Put.{Ends, next, noRoom, Filled, filled, placed, put}
+use Rattle.listing.specs.Put.{Filled, filled, placed, put}
 use Rattle.listing.specs.List.{textOf, isTaken, taken, Taken, Listing, listOf, unlisted, list}
 use Rattle.listing.specs.Under.{judgedFirst, listUnder}
-use Rattle.listing.specs.Says.{saysPut, saysDone, saysListed}
+use Rattle.listing.specs.Says.{saysDone, saysListed}
 use Rattle.listing.proofs.Plain.{plain-list}
 
 -- a text that was put lies within the buffer
-put-within : (b : Bool) (k most n : ℕ) (x y : List ℕ) → leb k most ≡ b → next n ≡ pick b (filled (next k) x) (filled noRoom y) .ends → n ≤ most
+put-within : (b : Bool) (k most n : ℕ) (x y : List ℕ) → leb k most ≡ b → Put.Next n ≡ pick b (filled (Put.Next k) x) (filled Put.NoRoom y) .ends → n ≤ most
 put-within true k most n x y e is =
     let n-is : n ≡ k = cc in
     omega (arith, leb-true k most e)
 put-within false k most n x y e is = let z : _≡_ {A = ℕ} 0 1 = cc in omega arith
 
-pub next-within : (t b x : List ℕ) (at : ℕ) (r : Put) (n : ℕ) → filled (saysPut r) x ≡ put t b at → r ≡ Put.Next n → n ≤ length b
+pub next-within : (t b x : List ℕ) (at : ℕ) (r : Put) (n : ℕ) → filled r x ≡ put t b at → r ≡ Put.Next n → n ≤ length b
 unfolding put
 next-within t b x at r n e is =
     put-within (leb (at + length t) (length b)) (at + length t) (length b) n (placed t b at) b refl
-    (sym (ap saysPut is) ∙ ap (λ (f : Filled). f .ends) e)
+    (sym is ∙ ap (λ (f : Filled). f .ends) e)
 
 -- no more records are taken than there are
 one-more : (b : Bool) (n k : ℕ) → n ≤ k → pick b (suc n) 0 ≤ suc k

@@ -15,9 +15,9 @@ use Rattle.settings.proofs.Determined.{badOf}
 use Rattle.listing.specs.declared.Put.{Put}
 use Rattle.listing.specs.declared.Done.{Done}
 use Rattle.listing.specs.declared.Listed.{Listed}
-use Rattle.listing.specs.Put.{Ends, next, noRoom, Filled, filled}
+use Rattle.listing.specs.Put.{Filled, filled}
 use Rattle.listing.specs.List.{Taken, Listing}
-use Rattle.listing.specs.Says.{saysPut, saysDone, saysListed}
+use Rattle.listing.specs.Says.{saysDone, saysListed}
 use Rattle.listing.proofs.put_line.Kinds as put-line-kinds
 use Rattle.listing.proofs.put_line.Reads as put-line-reads
 use Rattle.listing.proofs.list.Kinds as list-kinds
@@ -26,14 +26,6 @@ use Rattle.listing.proofs.list_under.Kinds as list-under-kinds
 use Rattle.listing.proofs.list_under.Reads as list-under-reads
 
 -- From what an answer says, the answer.
-abbrev pub putOf : Ends → Put
-putOf (next at) = Put.Next at
-putOf noRoom = Put.NoRoom
-
-pub put-back : (r : Put) → putOf (saysPut r) ≡ r
-put-back (Put.Next at) = refl
-put-back Put.NoRoom = refl
-
 abbrev pub doneOf : Outcome Taken → Done
 doneOf (gives t) = Done.Took (t .records) (t .bytes)
 doneOf (refuses n) = pick (eqb n 16) Done.Length (Done.Settings (badOf n))
@@ -57,8 +49,8 @@ pub put-line-determined : (κs : Lfts 1) (a : Dens κs put-line-kinds.ps) (r r�
     (x x′ : AtExit (endedOf 1 put-line-kinds.ps put-line-kinds.r) κs)
     → put-line-reads.Post κs a r x → put-line-reads.Post κs a r′ x′ → (r ≡ r′) × (now (x .1 .0) ≡ now (x′ .1 .0))
 put-line-determined κs a r r′ x x′ p q =
-    let same : filled (saysPut r) (now (x .1 .0)) ≡ filled (saysPut r′) (now (x′ .1 .0)) = p ∙ sym q in
-    (sym (put-back r) ∙ ap (λ (f : Filled). putOf (f .ends)) same ∙ put-back r′, ap (λ (f : Filled). f .buffer) same)
+    let same : filled r (now (x .1 .0)) ≡ filled r′ (now (x′ .1 .0)) = p ∙ sym q in
+    (ap (λ (f : Filled). f .ends) same, ap (λ (f : Filled). f .buffer) same)
 
 pub list-determined : (κs : Lfts 2) (a : Dens κs list-kinds.ps) (r r′ : Listed)
     (x x′ : AtExit (endedOf 2 list-kinds.ps list-kinds.r) κs)

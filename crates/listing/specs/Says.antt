@@ -4,16 +4,9 @@ use Prim.Native.Nat.{ℕ}
 use mathlib.Core.List.{List}
 use Rattle.words.specs.Answer.{Outcome, gives, refuses}
 use Rattle.settings.specs.Says.{saysBad}
-use Rattle.listing.specs.declared.Put.{Put}
 use Rattle.listing.specs.declared.Done.{Done}
 use Rattle.listing.specs.declared.Listed.{Listed}
-use Rattle.listing.specs.Put.{Ends, next, noRoom}
 use Rattle.listing.specs.List.{Taken, Listing}
-
--- The place after the line, or that there is no room for it.
-abbrev pub saysPut : Put → Ends
-saysPut (Put.Next at) = next at
-saysPut Put.NoRoom = noRoom
 
 -- What was taken; settings that are refused have their own number ("gap outside 1 to 200" is 19); "trace length not a multiple
 -- of 8" is 16.

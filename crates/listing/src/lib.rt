@@ -7,7 +7,7 @@ ghost use Rattle.listing.specs.Text.{text};
 ghost use Rattle.listing.specs.Put.{put, filled};
 ghost use Rattle.listing.specs.List.{list};
 ghost use Rattle.listing.specs.Under.{listUnder};
-ghost use Rattle.listing.specs.Says.{saysPut, saysListed};
+ghost use Rattle.listing.specs.Says.{saysListed};
 
 mod lines;
 mod records;
@@ -41,7 +41,7 @@ pub struct Listed {
 
 // The line's text and a newline into buf from `at` on; without room buf stays as it is.
 pub fn put_line(line: Line, buf: &mut [u8], at: usize) -> Put
-    ensures { λ r. ⌜ filled (saysPut r) (now (buf .exit)) ≡ put (text line) (now (buf .entry)) at ⌝ }
+    ensures { λ r. ⌜ filled r (now (buf .exit)) ≡ put (text line) (now (buf .entry)) at ⌝ }
 {
     let mut space = [0u8; 64];
     let n = lines::put_text(line, &mut space, 0);

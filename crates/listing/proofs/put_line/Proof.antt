@@ -9,7 +9,8 @@ use Rattle.listing.specs.Text.{text}
 use Rattle.text.specs.Put.{put as text-put}
 use Rattle.text.proofs.Placing.{placed-start}
 use Rattle.text.proofs.Standing.{stands}
-use Rattle.listing.specs.Put.{put, filled, next}
+use Rattle.listing.specs.Put.{put, filled}
+use Rattle.listing.specs.declared.Put.{Put}
 use Rattle.listing.proofs.Longest.{longest}
 use borrow.Author.Needs.{needs}
 use Rattle.listing.proofs.put_line.Statement.{statement}
@@ -60,8 +61,8 @@ returns-3 c =
     let size : p .put-text .result ≡ 0 + length (text (a .line)) = p .put-text .ensures .0 in
     let room : a .at + length (text (a .line)) ≤ length (a .buf .now) = omega arith in
     let stood = stands room (q .put .ensures ∙ ap (λ (w : List ℕ). text-put w (a .buf .now) (a .at)) (spelled p)) .put in
-    ap (λ (n : ℕ). filled (next n) (q .put .last .1 .0)) (stood .0)
-    ∙ ap (filled (next (a .at + length (text (a .line))))) (stood .1)
+    ap (λ (n : ℕ). filled (Put.Next n) (q .put .last .1 .0)) (stood .0)
+    ∙ ap (filled (Put.Next (a .at + length (text (a .line))))) (stood .1)
     ∙ simp (le-leb _ _ room)
 
 pub put-line-spec : {M : Type 1} → statement M

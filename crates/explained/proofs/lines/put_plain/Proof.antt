@@ -3,7 +3,6 @@
 use mathlib.Core.Path.{sym, ap, _∙_}
 use Rattle.listing.specs.declared.Put.{Put}
 use Rattle.listing.specs.Put.{Filled}
-use Rattle.listing.specs.Says.{saysPut}
 use Rattle.listing.specs.Text.{text}
 use Rattle.explained.proofs.Texts.{asPut, put-alike}
 use borrow.Author.Needs.{needs}
@@ -27,7 +26,7 @@ returns c =
     let p = c .before .before .before .before .before in
     let a = p .before .before .before .args in
     let x = p .put-line .last .1 .0 in
-    sym (ap (λ (o : Put). asPut (a .at) (saysPut o) x) (c .before .next .given .1))
+    sym (ap (λ (o : Put). asPut (a .at) o x) (c .before .next .given .1))
     ∙ ap (λ (f : Filled). asPut (a .at) (f .ends) (f .buffer)) (p .put-line .ensures)
     ∙ put-alike (a .at) (text (a .line)) (a .buf .now)
 
@@ -39,7 +38,7 @@ returns-2 c =
     let p = c .before .before .before .before in
     let a = p .before .before .before .args in
     let x = p .put-line .last .1 .0 in
-    sym (ap (λ (o : Put). asPut (a .at) (saysPut o) x) (c .enum-told .given .1))
+    sym (ap (λ (o : Put). asPut (a .at) o x) (c .enum-told .given .1))
     ∙ ap (λ (f : Filled). asPut (a .at) (f .ends) (f .buffer)) (p .put-line .ensures)
     ∙ put-alike (a .at) (text (a .line)) (a .buf .now)
 
