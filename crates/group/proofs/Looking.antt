@@ -1,38 +1,32 @@
--- Looking for a balise of category c from balise i of the first n on: one balise, and the rest.
+-- Looking for a balise of category c among the first m of five: the first one, and the others.
 -- Assumes nothing.
-use Prim.Native.Nat.{ℕ, _+_, _<_, _≤_}
-use mathlib.Core.Path.{_≡_, _∙_}
+use Prim.Native.Nat.{ℕ, suc, _-_, _<_, _≤_}
+use mathlib.Core.Path.{_≡_, ap, _∙_}
 use mathlib.Core.Bool.{true, false}
 use mathlib.Core.List.{List, [], _∷_}
 use native.Mathlib.Omega.{arith}
-use lib.ListN.{length, take, drop, getD}
+use lib.ListN.{length, take, getD}
 use Rattle.walk.specs.declared.Placed.{Placed}
 use Rattle.walk.specs.Row.{any, isCategory, none, found, first}
 use Rattle.walk.proofs.Figures.{meets-any}
+use Rattle.walk.proofs.Ahead.{onward, first-then}
 use Rattle.walk.proofs.Leads.{blank}
-use Rattle.group.proofs.Lists.{from-next, from-end, long-take}
 
-module _ (c : ℕ) (p : List Placed) (n : ℕ) (long : length p ≡ 5) (few : n ≤ 5) where
-  -- Past the end nothing is left.
-  pub rest-none : (i : ℕ) → n ≤ i → drop i (take n p) ≡ []
-  rest-none i h =
-      let e : length (take n p) ≡ n = long-take p n long few in
-      let f : length (take n p) ≤ i = omega arith in
-      from-end (take n p) i f
+module _ (c : ℕ) (q : List Placed) (m : ℕ) (five : length q ≡ 5) (few : m ≤ 5) (some : 0 < m) where
+  split : take m q ≡ getD q 0 blank ∷ take (m - 1) (onward q)
+  split =
+      let e : m ≡ suc (m - 1) = omega arith in
+      let h : m - 1 < 5 = omega arith in
+      ap (λ (k : ℕ). take k q) e ∙ first-then q (m - 1) blank five h
 
-  rest-next : (i : ℕ) → i < n → drop i (take n p) ≡ getD p i blank ∷ drop (i + 1) (take n p)
-  rest-next i h = let e : n ≤ length p = omega arith in from-next p n i blank e h
-
-  pub first-yes : (i : ℕ) → i < n → isCategory c (getD p i blank .part) ≡ true
-      → first (any c) (drop i (take n p)) ≡ found (getD p i blank)
+  pub first-yes : isCategory c (getD q 0 blank .part) ≡ true → first (any c) (take m q) ≡ found (getD q 0 blank)
   unfolding first
-  first-yes i h e = rw (rest-next i h, meets-any c (getD p i blank .part) ∙ e)
+  first-yes e = rw (split, meets-any c (getD q 0 blank .part) ∙ e)
 
-  pub first-no : (i : ℕ) → i < n → isCategory c (getD p i blank .part) ≡ false
-      → first (any c) (drop i (take n p)) ≡ first (any c) (drop (i + 1) (take n p))
+  pub first-no : isCategory c (getD q 0 blank .part) ≡ false → first (any c) (take m q) ≡ first (any c) (take (m - 1) (onward q))
   unfolding first
-  first-no i h e = rw (rest-next i h, meets-any c (getD p i blank .part) ∙ e)
+  first-no e = rw (split, meets-any c (getD q 0 blank .part) ∙ e)
 
-  pub first-none : (i : ℕ) → n ≤ i → first (any c) (drop i (take n p)) ≡ none
-  unfolding first
-  first-none i h = rw (rest-none i h)
+pub first-none : (c : ℕ) (q : List Placed) (m : ℕ) → m ≤ 0 → first (any c) (take m q) ≡ none
+unfolding first
+first-none c q m h = let e : m ≡ 0 = omega arith in rw e

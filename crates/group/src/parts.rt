@@ -40,14 +40,16 @@ pub fn first_of(p: [Placed; 5], n: usize, c: u8) -> Sought
     requires { ⌜ n ≤ 5 ⌝ }
     ensures { λ r. ⌜ saysSought r ≡ first (any c) (take n p) ⌝ }
 {
-    let mut i = 0;
-    while i < n {
-        let b = p[i];
+    let mut ahead = p;
+    let mut left = n;
+    while 0 < left {
+        let b = ahead[0];
         let part = b.part;
         if walk::is_category(part, c) {
             return Sought::Is(b);
         }
-        i += 1;
+        ahead = walk::after_first(ahead);
+        left -= 1;
     }
     Sought::Missing
 }

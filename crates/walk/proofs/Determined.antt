@@ -22,6 +22,8 @@ use Rattle.walk.specs.Fitting.{rowsFor, saysFitted}
 use Rattle.walk.specs.Opening.{Opens, Longest}
 use Rattle.walk.proofs.is_category.Kinds as is-category-kinds
 use Rattle.walk.proofs.is_category.Reads as is-category-reads
+use Rattle.walk.proofs.after_first.Kinds as after-first-kinds
+use Rattle.walk.proofs.after_first.Reads as after-first-reads
 use Rattle.walk.proofs.fit.Kinds as fit-kinds
 use Rattle.walk.proofs.fit.Reads as fit-reads
 use Rattle.walk.proofs.opening.Kinds as opening-kinds
@@ -31,6 +33,11 @@ pub is-category-determined : (κs : Lfts 0) (a : Dens κs is-category-kinds.ps) 
     (x x′ : AtExit (endedOf 0 is-category-kinds.ps is-category-kinds.r) κs)
     → is-category-reads.Post κs a r x → is-category-reads.Post κs a r′ x′ → r ≡ r′
 is-category-determined κs a r r′ x x′ p q = p ∙ sym q
+
+pub after-first-determined : (κs : Lfts 0) (a : Dens κs after-first-kinds.ps) (r r′ : List Placed)
+    (x x′ : AtExit (endedOf 0 after-first-kinds.ps after-first-kinds.r) κs)
+    → after-first-reads.Post κs a r x → after-first-reads.Post κs a r′ x′ → r ≡ r′
+after-first-determined κs a r r′ x x′ p q = p ∙ sym q
 
 -- From what an answer says, the answer.
 pub fitted : Outcome Picked → Fitted

@@ -31,21 +31,20 @@ unfolding fitMost fitIn
 start way more = rw (at-start way more)
 
 -- The balises passed, with one more.
-one-on : (p : List Placed) (i : ℕ) (more : List Placed) → i < length p → take (i + 1) p ++ more ≡ take i p ++ (getD p i blank ∷ more)
-one-on p i more h = rw (add-one i, take-suc p i blank h) (append-assoc (take i p) (getD p i blank ∷ []) more)
+one-on : (p : List Placed) (i : ℕ) (b : Placed) → b ≡ getD p i blank → (more : List Placed) → i < length p
+    → take (i + 1) p ++ more ≡ take i p ++ (b ∷ more)
+one-on p i b e more h = rw (add-one i, take-suc p i blank h, e) (append-assoc (take i p) (getD p i blank ∷ []) more)
 
-module _ (p : List Placed) (i : ℕ) (h : i < length p) (rs : List Rest) where
-  abbrev b : Placed
-  b = getD p i blank
-
+-- Balise i of p is b.
+module _ (p : List Placed) (i : ℕ) (h : i < length p) (b : Placed) (is : b ≡ getD p i blank) (rs : List Rest) where
   pub on-other : (m : ℕ) → isCategory 12 (b .part) ≡ false → Leads (take i p) m rs → Leads (take (i + 1) p) m (after rs b)
-  on-other m e l way more = ap (fitIn (rowsFor way)) (one-on p i more h) ∙ l way (b ∷ more) ∙ another way rs b more e m
+  on-other m e l way more = ap (fitIn (rowsFor way)) (one-on p i b is more h) ∙ l way (b ∷ more) ∙ another way rs b more e m
 
   pub on-number : (m : ℕ) → isCategory 12 (b .part) ≡ true → Leads (take i p) (m + 1) rs → Leads (take (i + 1) p) m (after rs b)
-  on-number m e l way more = ap (fitIn (rowsFor way)) (one-on p i more h) ∙ l way (b ∷ more) ∙ a-number way rs b more e m
+  on-number m e l way more = ap (fitIn (rowsFor way)) (one-on p i b is more h) ∙ l way (b ∷ more) ∙ a-number way rs b more e m
 
   pub on-too-many : isCategory 12 (b .part) ≡ true → Leads (take i p) 0 rs → Shut (take (i + 1) p)
-  on-too-many e l way more = ap (fitIn (rowsFor way)) (one-on p i more h) ∙ l way (b ∷ more) ∙ one-too-many way rs b more e
+  on-too-many e l way more = ap (fitIn (rowsFor way)) (one-on p i b is more h) ∙ l way (b ∷ more) ∙ one-too-many way rs b more e
 
 -- Where no row is left open, nothing that follows fits.
 pub nothing-left : (bs : List Placed) (m : ℕ) → Leads bs m [] → Shut bs

@@ -4,6 +4,7 @@ pub mod Unique
 pub mod Laws
 pub mod Whole
 pub mod Figures
+pub mod Ahead
 pub mod Leads
 pub mod Speeds
 pub mod Finish

@@ -3,7 +3,8 @@
 // Specification: specs/Rows.antt (the rows), specs/Row.antt (when balises fit one), specs/Fitting.antt, specs/Opening.antt.
 ghost use mathlib.Core.Path.{_≡_};
 ghost use lib.Dec.{ltb};
-ghost use lib.ListN.{take};
+ghost use mathlib.Core.List.{_++_};
+ghost use lib.ListN.{take, drop};
 ghost use Rattle.words.specs.Answer.{pick};
 ghost use Rattle.walk.specs.Row.{isCategory};
 ghost use Rattle.walk.specs.Fitting.{fitting, saysFitted};
@@ -67,6 +68,13 @@ pub fn is_category(part: Part, c: u8) -> bool
         Part::Number(_) => 12 == c,
         Part::Marker => false,
     }
+}
+
+// The balises after the first; the last stands twice, so that they are five again.
+pub fn after_first(p: [Placed; 5]) -> [Placed; 5]
+    ensures { λ r. ⌜ r ≡ drop 1 p ++ drop 4 p ⌝ }
+{
+    [p[1], p[2], p[3], p[4], p[4]]
 }
 
 // How many of the five balises p count, if n are meant.

@@ -6,6 +6,7 @@ ghost use Rattle.walk.specs.Stands.{rowsOf, openAfter, ended};
 ghost use Rattle.walk.specs.Opening.{Ran};
 use crate::Fitted;
 use crate::Placed;
+use crate::after_first;
 use crate::before;
 use crate::is_category;
 use crate::stands::Before;
@@ -53,9 +54,10 @@ pub fn follow(p: [Placed; 5], n: usize) -> Run
 {
     let mut at = Stand::Before(Before::Nothing);
     let mut left = 1usize;
+    let mut ahead = p;
     let mut i = 0;
     while i < n {
-        let b = p[i];
+        let b = ahead[0];
         let part = b.part;
         if is_category(part, 12) {
             if left == 0 {
@@ -67,6 +69,7 @@ pub fn follow(p: [Placed; 5], n: usize) -> Run
             return Run { at, count: i };
         };
         at = to;
+        ahead = after_first(ahead);
         i += 1;
     }
     Run { at, count: i }

@@ -1,63 +1,68 @@
--- The balises before i are not of category c, so the first of all is the first from i on.
+-- The first balise of category c is the first one ahead, or it is among the others.
 -- Assumes nothing.
-use Prim.Native.Nat.{_≤_, _-_}
-use mathlib.Core.Path.{_≡_, refl, sym, _∙_}
+use Prim.Native.Nat.{_-_, _≤_}
+use mathlib.Core.Path.{_≡_, refl, sym, ap, subst, _∙_}
+use mathlib.Core.List.{List}
 use native.Mathlib.Omega.{arith}
-use lib.ListN.{take, drop}
+use lib.ListN.{length, take}
+use Rattle.walk.specs.declared.Placed.{Placed}
 use Rattle.walk.specs.Row.{any, first}
+use Rattle.walk.proofs.Ahead.{five-again}
 use Rattle.group.proofs.Looking.{first-yes, first-no, first-none}
 use borrow.Author.Needs.{needs}
 use Rattle.group.proofs.parts.first_of.Statement.{statement}
 use Rattle.group.proofs.parts.first_of.Tie as tie
 
 abbrev Inv-loop : tie.InvT-loop
-Inv-loop n c p i₀ i = (i ≤ n) × (first (any c) (drop i (take n p)) ≡ first (any c) (take n p))
+Inv-loop n c p left₀ ahead left =
+    (left ≤ 5) × (length ahead ≡ 5) × (first (any c) (take left ahead) ≡ first (any c) (take n p))
 
 abbrev μ-loop : tie.MeasureT-loop
-μ-loop n c p i₀ i = n - i
+μ-loop n c p left₀ ahead left = left
 
 loop-holds : tie.Need-loop-holds Inv-loop μ-loop
-loop-holds c = (search needs, refl)
-
-mul-b : tie.Need-mul-b Inv-loop μ-loop
-mul-b c = omega arith
+loop-holds c = (search needs, omega (arith, c .good .0 .1 .0 .1), refl)
 
 array-copy-out-b : tie.Need-array-copy-out-b Inv-loop μ-loop
-array-copy-out-b c = omega arith
+array-copy-out-b c = search needs
 
 is-category-requires : tie.Need-is-category-requires Inv-loop μ-loop
 is-category-requires c κs = search needs
 
 returns : tie.Need-returns Inv-loop μ-loop
 returns c =
-    let t = c .before .before .before .before in
-    let s = t .before in
+    let u = c .before .before .before in
+    let t = u .before in
     let is = sym (c .before .is-category .ensures) ∙ c .if1 .taken in
-    sym (first-yes (s .args .c) (s .args .t1) (s .args .n) (s .good .0 .1 .0 .1) (s .pre) (t .loop .i) (c .before .before .before .loop-test .taken) is)
-    ∙ t .loop .inv .1
+    sym (first-yes (t .before .args .c) (t .loop .ahead) (t .loop .left) (t .loop .inv .1) (t .loop .inv .0) (u .loop-test .taken) is)
+    ∙ t .loop .inv .2
 
-add-i : tie.Need-add-i Inv-loop μ-loop
-add-i c = omega arith
+after-first-requires : tie.Need-after-first-requires Inv-loop μ-loop
+after-first-requires c κs = search needs
+
+sub-left : tie.Need-sub-left Inv-loop μ-loop
+sub-left c = search needs
 
 loop-less : tie.Need-loop-less Inv-loop μ-loop
 loop-less c = omega arith
 
 loop-again : tie.Need-loop-again Inv-loop μ-loop
 loop-again c =
-    let t = c .before .before .before .before in
-    let s = t .before in
-    let is = sym (c .before .is-category .ensures) ∙ c .if1 .left in (
+    let u = c .before .before .before .before in
+    let t = u .before in
+    let is = sym (c .before .before .is-category .ensures) ∙ c .before .if1 .left in
+    let onto = sym (c .after-first .ensures) in (
       omega arith,
-      sym (first-no (s .args .c) (s .args .t1) (s .args .n) (s .good .0 .1 .0 .1) (s .pre) (t .loop .i) (c .before .before .before .loop-test .taken) is)
-          ∙ t .loop .inv .1,
+      subst (λ (l : List Placed). length l ≡ 5) onto (five-again (t .loop .ahead) (t .loop .inv .1)),
+      ap (λ (l : List Placed). first (any (t .before .args .c)) (take (t .loop .left - 1) l)) (c .after-first .ensures)
+          ∙ sym (first-no (t .before .args .c) (t .loop .ahead) (t .loop .left) (t .loop .inv .1) (t .loop .inv .0) (u .loop-test .taken) is)
+          ∙ t .loop .inv .2,
     )
 
 returns-2 : tie.Need-returns-2 Inv-loop μ-loop
 returns-2 c =
     let t = c .before in
-    let s = t .before in
-    sym (first-none (s .args .c) (s .args .t1) (s .args .n) (s .good .0 .1 .0 .1) (s .pre) (t .loop .i) (c .loop-test .left))
-    ∙ t .loop .inv .1
+    sym (first-none (t .before .args .c) (t .loop .ahead) (t .loop .left) (c .loop-test .left)) ∙ t .loop .inv .2
 
 pub first-of-spec : {M : Type 1} → statement M
 first-of-spec =
@@ -66,11 +71,11 @@ first-of-spec =
     Inv-loop
     μ-loop
     loop-holds
-    mul-b
     array-copy-out-b
     is-category-requires
     returns
-    add-i
+    after-first-requires
+    sub-left
     loop-less
     loop-again
     returns-2)

@@ -5,10 +5,13 @@ use mathlib.Core.Path.{_≡_, sym, ap, subst, _∙_}
 use mathlib.Core.List.{List}
 use mathlib.Core.Logic.{⊎-elim}
 use native.Mathlib.Omega.{arith}
-use lib.ListN.{length, take, getD}
+use lib.ListN.{length, take, drop, getD}
+use lib.Seq.{take-all}
 use Rattle.walk.specs.Open.{Rest, after}
 use Rattle.walk.specs.Stands.{rowsOf, openAfter}
 use Rattle.walk.specs.Opening.{Leads, Speeds}
+use Rattle.walk.specs.declared.Placed.{Placed}
+use Rattle.walk.proofs.Ahead.{five-again, head-is, then-ahead}
 use Rattle.walk.proofs.Leads.{blank, start, on-other, on-number, on-too-many, nothing-left}
 use Rattle.walk.proofs.Speeds as speeds
 use borrow.Author.Needs.{needs}
@@ -16,55 +19,76 @@ use Rattle.walk.proofs.running.follow.Statement.{statement}
 use Rattle.walk.proofs.running.follow.Tie as tie
 
 abbrev Inv-loop : tie.InvT-loop
-Inv-loop n p at₀ left₀ i₀ at left i = (i ≤ n) × Leads (take i p) left (rowsOf at) × Speeds (rowsOf at)
+Inv-loop n at₀ left₀ p i₀ at left ahead i =
+    (i ≤ n)
+    × Leads (take i p) left (rowsOf at)
+    × Speeds (rowsOf at)
+    × (length ahead ≡ 5)
+    × (take (5 - i) ahead ≡ drop i p)
 
 abbrev μ-loop : tie.MeasureT-loop
-μ-loop n p at₀ left₀ i₀ at left i = n - i
+μ-loop n at₀ left₀ p i₀ at left ahead i = n - i
+
+long : (s : tie.Start Inv-loop μ-loop) → length (s .args .p) ≡ 5
+long s = omega (arith, s .good .0 .1 .0 .1)
+
+-- The first balise ahead is the next one.
+abbrev next-one : tie.At-loop Inv-loop μ-loop → Placed
+next-one t = getD (t .loop .ahead) 0 blank
+
+next-is : (t : tie.In-loop Inv-loop μ-loop) → next-one (t .before) ≡ getD (t .before .before .args .p) (t .before .loop .i) blank
+next-is u =
+    let t = u .before in
+    let few : t .loop .i < 5 = omega (arith, u .loop-test .taken, t .before .pre) in
+    head-is (t .before .args .p) (t .loop .ahead) (t .loop .i) (long (t .before)) (t .loop .inv .3) few (t .loop .inv .4) blank
+
+within : (u : tie.In-loop Inv-loop μ-loop) → u .before .loop .i < length (u .before .before .args .p)
+within u = omega (arith, u .loop-test .taken, u .before .before .pre, long (u .before .before))
 
 -- One balise on.
-led : (g : tie.After-next Inv-loop μ-loop) → Leads (take (g .before .before .before .before .before .loop .i + 1) (g .before .before .before .before .before .before .args .t1))
-    (g .before .if1 .left) (after (rowsOf (g .before .before .before .before .before .loop .at)) (getD (g .before .before .before .before .before .before .args .t1) (g .before .before .before .before .before .loop .i) blank))
+led : (g : tie.After-next Inv-loop μ-loop) → Leads (take (g .before .before .before .before .before .loop .i + 1) (g .before .before .before .before .before .before .args .p))
+    (g .before .if1 .left) (after (rowsOf (g .before .before .before .before .before .loop .at)) (next-one (g .before .before .before .before .before)))
 led g =
-    let t = g .before .before .before .before .before in
-    let s = t .before in
-    let h : t .loop .i < length (s .args .t1) = omega (arith, s .good .0 .1 .0 .1, s .pre) in
+    let u = g .before .before .before .before in
+    let t = u .before in
+    let p = t .before .args .p in
     let rs = rowsOf (t .loop .at) in
     let test = sym (g .before .before .is-category .ensures) in
     ⊎-elim
     (λ w.
     let e : t .loop .left ≡ g .before .if1 .left + 1 = omega (arith, w .1 .left, w .2) in
-    on-number (s .args .t1) (t .loop .i) h rs (g .before .if1 .left) (test ∙ w .0 .taken)
-    (subst (λ (m : ℕ). Leads (take (t .loop .i) (s .args .t1)) m rs) e (t .loop .inv .1)))
+    on-number p (t .loop .i) (within u) (next-one t) (next-is u) rs (g .before .if1 .left) (test ∙ w .0 .taken)
+    (subst (λ (m : ℕ). Leads (take (t .loop .i) p) m rs) e (t .loop .inv .1)))
     (λ w.
-    on-other (s .args .t1) (t .loop .i) h rs (g .before .if1 .left) (test ∙ w .0 .left)
-    (subst (λ (m : ℕ). Leads (take (t .loop .i) (s .args .t1)) m rs) (sym (w .1)) (t .loop .inv .1)))
+    on-other p (t .loop .i) (within u) (next-one t) (next-is u) rs (g .before .if1 .left) (test ∙ w .0 .left)
+    (subst (λ (m : ℕ). Leads (take (t .loop .i) p) m rs) (sym (w .1)) (t .loop .inv .1)))
     (g .before .if1 .came)
 
 loop-holds : tie.Need-loop-holds Inv-loop μ-loop
-loop-holds c = (search needs, start, speeds.start)
-
-mul-b : tie.Need-mul-b Inv-loop μ-loop
-mul-b c = omega arith
+loop-holds c =
+    let five : length (c .args .p) ≤ 5 = omega (arith, long c) in
+    (search needs, start, speeds.start, long c, take-all 5 (c .args .p) five)
 
 array-copy-out-b : tie.Need-array-copy-out-b Inv-loop μ-loop
-array-copy-out-b c = omega arith
+array-copy-out-b c = search needs
 
 is-category-requires : tie.Need-is-category-requires Inv-loop μ-loop
 is-category-requires c κs = search needs
 
 returns : tie.Need-returns Inv-loop μ-loop
 returns c =
-    let t = c .before .before .before .before .before in
-    let s = t .before in
-    let h : t .loop .i < length (s .args .t1) = omega (arith, s .good .0 .1 .0 .1, s .pre) in
+    let u = c .before .before .before .before in
+    let t = u .before in
+    let p = t .before .args .p in
+    let rs = rowsOf (t .loop .at) in
     record {
       within = search needs;
       left = t .loop .left;
       leads = t .loop .inv .1;
       speeds = t .loop .inv .2;
       stuck = λ _.
-          on-too-many (s .args .t1) (t .loop .i) h (rowsOf (t .loop .at)) (sym (c .before .before .is-category .ensures) ∙ c .before .if1 .taken)
-          (subst (λ (m : ℕ). Leads (take (t .loop .i) (s .args .t1)) m (rowsOf (t .loop .at))) (c .if2 .taken) (t .loop .inv .1));
+          on-too-many p (t .loop .i) (within u) (next-one t) (next-is u) rs (sym (c .before .before .is-category .ensures) ∙ c .before .if1 .taken)
+          (subst (λ (m : ℕ). Leads (take (t .loop .i) p) m rs) (c .if2 .taken) (t .loop .inv .1));
     }
 
 sub-left : tie.Need-sub-left Inv-loop μ-loop
@@ -89,9 +113,12 @@ returns-2 c =
       leads = t .loop .inv .1;
       speeds = t .loop .inv .2;
       stuck = λ _.
-          nothing-left (take (t .loop .i + 1) (t .before .args .t1)) (g .before .if1 .left)
-          (subst (λ (rs : List Rest). Leads (take (t .loop .i + 1) (t .before .args .t1)) (g .before .if1 .left) rs) (sym (g .next .ensures) ∙ ap openAfter (c .enum-told .given .1)) (led g));
+          nothing-left (take (t .loop .i + 1) (t .before .args .p)) (g .before .if1 .left)
+          (subst (λ (rs : List Rest). Leads (take (t .loop .i + 1) (t .before .args .p)) (g .before .if1 .left) rs) (sym (g .next .ensures) ∙ ap openAfter (c .enum-told .given .1)) (led g));
     }
+
+after-first-requires : tie.Need-after-first-requires Inv-loop μ-loop
+after-first-requires c κs = search needs
 
 add-i : tie.Need-add-i Inv-loop μ-loop
 add-i c = omega arith
@@ -101,12 +128,20 @@ loop-less c = omega arith
 
 loop-again : tie.Need-loop-again Inv-loop μ-loop
 loop-again c =
-    let g = c .before .before .before in
-    let t = g .before .before .before .before .before in
-    let e = sym (g .next .ensures) ∙ ap openAfter (c .before .to .given .1) in (
+    let g = c .before .before .before .before in
+    let u = g .before .before .before .before in
+    let t = u .before in
+    let p = t .before .args .p in
+    let q = t .loop .ahead in
+    let few : t .loop .i < 5 = omega (arith, u .loop-test .taken, t .before .pre) in
+    let e = sym (g .next .ensures) ∙ ap openAfter (c .before .before .to .given .1) in
+    let onto = sym (c .after-first .ensures) in (
       omega arith,
-      subst (λ (rs : List Rest). Leads (take (t .loop .i + 1) (t .before .args .t1)) (g .before .if1 .left) rs) e (led g),
-      subst Speeds e (speeds.one-more (rowsOf (t .loop .at)) (getD (t .before .args .t1) (t .loop .i) blank) (t .loop .inv .2)),
+      subst (λ (rs : List Rest). Leads (take (t .loop .i + 1) p) (g .before .if1 .left) rs) e (led g),
+      subst Speeds e (speeds.one-more (rowsOf (t .loop .at)) (next-one t) (t .loop .inv .2)),
+      subst (λ (l : List Placed). length l ≡ 5) onto (five-again q (t .loop .inv .3)),
+      subst (λ (l : List Placed). take (5 - (t .loop .i + 1)) l ≡ drop (t .loop .i + 1) p) onto
+          (then-ahead p q (t .loop .i) (long (t .before)) (t .loop .inv .3) few (t .loop .inv .4) blank),
     )
 
 returns-3 : tie.Need-returns-3 Inv-loop μ-loop
@@ -123,7 +158,6 @@ follow-spec =
     Inv-loop
     μ-loop
     loop-holds
-    mul-b
     array-copy-out-b
     is-category-requires
     returns
@@ -132,6 +166,7 @@ follow-spec =
     enum-known-to
     enum-told
     returns-2
+    after-first-requires
     add-i
     loop-less
     loop-again
