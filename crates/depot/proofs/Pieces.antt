@@ -3,11 +3,11 @@
 use mathlib.Core.Path.{_≡_, refl}
 use mathlib.Core.List.{List, _++_, append-assoc}
 use Prim.Native.Nat.{ℕ, _+_, _≤_}
-use Prim.Native.String.{String}
 use native.Mathlib.Omega.{arith}
 use lib.ListN.{length, length-append}
-use Rattle.text.specs.Text.{codes, decimal}
+use Rattle.text.specs.Text.{codes}
 use Rattle.text.proofs.Decimal.{decimal-length}
+use Rattle.text.proofs.Standing.{numbered}
 use Rattle.walk.specs.declared.Kind.{Kind}
 use Rattle.acceptance.specs.declared.Met.{Met}
 use Rattle.acceptance.specs.declared.Entry.{Entry}
@@ -15,10 +15,6 @@ use Rattle.acceptance.specs.declared.Part.{Part}
 use Rattle.acceptance.specs.declared.Sums.{Sums}
 use Rattle.acceptance.specs.Taking.{oneMore}
 use Rattle.depot.specs.Lines.{kindWord, partWords, groupLine, metWords, entryLine, sumLine, refusedLine}
-
--- words and a number
-abbrev pub numbered : String → ℕ → List ℕ
-numbered words n = codes words ++ decimal n
 
 pub wanted-is : (i : ℕ) → numbered " wanted " (oneMore i) ++ codes "\n" ≡ partWords (Part.Wanted i)
 unfolding partWords
@@ -87,7 +83,3 @@ sum-length s =
 pub refused-length : (n : ℕ) → length (refusedLine n) ≤ 64
 unfolding refusedLine
 refused-length n = simp length-append (omega (arith, decimal-length n))
-
--- The same text in other words has the same room.
-pub room-as : {t u : List ℕ} (b : List ℕ) (at : ℕ) → t ≡ u → at + length u ≤ length b → at + length t ≤ length b
-room-as b at e h = rw e h

@@ -2,9 +2,8 @@
 -- Assumes nothing.
 use mathlib.Core.Path.{_≡_, refl}
 use mathlib.Core.Bool.{Bool, true, false}
-use mathlib.Core.List.{List, _++_, append-assoc}
+use mathlib.Core.List.{_++_, append-assoc}
 use Prim.Native.Nat.{ℕ, _+_, _≤_}
-use Prim.Native.String.{String}
 use native.Mathlib.Omega.{arith}
 use lib.Dec.{eqb}
 use lib.ListN.{length, length-append}
@@ -12,14 +11,11 @@ use Rattle.words.specs.Answer.{pick}
 use Rattle.words.specs.declared.Parity.{Parity}
 use Rattle.text.specs.Text.{codes, decimal}
 use Rattle.text.proofs.Decimal.{decimal-length}
+use Rattle.text.proofs.Standing.{numbered}
 use Rattle.telegram.specs.declared.Word.{Word}
 use Rattle.explainer.specs.declared.Bad.{Bad}
 use Rattle.explainer.specs.declared.Reason.{Reason}
 use Rattle.explainer.specs.Text.{letter, refusedOne, badly, baliseAt, soMany, reasonText}
-
--- words and a number
-abbrev pub numbered : String → ℕ → List ℕ
-numbered words n = codes words ++ decimal n
 
 pub not-code-is : (w : Word) (p : Parity) → letter w ++ refusedOne p ≡ badly (Bad.NotCode w p)
 unfolding badly
@@ -88,7 +84,3 @@ reason-length (Reason.Many n) = omega (arith, many-length n)
 reason-length (Reason.Unread i place b) = simp length-append (omega (arith, balise-length i place, bad-length b))
 reason-length (Reason.NoRow run of) = simp length-append (omega (arith, decimal-length run, decimal-length of))
 reason-length (Reason.NoDistance i place) = omega (arith, balise-length i place)
-
--- The same text in other words has the same room.
-pub room-as : {t u : List ℕ} (b : List ℕ) (at : ℕ) → t ≡ u → at + length u ≤ length b → at + length t ≤ length b
-room-as b at e h = rw e h

@@ -1,20 +1,16 @@
 -- The lines by their pieces, as they are put, and how long they are at most.
 -- Assumes nothing.
 use mathlib.Core.Path.{_≡_, refl}
-use mathlib.Core.List.{List, _++_, append-assoc}
+use mathlib.Core.List.{_++_, append-assoc}
 use Prim.Native.Nat.{ℕ, _+_, _≤_}
-use Prim.Native.String.{String}
 use native.Mathlib.Omega.{arith}
 use lib.ListN.{length, length-append}
-use Rattle.text.specs.Text.{codes, decimal}
+use Rattle.text.specs.Text.{codes}
 use Rattle.text.proofs.Decimal.{decimal-length}
+use Rattle.text.proofs.Standing.{numbered}
 use Rattle.telegram.specs.declared.Telegram.{Telegram}
 use Rattle.contact.specs.declared.Judged.{Judged}
 use Rattle.hearing.specs.Lines.{figures, what, heard, refusal}
-
--- words and a number
-abbrev pub numbered : String → ℕ → List ℕ
-numbered words n = codes words ++ decimal n
 
 pub figures-are : (x y z : ℕ) → numbered " " x ++ numbered " " y ++ numbered " " z ≡ figures (Telegram.Figures x y z)
 unfolding figures
@@ -58,7 +54,3 @@ heard-length start bits j = simp length-append (omega (arith, decimal-length sta
 pub refusal-length : (n : ℕ) → length (refusal n) ≤ 64
 unfolding refusal
 refusal-length n = simp length-append (omega (arith, decimal-length n))
-
--- The same text in other words has the same room.
-pub room-as : {t u : List ℕ} (b : List ℕ) (at : ℕ) → t ≡ u → at + length u ≤ length b → at + length t ≤ length b
-room-as b at e h = rw e h

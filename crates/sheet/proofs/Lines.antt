@@ -14,7 +14,7 @@ use Rattle.sheet.specs.declared.cutting.Stop.{Stop}
 use Rattle.sheet.specs.declared.How.{How}
 use Rattle.sheet.specs.declared.Taken.{Taken}
 use Rattle.sheet.specs.declared.Sheet.{Sheet}
-use Rattle.sheet.specs.Words.{stops, upTo, onward}
+use Rattle.sheet.specs.Words.{upTo, onward}
 use Rattle.sheet.specs.Taking.{taken}
 use Rattle.sheet.specs.Sheet.{onto, linesOf, isFine, ended, linesFrom, sheetOf}
 

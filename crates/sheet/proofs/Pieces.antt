@@ -1,9 +1,8 @@
 -- What is said, by its pieces, as they are put, and how long it is at most.
 -- Assumes nothing.
-use mathlib.Core.Path.{_≡_, refl}
+use mathlib.Core.Path.{_≡_}
 use mathlib.Core.List.{List, _++_, append-assoc}
 use Prim.Native.Nat.{ℕ, _+_, _≤_}
-use Prim.Native.String.{String}
 use native.Mathlib.Omega.{arith}
 use mathlib.Core.Bool.{Bool, true, false}
 use lib.Dec.{eqb}
@@ -12,12 +11,9 @@ use borrow.Author.Tests.{eq-eqb, ne-eqb}
 use Rattle.words.specs.Answer.{pick}
 use Rattle.text.specs.Text.{codes, decimal}
 use Rattle.text.proofs.Decimal.{decimal-length}
+use Rattle.text.proofs.Standing.{numbered}
 use Rattle.sheet.specs.declared.How.{How}
 use Rattle.sheet.specs.Told.{refusal, told}
-
--- words and a number
-abbrev pub numbered : String → ℕ → List ℕ
-numbered words n = codes words ++ decimal n
 
 pub of-none : (line n : ℕ) → line ≡ 0 → numbered "settings refused " n ++ codes "\n" ≡ refusal line n
 unfolding refusal
@@ -51,7 +47,3 @@ told-length line How.Fine = omega arith
 told-length line How.Unreadable = simp length-append (omega (arith, decimal-length line))
 told-length line (How.Refused n) = refusal-length line n
 told-length line How.TooLong = omega arith
-
--- The same text in other words has the same room.
-pub room-as : {t u : List ℕ} (b : List ℕ) (at : ℕ) → t ≡ u → at + length u ≤ length b → at + length t ≤ length b
-room-as b at e h = rw e h

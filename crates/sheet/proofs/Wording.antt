@@ -12,7 +12,7 @@ use borrow.Author.Tests.{eq-eqb, ne-eqb}
 use Rattle.arguments.specs.Figures.{hex}
 use Rattle.arguments.specs.declared.Byte.{Byte}
 use Rattle.sheet.specs.declared.line.Figure.{Figure}
-use Rattle.sheet.specs.Words.{upTo, onward, word, rest}
+use Rattle.sheet.specs.Words.{word, rest}
 use Rattle.sheet.specs.Line.{empty, figure, version, wordsOf}
 
 by-length : (w : List ℕ) (s e : ℕ) → s ≤ e → length w ≡ e - s → eqb s e ≡ empty w

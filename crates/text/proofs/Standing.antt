@@ -3,10 +3,13 @@
 use mathlib.Core.Path.{_≡_, sym, ap, ap₂, subst, _∙_}
 use mathlib.Core.List.{List, _++_}
 use Prim.Native.Nat.{ℕ, _+_, _≤_, _<_}
+use Prim.Native.String.{String}
 use native.Mathlib.Omega.{arith}
 use native.Mathlib.Nat.{add-assoc}
-use lib.ListN.{length, take, length-append}
+use lib.ListN.{length, take, replicate, length-append, length-replicate}
+use lib.Seq.{length-take-le}
 use borrow.Author.Tests.{le-leb, lt-leb}
+use Rattle.text.specs.Text.{codes, decimal}
 use Rattle.text.specs.Put.{placed, Put, put, came}
 use Rattle.text.proofs.Placing.{placed-length, placed-join, placed-start}
 
@@ -90,6 +93,10 @@ pub join-4 : {x y z w : List ℕ} {m n o r : ℕ} (b : List ℕ) (at : ℕ) (t u
     → came m x ≡ put t b at → came n y ≡ put u x m → came o z ≡ put v y n → came r w ≡ put s z o → came r w ≡ put (t ++ u ++ v ++ s) b at
 join-4 b at t u v s h e f g k = join b at (t ++ u ++ v) s h (join-3 b at t u v (less b at (t ++ u ++ v) s h) e f g) k
 
+-- Words and a number.
+abbrev pub numbered : String → ℕ → List ℕ
+numbered words n = codes words ++ decimal n
+
 -- The same text in other words has the same room.
 pub room-as : {t u : List ℕ} (b : List ℕ) (at : ℕ) → t ≡ u → at + length u ≤ length b → at + length t ≤ length b
 room-as b at e h = rw e h
@@ -109,3 +116,22 @@ spelled {x} {m} b t h e =
     let s = stands (omega arith) e in
     let ends : m ≡ 0 + length t = s .put .0 in
     (ap (λ (n : ℕ). take n x) ends ∙ ap (take (0 + length t)) (s .put .1) ∙ placed-start t b, omega (arith, keeps s))
+
+-- A space that begins with a text, m bytes long.
+pub record Begins (t x : List ℕ) (m : ℕ) : Type 0 where
+  pub is : take m x ≡ t
+  pub within : m ≤ length x
+
+-- So does one of n zeroes after the text was put at its start;
+pub begins : {x : List ℕ} {m : ℕ} (n : ℕ) (t : List ℕ) → length t ≤ n → came m x ≡ put t (replicate n 0) 0 → Begins t x m
+begins n t h e =
+    let both = spelled (replicate n 0) t (omega (arith, length-replicate {A = ℕ} n 0)) e in
+    record { is = both .0; within = both .1 }
+
+-- the bytes that are shared of it are as many;
+pub as-long : {t x : List ℕ} {m : ℕ} → Begins t x m → m ≡ length (take m x)
+as-long {x = x} {m} h = sym (length-take-le m x (h .within))
+
+-- and where they are put, the text is.
+pub put-as : {p : Put} {t x : List ℕ} {m : ℕ} (b : List ℕ) (at : ℕ) → Begins t x m → p ≡ put (take m x) b at → p ≡ put t b at
+put-as b at h e = e ∙ ap (λ (u : List ℕ). put u b at) (h .is)

@@ -1,7 +1,7 @@
 -- What the answers mean holds.
 -- Assumes nothing.
-use Prim.Native.Nat.{ℕ, zero, suc, _+_, _-_, _<_, _≤_}
-use mathlib.Core.Path.{_≡_, refl, sym, ap, ap₂, _∙_, subst}
+use Prim.Native.Nat.{ℕ, zero, suc, _-_, _<_}
+use mathlib.Core.Path.{_≡_, refl, sym, ap, _∙_, subst}
 use mathlib.Core.Logic.{_⊎_, inl, inr}
 use mathlib.Core.Bool.{Bool, true, false, _||_}
 use native.Mathlib.Omega.{arith}
@@ -13,7 +13,7 @@ use Rattle.line.specs.Line.{OneBalise, sentBit}
 use Rattle.line.proofs.Places.{or-parts}
 use Rattle.heard.specs.Zeroes.{zeroesSent, fewest, Audible, Broken}
 use Rattle.heard.proofs.Either.{by-period}
-use Rattle.writer.specs.Words.{Words, asked, spelt}
+use Rattle.writer.specs.Words.{Words}
 use Rattle.unheard.specs.Sound.{some, isBroken, sending, Heard, audible, broken, soundWith, soundOf}
 use Rattle.unheard.specs.Means.{Asked, Means}
 

@@ -1,19 +1,15 @@
 -- The lines by their pieces, as they are put, and how long they are at most.
 -- Assumes nothing.
 use mathlib.Core.Path.{_≡_, refl}
-use mathlib.Core.List.{List, _++_, append-assoc}
+use mathlib.Core.List.{_++_, append-assoc}
 use Prim.Native.Nat.{ℕ, _+_, _≤_}
-use Prim.Native.String.{String}
 use native.Mathlib.Omega.{arith}
 use lib.ListN.{length, length-append}
-use Rattle.text.specs.Text.{codes, decimal}
+use Rattle.text.specs.Text.{codes}
 use Rattle.text.proofs.Decimal.{decimal-length}
+use Rattle.text.proofs.Standing.{numbered}
 use Rattle.telegram.specs.declared.Telegram.{Telegram}
 use Rattle.unheard.specs.Lines.{telegramLine, countLine}
-
--- words and a number
-abbrev pub numbered : String → ℕ → List ℕ
-numbered words n = codes words ++ decimal n
 
 pub figures-are : (x y z : ℕ) → numbered "" x ++ numbered " " y ++ numbered " " z ++ codes "\n" ≡ telegramLine (Telegram.Figures x y z)
 unfolding telegramLine
@@ -37,7 +33,3 @@ telegram-length (Telegram.Number m) = simp length-append (omega (arith, decimal-
 pub count-length : (telegrams numbers : ℕ) → length (countLine telegrams numbers) ≤ 128
 unfolding countLine
 count-length telegrams numbers = simp length-append (omega (arith, decimal-length telegrams, decimal-length numbers))
-
--- The same text in other words has the same room.
-pub room-as : {t u : List ℕ} (b : List ℕ) (at : ℕ) → t ≡ u → at + length u ≤ length b → at + length t ≤ length b
-room-as b at e h = rw e h

@@ -16,9 +16,6 @@ returns c =
     let a = c .before .before .args in
     no-text (a .text .now) (a .most) (c .if1 .taken)
 
-all-digits-requires : tie.Need-all-digits-requires
-all-digits-requires c κs = search needs
-
 returns-2 : tie.Need-returns-2
 returns-2 c =
     let d = c .before in
@@ -41,4 +38,10 @@ returns-3 c =
     c .up-to .ensures ∙ by-digits (a .text .now) (a .most) some (are-digits e)
 
 pub decimal-spec : {M : Type 1} → statement M
-decimal-spec = tie.close (tie.spec returns all-digits-requires returns-2 up-to-requires returns-3)
+decimal-spec =
+    tie.close
+    (tie.spec
+    returns
+    (λ c κs. search needs) returns-2
+    up-to-requires
+    returns-3)

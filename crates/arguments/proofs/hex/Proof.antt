@@ -13,18 +13,6 @@ returns : tie.Need-returns
 unfolding hex
 returns c = simp (ne-eqb _ _ (c .if1 .taken))
 
-shared-slice-read-hex-digit : tie.Need-shared-slice-read-hex-digit
-shared-slice-read-hex-digit c = search needs
-
-hex-digit-requires : tie.Need-hex-digit-requires
-hex-digit-requires c κs = search needs
-
-shared-slice-read-hex-digit-2 : tie.Need-shared-slice-read-hex-digit-2
-shared-slice-read-hex-digit-2 c = search needs
-
-hex-digit-requires-2 : tie.Need-hex-digit-requires-2
-hex-digit-requires-2 c κs = search needs
-
 returns-2 : tie.Need-returns-2
 returns-2 c =
     let q = c .before .before .before in
@@ -38,12 +26,6 @@ returns-3 c =
     let t = q .before .before .before .before .args .text .now in
     no-low t (q .before .before .if1 .left) (subst (λ (k : ℕ). k < 16) (q .hex-digit .ensures) (c .before .if2 .left))
     (subst (λ (k : ℕ). 16 ≤ k) (p .hex-digit2 .ensures) (c .if3 .taken))
-
-mul-t7 : tie.Need-mul-t7
-mul-t7 c = search needs
-
-add-t9 : tie.Need-add-t9
-add-t9 c = search needs
 
 returns-4 : tie.Need-returns-4
 returns-4 c =
@@ -59,12 +41,6 @@ hex-spec =
     tie.close
     (tie.spec
     returns
-    shared-slice-read-hex-digit
-    hex-digit-requires
-    shared-slice-read-hex-digit-2
-    hex-digit-requires-2
-    returns-2
+    (λ c. search needs) (λ c κs. search needs) (λ c. search needs) (λ c κs. search needs) returns-2
     returns-3
-    mul-t7
-    add-t9
-    returns-4)
+    (λ c. search needs) (λ c. search needs) returns-4)

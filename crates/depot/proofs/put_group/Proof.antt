@@ -1,70 +1,23 @@
 -- The line is spelled in a space of its own, and put into the buffer if it fits there.
 -- Assumes nothing.
-use mathlib.Core.Path.{_≡_, refl, sym, ap, _∙_}
-use mathlib.Core.List.{List, _++_}
-use Prim.Native.Nat.{ℕ, _+_, _≤_}
 use native.Mathlib.Omega.{arith}
-use lib.ListN.{length, take, replicate, length-replicate}
-use lib.Seq.{length-take-le}
-use Rattle.text.specs.Text.{codes}
-use Rattle.text.specs.Put.{put}
-use Rattle.text.proofs.Standing.{less, join, room-after, join-3, join-4, spelled}
-use Rattle.walk.specs.declared.Kind.{Kind}
-use Rattle.acceptance.specs.declared.Part.{Part}
-use Rattle.acceptance.specs.declared.Met.{Met}
-use Rattle.acceptance.specs.declared.Sums.{Sums}
-use Rattle.acceptance.specs.Taking.{oneMore}
-use Rattle.depot.specs.Lines.{kindWord, partWords, groupLine, metWords, entryLine, sumLine, refusedLine}
-use Rattle.depot.proofs.Pieces.{numbered, wanted-is, group-is, met-is, entry-is, entriesPart, groupsPart, sum-is, refused-is, group-length, entry-length, sum-length, refused-length, room-as}
+use Rattle.text.proofs.Standing.{Begins, begins, as-long, put-as}
+use Rattle.depot.specs.Lines.{groupLine}
+use Rattle.depot.proofs.Pieces.{group-length}
 use borrow.Author.Needs.{needs}
 use Rattle.depot.proofs.put_group.Statement.{statement}
 use Rattle.depot.proofs.put_group.Tie as tie
 
--- The space begins with the line.
-begins : (c : tie.After-spell-group) →
+-- The space begins with the text.
+line : (c : tie.After-spell-group) → let a = c .before .before .before .args in Begins (groupLine (a .place) (a .kind) (a .part)) (c .spell-group .last .1 .1 .1 .0) (c .spell-group .result)
+line c =
     let a = c .before .before .before .args in
-    (take (c .spell-group .result) (c .spell-group .last .1 .1 .1 .0) ≡ groupLine (a .place) (a .kind) (a .part)) × (c .spell-group .result ≤ length (c .spell-group .last .1 .1 .1 .0))
-begins c =
-    let a = c .before .before .before .args in
-    spelled (replicate 64 0) (groupLine (a .place) (a .kind) (a .part)) (omega (arith, group-length (a .place) (a .kind) (a .part), length-replicate {A = ℕ} 64 0)) (c .spell-group .ensures)
-
-slice-aggregate-spell-group : tie.Need-slice-aggregate-spell-group
-slice-aggregate-spell-group c = search needs
-
-spell-group-requires : tie.Need-spell-group-requires
-spell-group-requires c κs =
-    let a = c .before .before .args in
-    omega (arith, group-length (a .place) (a .kind) (a .part))
-
-array-share-prefix-space : tie.Need-array-share-prefix-space
-array-share-prefix-space c = begins (c .before) .1
-
-slice-aggregate-put : tie.Need-slice-aggregate-put
-slice-aggregate-put c =
-    let p = c .before .before in
-    sym (length-take-le (p .spell-group .result) (p .spell-group .last .1 .1 .1 .0) (begins p .1))
-
-put-requires : tie.Need-put-requires
-put-requires c κs = search needs
-
-same-length : tie.Need-same-length
-same-length c = search needs
-
-returns : tie.Need-returns
-returns c =
-    let p = c .before .before in
-    let q = p .before .before .before .before in
-    let a = q .before .before .before .args in
-    p .put .ensures ∙ ap (λ (t : List ℕ). put t (a .buf .now) (a .at)) (begins q .0)
+    begins 64 (groupLine (a .place) (a .kind) (a .part)) (omega (arith, group-length (a .place) (a .kind) (a .part))) (c .spell-group .ensures)
 
 pub put-group-spec : {M : Type 1} → statement M
 put-group-spec =
     tie.close
     (tie.spec
-    slice-aggregate-spell-group
-    spell-group-requires
-    array-share-prefix-space
-    slice-aggregate-put
-    put-requires
-    same-length
-    returns)
+    (λ c. search needs) (λ c κs. omega (arith, group-length (c .before .before .args .place) (c .before .before .args .kind) (c .before .before .args .part)))
+    (λ c. line (c .before) .within) (λ c. as-long (line (c .before .before)))
+    (λ c κs. search needs) (λ c. search needs) (λ c. put-as _ _ (line (c .before .before .before .before .before .before)) (c .before .before .put .ensures)))

@@ -1,49 +1,13 @@
 -- By the line and its part.
 -- Assumes nothing.
-use mathlib.Core.Path.{_≡_, refl, sym, ap, _∙_}
-use mathlib.Core.List.{List, []}
+use mathlib.Core.Path.{refl, ap, _∙_}
 use Rattle.ride.specs.declared.Line.{Line}
-use Rattle.ride.specs.declared.Lines.{Lines}
-use Rattle.ride.specs.Says.{saysLines}
 use Rattle.acceptance.specs.declared.Part.{Part}
-use Rattle.depot.specs.Taking.{partLine, Going, takeOne, takeAll}
+use Rattle.depot.specs.Taking.{partLine}
 use Rattle.depot.proofs.Takings.{no-text, group-text}
 use borrow.Author.Needs.{needs}
 use Rattle.depot.proofs.take_line.Statement.{statement}
 use Rattle.depot.proofs.take_line.Tie as tie
-
-take-requires : tie.Need-take-requires
-take-requires c κs = search needs
-
-enum-known-line : tie.Need-enum-known-line
-enum-known-line c = search needs
-
-enum-told : tie.Need-enum-told
-enum-told c = search needs
-
-enum-told-2 : tie.Need-enum-told-2
-enum-told-2 c = search needs
-
-put-group-requires : tie.Need-put-group-requires
-put-group-requires c κs = search needs
-
-enum-told-3 : tie.Need-enum-told-3
-enum-told-3 c = search needs
-
-put-group-requires-2 : tie.Need-put-group-requires-2
-put-group-requires-2 c κs = search needs
-
-enum-told-4 : tie.Need-enum-told-4
-enum-told-4 c = search needs
-
-enum-told-5 : tie.Need-enum-told-5
-enum-told-5 c = search needs
-
-enum-told-6 : tie.Need-enum-told-6
-enum-told-6 c = search needs
-
-enum-told-7 : tie.Need-enum-told-7
-enum-told-7 c = search needs
 
 returns : tie.Need-returns
 returns c =
@@ -52,9 +16,6 @@ returns c =
     let a = t .before .before .args in
     no-text (a .run) (a .line) (a .buf .now) (a .at) (t .take .result) (t .take .ensures)
     (ap (λ (l : Line). partLine l (t .take .result .answer)) (k .line .given .1) ∙ ap (partLine (Line.Group (k .line .given .0 .0))) (c .enum-told .given .1))
-
-same-length : tie.Need-same-length
-same-length c = search needs
 
 returns-2 : tie.Need-returns-2
 returns-2 c =
@@ -65,9 +26,6 @@ returns-2 c =
     let a = t .before .before .args in
     group-text (a .run) (a .line) (a .buf .now) (a .at) (t .take .result) (t .take .ensures) (k .line .given .0 .0) Part.Extra (p .put-group .result) (p .put-group .last .1 .1 .1 .0)
     (k .line .given .1) (e .enum-told2 .given .1) refl (p .put-group .ensures)
-
-same-length-2 : tie.Need-same-length-2
-same-length-2 c = search needs
 
 returns-3 : tie.Need-returns-3
 returns-3 c =
@@ -107,22 +65,10 @@ pub take-line-spec : {M : Type 1} → statement M
 take-line-spec =
     tie.close
     (tie.spec
-    take-requires
-    enum-known-line
-    enum-told
-    enum-told-2
-    put-group-requires
-    enum-told-3
-    put-group-requires-2
-    enum-told-4
-    enum-told-5
-    enum-told-6
-    enum-told-7
-    returns
-    same-length
-    returns-2
-    same-length-2
-    returns-3
+    (λ c κs. search needs) (λ c. search needs) (λ c. search needs) (λ c. search needs) (λ c κs. search needs) (λ c. search needs)
+    (λ c κs. search needs) (λ c. search needs) (λ c. search needs) (λ c. search needs) (λ c. search needs) returns
+    (λ c. search needs) returns-2
+    (λ c. search needs) returns-3
     returns-4
     returns-5
     returns-6

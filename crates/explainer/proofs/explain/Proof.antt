@@ -23,15 +23,6 @@ returns-2 c =
     let n = c .before .before .before .args .group .count in
     rw (ne-eqb n 1 (c .before .if1 .left), lt-ltb 5 n (c .if2 .taken))
 
-cast-n : tie.Need-cast-n
-cast-n c = search needs
-
-read-all-requires : tie.Need-read-all-requires
-read-all-requires c κs = search needs
-
-why-fit-requires : tie.Need-why-fit-requires
-why-fit-requires c κs = search needs
-
 returns-3 : tie.Need-returns-3
 unfolding explain balises
 returns-3 c =
@@ -60,4 +51,8 @@ returns-4 c =
 pub explain-spec : {M : Type 1} → statement M
 explain-spec =
     tie.close
-    (tie.spec returns returns-2 cast-n read-all-requires why-fit-requires returns-3 returns-4)
+    (tie.spec
+    returns
+    returns-2
+    (λ c. search needs) (λ c κs. search needs) (λ c κs. search needs) returns-3
+    returns-4)

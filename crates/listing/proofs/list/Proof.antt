@@ -7,15 +7,6 @@ use borrow.Author.Needs.{needs}
 use Rattle.listing.proofs.list.Statement.{statement}
 use Rattle.listing.proofs.list.Tie as tie
 
-begin-requires : tie.Need-begin-requires
-begin-requires c κs = search needs
-
-list-under-requires : tie.Need-list-under-requires
-list-under-requires c κs = search needs
-
-same-length : tie.Need-same-length
-same-length c = search needs
-
 returns : tie.Need-returns
 returns c =
     let u = c .before .before in
@@ -25,4 +16,7 @@ returns c =
     ∙ plain-list (a .ride) (a .gap) (a .number) (a .trace .now) (a .out .now)
 
 pub list-spec : {M : Type 1} → statement M
-list-spec = tie.close (tie.spec begin-requires list-under-requires same-length returns)
+list-spec =
+    tie.close
+    (tie.spec
+    (λ c κs. search needs) (λ c κs. search needs) (λ c. search needs) returns)

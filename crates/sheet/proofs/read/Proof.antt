@@ -1,7 +1,6 @@
 -- `read` takes line after line: what is left of the text, with the store so far, comes to what the whole does.
 use mathlib.Core.Path.{_≡_, sym, ap, _∙_}
-use mathlib.Core.Bool.{true, false}
-use mathlib.Core.List.{List, [], _∷_}
+use mathlib.Core.List.{[], _∷_}
 use Prim.Native.Nat.{ℕ, _+_, _-_, _≤_}
 use native.Mathlib.Omega.{arith}
 use lib.ListN.{length, take, drop, getD}
@@ -14,7 +13,7 @@ use Rattle.sheet.specs.declared.How.{How}
 use Rattle.sheet.specs.declared.Sheet.{Sheet}
 use Rattle.sheet.specs.Words.{upTo, onward}
 use Rattle.sheet.specs.Taking.{taken}
-use Rattle.sheet.specs.Sheet.{linesOf, isFine, linesFrom}
+use Rattle.sheet.specs.Sheet.{linesOf, linesFrom}
 use Rattle.sheet.proofs.Stretches.{part, drop-to, next}
 use Rattle.sheet.proofs.Lines.{bad-line, last-line, next-line, too-long, all-lines}
 use Rattle.sheet.proofs.read.Statement.{statement}
@@ -29,9 +28,6 @@ Inv-loop text store₀ from₀ number₀ store from number =
 
 abbrev μ-loop : tie.MeasureT-loop
 μ-loop text store₀ from₀ number₀ store from number = length text - from
-
-no-version-requires : tie.Need-no-version-requires Inv-loop μ-loop
-no-version-requires c κs = tt
 
 returns : tie.Need-returns Inv-loop μ-loop
 returns c =
@@ -66,9 +62,6 @@ after-it c =
     let t = l .before .before .before .before .args .text .now in
     ap (λ (n : ℕ). drop n t) (c .end-of .ensures .0) ∙ drop-to Stop.Newline t (l .loop .from)
 
-take-requires : tie.Need-take-requires Inv-loop μ-loop
-take-requires c κs = tt
-
 -- the line was taken
 took : (c : tie.After-take Inv-loop μ-loop) →
     let l = c .before .before .before in
@@ -82,9 +75,6 @@ took c =
     c .take .ensures
     ∙ ap (taken (l .loop .store)) (ap (λ (n : ℕ). take n (drop (l .loop .from) t)) long ∙ part Stop.Newline (drop (l .loop .from) t))
 
-is-fine-requires : tie.Need-is-fine-requires Inv-loop μ-loop
-is-fine-requires c κs = tt
-
 returns-2 : tie.Need-returns-2 Inv-loop μ-loop
 returns-2 c =
     let k = c .before .before .before in
@@ -93,9 +83,6 @@ returns-2 c =
     let not-fine = sym (c .before .is-fine .ensures) ∙ not-true (c .before .is-fine .result) (c .if2 .taken) in
     bad-line (l .loop .store) (l .loop .number) (drop (l .loop .from) t) (k .take .result) (took k) not-fine
     ∙ sym (l .loop .inv .2) ∙ all-lines t (l .before .if1 .left)
-
-ended-requires : tie.Need-ended-requires Inv-loop μ-loop
-ended-requires c κs = tt
 
 returns-3 : tie.Need-returns-3 Inv-loop μ-loop
 returns-3 c =
@@ -109,9 +96,6 @@ returns-3 c =
     let none-left : onward Stop.Newline (drop (l .loop .from) t) ≡ [] = sym (after-it e) ∙ ap (λ (n : ℕ). drop n t) ends ∙ drop-length t in
     c .ended .ensures ∙ last-line (l .loop .store) (l .loop .number) (drop (l .loop .from) t) (k .take .result) (took k) fine none-left
     ∙ sym (l .loop .inv .2) ∙ all-lines t (l .before .if1 .left)
-
-add-from : tie.Need-add-from Inv-loop μ-loop
-add-from c = omega arith
 
 add-number : tie.Need-add-number Inv-loop μ-loop
 add-number c = omega (arith, c .before .before .before .before .before .before .end-of .ensures .0)
@@ -141,19 +125,14 @@ read-spec =
     (tie.spec
     Inv-loop
     μ-loop
-    no-version-requires
-    returns
+    (λ c κs. tt) returns
     loop-holds
     end-of-requires
     sub-take
     part-take-start
     part-take-end
-    take-requires
-    is-fine-requires
-    returns-2
-    ended-requires
-    returns-3
-    add-from
-    add-number
+    (λ c κs. tt) (λ c κs. tt) returns-2
+    (λ c κs. tt) returns-3
+    (λ c. omega arith) add-number
     loop-less
     loop-again)

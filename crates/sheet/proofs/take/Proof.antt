@@ -1,24 +1,9 @@
 -- `take` goes by what the line says.
-use mathlib.Core.Path.{_≡_, sym, ap, _∙_}
+use mathlib.Core.Path.{sym, ap, _∙_}
 use Rattle.sheet.specs.Taking.{saidTo, taken}
 use borrow.Author.Needs.{needs}
 use Rattle.sheet.proofs.take.Statement.{statement}
 use Rattle.sheet.proofs.take.Tie as tie
-
-line-of-requires : tie.Need-line-of-requires
-line-of-requires c κs = search needs
-
-enum-told : tie.Need-enum-told
-enum-told c = search needs
-
-enum-known-said : tie.Need-enum-known-said
-enum-known-said c = search needs
-
-give-requires : tie.Need-give-requires
-give-requires c κs = search needs
-
-enum-told-2 : tie.Need-enum-told-2
-enum-told-2 c = search needs
 
 returns : tie.Need-returns
 unfolding taken
@@ -46,11 +31,6 @@ pub take-spec : {M : Type 1} → statement M
 take-spec =
     tie.close
     (tie.spec
-    line-of-requires
-    enum-told
-    enum-known-said
-    give-requires
-    enum-told-2
-    returns
+    (λ c κs. search needs) (λ c. search needs) (λ c. search needs) (λ c κs. search needs) (λ c. search needs) returns
     returns-2
     returns-3)

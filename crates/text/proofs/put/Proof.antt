@@ -12,19 +12,10 @@ returns c =
     let a = c .before .before .before .args in
     no-room (a .bytes .now) (a .buf .now) (a .at) (omega arith)
 
-sub-if2 : tie.Need-sub-if2
-sub-if2 c = search needs
-
 returns-2 : tie.Need-returns-2
 returns-2 c =
     let a = c .before .before .before .before .args in
     no-room (a .bytes .now) (a .buf .now) (a .at) (omega arith)
-
-copy-requires : tie.Need-copy-requires
-copy-requires c κs = search needs
-
-same-length : tie.Need-same-length
-same-length c = search needs
 
 returns-3 : tie.Need-returns-3
 returns-3 c =
@@ -34,4 +25,9 @@ returns-3 c =
     was-put (record { put = p .copy .ensures; fits = fits })
 
 pub put-spec : {M : Type 1} → statement M
-put-spec = tie.close (tie.spec returns sub-if2 returns-2 copy-requires same-length returns-3)
+put-spec =
+    tie.close
+    (tie.spec
+    returns
+    (λ c. search needs) returns-2
+    (λ c κs. search needs) (λ c. search needs) returns-3)

@@ -14,22 +14,10 @@ returns c =
     let a = c .before .before .before .args in
     no-room (a .words .now ++ decimal (a .n)) (a .buf .now) (a .at) (omega (arith, length-append (a .words .now) (decimal (a .n))))
 
-sub-if2 : tie.Need-sub-if2
-sub-if2 c = search needs
-
 returns-2 : tie.Need-returns-2
 returns-2 c =
     let a = c .before .before .before .before .args in
     no-room (a .words .now ++ decimal (a .n)) (a .buf .now) (a .at) (omega (arith, length-append (a .words .now) (decimal (a .n))))
-
-places-requires : tie.Need-places-requires
-places-requires c κs = search needs
-
-sub-if3 : tie.Need-sub-if3
-sub-if3 c = search needs
-
-sub-if3-2 : tie.Need-sub-if3-2
-sub-if3-2 c = search needs
 
 returns-3 : tie.Need-returns-3
 returns-3 c =
@@ -41,9 +29,6 @@ fits : (c : tie.Else3) → let a = c .before .before .before .before .before .be
 fits c =
     let a = c .before .before .before .before .before .before .args in
     omega (arith, length-append (a .words .now) (decimal (a .n)))
-
-copy-requires : tie.Need-copy-requires
-copy-requires c κs = search needs
 
 -- The words stand.
 words-stand : (c : tie.After-copy) →
@@ -66,9 +51,6 @@ spell-requires c κs =
     let a = q .before .before .before .before .before .before .before .before .args in
     (omega arith, omega (arith, room (decimal (a .n)) (words-stand q) (fits (q .before .before))))
 
-same-length : tie.Need-same-length
-same-length c = search needs
-
 returns-4 : tie.Need-returns-4
 returns-4 c =
     let p = c .before .before in
@@ -81,14 +63,8 @@ put-number-spec =
     tie.close
     (tie.spec
     returns
-    sub-if2
-    returns-2
-    places-requires
-    sub-if3
-    sub-if3-2
-    returns-3
-    copy-requires
-    add-spell
+    (λ c. search needs) returns-2
+    (λ c κs. search needs) (λ c. search needs) (λ c. search needs) returns-3
+    (λ c κs. search needs) add-spell
     spell-requires
-    same-length
-    returns-4)
+    (λ c. search needs) returns-4)

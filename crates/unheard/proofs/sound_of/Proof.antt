@@ -8,21 +8,6 @@ use borrow.Author.Needs.{needs}
 use Rattle.unheard.proofs.sound_of.Statement.{statement}
 use Rattle.unheard.proofs.sound_of.Tie as tie
 
-spell-requires : tie.Need-spell-requires
-spell-requires c κs = search needs
-
-enum-known-spelt : tie.Need-enum-known-spelt
-enum-known-spelt c = search needs
-
-sound-requires : tie.Need-sound-requires
-sound-requires c κs = search needs
-
-enum-told : tie.Need-enum-told
-enum-told c = search needs
-
-enum-told-2 : tie.Need-enum-told-2
-enum-told-2 c = search needs
-
 returns : tie.Need-returns
 unfolding soundOf
 returns c =
@@ -49,11 +34,6 @@ pub sound-of-spec : {M : Type 1} → statement M
 sound-of-spec =
     tie.close
     (tie.spec
-    spell-requires
-    enum-known-spelt
-    sound-requires
-    enum-told
-    enum-told-2
-    returns
+    (λ c κs. search needs) (λ c. search needs) (λ c κs. search needs) (λ c. search needs) (λ c. search needs) returns
     returns-2
     returns-3)

@@ -17,9 +17,6 @@ abbrev μ-loop : tie.MeasureT-loop
 loop-holds : tie.Need-loop-holds Inv-loop μ-loop
 loop-holds c = (omega arith, refl)
 
-shared-slice-read-c : tie.Need-shared-slice-read-c Inv-loop μ-loop
-shared-slice-read-c c = omega arith
-
 returns : tie.Need-returns Inv-loop μ-loop
 returns c =
     let l = c .before .before .before in
@@ -31,12 +28,6 @@ returns-2 c =
     let l = c .before .before .before .before in
     let t = l .before .args .text .now in
     sym (l .loop .inv .1 ∙ not-beyond t (l .loop .i) (omega arith) (c .before .if1 .left) (c .if2 .taken))
-
-add-i : tie.Need-add-i Inv-loop μ-loop
-add-i c = omega arith
-
-loop-less : tie.Need-loop-less Inv-loop μ-loop
-loop-less c = omega arith
 
 loop-again : tie.Need-loop-again Inv-loop μ-loop
 loop-again c =
@@ -57,10 +48,7 @@ all-digits-spec =
     Inv-loop
     μ-loop
     loop-holds
-    shared-slice-read-c
-    returns
+    (λ c. omega arith) returns
     returns-2
-    add-i
-    loop-less
-    loop-again
+    (λ c. omega arith) (λ c. omega arith) loop-again
     returns-3)

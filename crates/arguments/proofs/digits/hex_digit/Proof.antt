@@ -5,12 +5,6 @@ use borrow.Author.Needs.{needs}
 use Rattle.arguments.proofs.digits.hex_digit.Statement.{statement}
 use Rattle.arguments.proofs.digits.hex_digit.Tie as tie
 
-sub-result : tie.Need-sub-result
-sub-result c = search needs
-
-sub-result-2 : tie.Need-sub-result-2
-sub-result-2 c = search needs
-
 returns : tie.Need-returns
 returns c = decimal-digit (c .before .before .args .c) (omega arith) (omega arith)
 
@@ -36,9 +30,7 @@ pub hex-digit-spec : {M : Type 1} → statement M
 hex-digit-spec =
     tie.close
     (tie.spec
-    sub-result
-    sub-result-2
-    returns
+    (λ c. search needs) (λ c. search needs) returns
     returns-2
     returns-3
     returns-4

@@ -22,9 +22,6 @@ abbrev μ-loop : tie.MeasureT-loop
 loop-holds : tie.Need-loop-holds Inv-loop μ-loop
 loop-holds c = (omega arith, omega arith, refl, c .pre)
 
-shared-slice-read-digit : tie.Need-shared-slice-read-digit Inv-loop μ-loop
-shared-slice-read-digit c = omega arith
-
 sub-digit : tie.Need-sub-digit Inv-loop μ-loop
 sub-digit c =
     let l = c .before .before in
@@ -55,18 +52,6 @@ returns c = over (c .before .before .before) (omega arith) (omega arith)
 returns-2 : tie.Need-returns-2 Inv-loop μ-loop
 returns-2 c = over (c .before .before .before .before) (omega arith) (omega arith)
 
-mul-sum : tie.Need-mul-sum Inv-loop μ-loop
-mul-sum c = omega arith
-
-add-sum : tie.Need-add-sum Inv-loop μ-loop
-add-sum c = omega arith
-
-add-i : tie.Need-add-i Inv-loop μ-loop
-add-i c = omega arith
-
-loop-less : tie.Need-loop-less Inv-loop μ-loop
-loop-less c = omega arith
-
 loop-again : tie.Need-loop-again Inv-loop μ-loop
 loop-again c =
     let l = c .before .before .before .before in
@@ -90,14 +75,9 @@ up-to-spec =
     Inv-loop
     μ-loop
     loop-holds
-    shared-slice-read-digit
-    sub-digit
+    (λ c. omega arith) sub-digit
     cast-digit
     returns
     returns-2
-    mul-sum
-    add-sum
-    add-i
-    loop-less
-    loop-again
+    (λ c. omega arith) (λ c. omega arith) (λ c. omega arith) (λ c. omega arith) loop-again
     returns-3)

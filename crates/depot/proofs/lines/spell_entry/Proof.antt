@@ -1,21 +1,14 @@
 -- The number, the place, the kind and what met the entry one after the other.
 -- Assumes nothing.
-use mathlib.Core.Path.{_≡_, refl, sym, ap, _∙_}
+use mathlib.Core.Path.{ap, _∙_}
 use mathlib.Core.List.{List, _++_}
 use Prim.Native.Nat.{ℕ, _+_, _≤_}
-use native.Mathlib.Omega.{arith}
-use lib.ListN.{length, take, replicate, length-replicate}
-use lib.Seq.{length-take-le}
-use Rattle.text.specs.Text.{codes}
+use lib.ListN.{length}
 use Rattle.text.specs.Put.{put}
-use Rattle.text.proofs.Standing.{less, join, room-after, join-3, join-4, spelled}
-use Rattle.walk.specs.declared.Kind.{Kind}
-use Rattle.acceptance.specs.declared.Part.{Part}
-use Rattle.acceptance.specs.declared.Met.{Met}
-use Rattle.acceptance.specs.declared.Sums.{Sums}
+use Rattle.text.proofs.Standing.{less, join, room-after, join-3, join-4, numbered, room-as}
 use Rattle.acceptance.specs.Taking.{oneMore}
-use Rattle.depot.specs.Lines.{kindWord, partWords, groupLine, metWords, entryLine, sumLine, refusedLine}
-use Rattle.depot.proofs.Pieces.{numbered, wanted-is, group-is, met-is, entry-is, entriesPart, groupsPart, sum-is, refused-is, group-length, entry-length, sum-length, refused-length, room-as}
+use Rattle.depot.specs.Lines.{kindWord, metWords}
+use Rattle.depot.proofs.Pieces.{entry-is}
 use borrow.Author.Needs.{needs}
 use Rattle.depot.proofs.lines.spell_entry.Statement.{statement}
 use Rattle.depot.proofs.lines.spell_entry.Tie as tie
@@ -35,24 +28,6 @@ with-place : (s : tie.Start) → let a = s .args in a .at + length (numbered "en
 with-place s =
     let a = s .args in
     less (a .buf .now) (a .at) (numbered "entry " (oneMore (a .i)) ++ numbered " at " (a .entry .place)) (kindWord (a .entry .kind)) (with-kind s)
-
-slice-aggregate-put-number : tie.Need-slice-aggregate-put-number
-slice-aggregate-put-number c = search needs
-
-numbered-requires : tie.Need-numbered-requires
-numbered-requires c κs = search needs
-
-put-number-requires : tie.Need-put-number-requires
-put-number-requires c κs = search needs
-
-slice-aggregate-put-number-2 : tie.Need-slice-aggregate-put-number-2
-slice-aggregate-put-number-2 c = search needs
-
-cast-put-number : tie.Need-cast-put-number
-cast-put-number c = search needs
-
-put-number-requires-2 : tie.Need-put-number-requires-2
-put-number-requires-2 c κs = search needs
 
 spell-kind-requires : tie.Need-spell-kind-requires
 spell-kind-requires c κs =
@@ -78,9 +53,6 @@ spell-met-requires c κs =
     (join-3 (a .buf .now) (a .at) (numbered "entry " (oneMore (a .i))) (numbered " at " (a .entry .place)) (kindWord (a .entry .kind)) (with-kind s) first (p2 .put-number2 .ensures)
     (p3 .spell-kind .ensures))
 
-same-length : tie.Need-same-length
-same-length c = search needs
-
 returns : tie.Need-returns
 returns c =
     let p4 = c .before .before in
@@ -99,13 +71,6 @@ pub spell-entry-spec : {M : Type 1} → statement M
 spell-entry-spec =
     tie.close
     (tie.spec
-    slice-aggregate-put-number
-    numbered-requires
-    put-number-requires
-    slice-aggregate-put-number-2
-    cast-put-number
-    put-number-requires-2
-    spell-kind-requires
+    (λ c. search needs) (λ c κs. search needs) (λ c κs. search needs) (λ c. search needs) (λ c. search needs) (λ c κs. search needs) spell-kind-requires
     spell-met-requires
-    same-length
-    returns)
+    (λ c. search needs) returns)

@@ -1,22 +1,12 @@
 -- The record is treated, and its lines are taken.
 -- Assumes nothing.
-use mathlib.Core.Path.{ap, ap₂, _∙_}
-use Rattle.ride.specs.declared.Ride.{Ride}
+use mathlib.Core.Path.{ap, _∙_}
 use Rattle.ride.specs.At.{Treatment}
 use Rattle.depot.specs.Taking.{Going, takeAll}
 use Rattle.depot.specs.Record.{linesOf, acceptAt}
 use borrow.Author.Needs.{needs}
 use Rattle.depot.proofs.records.accept_at.Statement.{statement}
 use Rattle.depot.proofs.records.accept_at.Tie as tie
-
-treat-at-requires : tie.Need-treat-at-requires
-treat-at-requires c κs = search needs
-
-take-reply-requires : tie.Need-take-reply-requires
-take-reply-requires c κs = search needs
-
-same-length : tie.Need-same-length
-same-length c = search needs
 
 returns : tie.Need-returns
 unfolding acceptAt
@@ -28,4 +18,7 @@ returns c =
     ∙ ap (λ (x : Treatment). record { ride = x .ride; going = takeAll (a .run) (linesOf (x .reply)) (a .buf .now) (a .at) }) (t .treat-at .ensures)
 
 pub accept-at-spec : {M : Type 1} → statement M
-accept-at-spec = tie.close (tie.spec treat-at-requires take-reply-requires same-length returns)
+accept-at-spec =
+    tie.close
+    (tie.spec
+    (λ c κs. search needs) (λ c κs. search needs) (λ c. search needs) returns)

@@ -9,23 +9,11 @@ use borrow.Author.Needs.{needs}
 use Rattle.depot.proofs.records.take_given.Statement.{statement}
 use Rattle.depot.proofs.records.take_given.Tie as tie
 
-enum-told : tie.Need-enum-told
-enum-told c = search needs
-
-enum-known-given : tie.Need-enum-known-given
-enum-known-given c = search needs
-
-take-lines-requires : tie.Need-take-lines-requires
-take-lines-requires c κs = search needs
-
 returns : tie.Need-returns
 unfolding takeAll
 returns c =
     let a = c .before .before .before .args in
     sym (ap (λ (g : Given). takeAll (a .run) (linesIn (saysGiven g)) (a .buf .now) (a .at)) (c .enum-told .given .1))
-
-same-length : tie.Need-same-length
-same-length c = search needs
 
 returns-2 : tie.Need-returns-2
 returns-2 c =
@@ -37,4 +25,6 @@ returns-2 c =
 pub take-given-spec : {M : Type 1} → statement M
 take-given-spec =
     tie.close
-    (tie.spec enum-told enum-known-given take-lines-requires returns same-length returns-2)
+    (tie.spec
+    (λ c. search needs) (λ c. search needs) (λ c κs. search needs) returns
+    (λ c. search needs) returns-2)

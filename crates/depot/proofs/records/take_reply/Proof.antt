@@ -9,18 +9,6 @@ use borrow.Author.Needs.{needs}
 use Rattle.depot.proofs.records.take_reply.Statement.{statement}
 use Rattle.depot.proofs.records.take_reply.Tie as tie
 
-enum-told : tie.Need-enum-told
-enum-told c = search needs
-
-enum-told-2 : tie.Need-enum-told-2
-enum-told-2 c = search needs
-
-enum-known-reply : tie.Need-enum-known-reply
-enum-known-reply c = search needs
-
-take-given-requires : tie.Need-take-given-requires
-take-given-requires c κs = search needs
-
 returns : tie.Need-returns
 unfolding takeAll
 returns c =
@@ -33,9 +21,6 @@ returns-2 c =
     let a = c .before .before .before .args in
     sym (ap (λ (g : Reply). takeAll (a .run) (linesOf (saysReply g)) (a .buf .now) (a .at)) (c .enum-told2 .given .1))
 
-same-length : tie.Need-same-length
-same-length c = search needs
-
 returns-3 : tie.Need-returns-3
 returns-3 c =
     let p = c .before .before in
@@ -47,11 +32,6 @@ pub take-reply-spec : {M : Type 1} → statement M
 take-reply-spec =
     tie.close
     (tie.spec
-    enum-told
-    enum-told-2
-    enum-known-reply
-    take-given-requires
-    returns
+    (λ c. search needs) (λ c. search needs) (λ c. search needs) (λ c κs. search needs) returns
     returns-2
-    same-length
-    returns-3)
+    (λ c. search needs) returns-3)

@@ -4,9 +4,6 @@ use borrow.Author.Needs.{needs}
 use Rattle.explainer.proofs.figures.b_breaks.Statement.{statement}
 use Rattle.explainer.proofs.figures.b_breaks.Tie as tie
 
-beyond-requires : tie.Need-beyond-requires
-beyond-requires c κs = search needs
-
 returns : tie.Need-returns
 returns c = rw (c .if1 .taken)
 
@@ -14,4 +11,8 @@ returns-2 : tie.Need-returns-2
 returns-2 c = rw (c .before .if1 .left, c .beyond .ensures)
 
 pub b-breaks-spec : {M : Type 1} → statement M
-b-breaks-spec = tie.close (tie.spec beyond-requires returns returns-2)
+b-breaks-spec =
+    tie.close
+    (tie.spec
+    (λ c κs. search needs) returns
+    returns-2)

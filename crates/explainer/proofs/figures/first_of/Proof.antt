@@ -19,21 +19,6 @@ abbrev μ-loop : tie.MeasureT-loop
 loop-holds : tie.Need-loop-holds Inv-loop μ-loop
 loop-holds c = (search needs, refl)
 
-mul-b : tie.Need-mul-b Inv-loop μ-loop
-mul-b c = omega arith
-
-array-copy-out-b : tie.Need-array-copy-out-b Inv-loop μ-loop
-array-copy-out-b c = omega arith
-
-is-category-requires : tie.Need-is-category-requires Inv-loop μ-loop
-is-category-requires c κs = search needs
-
-cast-found-at : tie.Need-cast-found-at Inv-loop μ-loop
-cast-found-at c = omega arith
-
-found-at-requires : tie.Need-found-at-requires Inv-loop μ-loop
-found-at-requires c κs = search needs
-
 returns : tie.Need-returns Inv-loop μ-loop
 returns c =
     let k = c .before in
@@ -44,12 +29,6 @@ returns c =
     ∙ sym (sought-yes (s .args .c) (s .args .t1) (s .args .n) (s .good .0 .1 .0 .1) (s .pre) (t .loop .i) (k .before .before .before .loop-test .taken) is)
     ∙ t .loop .inv .1
 
-add-i : tie.Need-add-i Inv-loop μ-loop
-add-i c = omega arith
-
-loop-less : tie.Need-loop-less Inv-loop μ-loop
-loop-less c = omega arith
-
 loop-again : tie.Need-loop-again Inv-loop μ-loop
 loop-again c =
     let t = c .before .before .before .before in
@@ -59,9 +38,6 @@ loop-again c =
       sym (sought-no (s .args .c) (s .args .t1) (s .args .n) (s .good .0 .1 .0 .1) (s .pre) (t .loop .i) (c .before .before .before .loop-test .taken) is)
           ∙ t .loop .inv .1,
     )
-
-cast-t15 : tie.Need-cast-t15 Inv-loop μ-loop
-cast-t15 c = omega arith
 
 returns-2 : tie.Need-returns-2 Inv-loop μ-loop
 returns-2 c =
@@ -77,14 +53,6 @@ first-of-spec =
     Inv-loop
     μ-loop
     loop-holds
-    mul-b
-    array-copy-out-b
-    is-category-requires
-    cast-found-at
-    found-at-requires
-    returns
-    add-i
-    loop-less
-    loop-again
-    cast-t15
-    returns-2)
+    (λ c. omega arith) (λ c. omega arith) (λ c κs. search needs) (λ c. omega arith) (λ c κs. search needs) returns
+    (λ c. omega arith) (λ c. omega arith) loop-again
+    (λ c. omega arith) returns-2)

@@ -4,15 +4,6 @@ use borrow.Author.Needs.{needs}
 use Rattle.explainer.proofs.figures.found_at.Statement.{statement}
 use Rattle.explainer.proofs.figures.found_at.Tie as tie
 
-enum-known-part : tie.Need-enum-known-part
-enum-known-part c = search needs
-
-enum-told : tie.Need-enum-told
-enum-told c = search needs
-
-enum-told-2 : tie.Need-enum-told-2
-enum-told-2 c = search needs
-
 returns : tie.Need-returns
 returns c = rw (c .before .part .given .1)
 
@@ -24,4 +15,8 @@ returns-3 c = rw (c .enum-told2 .given .1)
 
 pub found-at-spec : {M : Type 1} → statement M
 found-at-spec =
-    tie.close (tie.spec enum-known-part enum-told enum-told-2 returns returns-2 returns-3)
+    tie.close
+    (tie.spec
+    (λ c. search needs) (λ c. search needs) (λ c. search needs) returns
+    returns-2
+    returns-3)

@@ -4,11 +4,11 @@ use borrow.Author.Needs.{needs}
 use Rattle.explainer.proofs.figures.is_barred.Statement.{statement}
 use Rattle.explainer.proofs.figures.is_barred.Tie as tie
 
-no-increase-requires : tie.Need-no-increase-requires
-no-increase-requires c κs = search needs
-
 returns : tie.Need-returns
 returns c = rw (c .no-increase .ensures)
 
 pub is-barred-spec : {M : Type 1} → statement M
-is-barred-spec = tie.close (tie.spec no-increase-requires returns)
+is-barred-spec =
+    tie.close
+    (tie.spec
+    (λ c κs. search needs) returns)

@@ -4,14 +4,8 @@ use borrow.Author.Needs.{needs}
 use Rattle.explainer.proofs.figures.of_both.Statement.{statement}
 use Rattle.explainer.proofs.figures.of_both.Tie as tie
 
-b-breaks-requires : tie.Need-b-breaks-requires
-b-breaks-requires c κs = search needs
-
 returns : tie.Need-returns
 returns c = rw (← c .before .b-breaks .ensures, c .if1 .taken)
-
-beyond-requires : tie.Need-beyond-requires
-beyond-requires c κs = search needs
 
 returns-2 : tie.Need-returns-2
 returns-2 c =
@@ -26,4 +20,9 @@ returns-3 c =
     rw (← k .before .b-breaks .ensures, k .if1 .left, ← h .beyond .ensures, c .if2 .left)
 
 pub of-both-spec : {M : Type 1} → statement M
-of-both-spec = tie.close (tie.spec b-breaks-requires returns beyond-requires returns-2 returns-3)
+of-both-spec =
+    tie.close
+    (tie.spec
+    (λ c κs. search needs) returns
+    (λ c κs. search needs) returns-2
+    returns-3)

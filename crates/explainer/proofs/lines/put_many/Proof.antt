@@ -6,21 +6,12 @@ use Prim.Native.Nat.{ℕ}
 use Rattle.text.specs.Text.{codes}
 use Rattle.text.specs.Put.{put}
 use borrow.Author.Tests.{eq-eqb, ne-eqb}
-use Rattle.text.proofs.Standing.{join}
+use Rattle.text.proofs.Standing.{join, numbered, room-as}
 use Rattle.explainer.specs.Text.{soMany}
-use Rattle.explainer.proofs.Pieces.{numbered, many-is, room-as}
+use Rattle.explainer.proofs.Pieces.{many-is}
 use borrow.Author.Needs.{needs}
 use Rattle.explainer.proofs.lines.put_many.Statement.{statement}
 use Rattle.explainer.proofs.lines.put_many.Tie as tie
-
-slice-aggregate-put : tie.Need-slice-aggregate-put
-slice-aggregate-put c = search needs
-
-put-requires : tie.Need-put-requires
-put-requires c κs = search needs
-
-same-length : tie.Need-same-length
-same-length c = search needs
 
 returns : tie.Need-returns
 unfolding soMany
@@ -30,21 +21,6 @@ returns c =
     let a = k .before .before .args in
     let is : codes "255 or more balises" ≡ soMany (a .n) = rw (eq-eqb (a .n) 255 (k .if1 .taken)) in
     p .put .ensures ∙ ap (λ (t : List ℕ). put t (a .buf .now) (a .at)) is
-
-slice-aggregate-put-number : tie.Need-slice-aggregate-put-number
-slice-aggregate-put-number c = search needs
-
-put-number-requires : tie.Need-put-number-requires
-put-number-requires c κs = search needs
-
-slice-aggregate-put-2 : tie.Need-slice-aggregate-put-2
-slice-aggregate-put-2 c = search needs
-
-put-requires-2 : tie.Need-put-requires-2
-put-requires-2 c κs = search needs
-
-same-length-2 : tie.Need-same-length-2
-same-length-2 c = search needs
 
 returns-2 : tie.Need-returns-2
 returns-2 c =
@@ -61,13 +37,5 @@ pub put-many-spec : {M : Type 1} → statement M
 put-many-spec =
     tie.close
     (tie.spec
-    slice-aggregate-put
-    put-requires
-    same-length
-    returns
-    slice-aggregate-put-number
-    put-number-requires
-    slice-aggregate-put-2
-    put-requires-2
-    same-length-2
-    returns-2)
+    (λ c. search needs) (λ c κs. search needs) (λ c. search needs) returns
+    (λ c. search needs) (λ c κs. search needs) (λ c. search needs) (λ c κs. search needs) (λ c. search needs) returns-2)

@@ -6,30 +6,6 @@ use borrow.Author.Needs.{needs}
 use Rattle.explainer.proofs.reading.part_heard.Statement.{statement}
 use Rattle.explainer.proofs.reading.part_heard.Tie as tie
 
-enum-known-heard : tie.Need-enum-known-heard
-enum-known-heard c = search needs
-
-read-requires : tie.Need-read-requires
-read-requires c κs = search needs
-
-enum-known-t : tie.Need-enum-known-t
-enum-known-t c = search needs
-
-part-of-requires : tie.Need-part-of-requires
-part-of-requires c κs = search needs
-
-enum-known-w : tie.Need-enum-known-w
-enum-known-w c = search needs
-
-enum-known-w-2 : tie.Need-enum-known-w-2
-enum-known-w-2 c = search needs
-
-enum-told : tie.Need-enum-told
-enum-told c = search needs
-
-enum-told-2 : tie.Need-enum-told-2
-enum-told-2 c = search needs
-
 returns : tie.Need-returns
 returns c =
     let t = c .before .before in
@@ -59,15 +35,8 @@ pub part-heard-spec : {M : Type 1} → statement M
 part-heard-spec =
     tie.close
     (tie.spec
-    enum-known-heard
-    read-requires
-    enum-known-t
-    part-of-requires
-    enum-known-w
-    enum-known-w-2
-    enum-told
-    enum-told-2
-    returns
+    (λ c. search needs) (λ c κs. search needs) (λ c. search needs) (λ c κs. search needs) (λ c. search needs) (λ c. search needs)
+    (λ c. search needs) (λ c. search needs) returns
     returns-2
     returns-3
     returns-4

@@ -23,30 +23,6 @@ abbrev μ-loop : tie.MeasureT-loop
 loop-holds : tie.Need-loop-holds Inv-loop μ-loop
 loop-holds c = (search needs, refl, after-none (readFrom 0 (take (c .args .n) (c .args .t1))))
 
-mul-b : tie.Need-mul-b Inv-loop μ-loop
-mul-b c = omega arith
-
-array-copy-out-b : tie.Need-array-copy-out-b Inv-loop μ-loop
-array-copy-out-b c = omega arith
-
-part-heard-requires : tie.Need-part-heard-requires Inv-loop μ-loop
-part-heard-requires c κs = search needs
-
-enum-known-part : tie.Need-enum-known-part Inv-loop μ-loop
-enum-known-part c = search needs
-
-mul-parts : tie.Need-mul-parts Inv-loop μ-loop
-mul-parts c = omega arith
-
-array-set-from-parts : tie.Need-array-set-from-parts Inv-loop μ-loop
-array-set-from-parts c = omega arith
-
-enum-known-bad : tie.Need-enum-known-bad Inv-loop μ-loop
-enum-known-bad c = search needs
-
-cast-t24 : tie.Need-cast-t24 Inv-loop μ-loop
-cast-t24 c = omega arith
-
 returns : tie.Need-returns Inv-loop μ-loop
 returns c =
     let q = c .before in
@@ -56,12 +32,6 @@ returns c =
     let e = sym (h .part-heard .ensures) ∙ ap saysPartRead (q .bad .given .1) in
     read-bad (s .args .t1) (s .args .n) (t .loop .i) (s .good .0 .1 .0 .1) (s .pre) (h .before .before .loop-test .taken) (saysBad (q .bad .given .0 .0)) e (take (t .loop .i) (t .loop .parts))
     ∙ sym (t .loop .inv .2)
-
-add-i : tie.Need-add-i Inv-loop μ-loop
-add-i c = omega arith
-
-loop-less : tie.Need-loop-less Inv-loop μ-loop
-loop-less c = omega arith
 
 loop-again : tie.Need-loop-again Inv-loop μ-loop
 loop-again c =
@@ -92,16 +62,7 @@ read-all-spec =
     Inv-loop
     μ-loop
     loop-holds
-    mul-b
-    array-copy-out-b
-    part-heard-requires
-    enum-known-part
-    mul-parts
-    array-set-from-parts
-    enum-known-bad
-    cast-t24
-    returns
-    add-i
-    loop-less
-    loop-again
+    (λ c. omega arith) (λ c. omega arith) (λ c κs. search needs) (λ c. search needs) (λ c. omega arith) (λ c. omega arith)
+    (λ c. search needs) (λ c. omega arith) returns
+    (λ c. omega arith) (λ c. omega arith) loop-again
     returns-2)

@@ -16,28 +16,10 @@ use borrow.Author.Needs.{needs}
 use Rattle.explainer.proofs.rows.why_fit.Statement.{statement}
 use Rattle.explainer.proofs.rows.why_fit.Tie as tie
 
-fit-requires : tie.Need-fit-requires
-fit-requires c κs = search needs
-
-enum-known-row : tie.Need-enum-known-row
-enum-known-row c = search needs
-
-why-row-requires : tie.Need-why-row-requires
-why-row-requires c κs = search needs
-
-enum-told : tie.Need-enum-told
-enum-told c = search needs
-
-opening-requires : tie.Need-opening-requires
-opening-requires c κs = search needs
-
 cast-t7 : tie.Need-cast-t7
 cast-t7 c =
     let s = c .before .before .before .before in
     omega (arith, c .opening .ensures .within, long-take (s .args .p) (s .args .n) (s .good .0 .1 .0 .1) (s .pre))
-
-cast-t8 : tie.Need-cast-t8
-cast-t8 c = search needs
 
 returns : tie.Need-returns
 returns c =
@@ -63,12 +45,6 @@ pub why-fit-spec : {M : Type 1} → statement M
 why-fit-spec =
     tie.close
     (tie.spec
-    fit-requires
-    enum-known-row
-    why-row-requires
-    enum-told
-    opening-requires
-    cast-t7
-    cast-t8
-    returns
+    (λ c κs. search needs) (λ c. search needs) (λ c κs. search needs) (λ c. search needs) (λ c κs. search needs) cast-t7
+    (λ c. search needs) returns
     returns-2)

@@ -5,9 +5,9 @@ use Prim.Native.Nat.{ℕ, _+_, _≤_}
 use lib.ListN.{length}
 use Rattle.text.specs.Text.{codes}
 use Rattle.text.specs.Put.{put}
-use Rattle.text.proofs.Standing.{less, join, room-after, join-4}
+use Rattle.text.proofs.Standing.{less, join, room-after, join-4, numbered, room-as}
 use Rattle.hearing.specs.Lines.{what}
-use Rattle.hearing.proofs.Pieces.{numbered, heard-is, room-as}
+use Rattle.hearing.proofs.Pieces.{heard-is}
 use borrow.Author.Needs.{needs}
 use Rattle.hearing.proofs.lines.put_heard.Statement.{statement}
 use Rattle.hearing.proofs.lines.put_heard.Tie as tie
@@ -22,18 +22,6 @@ with-what s =
     let a = s .args in
     less (a .buf .now) (a .at) (numbered "" (a .start) ++ numbered " " (a .bits) ++ what (a .judged)) (codes "\n") (whole s)
 
-slice-aggregate-put-number : tie.Need-slice-aggregate-put-number
-slice-aggregate-put-number c = search needs
-
-put-number-requires : tie.Need-put-number-requires
-put-number-requires c κs = search needs
-
-slice-aggregate-put-number-2 : tie.Need-slice-aggregate-put-number-2
-slice-aggregate-put-number-2 c = search needs
-
-put-number-requires-2 : tie.Need-put-number-requires-2
-put-number-requires-2 c κs = search needs
-
 put-what-requires : tie.Need-put-what-requires
 put-what-requires c κs =
     let p2 = c .before .before .before in
@@ -43,15 +31,6 @@ put-what-requires c κs =
     let two = less (a .buf .now) (a .at) (numbered "" (a .start) ++ numbered " " (a .bits)) (what (a .judged)) (with-what s) in
     room-after (a .buf .now) (a .at) (numbered "" (a .start) ++ numbered " " (a .bits)) (what (a .judged)) (with-what s)
     (join (a .buf .now) (a .at) (numbered "" (a .start)) (numbered " " (a .bits)) two (p1 .put-number .ensures) (p2 .put-number2 .ensures))
-
-slice-aggregate-put : tie.Need-slice-aggregate-put
-slice-aggregate-put c = search needs
-
-put-requires : tie.Need-put-requires
-put-requires c κs = search needs
-
-same-length : tie.Need-same-length
-same-length c = search needs
 
 returns : tie.Need-returns
 returns c =
@@ -69,12 +48,5 @@ pub put-heard-spec : {M : Type 1} → statement M
 put-heard-spec =
     tie.close
     (tie.spec
-    slice-aggregate-put-number
-    put-number-requires
-    slice-aggregate-put-number-2
-    put-number-requires-2
-    put-what-requires
-    slice-aggregate-put
-    put-requires
-    same-length
-    returns)
+    (λ c. search needs) (λ c κs. search needs) (λ c. search needs) (λ c κs. search needs) put-what-requires
+    (λ c. search needs) (λ c κs. search needs) (λ c. search needs) returns)

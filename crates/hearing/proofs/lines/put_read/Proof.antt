@@ -5,9 +5,9 @@ use Prim.Native.Nat.{ℕ, _+_, _≤_}
 use lib.ListN.{length}
 use Rattle.text.specs.Text.{codes}
 use Rattle.text.specs.Put.{put}
-use Rattle.text.proofs.Standing.{less, room-after, join-4}
+use Rattle.text.proofs.Standing.{less, room-after, join-4, numbered, room-as}
 use Rattle.hearing.specs.Lines.{figures}
-use Rattle.hearing.proofs.Pieces.{numbered, read-is, room-as}
+use Rattle.hearing.proofs.Pieces.{read-is}
 use borrow.Author.Needs.{needs}
 use Rattle.hearing.proofs.lines.put_read.Statement.{statement}
 use Rattle.hearing.proofs.lines.put_read.Tie as tie
@@ -23,33 +23,12 @@ with-figures s =
     less (a .buf .now) (a .at) (codes " telegram" ++ figures (a .telegram)) (numbered " places " (a .count))
     (less (a .buf .now) (a .at) (codes " telegram" ++ figures (a .telegram) ++ numbered " places " (a .count)) (numbered " from " (a .first)) (whole s))
 
-slice-aggregate-put : tie.Need-slice-aggregate-put
-slice-aggregate-put c = search needs
-
-put-requires : tie.Need-put-requires
-put-requires c κs = search needs
-
 put-figures-requires : tie.Need-put-figures-requires
 put-figures-requires c κs =
     let p1 = c .before .before .before in
     let s = p1 .before .before .before .before in
     let a = s .args in
     room-after (a .buf .now) (a .at) (codes " telegram") (figures (a .telegram)) (with-figures s) (p1 .put .ensures)
-
-slice-aggregate-put-number : tie.Need-slice-aggregate-put-number
-slice-aggregate-put-number c = search needs
-
-put-number-requires : tie.Need-put-number-requires
-put-number-requires c κs = search needs
-
-slice-aggregate-put-number-2 : tie.Need-slice-aggregate-put-number-2
-slice-aggregate-put-number-2 c = search needs
-
-put-number-requires-2 : tie.Need-put-number-requires-2
-put-number-requires-2 c κs = search needs
-
-same-length : tie.Need-same-length
-same-length c = search needs
 
 returns : tie.Need-returns
 returns c =
@@ -67,12 +46,5 @@ pub put-read-spec : {M : Type 1} → statement M
 put-read-spec =
     tie.close
     (tie.spec
-    slice-aggregate-put
-    put-requires
-    put-figures-requires
-    slice-aggregate-put-number
-    put-number-requires
-    slice-aggregate-put-number-2
-    put-number-requires-2
-    same-length
-    returns)
+    (λ c. search needs) (λ c κs. search needs) put-figures-requires
+    (λ c. search needs) (λ c κs. search needs) (λ c. search needs) (λ c κs. search needs) (λ c. search needs) returns)

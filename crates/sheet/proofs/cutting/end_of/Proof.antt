@@ -17,12 +17,6 @@ abbrev μ-loop : tie.MeasureT-loop
 loop-holds : tie.Need-loop-holds Inv-loop μ-loop
 loop-holds c = (omega arith, refl)
 
-shared-slice-read-is-stop : tie.Need-shared-slice-read-is-stop Inv-loop μ-loop
-shared-slice-read-is-stop c = omega arith
-
-is-stop-requires : tie.Need-is-stop-requires Inv-loop μ-loop
-is-stop-requires c κs = tt
-
 returns : tie.Need-returns Inv-loop μ-loop
 returns c =
     let s = c .before in
@@ -30,12 +24,6 @@ returns c =
     let a = l .before .before .args in
     let e = ends-here (a .stop) (a .text .now) (l .loop .i) (omega arith) (sym (s .is-stop .ensures) ∙ c .if1 .taken) in
     (omega arith, omega arith)
-
-add-i : tie.Need-add-i Inv-loop μ-loop
-add-i c = omega arith
-
-loop-less : tie.Need-loop-less Inv-loop μ-loop
-loop-less c = omega arith
 
 loop-again : tie.Need-loop-again Inv-loop μ-loop
 loop-again c =
@@ -59,10 +47,6 @@ end-of-spec =
     Inv-loop
     μ-loop
     loop-holds
-    shared-slice-read-is-stop
-    is-stop-requires
-    returns
-    add-i
-    loop-less
-    loop-again
+    (λ c. omega arith) (λ c κs. tt) returns
+    (λ c. omega arith) (λ c. omega arith) loop-again
     returns-2)

@@ -7,24 +7,6 @@ use borrow.Author.Needs.{needs}
 use Rattle.sheet.proofs.cutting.is_stop.Statement.{statement}
 use Rattle.sheet.proofs.cutting.is_stop.Tie as tie
 
-enum-told : tie.Need-enum-told
-enum-told c = search needs
-
-is-blank-requires : tie.Need-is-blank-requires
-is-blank-requires c κs = search needs
-
-enum-told-2 : tie.Need-enum-told-2
-enum-told-2 c = search needs
-
-is-blank-requires-2 : tie.Need-is-blank-requires-2
-is-blank-requires-2 c κs = search needs
-
-enum-told-3 : tie.Need-enum-told-3
-enum-told-3 c = search needs
-
-enum-told-4 : tie.Need-enum-told-4
-enum-told-4 c = search needs
-
 returns : tie.Need-returns
 returns c =
     let k = c .before in
@@ -47,13 +29,7 @@ pub is-stop-spec : {M : Type 1} → statement M
 is-stop-spec =
     tie.close
     (tie.spec
-    enum-told
-    is-blank-requires
-    enum-told-2
-    is-blank-requires-2
-    enum-told-3
-    enum-told-4
-    returns
+    (λ c. search needs) (λ c κs. search needs) (λ c. search needs) (λ c κs. search needs) (λ c. search needs) (λ c. search needs) returns
     returns-2
     returns-3
     returns-4)

@@ -1,6 +1,5 @@
 -- `next_word` goes over the blanks, and then over the word.
-use mathlib.Core.Path.{_≡_, sym, ap, _∙_}
-use mathlib.Core.List.{List}
+use mathlib.Core.Path.{_≡_, ap, _∙_}
 use Prim.Native.Nat.{ℕ, _-_}
 use native.Mathlib.Omega.{arith}
 use lib.ListN.{length, take, drop}
@@ -10,12 +9,6 @@ use Rattle.sheet.proofs.Stretches.{part, drop-to}
 use borrow.Author.Needs.{needs}
 use Rattle.sheet.proofs.cutting.next_word.Statement.{statement}
 use Rattle.sheet.proofs.cutting.next_word.Tie as tie
-
-end-of-requires : tie.Need-end-of-requires
-end-of-requires c κs = search needs
-
-end-of-requires-2 : tie.Need-end-of-requires-2
-end-of-requires-2 c κs = search needs
 
 returns : tie.Need-returns
 returns c =
@@ -35,4 +28,7 @@ returns c =
     )
 
 pub next-word-spec : {M : Type 1} → statement M
-next-word-spec = tie.close (tie.spec end-of-requires end-of-requires-2 returns)
+next-word-spec =
+    tie.close
+    (tie.spec
+    (λ c κs. search needs) (λ c κs. search needs) returns)

@@ -1,6 +1,5 @@
 -- `figure_of` reads a decimal number; the largest stands for all above it.
 use mathlib.Core.Path.{_≡_, sym, ap, _∙_}
-use Prim.Native.Nat.{_≤_}
 use native.Mathlib.Omega.{arith}
 use Rattle.arguments.specs.Figures.{decimal}
 use Rattle.arguments.specs.declared.Figure.{Figure}
@@ -10,12 +9,6 @@ use borrow.Author.Needs.{needs}
 use Rattle.sheet.proofs.line.figure_of.Statement.{statement}
 use Rattle.sheet.proofs.line.figure_of.Tie as tie
 
-decimal-requires : tie.Need-decimal-requires
-decimal-requires c κs = search needs
-
-enum-known-n : tie.Need-enum-known-n
-enum-known-n c = search needs
-
 cast-t5 : tie.Need-cast-t5
 cast-t5 c =
     let d = c .before .before .before in
@@ -23,12 +16,6 @@ cast-t5 c =
     let n = c .before .n .given .0 .0 in
     let e : Figure.Number n ≡ decimal (a .text .now) 4294967295 = sym (c .before .n .given .1) ∙ d .decimal .ensures in
     omega (arith, no-larger (a .text .now) 4294967295 n e)
-
-enum-told : tie.Need-enum-told
-enum-told c = search needs
-
-enum-told-2 : tie.Need-enum-told-2
-enum-told-2 c = search needs
 
 returns : tie.Need-returns
 unfolding figure
@@ -52,11 +39,7 @@ pub figure-of-spec : {M : Type 1} → statement M
 figure-of-spec =
     tie.close
     (tie.spec
-    decimal-requires
-    enum-known-n
-    cast-t5
-    enum-told
-    enum-told-2
-    returns
+    (λ c κs. search needs) (λ c. search needs) cast-t5
+    (λ c. search needs) (λ c. search needs) returns
     returns-2
     returns-3)

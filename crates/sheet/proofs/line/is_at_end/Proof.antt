@@ -6,9 +6,6 @@ use borrow.Author.Needs.{needs}
 use Rattle.sheet.proofs.line.is_at_end.Statement.{statement}
 use Rattle.sheet.proofs.line.is_at_end.Tie as tie
 
-next-word-requires : tie.Need-next-word-requires
-next-word-requires c κs = search needs
-
 returns : tie.Need-returns
 returns c =
     let n = c .before in
@@ -18,4 +15,7 @@ returns c =
     is-empty (a .text .now) (word (drop (a .from) (a .text .now))) (r .start) (r .end) (h .0 .0) (h .0 .1) (h .1 .0)
 
 pub is-at-end-spec : {M : Type 1} → statement M
-is-at-end-spec = tie.close (tie.spec next-word-requires returns)
+is-at-end-spec =
+    tie.close
+    (tie.spec
+    (λ c κs. search needs) returns)

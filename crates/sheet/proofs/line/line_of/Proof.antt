@@ -1,6 +1,5 @@
 -- `line_of` leaves the comment out.
 use mathlib.Core.Path.{_≡_, sym, ap, _∙_}
-use mathlib.Core.List.{List}
 use Prim.Native.Nat.{ℕ}
 use native.Mathlib.Omega.{arith}
 use lib.ListN.{length, take}
@@ -13,14 +12,8 @@ use borrow.Author.Needs.{needs}
 use Rattle.sheet.proofs.line.line_of.Statement.{statement}
 use Rattle.sheet.proofs.line.line_of.Tie as tie
 
-end-of-requires : tie.Need-end-of-requires
-end-of-requires c κs = search needs
-
 slice-aggregate-words-of : tie.Need-slice-aggregate-words-of
 slice-aggregate-words-of c = sym (length-take-le _ _ (c .before .end-of .ensures .1))
-
-words-of-requires : tie.Need-words-of-requires
-words-of-requires c κs = search needs
 
 returns : tie.Need-returns
 unfolding lineOf
@@ -32,4 +25,7 @@ returns c =
 
 pub line-of-spec : {M : Type 1} → statement M
 line-of-spec =
-    tie.close (tie.spec end-of-requires slice-aggregate-words-of words-of-requires returns)
+    tie.close
+    (tie.spec
+    (λ c κs. search needs) slice-aggregate-words-of
+    (λ c κs. search needs) returns)

@@ -5,21 +5,6 @@ use borrow.Author.Needs.{needs}
 use Rattle.sheet.proofs.line.next_byte.Statement.{statement}
 use Rattle.sheet.proofs.line.next_byte.Tie as tie
 
-next-word-requires : tie.Need-next-word-requires
-next-word-requires c κs = search needs
-
-sub-hex : tie.Need-sub-hex
-sub-hex c = search needs
-
-part-hex-start : tie.Need-part-hex-start
-part-hex-start c = search needs
-
-part-hex-end : tie.Need-part-hex-end
-part-hex-end c = search needs
-
-hex-requires : tie.Need-hex-requires
-hex-requires c κs = search needs
-
 returns : tie.Need-returns
 returns c =
     let w = c .before .before in
@@ -29,4 +14,5 @@ returns c =
 pub next-byte-spec : {M : Type 1} → statement M
 next-byte-spec =
     tie.close
-    (tie.spec next-word-requires sub-hex part-hex-start part-hex-end hex-requires returns)
+    (tie.spec
+    (λ c κs. search needs) (λ c. search needs) (λ c. search needs) (λ c. search needs) (λ c κs. search needs) returns)

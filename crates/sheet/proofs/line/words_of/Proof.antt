@@ -6,30 +6,9 @@ use borrow.Author.Needs.{needs}
 use Rattle.sheet.proofs.line.words_of.Statement.{statement}
 use Rattle.sheet.proofs.line.words_of.Tie as tie
 
-is-at-end-requires : tie.Need-is-at-end-requires
-is-at-end-requires c κs = search needs
-
 returns : tie.Need-returns
 unfolding wordsOf
 returns c = simp (sym (c .before .is-at-end .ensures) ∙ c .if1 .taken)
-
-next-figure-requires : tie.Need-next-figure-requires
-next-figure-requires c κs = search needs
-
-next-figure-requires-2 : tie.Need-next-figure-requires-2
-next-figure-requires-2 c κs = search needs
-
-next-byte-requires : tie.Need-next-byte-requires
-next-byte-requires c κs = search needs
-
-next-byte-requires-2 : tie.Need-next-byte-requires-2
-next-byte-requires-2 c κs = search needs
-
-is-at-end-requires-2 : tie.Need-is-at-end-requires-2
-is-at-end-requires-2 c κs = search needs
-
-version-of-requires : tie.Need-version-of-requires
-version-of-requires c κs = search needs
 
 returns-2 : tie.Need-returns-2
 returns-2 c =
@@ -51,12 +30,5 @@ pub words-of-spec : {M : Type 1} → statement M
 words-of-spec =
     tie.close
     (tie.spec
-    is-at-end-requires
-    returns
-    next-figure-requires
-    next-figure-requires-2
-    next-byte-requires
-    next-byte-requires-2
-    is-at-end-requires-2
-    version-of-requires
-    returns-2)
+    (λ c κs. search needs) returns
+    (λ c κs. search needs) (λ c κs. search needs) (λ c κs. search needs) (λ c κs. search needs) (λ c κs. search needs) (λ c κs. search needs) returns-2)

@@ -1,5 +1,5 @@
 -- `after_it` goes by the verdict.
-use mathlib.Core.Path.{_≡_, sym, ap, _∙_}
+use mathlib.Core.Path.{sym, ap, _∙_}
 use Prim.Native.Nat.{ℕ}
 use Rattle.settings.specs.declared.Store.{Store}
 use Rattle.settings.specs.declared.Verdict.{Verdict}
@@ -13,15 +13,6 @@ use Rattle.sheet.proofs.taking.after_it.Tie as tie
 
 abbrev refusedWith : Store → ℕ → Taken
 refusedWith store n = record { store = store; how = How.Refused n }
-
-enum-told : tie.Need-enum-told
-enum-told c = search needs
-
-enum-known-verdict : tie.Need-enum-known-verdict
-enum-known-verdict c = search needs
-
-number-of-requires : tie.Need-number-of-requires
-number-of-requires c κs = search needs
 
 returns : tie.Need-returns
 returns c =
@@ -37,4 +28,7 @@ returns-2 c =
 
 pub after-it-spec : {M : Type 1} → statement M
 after-it-spec =
-    tie.close (tie.spec enum-told enum-known-verdict number-of-requires returns returns-2)
+    tie.close
+    (tie.spec
+    (λ c. search needs) (λ c. search needs) (λ c κs. search needs) returns
+    returns-2)

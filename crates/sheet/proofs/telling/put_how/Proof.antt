@@ -5,40 +5,13 @@ use Prim.Native.Nat.{ℕ, _+_, _≤_}
 use lib.ListN.{length}
 use Rattle.text.specs.Text.{codes}
 use Rattle.text.specs.Put.{put}
-use Rattle.text.proofs.Standing.{join}
+use Rattle.text.proofs.Standing.{join, numbered, room-as}
 use Rattle.sheet.specs.declared.How.{How}
 use Rattle.sheet.specs.Told.{told}
-use Rattle.sheet.proofs.Pieces.{numbered, unreadable-is, room-as}
+use Rattle.sheet.proofs.Pieces.{unreadable-is}
 use borrow.Author.Needs.{needs}
 use Rattle.sheet.proofs.telling.put_how.Statement.{statement}
 use Rattle.sheet.proofs.telling.put_how.Tie as tie
-
-enum-told : tie.Need-enum-told
-enum-told c = search needs
-
-slice-aggregate-put : tie.Need-slice-aggregate-put
-slice-aggregate-put c = search needs
-
-put-requires : tie.Need-put-requires
-put-requires c κs = search needs
-
-enum-told-2 : tie.Need-enum-told-2
-enum-told-2 c = search needs
-
-slice-aggregate-put-number : tie.Need-slice-aggregate-put-number
-slice-aggregate-put-number c = search needs
-
-put-number-requires : tie.Need-put-number-requires
-put-number-requires c κs = search needs
-
-slice-aggregate-put-2 : tie.Need-slice-aggregate-put-2
-slice-aggregate-put-2 c = search needs
-
-put-requires-2 : tie.Need-put-requires-2
-put-requires-2 c κs = search needs
-
-enum-known-how : tie.Need-enum-known-how
-enum-known-how c = search needs
 
 put-refusal-requires : tie.Need-put-refusal-requires
 unfolding told
@@ -47,18 +20,6 @@ put-refusal-requires c κs =
     let s = k .before .before .before in
     subst (λ (h : How). s .args .at + length (told (s .args .line) h) ≤ length (s .args .buf .now)) (k .how .given .1) (s .pre)
 
-enum-told-3 : tie.Need-enum-told-3
-enum-told-3 c = search needs
-
-slice-aggregate-put-3 : tie.Need-slice-aggregate-put-3
-slice-aggregate-put-3 c = search needs
-
-put-requires-3 : tie.Need-put-requires-3
-put-requires-3 c κs = search needs
-
-same-length : tie.Need-same-length
-same-length c = search needs
-
 returns : tie.Need-returns
 unfolding told
 returns c =
@@ -66,9 +27,6 @@ returns c =
     let k = p .before .before .before in
     let a = k .before .before .before .args in
     p .put .ensures ∙ ap (λ (h : How). put (told (a .line) h) (a .buf .now) (a .at)) (sym (k .enum-told .given .1))
-
-same-length-2 : tie.Need-same-length-2
-same-length-2 c = search needs
 
 returns-2 : tie.Need-returns-2
 returns-2 c =
@@ -81,9 +39,6 @@ returns-2 c =
     join (a .buf .now) (a .at) (numbered "settings line " (a .line)) (codes " unreadable\n") (room-as (a .buf .now) (a .at) is (s .pre)) (p1 .put-number .ensures) (p2 .put2 .ensures)
     ∙ ap (λ (t : List ℕ). put t (a .buf .now) (a .at)) is
 
-same-length-3 : tie.Need-same-length-3
-same-length-3 c = search needs
-
 returns-3 : tie.Need-returns-3
 unfolding told
 returns-3 c =
@@ -91,9 +46,6 @@ returns-3 c =
     let k = p .before .before .before in
     let a = k .before .before .before .args in
     p .put-refusal .ensures ∙ ap (λ (h : How). put (told (a .line) h) (a .buf .now) (a .at)) (sym (k .how .given .1))
-
-same-length-4 : tie.Need-same-length-4
-same-length-4 c = search needs
 
 returns-4 : tie.Need-returns-4
 unfolding told
@@ -107,24 +59,9 @@ pub put-how-spec : {M : Type 1} → statement M
 put-how-spec =
     tie.close
     (tie.spec
-    enum-told
-    slice-aggregate-put
-    put-requires
-    enum-told-2
-    slice-aggregate-put-number
-    put-number-requires
-    slice-aggregate-put-2
-    put-requires-2
-    enum-known-how
-    put-refusal-requires
-    enum-told-3
-    slice-aggregate-put-3
-    put-requires-3
-    same-length
-    returns
-    same-length-2
-    returns-2
-    same-length-3
-    returns-3
-    same-length-4
-    returns-4)
+    (λ c. search needs) (λ c. search needs) (λ c κs. search needs) (λ c. search needs) (λ c. search needs) (λ c κs. search needs)
+    (λ c. search needs) (λ c κs. search needs) (λ c. search needs) put-refusal-requires
+    (λ c. search needs) (λ c. search needs) (λ c κs. search needs) (λ c. search needs) returns
+    (λ c. search needs) returns-2
+    (λ c. search needs) returns-3
+    (λ c. search needs) returns-4)

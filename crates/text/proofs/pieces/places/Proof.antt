@@ -15,15 +15,6 @@ Inv-loop n count₀ rest₀ count rest =
 abbrev μ-loop : tie.MeasureT-loop
 μ-loop n count₀ rest₀ count rest = rest
 
-loop-holds : tie.Need-loop-holds Inv-loop μ-loop
-loop-holds c = omega arith
-
-add-count : tie.Need-add-count Inv-loop μ-loop
-add-count c = omega arith
-
-loop-less : tie.Need-loop-less Inv-loop μ-loop
-loop-less c = omega arith
-
 -- a number from ten on has one digit more than its tenth
 one-more : (n : ℕ) → 10 ≤ n → n < 2 ^ 64 → length (decimal n) ≡ length (decimal (n / 10)) + 1
 one-more n h small = ap length (decimal-last n h small) ∙ simp length-append
@@ -41,9 +32,6 @@ loop-again c =
     one-more (rest / 10) ten less ∙ ap (λ (k : ℕ). length (decimal k) + 1) hundredth in
     omega arith
 
-add-result : tie.Need-add-result Inv-loop μ-loop
-add-result c = omega arith
-
 returns : tie.Need-returns Inv-loop μ-loop
 returns c =
     let rest = c .before .before .loop .rest in
@@ -59,4 +47,10 @@ returns-2 c =
 
 pub places-spec : {M : Type 1} → statement M
 places-spec =
-    tie.close (tie.spec Inv-loop μ-loop loop-holds add-count loop-less loop-again add-result returns returns-2)
+    tie.close
+    (tie.spec
+    Inv-loop
+    μ-loop
+    (λ c. omega arith) (λ c. omega arith) (λ c. omega arith) loop-again
+    (λ c. omega arith) returns
+    returns-2)

@@ -32,15 +32,6 @@ loop-holds c =
     let some : 1 ≤ length (decimal (a .n)) = decimal-some (a .n) in
     (omega arith, omega arith, omega arith, refl, refl, omega arith)
 
-cast-buf : tie.Need-cast-buf Inv-loop μ-loop
-cast-buf c = omega arith
-
-add-buf : tie.Need-add-buf Inv-loop μ-loop
-add-buf c = omega arith
-
-slice-write-buf : tie.Need-slice-write-buf Inv-loop μ-loop
-slice-write-buf c = omega arith
-
 sub-i-2 : tie.Need-sub-i-2 Inv-loop μ-loop
 sub-i-2 c =
     let rest = c .before .loop .rest in
@@ -48,9 +39,6 @@ sub-i-2 c =
     let one-less : length (decimal rest) ≡ length (decimal (rest / 10)) + 1 =
     ap length (decimal-last rest (c .loop-test .taken) small) ∙ simp length-append in
     omega (arith, decimal-some (rest / 10))
-
-loop-less : tie.Need-loop-less Inv-loop μ-loop
-loop-less c = omega arith
 
 loop-again : tie.Need-loop-again Inv-loop μ-loop
 loop-again c =
@@ -74,15 +62,6 @@ loop-again c =
           ∙ l .loop .inv .4,
       l .loop .inv .5,
     )
-
-cast-buf-2 : tie.Need-cast-buf-2 Inv-loop μ-loop
-cast-buf-2 c = omega arith
-
-add-buf-2 : tie.Need-add-buf-2 Inv-loop μ-loop
-add-buf-2 c = omega arith
-
-slice-write-buf-2 : tie.Need-slice-write-buf-2 Inv-loop μ-loop
-slice-write-buf-2 c = omega arith
 
 same-length : tie.Need-same-length Inv-loop μ-loop
 same-length c =
@@ -113,14 +92,7 @@ spell-spec =
     μ-loop
     sub-i
     loop-holds
-    cast-buf
-    add-buf
-    slice-write-buf
-    sub-i-2
-    loop-less
-    loop-again
-    cast-buf-2
-    add-buf-2
-    slice-write-buf-2
-    same-length
+    (λ c. omega arith) (λ c. omega arith) (λ c. omega arith) sub-i-2
+    (λ c. omega arith) loop-again
+    (λ c. omega arith) (λ c. omega arith) (λ c. omega arith) same-length
     returns)

@@ -25,9 +25,6 @@ abbrev μ-loop : tie.MeasureT-loop
 loop-holds : tie.Need-loop-holds Inv-loop μ-loop
 loop-holds c = (omega arith, refl)
 
-sub-last : tie.Need-sub-last Inv-loop μ-loop
-sub-last c = omega arith
-
 zeroes-from-requires : tie.Need-zeroes-from-requires Inv-loop μ-loop
 zeroes-from-requires c κs = (omega arith, omega arith)
 
@@ -37,9 +34,6 @@ returns c =
     let b = c .before .before .before .before .before .args .buf .now in
     let e : l .n ≡ suc (l .n - 1) = omega arith in
     sym (l .inv .1 ∙ here (few b) (l .n) (l .n - 1) e (lt-ltb (zeroesIn b (l .n - 1) 16) fewest (omega (arith, c .before .zeroes-from .ensures, c .if1 .taken))))
-
-loop-less : tie.Need-loop-less Inv-loop μ-loop
-loop-less c = omega arith
 
 loop-again : tie.Need-loop-again Inv-loop μ-loop
 loop-again c =
@@ -55,4 +49,13 @@ returns-2 c =
     sym (c .before .loop .inv .1 ∙ ap (some (few (c .before .before .before .args .buf .now))) none)
 
 pub some-few-spec : {M : Type 1} → statement M
-some-few-spec = tie.close (tie.spec Inv-loop μ-loop loop-holds sub-last zeroes-from-requires returns loop-less loop-again returns-2)
+some-few-spec =
+    tie.close
+    (tie.spec
+    Inv-loop
+    μ-loop
+    loop-holds
+    (λ c. omega arith) zeroes-from-requires
+    returns
+    (λ c. omega arith) loop-again
+    returns-2)

@@ -15,15 +15,6 @@ use Rattle.unheard.proofs.sixteen.sound.Tie as tie
 abbrev picked : Bool → Bool → Outcome Heard
 picked g b = pick g (gives (pick b broken audible)) (refuses 4)
 
-good-pair-requires : tie.Need-good-pair-requires
-good-pair-requires c κs = search needs
-
-enum-told : tie.Need-enum-told
-enum-told c = search needs
-
-enum-told-2 : tie.Need-enum-told-2
-enum-told-2 c = search needs
-
 returns : tie.Need-returns
 unfolding soundWith
 returns c =
@@ -32,12 +23,6 @@ returns c =
     let w : Words = record { x = a .x; y = a .y; z = a .z } in
     let bad = not-good (a .s) (a .t) (sym (ap saysPair (c .enum-told2 .given .1)) ∙ g .good-pair .ensures) in
     ap (λ (t : Bool). picked t (isBroken (sending (a .s) (a .t) w))) (sym bad)
-
-slice-aggregate-some-few : tie.Need-slice-aggregate-some-few
-slice-aggregate-some-few c = search needs
-
-some-few-requires : tie.Need-some-few-requires
-some-few-requires c κs = search needs
 
 returns-2 : tie.Need-returns-2
 unfolding soundWith
@@ -65,11 +50,6 @@ pub sound-spec : {M : Type 1} → statement M
 sound-spec =
     tie.close
     (tie.spec
-    good-pair-requires
-    enum-told
-    enum-told-2
-    returns
-    slice-aggregate-some-few
-    some-few-requires
-    returns-2
+    (λ c κs. search needs) (λ c. search needs) (λ c. search needs) returns
+    (λ c. search needs) (λ c κs. search needs) returns-2
     returns-3)

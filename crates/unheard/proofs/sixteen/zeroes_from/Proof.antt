@@ -1,7 +1,7 @@
 -- The zeroes among the first n bits, one bit more each turn.
 -- Assumes nothing.
 use Prim.Native.Nat.{_-_, _≤_}
-use mathlib.Core.Path.{_≡_, refl, sym, ap, _∙_}
+use mathlib.Core.Path.{_≡_, refl, ap, _∙_}
 use native.Mathlib.Omega.{arith}
 use Rattle.heard.specs.Zeroes.{zeroesIn}
 use Rattle.unheard.proofs.Some.{one-more}
@@ -18,23 +18,11 @@ loop-holds : tie.Need-loop-holds Inv-loop μ-loop
 unfolding zeroesIn
 loop-holds c = (omega arith, refl, omega arith)
 
-add-bit : tie.Need-add-bit Inv-loop μ-loop
-add-bit c = omega arith
-
-bit-requires : tie.Need-bit-requires Inv-loop μ-loop
-bit-requires c κs = omega arith
-
 sub-zeroes : tie.Need-sub-zeroes Inv-loop μ-loop
 sub-zeroes c = omega (arith, c .bit .ensures)
 
 add-zeroes : tie.Need-add-zeroes Inv-loop μ-loop
 add-zeroes c = omega (arith, c .bit .ensures)
-
-add-n : tie.Need-add-n Inv-loop μ-loop
-add-n c = omega arith
-
-loop-less : tie.Need-loop-less Inv-loop μ-loop
-loop-less c = omega arith
 
 loop-again : tie.Need-loop-again Inv-loop μ-loop
 loop-again c =
@@ -57,11 +45,7 @@ zeroes-from-spec =
     Inv-loop
     μ-loop
     loop-holds
-    add-bit
-    bit-requires
-    sub-zeroes
+    (λ c. omega arith) (λ c κs. omega arith) sub-zeroes
     add-zeroes
-    add-n
-    loop-less
-    loop-again
+    (λ c. omega arith) (λ c. omega arith) loop-again
     returns)
