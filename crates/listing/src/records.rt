@@ -63,7 +63,8 @@ fn put_given(number: u64, given: Given, out: &mut [u8], at: usize) -> usize
 }
 
 // The records in turn, up to the last, while there is room for the lines of one more and the next number fits. The store is asked only where
-// an odometer leaves the places of the settings that are held; what is held at first is what is in force at place 0.
+// an odometer leaves the places of the settings that are held; what is held at first is what is in force at place 0. One version alone is in force
+// throughout: then no odometer is looked at for it.
 pub fn over(
     ride: Ride,
     store: Store,
@@ -76,15 +77,18 @@ pub fn over(
     ensures { λ r. ⌜ saysListed r (now (out .exit)) ≡ listTaken (gapAt store) ride number (records (now (trace .entry))) (now (out .entry)) ⌝ }
 {
     let count = trace.len() / 8;
+    let throughout = store.count == 1;
     let mut now = ride;
     let mut held = first;
     let mut next = number;
     let mut i: usize = 0;
     let mut at: usize = 0;
     while (i < count) & ((out.len() - at >= 128) & (next < u64::MAX)) {
-        let odometer = ride::odometer_at(trace, i);
-        if settings::leaves(held, odometer) {
-            held = settings::hold(store, held, odometer);
+        if !throughout {
+            let odometer = ride::odometer_at(trace, i);
+            if settings::leaves(held, odometer) {
+                held = settings::hold(store, held, odometer);
+            }
         }
         let treated = ride::treat_at(now, held.gap, trace, i);
         let reply = treated.reply;

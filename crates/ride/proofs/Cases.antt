@@ -73,6 +73,10 @@ pub closed-with : (g : Group) (known : Known) (v : Verdict) (c : Closing) → v 
 unfolding close
 closed-with g known v c e h = h ∙ ap (λ (w : Verdict). record { lines = w .line ∷ []; closed = g; group = noGroup; known = w .known }) e
 
+-- the verdict on a group is that on the same group
+pub verdict-same : (g h : Group) (known : Known) (v : Verdict) → v ≡ verdictOn g known (judge g) → g ≡ h → v ≡ verdictOn h known (judge h)
+verdict-same g h known v e is = e ∙ ap (λ (x : Group). verdictOn x known (judge x)) is
+
 -- ---- the end
 
 pub end-open : (ride : Ride) (c : Closing) → isOpen (ride .group) ≡ true → c ≡ close (ride .group) (ride .known) → ended (ride .odometer) c ≡ end ride

@@ -6,15 +6,16 @@ use mathlib.Core.Path.{_≡_, refl, ap, sym, _∙_}
 use mathlib.Core.Bool.{Bool, true, false, not}
 use mathlib.Core.List.{List, [], _∷_}
 use lib.Dec.{eqb, ltb}
-use lib.ListN.{length}
-use borrow.Author.Tests.{lt-ltb, le-ltb}
+use lib.ListN.{length, take}
+use borrow.Author.Tests.{lt-ltb, le-ltb, eqb-true}
 use Rattle.words.specs.Answer.{Outcome, gives, refuses, pick}
+use Rattle.settings.specs.declared.Version.{Version}
 use Rattle.settings.specs.declared.Store.{Store}
 use Rattle.settings.specs.declared.Held.{Held}
 use Rattle.settings.specs.Versions.{highest, Kept, kept}
-use Rattle.settings.specs.Store.{plain, judged}
-use Rattle.settings.specs.At.{heldAt, gapAt, heldFor}
-use Rattle.settings.proofs.Holding.{Holding, keeps, held-is}
+use Rattle.settings.specs.Store.{versionsOf, plain, judged}
+use Rattle.settings.specs.At.{heldFrom, heldAmong, heldAt, gapAt, heldFor}
+use Rattle.settings.proofs.Holding.{Holding, holding-at, keeps, held-is}
 use Rattle.settings.proofs.Plain.{plain-good, plain-bad, plain-gap}
 use Rattle.ride.specs.declared.Ride.{Ride}
 use Rattle.ride.specs.Record.{Entry, odometerOf, passedOf, inOrder, check}
@@ -67,6 +68,48 @@ turn store held next ride trace i odometer h hold there is for =
       rw own (keeps store held (odometerOf (recordAt trace i)) h hold),
       rw own (treat-held store held ride (recordAt trace i) h hold),
     )
+
+-- ---- one version alone
+
+-- Whether a store has one version alone.
+abbrev pub alone : Store → Bool
+alone store = eqb (store .count) 1
+
+one-among : (vs : List Version) (a b : ℕ) → heldAmong (take 1 vs) a ≡ heldAmong (take 1 vs) b
+unfolding heldFrom
+one-among [] a b = refl
+one-among (v ∷ vs) a b = refl
+
+-- It is in force at every place.
+one-version : (store : Store) (place : ℕ) → store .count ≡ 1 → heldAt store 0 ≡ heldAt store place
+unfolding heldAt versionsOf
+one-version store place e = rw e (one-among (store .versions) 0 place)
+
+throughout : (store : Store) (held : Held) (ride : Ride) (r : List ℕ) → alone store ≡ true → held ≡ heldAt store 0
+    → treat ride (held .gap) r ≡ treat ride (gapAt store (odometerOf r)) r
+unfolding gapAt
+throughout store held ride r e is =
+    ap (λ (x : Held). treat ride (x .gap) r) (is ∙ one-version store (odometerOf r) (eqb-true (store .count) 1 e))
+
+-- What is held, going over a trace: where one version is alone, that one.
+pub record Turning (store : Store) (held : Held) : Type 0 where
+  pub holding : Holding store held
+  pub first : alone store ≡ true → held ≡ heldAt store 0
+
+pub turning-first : (store : Store) (held : Held) → judged store ≡ gives kept → held ≡ heldAt store 0 → Turning store held
+turning-first store held h is = record { holding = rw is (holding-at store 0 h); first = λ e. is }
+
+-- A turn of the loop: the look at the odometer is spared where one version is alone.
+pub spared : (store : Store) (held next : Held) (ride : Ride) (r : List ℕ) → alone store ≡ true → Turning store held → next ≡ held
+    → Turning store next × (treat ride (next .gap) r ≡ treat ride (gapAt store (odometerOf r)) r)
+spared store held next ride r e t is = rw is (t, throughout store held ride r e (t .first e))
+
+pub looked : (store : Store) (held next : Held) (ride : Ride) (trace : List ℕ) (i odometer : ℕ) → alone store ≡ false → judged store ≡ gives kept → Turning store held
+    → i < length trace / 8 → odometer ≡ odometerAt trace i → next ≡ heldFor store held odometer
+    → Turning store next × (treat ride (next .gap) (recordAt trace i) ≡ treat ride (gapAt store (odometerOf (recordAt trace i))) (recordAt trace i))
+looked store held next ride trace i odometer e h t there is for =
+    let turned = turn store held next ride trace i odometer h (t .holding) there is for in
+    (record { holding = turned .0; first = λ a. absurd (let z : _≡_ {A = ℕ} 0 1 = cc in omega arith) }, turned .1)
 
 -- ---- the rule counts only at the records' own odometers
 

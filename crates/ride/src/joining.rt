@@ -69,20 +69,12 @@ fn join(group: Group, balise: Balise) -> Group
     }
 }
 
-// The group after a record: a balise joins the open group or opens one. A group that stays is written field by field, since
-// a copy of the whole would carry the bytes between its fields through every step.
+// The group after a record: a balise joins the open group or opens one.
 pub fn take_up(group: Group, odometer: u32, passed: Passed) -> Group
     ensures { λ r. ⌜ r ≡ takeUp group odometer passed ⌝ }
 {
     match passed {
-        Passed::Position => {
-            let kept = group.kept;
-            Group {
-                kept,
-                count: group.count,
-                last: group.last,
-            }
-        }
+        Passed::Position => group,
         Passed::Balise(heard) => {
             let balise = Balise {
                 place: odometer,

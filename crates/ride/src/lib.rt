@@ -9,6 +9,7 @@ ghost use Rattle.ride.specs.Over.{run};
 ghost use Rattle.ride.specs.Under.{runUnder};
 ghost use Rattle.ride.specs.Says.{saysStepped, saysEnded, saysRan};
 
+mod anew;
 mod closing;
 mod joining;
 mod marks;

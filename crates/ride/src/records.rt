@@ -56,10 +56,12 @@ fn what_passed(bytes: [u8; 8]) -> Passed
     Passed::Position
 }
 
-// The check of a record's eight bytes: 16, 18, 17 in this order, or what the record says.
+// The check of a record's eight bytes: 16, 18, 17 in this order, or what the record says. That is read first, since its kind is looked at then once
+// and not again after the odometer.
 pub fn check_record(ride: Ride, bytes: [u8; 8]) -> Checked
     ensures { λ r. ⌜ saysChecked r ≡ check (ride .odometer) bytes ⌝ }
 {
+    let passed = what_passed(bytes);
     if !in_order(bytes) {
         return Checked::Refused(Wrong::Malformed);
     }
@@ -70,7 +72,7 @@ pub fn check_record(ride: Ride, bytes: [u8; 8]) -> Checked
     if odometer < ride.odometer {
         return Checked::Refused(Wrong::TooLow);
     }
-    Checked::Accepted(odometer, what_passed(bytes))
+    Checked::Accepted(odometer, passed)
 }
 
 // Why a refused record is refused.

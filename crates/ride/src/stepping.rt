@@ -16,6 +16,7 @@ use crate::Lines;
 use crate::Linking;
 use crate::Passed;
 use crate::Ride;
+use crate::anew::group_anew;
 use crate::closing::Closed;
 use crate::closing::close;
 use crate::closing::judge;
@@ -47,7 +48,7 @@ fn close_behind(ride: Ride, gap: u32, odometer: u32) -> Closed
     let group = ride.group;
     let known = ride.known;
     if is_behind(ride, gap, odometer) {
-        return close(group, judge(group, known));
+        return close(group, judge(group_anew(group), known));
     }
     leave(group, known)
 }

@@ -26,9 +26,8 @@ join-requires-2 c κs = search needs
 
 returns : tie.Need-returns
 returns c =
-    let t = c .before in
-    let a = t .before .before .args in
-    take-position (a .group) (a .odometer) (a .passed) (t .enum-told .given .1)
+    let a = c .before .before .args in
+    take-position (a .group) (a .odometer) (a .passed) (c .enum-told .given .1)
 
 returns-2 : tie.Need-returns-2
 returns-2 c =

@@ -5,6 +5,9 @@ use borrow.Author.Needs.{needs}
 use Rattle.ride.proofs.records.check_record.Statement.{statement}
 use Rattle.ride.proofs.records.check_record.Tie as tie
 
+what-passed-requires : tie.Need-what-passed-requires
+what-passed-requires c κs = search needs
+
 in-order-requires : tie.Need-in-order-requires
 in-order-requires c κs = search needs
 
@@ -23,21 +26,21 @@ returns-3 : tie.Need-returns-3
 unfolding check
 returns-3 c = simp (← c .before .before .before .before .before .in-order .ensures, not-false (c .before .before .before .before .before .in-order .result) (c .before .before .before .before .if1 .left), ← c .before .before .before .odometer-of .ensures, le-ltb _ _ (c .before .before .if2 .left), lt-ltb _ _ (c .if3 .taken))
 
-what-passed-requires : tie.Need-what-passed-requires
-what-passed-requires c κs = search needs
-
 returns-4 : tie.Need-returns-4
 unfolding check
-returns-4 c = simp (← c .before .before .before .before .before .before .in-order .ensures, not-false (c .before .before .before .before .before .before .in-order .result) (c .before .before .before .before .before .if1 .left), ← c .before .before .before .before .odometer-of .ensures, le-ltb _ _ (c .before .before .before .if2 .left), le-ltb _ _ (c .before .if3 .left), ← c .what-passed .ensures)
+returns-4 c =
+    let o = c .before .before .before in
+    let i = o .before .before in
+    simp (← i .in-order .ensures, not-false (i .in-order .result) (o .before .if1 .left), ← o .odometer-of .ensures, le-ltb _ _ (c .before .before .if2 .left), le-ltb _ _ (c .if3 .left), ← i .before .what-passed .ensures)
 
 pub check-record-spec : {M : Type 1} → statement M
 check-record-spec =
     tie.close
     (tie.spec
+    what-passed-requires
     in-order-requires
     returns
     odometer-of-requires
     returns-2
     returns-3
-    what-passed-requires
     returns-4)

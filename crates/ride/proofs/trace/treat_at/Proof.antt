@@ -43,15 +43,19 @@ eight-requires c κs = search needs
 treat-requires : tie.Need-treat-requires
 treat-requires c κs = search needs
 
+ride-anew-requires : tie.Need-ride-anew-requires
+ride-anew-requires c κs = search needs
+
 returns-3 : tie.Need-returns-3
 returns-3 c =
-    let t = c .before .before in
+    let t = c .before .before .before in
     let e = t .before in
     let g = e .before .before .before in
     let a = g .before .before .args in
-    ap byStep (t .treat .ensures ∙ ap (treat (a .ride) (a .gap)) (e .eight .ensures))
+    rw (c .ride-anew .ensures)
+    (ap byStep (t .treat .ensures ∙ ap (treat (a .ride) (a .gap)) (e .eight .ensures))
     ∙ at-record (a .ride) (a .gap) (a .trace .now) (a .i) (sym (g .allowed .ensures) ∙ not-false (g .allowed .result) (e .before .before .if1 .left))
-    (e .before .if2 .left)
+    (e .before .if2 .left))
 
 pub treat-at-spec : {M : Type 1} → statement M
 treat-at-spec =
@@ -65,4 +69,5 @@ treat-at-spec =
     mul-eight
     eight-requires
     treat-requires
+    ride-anew-requires
     returns-3)
