@@ -1,6 +1,8 @@
 // The answers in words, one line each.
 use contact::Judged;
+use contact::JudgedUnder;
 use contact::Next;
+use settings::Bad;
 use telegram::Found;
 use telegram::Pair;
 use telegram::Telegram;
@@ -80,6 +82,17 @@ pub fn next(answer: Next) {
     }
 }
 
+// A contact that was read.
+fn read(said: Telegram, first: usize, count: usize) {
+    words(b"read ");
+    telegram(said);
+    words(b", first place ");
+    number(first as u64);
+    words(b", places ");
+    number(count as u64);
+    words(b"\n");
+}
+
 // What a contact was judged to be.
 pub fn judged(answer: Judged) {
     match answer {
@@ -87,19 +100,38 @@ pub fn judged(answer: Judged) {
             telegram: said,
             first,
             count,
-        } => {
-            words(b"read ");
-            telegram(said);
-            words(b", first place ");
-            number(first as u64);
-            words(b", places ");
-            number(count as u64);
-            words(b"\n");
-        }
+        } => read(said, first, count),
         Judged::Marker => words(b"marker\n"),
         Judged::NotSeven => words(b"refused 4\n"),
         Judged::Beyond => words(b"refused 5\n"),
         Judged::Differ => words(b"refused 7\n"),
         Judged::Neither => words(b"refused 8\n"),
+    }
+}
+
+// Why settings or a place are refused.
+fn bad(why: Bad) {
+    match why {
+        Bad::Pair => words(b"refused 4\n"),
+        Bad::Gap => words(b"refused 19\n"),
+        Bad::TooHigh => words(b"refused 18\n"),
+        Bad::NotAbove => words(b"refused 24\n"),
+        Bad::Full => words(b"refused 25\n"),
+    }
+}
+
+// What a contact was judged to be under a store.
+pub fn judged_under(answer: JudgedUnder) {
+    match answer {
+        JudgedUnder::Read {
+            telegram: said,
+            first,
+            count,
+        } => read(said, first, count),
+        JudgedUnder::Marker => words(b"marker\n"),
+        JudgedUnder::Settings(why) => bad(why),
+        JudgedUnder::Beyond => words(b"refused 5\n"),
+        JudgedUnder::Differ => words(b"refused 7\n"),
+        JudgedUnder::Neither => words(b"refused 8\n"),
     }
 }
