@@ -13,9 +13,11 @@ use Rattle.settings.specs.Store.{judged}
 use Rattle.settings.specs.At.{gapAt}
 use Rattle.ride.specs.declared.Ride.{Ride}
 use Rattle.ride.specs.Over.{records}
-use Rattle.explained.specs.declared.Listed.{Listed}
-use Rattle.explained.specs.List.{Listing, listOf, listTaken, unlisted, judgedFirst, listUnder}
-use Rattle.explained.specs.Says.{saysDone}
+use Rattle.listing.specs.declared.Listed.{Listed}
+use Rattle.listing.specs.List.{Listing, unlisted}
+use Rattle.listing.specs.Under.{judgedFirst}
+use Rattle.listing.specs.Says.{saysDone}
+use Rattle.explained.specs.List.{listOf, listTaken, listUnder}
 use Rattle.demands.specs.Table.{badLength}
 use Rattle.demands.specs.Rules.{row, Decided, Given}
 use Rattle.demands.specs.Stores.{ExplainUnder, storeRules}
@@ -30,12 +32,23 @@ first (gives k) true ride number out l = refl
 first (gives k) false ride number out l = refl
 first (refuses n) b ride number out l = refl
 
-left : (o : Outcome Kept) (b : Bool) (ride : Ride) (number : ℕ) (out : List ℕ) (l : Listing) (n : ℕ) → Given (l .answer)
+-- A listing of whichever lines: under a store it refuses as the store's judgement says, and then with 16;
+pub listing-so : (ride : Ride) (store : Store) (number : ℕ) (trace out : List ℕ) (all : Listing) → Given (all .answer)
+    → Decided Given (storeRules store (row 16 (badLength trace) ∷ []))
+    (judgedFirst ride number out (judged store) (pick (eqb (length trace % 8) 0) all (unlisted ride number out 16)) .answer)
+unfolding badLength
+listing-so ride store number trace out all g =
+    let whole : Bool = eqb (length trace % 8) 0 in
+    subst (λ o. Decided Given (storeRules store (row 16 (badLength trace) ∷ [])) o) (first (judged store) whole ride number out all)
+    (store-so Given (λ k. pick whole (all .answer) (refuses 16)) (row 16 (badLength trace) ∷ []) store (if-not Given [] (refuses 16) (all .answer) g whole))
+
+-- refused, it leaves everything as it was.
+pub listing-left : (o : Outcome Kept) (b : Bool) (ride : Ride) (number : ℕ) (out : List ℕ) (l : Listing) (n : ℕ) → Given (l .answer)
     → judgedFirst ride number out o (pick b l (unlisted ride number out 16)) .answer ≡ refuses n
     → judgedFirst ride number out o (pick b l (unlisted ride number out 16)) ≡ unlisted ride number out n
-left (gives k) true ride number out l n g e = absurd (gives-not (sym (g .1) ∙ e))
-left (gives k) false ride number out l n g e = let same : 16 ≡ n = cc in ap (unlisted ride number out) same
-left (refuses m) b ride number out l n g e = let same : m ≡ n = cc in ap (unlisted ride number out) same
+listing-left (gives k) true ride number out l n g e = absurd (gives-not (sym (g .1) ∙ e))
+listing-left (gives k) false ride number out l n g e = let same : 16 ≡ n = cc in ap (unlisted ride number out) same
+listing-left (refuses m) b ride number out l n g e = let same : m ≡ n = cc in ap (unlisted ride number out) same
 
 module _ (ride : Ride) (store : Store) (number : ℕ) (trace before : List ℕ) (r : Listed) (after : List ℕ)
     (c : ExplainUnder ride store number trace before r after) where
@@ -44,16 +57,14 @@ module _ (ride : Ride) (store : Store) (number : ℕ) (trace before : List ℕ) 
   all = listTaken (gapAt store) ride number (records trace) before
 
   pub explained-so : Decided Given (storeRules store (row 16 (badLength trace) ∷ [])) (saysDone (r .done))
-  unfolding listUnder listOf badLength
+  unfolding listUnder listOf
   explained-so =
-      let whole : Bool = eqb (length trace % 8) 0 in
       let e = ap (λ (l : Listing). l .answer) (c .7 ∙ ap₂ (λ (x y : List ℕ). listUnder ride store number x y) (c .4) (c .5)) in
-      subst (λ o. Decided Given (storeRules store (row 16 (badLength trace) ∷ [])) o) (first (judged store) whole ride number before all ∙ sym e)
-      (store-so Given (λ k. pick whole (all .answer) (refuses 16)) (row 16 (badLength trace) ∷ []) store (if-not Given [] (refuses 16) (all .answer) (_, refl) whole))
+      subst (λ o. Decided Given (storeRules store (row 16 (badLength trace) ∷ [])) o) (sym e) (listing-so ride store number trace before all (_, refl))
 
   pub explained-left : (n : ℕ) → saysDone (r .done) ≡ refuses n → (r .ride ≡ ride) × (r .number ≡ number) × (after ≡ before)
   unfolding listUnder listOf
   explained-left n e =
       let is = c .7 ∙ ap₂ (λ (x y : List ℕ). listUnder ride store number x y) (c .4) (c .5) in
-      let stays = is ∙ left (judged store) (eqb (length trace % 8) 0) ride number before all n (_, refl) (sym (ap (λ (l : Listing). l .answer) is) ∙ e) in
+      let stays = is ∙ listing-left (judged store) (eqb (length trace % 8) 0) ride number before all n (_, refl) (sym (ap (λ (l : Listing). l .answer) is) ∙ e) in
       (ap (λ (l : Listing). l .ride) stays, ap (λ (l : Listing). l .number) stays, sym (c .6) ∙ ap (λ (l : Listing). l .out) stays)

@@ -19,17 +19,17 @@ use Rattle.ride.specs.declared.Ride.{Ride}
 use Rattle.ride.specs.Over.{records, rideOver, through, Run}
 use Rattle.ride.specs.Under.{judgedFirst, runUnder}
 use Rattle.listing.specs.List.{Listing, listOf, listTaken, unlisted}
-use Rattle.listing.specs.Under.{judgedFirst as judgedFirstOf, listUnder}
+use Rattle.listing.specs.Under.{listUnder}
 use Rattle.demands.specs.Table.{badLength}
 use Rattle.demands.specs.Table02.{tooHigh, full}
-use Rattle.demands.specs.Rules.{Rule, row, Decided, Given, Is}
+use Rattle.demands.specs.Rules.{row, Decided, Given, Is}
 use Rattle.demands.specs.Lists.{judgeRules, JudgeReads}
 use Rattle.demands.specs.Stores.{settingsRules, versionRules, storeRules, StoresDecided, StoresUntouched}
 use Rattle.demands.proofs.Rules.{true-not-false, if-so, if-not}
 use Rattle.demands.proofs.Contacts.{judging}
 use Rattle.demands.proofs.Rides.{gives-not}
 use Rattle.demands.proofs.StoreRules.{settings-so, version-so, store-so}
-use Rattle.demands.proofs.Explaining.{explained-so, explained-left}
+use Rattle.demands.proofs.Explaining.{listing-so, listing-left, explained-so, explained-left}
 
 -- ---- each function
 
@@ -94,22 +94,10 @@ run-so ride store trace =
     (store-so (Is through) (λ k. r .answer) (row 16 (badLength trace) ∷ []) store
     (length-so (eqb (length trace % 8) 0) ride (rideOver (gapAt store) ride 1 (records trace) .ride)))
 
-list-first : (o : Outcome Kept) (ride : Ride) (number : ℕ) (out : List ℕ) (l : Listing) → then o (λ k. l .answer) ≡ judgedFirstOf ride number out o l .answer
-list-first (gives k) ride number out l = refl
-list-first (refuses n) ride number out l = refl
-
-taken-so : (b : Bool) (ride : Ride) (number : ℕ) (out : List ℕ) (l : Listing) → Given (l .answer) → Decided Given (row 16 (not b) ∷ []) (pick b l (unlisted ride number out 16) .answer)
-taken-so true ride number out l g = (λ e. absurd (true-not-false (sym e)), λ e. g)
-taken-so false ride number out l g = (λ e. refl, λ e. absurd (true-not-false e))
-
 list-so : (ride : Ride) (store : Store) (number : ℕ) (trace out : List ℕ)
     → Decided Given (storeRules store (row 16 (badLength trace) ∷ [])) (listUnder ride store number trace out .answer)
-unfolding listUnder listOf badLength
-list-so ride store number trace out =
-    let l : Listing = pick (eqb (length trace % 8) 0) (listTaken (gapAt store) ride number (records trace) out) (unlisted ride number out 16) in
-    subst (λ o. Decided Given (storeRules store (row 16 (badLength trace) ∷ [])) o) (list-first (judged store) ride number out l)
-    (store-so Given (λ k. l .answer) (row 16 (badLength trace) ∷ []) store
-    (taken-so (eqb (length trace % 8) 0) ride number out (listTaken (gapAt store) ride number (records trace) out) (_, refl)))
+unfolding listUnder listOf
+list-so ride store number trace out = listing-so ride store number trace out (listTaken (gapAt store) ride number (records trace) out) (_, refl)
 
 opened-answer : (v : Version) (o : Outcome Kept) → openedIf v o .answer ≡ o
 opened-answer v (gives k) = refl
@@ -163,18 +151,11 @@ run-left : (ride : Ride) (store : Store) (trace : List ℕ) (n : ℕ) → runUnd
 unfolding runUnder
 run-left ride store trace n e = run-none (judged store) (eqb (length trace % 8) 0) ride (rideOver (gapAt store) ride 1 (records trace) .ride) n e
 
-list-none : (o : Outcome Kept) (b : Bool) (ride : Ride) (number : ℕ) (out : List ℕ) (l : Listing) (n : ℕ) → Given (l .answer)
-    → judgedFirstOf ride number out o (pick b l (unlisted ride number out 16)) .answer ≡ refuses n
-    → judgedFirstOf ride number out o (pick b l (unlisted ride number out 16)) ≡ unlisted ride number out n
-list-none (gives k) true ride number out l n g e = absurd (gives-not (sym (g .1) ∙ e))
-list-none (gives k) false ride number out l n g e = let same : 16 ≡ n = cc in ap (unlisted ride number out) same
-list-none (refuses m) b ride number out l n g e = let same : m ≡ n = cc in ap (unlisted ride number out) same
-
 list-left : (ride : Ride) (store : Store) (number : ℕ) (trace out : List ℕ) (n : ℕ) → listUnder ride store number trace out .answer ≡ refuses n
     → listUnder ride store number trace out ≡ unlisted ride number out n
 unfolding listUnder listOf
 list-left ride store number trace out n e =
-    list-none (judged store) (eqb (length trace % 8) 0) ride number out (listTaken (gapAt store) ride number (records trace) out) n (_, refl) e
+    listing-left (judged store) (eqb (length trace % 8) 0) ride number out (listTaken (gapAt store) ride number (records trace) out) n (_, refl) e
 
 pub stores-untouched : StoresUntouched
 unfolding begun added

@@ -29,8 +29,6 @@ use Rattle.ride.specs.declared.Ride.{Ride}
 use Rattle.ride.specs.declared.Ran.{Ran}
 use Rattle.listing.specs.Says.{saysDone}
 use Rattle.listing.specs.declared.Listed.{Listed}
-use Rattle.explained.specs.Says.{saysDone as saysExplained}
-use Rattle.explained.specs.declared.Listed.{Listed as Explained}
 use Rattle.settings.proofs.begin.Kinds as begin-kinds
 use Rattle.settings.proofs.begin.Reads as begin-reads
 use Rattle.settings.proofs.add.Kinds as add-kinds
@@ -84,7 +82,7 @@ ListUnder ride store number trace before r after =
     × list-reads.Post κs (ride, (store, (number, (lent, (out, tt))))) r e
 
 -- The contract of `explained::list_under`, which tells reasons too, allows the answer r, and that the lent buffer holds `after` then.
-abbrev pub ExplainUnder : Ride → Store → ℕ → List ℕ → List ℕ → Explained → List ℕ → Type 0
+abbrev pub ExplainUnder : Ride → Store → ℕ → List ℕ → List ℕ → Listed → List ℕ → Type 0
 ExplainUnder ride store number trace before r after =
     (κs : Lfts 2) × (lent : RefT (List ℕ)) × (out : RefT (List ℕ)) × (e : AtExit (endedOf 2 explained-kinds.ps explained-kinds.r) κs)
     × (now lent ≡ trace) × (now out ≡ before) × (now (e .1 .1 .1 .1 .0) ≡ after)
@@ -132,8 +130,8 @@ pub record StoresDecided : Type 0 where
       → Decided (Is through) (storeRules store (row 16 (badLength trace) ∷ [])) (saysRan r .answer)
   pub list-under : (ride : Ride) (store : Store) (number : ℕ) (trace before : List ℕ) (r : Listed) (after : List ℕ)
       → ListUnder ride store number trace before r after → Decided Given (storeRules store (row 16 (badLength trace) ∷ [])) (saysDone (r .done))
-  pub explain-under : (ride : Ride) (store : Store) (number : ℕ) (trace before : List ℕ) (r : Explained) (after : List ℕ)
-      → ExplainUnder ride store number trace before r after → Decided Given (storeRules store (row 16 (badLength trace) ∷ [])) (saysExplained (r .done))
+  pub explain-under : (ride : Ride) (store : Store) (number : ℕ) (trace before : List ℕ) (r : Listed) (after : List ℕ)
+      → ExplainUnder ride store number trace before r after → Decided Given (storeRules store (row 16 (badLength trace) ∷ [])) (saysDone (r .done))
 
 -- "the store is unchanged", and so are the ride, the number and the lent buffer; a store that is not opened is none.
 pub record StoresUntouched : Type 0 where
@@ -143,6 +141,6 @@ pub record StoresUntouched : Type 0 where
   pub list-under : (ride : Ride) (store : Store) (number : ℕ) (trace before : List ℕ) (r : Listed) (after : List ℕ) (n : ℕ)
       → ListUnder ride store number trace before r after → saysDone (r .done) ≡ refuses n
       → (r .ride ≡ ride) × (r .number ≡ number) × (after ≡ before)
-  pub explain-under : (ride : Ride) (store : Store) (number : ℕ) (trace before : List ℕ) (r : Explained) (after : List ℕ) (n : ℕ)
-      → ExplainUnder ride store number trace before r after → saysExplained (r .done) ≡ refuses n
+  pub explain-under : (ride : Ride) (store : Store) (number : ℕ) (trace before : List ℕ) (r : Listed) (after : List ℕ) (n : ℕ)
+      → ExplainUnder ride store number trace before r after → saysDone (r .done) ≡ refuses n
       → (r .ride ≡ ride) × (r .number ≡ number) × (after ≡ before)

@@ -2,8 +2,8 @@
 ghost use mathlib.Core.Path.{_≡_};
 ghost use lib.ListN.{length};
 use cards::How;
-use explained::Done;
 use libc::STDOUT_FILENO;
+use listing::Done;
 use listing::Put;
 use ride::Line;
 use ride::Ride;

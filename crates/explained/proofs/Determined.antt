@@ -1,46 +1,21 @@
 -- Each contract fixes its function's whole answer and the lent buffer then: any two answers that it allows are equal, and so
 -- are the buffers.
 -- Assumes nothing.
-use mathlib.Core.Path.{_≡_, refl, sym, ap, _∙_}
-use mathlib.Core.List.{List}
+use mathlib.Core.Path.{_≡_, sym, ap, _∙_}
 use Prim.Native.Nat.{ℕ}
-use lib.Dec.{eqb}
 use contract.Lifetimes.{Lfts}
 use borrow.Fn.Kinds.{Dens, endedOf}
 use denote.Triple.Clauses.{AtExit}
 use denote.Ref.{now}
-use Rattle.words.specs.Answer.{Outcome, gives, refuses, pick}
 use Rattle.text.specs.Put.{Put, came}
-use Rattle.settings.specs.declared.Bad.{Bad}
-use Rattle.settings.proofs.Determined.{badOf}
-use Rattle.explained.specs.declared.Done.{Done}
-use Rattle.explained.specs.declared.Listed.{Listed}
-use Rattle.explained.specs.List.{Taken, Listing}
-use Rattle.explained.specs.Says.{saysDone, saysListed}
+use Rattle.listing.specs.declared.Listed.{Listed}
+use Rattle.listing.specs.List.{Listing}
+use Rattle.listing.specs.Says.{saysListed}
+use Rattle.listing.proofs.Determined.{listedOf, listed-back}
 use Rattle.explained.proofs.list_under.Kinds as list-under-kinds
 use Rattle.explained.proofs.list_under.Reads as list-under-reads
 use Rattle.explained.proofs.put_end.Kinds as put-end-kinds
 use Rattle.explained.proofs.put_end.Reads as put-end-reads
-
--- From what an answer says, the answer.
-abbrev doneOf : Outcome Taken → Done
-doneOf (gives t) = Done.Took (t .records) (t .bytes)
-doneOf (refuses n) = pick (eqb n 16) Done.Length (Done.Settings (badOf n))
-
-done-back : (d : Done) → doneOf (saysDone d) ≡ d
-done-back (Done.Took records bytes) = refl
-done-back (Done.Settings Bad.Pair) = refl
-done-back (Done.Settings Bad.Gap) = refl
-done-back (Done.Settings Bad.TooHigh) = refl
-done-back (Done.Settings Bad.NotAbove) = refl
-done-back (Done.Settings Bad.Full) = refl
-done-back Done.Length = refl
-
-abbrev listedOf : Listing → Listed
-listedOf l = record { ride = l .ride; number = l .number; done = doneOf (l .answer) }
-
-listed-back : (r : Listed) (out : List ℕ) → listedOf (saysListed r out) ≡ r
-listed-back r out = ap (λ (d : Done). record { ride = r .ride; number = r .number; done = d }) (done-back (r .done))
 
 pub list-under-determined : (κs : Lfts 2) (a : Dens κs list-under-kinds.ps) (r r′ : Listed)
     (x x′ : AtExit (endedOf 2 list-under-kinds.ps list-under-kinds.r) κs)

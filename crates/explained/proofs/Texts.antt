@@ -4,21 +4,20 @@ use mathlib.Core.Path.{_≡_, refl, sym, ap, _∙_}
 use mathlib.Core.Bool.{Bool, true, false}
 use mathlib.Core.List.{List, [], _∷_, _++_, append-assoc, append-nil}
 use Prim.Native.Nat.{ℕ, _+_, _≤_}
-use Prim.Native.String.{String}
 use native.Mathlib.Omega.{arith}
 use lib.Dec.{leb}
 use lib.ListN.{length, length-append}
 use Rattle.words.specs.Answer.{pick}
-use Rattle.text.specs.Text.{codes, decimal}
+use Rattle.text.specs.Text.{codes}
 use Rattle.text.specs.Put as texts
 use Rattle.text.proofs.Decimal.{decimal-length}
+use Rattle.text.proofs.Standing.{numbered}
 use Rattle.group.specs.declared.Group.{Group}
 use Rattle.ride.specs.declared.Line.{Line}
 use Rattle.ride.specs.declared.Lines.{Lines}
 use Rattle.ride.specs.declared.trace.Given.{Given}
 use Rattle.ride.specs.Over.{linesFor}
 use Rattle.ride.specs.Says.{saysWrong, saysLines, saysGiven}
-use Rattle.listing.specs.Text.{text}
 use Rattle.listing.specs.declared.Put.{Put}
 use Rattle.listing.specs.Put as listed
 use Rattle.listing.proofs.Longest.{longest}
@@ -57,19 +56,16 @@ asPut at (Put.Next k) b = texts.came k b
 asPut at Put.NoRoom b = texts.came at b
 
 pub put-alike : (at : ℕ) (t b : List ℕ) → asPut at (listed.put t b at .ends) (listed.put t b at .buffer) ≡ texts.put t b at
-unfolding listed.put texts.put listed.placed texts.placed
+unfolding listed.put texts.put
 put-alike at t b = go (leb (at + length t) (length b))
   where
     go : (so : Bool)
-        → asPut at (pick so (listed.filled (Put.Next (at + length t)) (listed.placed t b at)) (listed.filled Put.NoRoom b) .ends) (pick so (listed.filled (Put.Next (at + length t)) (listed.placed t b at)) (listed.filled Put.NoRoom b) .buffer)
+        → asPut at (pick so (listed.filled (Put.Next (at + length t)) (texts.placed t b at)) (listed.filled Put.NoRoom b) .ends) (pick so (listed.filled (Put.Next (at + length t)) (texts.placed t b at)) (listed.filled Put.NoRoom b) .buffer)
         ≡ pick so (texts.came (at + length t) (texts.placed t b at)) (texts.came at b)
     go true = refl
     go false = refl
 
 -- ---- pieces
-
-abbrev pub numbered : String → ℕ → List ℕ
-numbered words n = codes words ++ decimal n
 
 pub fault-is : (place n : ℕ) (reason : List ℕ) → numbered "" place ++ numbered " fault " n ++ codes ": " ++ reason ++ codes "\n" ≡ faultText place n reason
 unfolding faultText
@@ -112,7 +108,3 @@ given-short number g (Given.Lines ls) = lines-short g ls
 
 pub two-fit : (g : Group) (l m : Line) (b : List ℕ) (at : ℕ) → at + 320 ≤ length b → at + length (lineText g l ++ lineText g m) ≤ length b
 two-fit g l m b at h = omega (arith, line-length g l, line-length g m, length-append (lineText g l) (lineText g m))
-
--- The same text in other words has the same room.
-pub room-as : {t u : List ℕ} (b : List ℕ) (at : ℕ) → t ≡ u → at + length u ≤ length b → at + length t ≤ length b
-room-as b at e h = rw e h

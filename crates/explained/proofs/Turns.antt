@@ -1,6 +1,6 @@
 -- The listing record by record: from each record on it comes to the same.
 -- Assumes nothing.
-use Prim.Native.Nat.{ℕ, suc, _+_, _-_, _*_, _/_, _≤_, _<_}
+use Prim.Native.Nat.{ℕ, suc, _+_, _-_, _*_, _≤_}
 use native.Mathlib.Omega.{arith}
 use native.Mathlib.Nat.{add-zero, zero-add, sub-zero}
 use mathlib.Core.Path.{_≡_, refl, ap, sym, _∙_}
@@ -8,20 +8,18 @@ use mathlib.Core.Bool.{Bool, true, false, _&&_}
 use mathlib.Core.List.{List, _∷_, _++_}
 use lib.Dec.{ltb}
 use lib.ListN.{length, take, drop, length-append}
-use lib.Seq.{drop-drop}
 use borrow.Author.Tests.{ltb-true, ltb-false}
-use Rattle.words.specs.Answer.{gives, pick}
+use Rattle.words.specs.Answer.{pick}
 use Rattle.text.specs.Put.{placed}
 use Rattle.text.proofs.Placing.{placed-none, placed-length, placed-join}
 use Rattle.ride.specs.declared.Ride.{Ride}
 use Rattle.ride.specs.Record.{odometerOf}
 use Rattle.ride.specs.Step.{Step, treat}
-use Rattle.ride.specs.Over.{firstRecords, records}
+use Rattle.ride.specs.Over.{firstRecords}
+use Rattle.listing.specs.List.{Listing}
+use Rattle.listing.proofs.Turns.{listing, leftOf, left-next}
 use Rattle.explained.specs.Told.{stepText, Told, tellOver}
-use Rattle.explained.specs.List.{isTaken, taken, Listing, listOf}
-
-abbrev pub listing : ℕ → ℕ → Ride → ℕ → List ℕ → Listing
-listing n bytes ride number out = record { answer = gives (record { records = n; bytes = bytes }); ride = ride; number = number; out = out }
+use Rattle.explained.specs.List.{isTaken, taken, listOf}
 
 -- n records more, after i records that gave `at` bytes
 abbrev after : (ℕ → ℕ) → Ride → ℕ → ℕ → ℕ → List (List ℕ) → List ℕ → ℕ → Listing
@@ -80,22 +78,6 @@ pub from-last : (gaps : ℕ → ℕ) (ride : Ride) (number i at : ℕ) (rs : Lis
     → listing i at ride number out ≡ fromHere gaps ride number i at rs out
 unfolding fromHere tellOver
 from-last gaps ride number i at rs out e = sym (ap (after gaps ride number i at rs out) e ∙ simp (add-zero, placed-none))
-
--- The records of a trace that are left after i.
-abbrev pub leftOf : List ℕ → ℕ → ℕ → List (List ℕ)
-leftOf trace count i = firstRecords (count - i) (drop (i * 8) trace)
-
-pub left-next : (trace : List ℕ) (count i : ℕ) → i < count → leftOf trace count i ≡ take 8 (drop (i * 8) trace) ∷ leftOf trace count (i + 1)
-unfolding firstRecords
-left-next trace count i h =
-    let e : count - i ≡ suc (count - (i + 1)) = omega arith in
-    let p : i * 8 + 8 ≡ (i + 1) * 8 = omega arith in
-    ap (λ (k : ℕ). firstRecords k (drop (i * 8) trace)) e
-    ∙ ap (λ (l : List ℕ). take 8 (drop (i * 8) trace) ∷ firstRecords (count - (i + 1)) l)
-    (drop-drop 8 (i * 8) trace ∙ ap (λ (k : ℕ). drop k trace) p)
-
-pub left-all : (trace : List ℕ) → leftOf trace (length trace / 8) 0 ≡ records trace
-left-all trace = ap (λ (k : ℕ). firstRecords k trace) (sub-zero (length trace / 8))
 
 -- Where none is left, none is taken.
 pub none-left : (gaps : ℕ → ℕ) (ride : Ride) (number room : ℕ) (trace : List ℕ) (count i : ℕ) → count ≤ i → taken gaps ride number room (leftOf trace count i) ≡ 0

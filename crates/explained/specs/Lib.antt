@@ -1,5 +1,4 @@
 pub mod Text
 pub mod Told
 pub mod List
-pub mod Says
 pub mod Alike

@@ -1,20 +1,21 @@
--- The listing of a trace with reasons: the text of its records at the start of a lent buffer.
+-- The listing of a trace with reasons: the text of its records at the start of a lent buffer. It answers as the listing without reasons does.
 -- Assumes nothing.
 use Prim.Native.Nat.{ℕ, suc, _+_, _-_, _%_}
 use mathlib.Core.Bool.{Bool, _&&_}
 use mathlib.Core.List.{List, [], _∷_}
 use lib.Dec.{eqb, leb, ltb}
 use lib.ListN.{length, take}
-use Rattle.words.specs.Answer.{Outcome, gives, refuses, pick}
+use Rattle.words.specs.Answer.{gives, pick}
 use Rattle.text.specs.Put.{placed}
 use Rattle.settings.specs.declared.Store.{Store}
-use Rattle.settings.specs.Versions.{Kept}
 use Rattle.settings.specs.Store.{judged}
 use Rattle.settings.specs.At.{gapAt}
 use Rattle.ride.specs.declared.Ride.{Ride}
 use Rattle.ride.specs.Record.{odometerOf}
 use Rattle.ride.specs.Step.{Step, treat}
 use Rattle.ride.specs.Over.{records}
+use Rattle.listing.specs.List.{Listing, unlisted}
+use Rattle.listing.specs.Under.{judgedFirst}
 use Rattle.explained.specs.Told.{stepText, Told, tellOver}
 
 -- Whether the record with this number is taken: its lines, at most two of at most 160 bytes, have room, and the next record's number is still
@@ -30,18 +31,6 @@ taken gaps ride number room (r ∷ rs) =
     let left : ℕ = room - length (stepText number s) in
     pick (isTaken number room) (suc (taken gaps (s .ride) (suc number) left rs)) 0
 
--- How many records were taken, and how many bytes written.
-pub record Taken : Type 0 where
-  pub records : ℕ
-  pub bytes : ℕ
-
--- What listing answers: what was taken, or the number of its refusal; the state and the next record's number then; and the buffer then.
-pub record Listing : Type 0 where
-  pub answer : Outcome Taken
-  pub ride : Ride
-  pub number : ℕ
-  pub out : List ℕ
-
 -- The listing of n records: the text of the ride over them, at the start of the buffer.
 unfoldable pub listOf : (ℕ → ℕ) → Ride → ℕ → ℕ → List (List ℕ) → List ℕ → Listing
 listOf gaps ride number n rs out =
@@ -56,15 +45,6 @@ listOf gaps ride number n rs out =
 -- The listing of as many of some records as are taken into the buffer.
 abbrev pub listTaken : (ℕ → ℕ) → Ride → ℕ → List (List ℕ) → List ℕ → Listing
 listTaken gaps ride number rs out = listOf gaps ride number (taken gaps ride number (length out) rs) rs out
-
--- A refusal takes nothing and leaves the buffer.
-abbrev pub unlisted : Ride → ℕ → List ℕ → ℕ → Listing
-unlisted ride number out n = record { answer = refuses n; ride = ride; number = number; out = out }
-
--- The store is judged first: its refusal decides.
-abbrev pub judgedFirst : Ride → ℕ → List ℕ → Outcome Kept → Listing → Listing
-judgedFirst ride number out (gives k) rest = rest
-judgedFirst ride number out (refuses n) rest = unlisted ride number out n
 
 -- The listing of a trace under a store of settings, from the record with this number on: the store's own refusal, then "trace length not
 -- a multiple of 8" is 16; else as many records as are taken into the buffer, each with the gap in force at its own odometer.

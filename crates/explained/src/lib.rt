@@ -1,33 +1,20 @@
 // The listing of a trace with reasons: the checker's lines, each fault line with its reason after a colon.
 // Promises: the lines and the state are those of the ride; a fault line's reason is the explainer's, of the group that closed; bytes around the text stay.
-// Specification: specs/Text.antt (the words), Told.antt (a ride told), List.antt (the listing), Says.antt (the answers), Alike.antt (the checker's lines).
+// Specification: specs/Text.antt (the words), Told.antt (a ride told), List.antt (the listing; it answers as that of `listing`), Alike.antt (the checker's lines).
 ghost use mathlib.Core.Path.{_≡_};
 ghost use Rattle.text.specs.Put.{put, came};
+ghost use Rattle.listing.specs.Says.{saysListed};
 ghost use Rattle.explained.specs.Told.{endText};
 ghost use Rattle.explained.specs.List.{listUnder};
-ghost use Rattle.explained.specs.Says.{saysListed};
 
 mod lines;
 mod records;
 
+use listing::Done;
+use listing::Listed;
 use ride::Ride;
 use settings::Asked;
-use settings::Bad;
 use settings::Store;
-
-// How a listing went: so many records taken and bytes written, or refused for the settings or the trace's length (16).
-pub enum Done {
-    Took { records: usize, bytes: usize },
-    Settings(Bad),
-    Length,
-}
-
-// What a listing answers: the state after it, the next record's number, and how it went.
-pub struct Listed {
-    pub ride: Ride,
-    pub number: u64,
-    pub done: Done,
-}
 
 // The text of the trace's records from `number` on, each with the gap in force at its odometer, at the start of out: as many records as
 // surely have room, 320 bytes each.

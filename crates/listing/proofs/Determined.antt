@@ -39,10 +39,10 @@ done-back (Done.Settings Bad.NotAbove) = refl
 done-back (Done.Settings Bad.Full) = refl
 done-back Done.Length = refl
 
-abbrev listedOf : Listing → Listed
+abbrev pub listedOf : Listing → Listed
 listedOf l = record { ride = l .ride; number = l .number; done = doneOf (l .answer) }
 
-listed-back : (r : Listed) (out : List ℕ) → listedOf (saysListed r out) ≡ r
+pub listed-back : (r : Listed) (out : List ℕ) → listedOf (saysListed r out) ≡ r
 listed-back r out = ap (λ (d : Done). record { ride = r .ride; number = r .number; done = d }) (done-back (r .done))
 
 pub put-line-determined : (κs : Lfts 1) (a : Dens κs put-line-kinds.ps) (r r′ : Put)

@@ -19,15 +19,6 @@ use borrow.Author.Needs.{needs}
 use Rattle.explained.proofs.put_end.Statement.{statement}
 use Rattle.explained.proofs.put_end.Tie as tie
 
-end-requires : tie.Need-end-requires
-end-requires c κs = search needs
-
-slice-aggregate-put-lines : tie.Need-slice-aggregate-put-lines
-slice-aggregate-put-lines c = search needs
-
-put-lines-requires : tie.Need-put-lines-requires
-put-lines-requires c κs = search needs
-
 -- The space begins with the text.
 begins : (c : tie.After-put-lines) →
     let e = c .before .before .before in
@@ -48,12 +39,6 @@ slice-aggregate-put c =
     let p = c .before .before in
     sym (length-take-le (p .put-lines .result) (p .put-lines .last .1 .1 .0) (begins p .1))
 
-put-requires : tie.Need-put-requires
-put-requires c κs = search needs
-
-same-length : tie.Need-same-length
-same-length c = search needs
-
 returns : tie.Need-returns
 returns c =
     let p = c .before .before in
@@ -65,11 +50,6 @@ pub put-end-spec : {M : Type 1} → statement M
 put-end-spec =
     tie.close
     (tie.spec
-    end-requires
-    slice-aggregate-put-lines
-    put-lines-requires
-    array-share-prefix-space
+    (λ c κs. search needs) (λ c. search needs) (λ c κs. search needs) array-share-prefix-space
     slice-aggregate-put
-    put-requires
-    same-length
-    returns)
+    (λ c κs. search needs) (λ c. search needs) returns)

@@ -5,42 +5,12 @@ use mathlib.Core.List.{List, _++_}
 use Prim.Native.Nat.{ℕ}
 use Rattle.text.specs.Text.{codes}
 use Rattle.text.specs.Put.{put}
-use Rattle.text.proofs.Standing.{less, join, join-4}
+use Rattle.text.proofs.Standing.{less, join, join-4, numbered, room-as}
 use Rattle.explainer.specs.Text.{reasonText}
-use Rattle.explained.proofs.Texts.{numbered, fault-is, room-as}
+use Rattle.explained.proofs.Texts.{fault-is}
 use borrow.Author.Needs.{needs}
 use Rattle.explained.proofs.lines.put_fault.Statement.{statement}
 use Rattle.explained.proofs.lines.put_fault.Tie as tie
-
-slice-aggregate-put-number : tie.Need-slice-aggregate-put-number
-slice-aggregate-put-number c = search needs
-
-put-number-requires : tie.Need-put-number-requires
-put-number-requires c κs = search needs
-
-slice-aggregate-put-number-2 : tie.Need-slice-aggregate-put-number-2
-slice-aggregate-put-number-2 c = search needs
-
-put-number-requires-2 : tie.Need-put-number-requires-2
-put-number-requires-2 c κs = search needs
-
-slice-aggregate-put : tie.Need-slice-aggregate-put
-slice-aggregate-put c = search needs
-
-put-requires : tie.Need-put-requires
-put-requires c κs = search needs
-
-put-reason-requires : tie.Need-put-reason-requires
-put-reason-requires c κs = search needs
-
-slice-aggregate-put-2 : tie.Need-slice-aggregate-put-2
-slice-aggregate-put-2 c = search needs
-
-put-requires-2 : tie.Need-put-requires-2
-put-requires-2 c κs = search needs
-
-same-length : tie.Need-same-length
-same-length c = search needs
 
 returns : tie.Need-returns
 returns c =
@@ -67,14 +37,5 @@ pub put-fault-spec : {M : Type 1} → statement M
 put-fault-spec =
     tie.close
     (tie.spec
-    slice-aggregate-put-number
-    put-number-requires
-    slice-aggregate-put-number-2
-    put-number-requires-2
-    slice-aggregate-put
-    put-requires
-    put-reason-requires
-    slice-aggregate-put-2
-    put-requires-2
-    same-length
-    returns)
+    (λ c. search needs) (λ c κs. search needs) (λ c. search needs) (λ c κs. search needs) (λ c. search needs) (λ c κs. search needs)
+    (λ c κs. search needs) (λ c. search needs) (λ c κs. search needs) (λ c. search needs) returns)

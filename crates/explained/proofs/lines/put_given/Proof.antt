@@ -16,12 +16,6 @@ use borrow.Author.Needs.{needs}
 use Rattle.explained.proofs.lines.put_given.Statement.{statement}
 use Rattle.explained.proofs.lines.put_given.Tie as tie
 
-enum-known-given : tie.Need-enum-known-given
-enum-known-given c = search needs
-
-refusal-requires : tie.Need-refusal-requires
-refusal-requires c κs = search needs
-
 put-said-requires : tie.Need-put-said-requires
 put-said-requires c κs =
     let x = c .before in
@@ -30,15 +24,6 @@ put-said-requires c κs =
     let h : a .at + length (lineText (a .closed) (Line.Record (a .number) (x .refusal .result))) ≤ length (a .buf .now) =
     omega (arith, line-length (a .closed) (Line.Record (a .number) (x .refusal .result)), s .pre) in
     h
-
-enum-known-given-2 : tie.Need-enum-known-given-2
-enum-known-given-2 c = search needs
-
-put-lines-requires : tie.Need-put-lines-requires
-put-lines-requires c κs = search needs
-
-same-length : tie.Need-same-length
-same-length c = search needs
 
 returns : tie.Need-returns
 returns c =
@@ -52,9 +37,6 @@ returns c =
     ∙ ap (λ (t : List ℕ). put t (a .buf .now) (a .at)) (one-is (a .closed) (Line.Record (a .number) (saysWrong w)))
     ∙ ap (λ (v : Given). put (linesText (a .closed) (linesFor (a .number) (saysGiven v))) (a .buf .now) (a .at)) (sym (k .given .given .1))
 
-same-length-2 : tie.Need-same-length-2
-same-length-2 c = search needs
-
 returns-2 : tie.Need-returns-2
 returns-2 c =
     let p = c .before .before in
@@ -67,12 +49,6 @@ pub put-given-spec : {M : Type 1} → statement M
 put-given-spec =
     tie.close
     (tie.spec
-    enum-known-given
-    refusal-requires
-    put-said-requires
-    enum-known-given-2
-    put-lines-requires
-    same-length
-    returns
-    same-length-2
-    returns-2)
+    (λ c. search needs) (λ c κs. search needs) put-said-requires
+    (λ c. search needs) (λ c κs. search needs) (λ c. search needs) returns
+    (λ c. search needs) returns-2)

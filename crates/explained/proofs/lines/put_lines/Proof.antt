@@ -15,18 +15,6 @@ use borrow.Author.Needs.{needs}
 use Rattle.explained.proofs.lines.put_lines.Statement.{statement}
 use Rattle.explained.proofs.lines.put_lines.Tie as tie
 
-enum-told : tie.Need-enum-told
-enum-told c = search needs
-
-slice-aggregate-put : tie.Need-slice-aggregate-put
-slice-aggregate-put c = search needs
-
-put-requires : tie.Need-put-requires
-put-requires c κs = search needs
-
-enum-known-lines : tie.Need-enum-known-lines
-enum-known-lines c = search needs
-
 put-said-requires : tie.Need-put-said-requires
 put-said-requires c κs =
     let k = c .before .before in
@@ -34,9 +22,6 @@ put-said-requires c κs =
     let a = s .args in
     let h : a .at + length (lineText (a .closed) (k .lines .given .0 .0)) ≤ length (a .buf .now) = omega (arith, line-length (a .closed) (k .lines .given .0 .0), s .pre) in
     h
-
-enum-known-lines-2 : tie.Need-enum-known-lines-2
-enum-known-lines-2 c = search needs
 
 put-said-requires-2 : tie.Need-put-said-requires-2
 put-said-requires-2 c κs =
@@ -55,9 +40,6 @@ put-said-requires-3 c κs =
     let g = k .lines2 .given .0 in
     room-after (a .buf .now) (a .at) (lineText (a .closed) (g .0)) (lineText (a .closed) (g .1 .0)) (two-fit (a .closed) (g .0) (g .1 .0) (a .buf .now) (a .at) (s .pre)) (p1 .put-said2 .ensures)
 
-same-length : tie.Need-same-length
-same-length c = search needs
-
 returns : tie.Need-returns
 unfolding linesText
 returns c =
@@ -65,9 +47,6 @@ returns c =
     let k = p .before .before .before in
     let a = k .before .before .before .args in
     p .put .ensures ∙ ap (λ (v : Lines). put (linesText (a .closed) (saysLines v)) (a .buf .now) (a .at)) (sym (k .enum-told .given .1))
-
-same-length-2 : tie.Need-same-length-2
-same-length-2 c = search needs
 
 returns-2 : tie.Need-returns-2
 returns-2 c =
@@ -77,9 +56,6 @@ returns-2 c =
     p .put-said .ensures
     ∙ ap (λ (t : List ℕ). put t (a .buf .now) (a .at)) (one-is (a .closed) (k .lines .given .0 .0))
     ∙ ap (λ (v : Lines). put (linesText (a .closed) (saysLines v)) (a .buf .now) (a .at)) (sym (k .lines .given .1))
-
-same-length-3 : tie.Need-same-length-3
-same-length-3 c = search needs
 
 returns-3 : tie.Need-returns-3
 returns-3 c =
@@ -97,17 +73,9 @@ pub put-lines-spec : {M : Type 1} → statement M
 put-lines-spec =
     tie.close
     (tie.spec
-    enum-told
-    slice-aggregate-put
-    put-requires
-    enum-known-lines
-    put-said-requires
-    enum-known-lines-2
-    put-said-requires-2
+    (λ c. search needs) (λ c. search needs) (λ c κs. search needs) (λ c. search needs) put-said-requires
+    (λ c. search needs) put-said-requires-2
     put-said-requires-3
-    same-length
-    returns
-    same-length-2
-    returns-2
-    same-length-3
-    returns-3)
+    (λ c. search needs) returns
+    (λ c. search needs) returns-2
+    (λ c. search needs) returns-3)

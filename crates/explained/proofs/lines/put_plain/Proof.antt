@@ -9,18 +9,6 @@ use borrow.Author.Needs.{needs}
 use Rattle.explained.proofs.lines.put_plain.Statement.{statement}
 use Rattle.explained.proofs.lines.put_plain.Tie as tie
 
-put-line-requires : tie.Need-put-line-requires
-put-line-requires c κs = search needs
-
-enum-known-next : tie.Need-enum-known-next
-enum-known-next c = search needs
-
-enum-told : tie.Need-enum-told
-enum-told c = search needs
-
-same-length : tie.Need-same-length
-same-length c = search needs
-
 returns : tie.Need-returns
 returns c =
     let p = c .before .before .before .before .before in
@@ -29,9 +17,6 @@ returns c =
     sym (ap (λ (o : Put). asPut (a .at) o x) (c .before .next .given .1))
     ∙ ap (λ (f : Filled). asPut (a .at) (f .ends) (f .buffer)) (p .put-line .ensures)
     ∙ put-alike (a .at) (text (a .line)) (a .buf .now)
-
-same-length-2 : tie.Need-same-length-2
-same-length-2 c = search needs
 
 returns-2 : tie.Need-returns-2
 returns-2 c =
@@ -46,10 +31,5 @@ pub put-plain-spec : {M : Type 1} → statement M
 put-plain-spec =
     tie.close
     (tie.spec
-    put-line-requires
-    enum-known-next
-    enum-told
-    same-length
-    returns
-    same-length-2
-    returns-2)
+    (λ c κs. search needs) (λ c. search needs) (λ c. search needs) (λ c. search needs) returns
+    (λ c. search needs) returns-2)

@@ -4,26 +4,15 @@ use mathlib.Core.Path.{_≡_, sym, ap, _∙_}
 use mathlib.Core.List.{List}
 use Prim.Native.Nat.{ℕ}
 use Rattle.text.specs.Put.{put}
+use Rattle.text.proofs.Standing.{room-as}
 use Rattle.ride.specs.declared.Line.{Line}
 use Rattle.listing.specs.Text.{text}
 use Rattle.explainer.specs.Text.{reasonText}
 use Rattle.explained.specs.Text.{faultText, lineText}
-use Rattle.explained.proofs.Texts.{why-is, room-as}
+use Rattle.explained.proofs.Texts.{why-is}
 use borrow.Author.Needs.{needs}
 use Rattle.explained.proofs.lines.put_said.Statement.{statement}
 use Rattle.explained.proofs.lines.put_said.Tie as tie
-
-enum-told : tie.Need-enum-told
-enum-told c = search needs
-
-put-plain-requires : tie.Need-put-plain-requires
-put-plain-requires c κs = search needs
-
-enum-known-line : tie.Need-enum-known-line
-enum-known-line c = search needs
-
-explain-requires : tie.Need-explain-requires
-explain-requires c κs = search needs
 
 put-fault-requires : tie.Need-put-fault-requires
 unfolding lineText
@@ -38,27 +27,6 @@ put-fault-requires c κs =
     ap (faultText place n) (why-is (a .closed) (x .explain .result) (x .explain .ensures)) ∙ sym (ap (lineText (a .closed)) (k .line .given .1)) in
     room-as (a .buf .now) (a .at) is (s .pre)
 
-enum-told-2 : tie.Need-enum-told-2
-enum-told-2 c = search needs
-
-put-plain-requires-2 : tie.Need-put-plain-requires-2
-put-plain-requires-2 c κs = search needs
-
-enum-told-3 : tie.Need-enum-told-3
-enum-told-3 c = search needs
-
-put-plain-requires-3 : tie.Need-put-plain-requires-3
-put-plain-requires-3 c κs = search needs
-
-enum-told-4 : tie.Need-enum-told-4
-enum-told-4 c = search needs
-
-put-plain-requires-4 : tie.Need-put-plain-requires-4
-put-plain-requires-4 c κs = search needs
-
-same-length : tie.Need-same-length
-same-length c = search needs
-
 returns : tie.Need-returns
 unfolding lineText
 returns c =
@@ -69,9 +37,6 @@ returns c =
     p .put-plain .ensures
     ∙ ap (λ (l : Line). put (text l) (a .buf .now) (a .at)) e
     ∙ sym (ap (λ (l : Line). put (lineText (a .closed) l) (a .buf .now) (a .at)) e)
-
-same-length-2 : tie.Need-same-length-2
-same-length-2 c = search needs
 
 returns-2 : tie.Need-returns-2
 unfolding lineText
@@ -86,9 +51,6 @@ returns-2 c =
     ∙ ap (λ (t : List ℕ). put (faultText place n t) (a .buf .now) (a .at)) (why-is (a .closed) (x .explain .result) (x .explain .ensures))
     ∙ sym (ap (λ (l : Line). put (lineText (a .closed) l) (a .buf .now) (a .at)) (k .line .given .1))
 
-same-length-3 : tie.Need-same-length-3
-same-length-3 c = search needs
-
 returns-3 : tie.Need-returns-3
 unfolding lineText
 returns-3 c =
@@ -100,9 +62,6 @@ returns-3 c =
     ∙ ap (λ (l : Line). put (text l) (a .buf .now) (a .at)) e
     ∙ sym (ap (λ (l : Line). put (lineText (a .closed) l) (a .buf .now) (a .at)) e)
 
-same-length-4 : tie.Need-same-length-4
-same-length-4 c = search needs
-
 returns-4 : tie.Need-returns-4
 unfolding lineText
 returns-4 c =
@@ -113,9 +72,6 @@ returns-4 c =
     p .put-plain3 .ensures
     ∙ ap (λ (l : Line). put (text l) (a .buf .now) (a .at)) e
     ∙ sym (ap (λ (l : Line). put (lineText (a .closed) l) (a .buf .now) (a .at)) e)
-
-same-length-5 : tie.Need-same-length-5
-same-length-5 c = search needs
 
 returns-5 : tie.Need-returns-5
 unfolding lineText
@@ -132,24 +88,10 @@ pub put-said-spec : {M : Type 1} → statement M
 put-said-spec =
     tie.close
     (tie.spec
-    enum-told
-    put-plain-requires
-    enum-known-line
-    explain-requires
-    put-fault-requires
-    enum-told-2
-    put-plain-requires-2
-    enum-told-3
-    put-plain-requires-3
-    enum-told-4
-    put-plain-requires-4
-    same-length
-    returns
-    same-length-2
-    returns-2
-    same-length-3
-    returns-3
-    same-length-4
-    returns-4
-    same-length-5
-    returns-5)
+    (λ c. search needs) (λ c κs. search needs) (λ c. search needs) (λ c κs. search needs) put-fault-requires
+    (λ c. search needs) (λ c κs. search needs) (λ c. search needs) (λ c κs. search needs) (λ c. search needs) (λ c κs. search needs)
+    (λ c. search needs) returns
+    (λ c. search needs) returns-2
+    (λ c. search needs) returns-3
+    (λ c. search needs) returns-4
+    (λ c. search needs) returns-5)

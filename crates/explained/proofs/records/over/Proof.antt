@@ -21,12 +21,12 @@ use Rattle.ride.proofs.Under.{turn}
 use Rattle.text.specs.Put.{placed, put}
 use Rattle.text.proofs.Placing.{placed-length}
 use Rattle.text.proofs.Standing.{stands}
-use Rattle.listing.proofs.Turns.{both}
+use Rattle.listing.proofs.Turns.{listing, leftOf, left-next, left-all, both}
 use Rattle.explained.specs.Text.{linesText}
 use Rattle.explained.specs.Told.{stepText}
 use Rattle.explained.specs.List.{isTaken, taken, listTaken}
 use Rattle.explained.proofs.Texts.{given-short}
-use Rattle.explained.proofs.Turns.{listing, fromHere, from-first, from-next, from-last, stepAt, leftOf, left-next, left-all, no-more, none-left}
+use Rattle.explained.proofs.Turns.{fromHere, from-first, from-next, from-last, stepAt, no-more, none-left}
 use Rattle.explained.proofs.records.over.Statement.{statement}
 use Rattle.explained.proofs.records.over.Tie as tie
 
@@ -47,9 +47,6 @@ loop-holds c =
     let s = c .before .before in
     (omega arith, refl, omega arith, omega arith, rw (s .pre .1) (holding-at (s .args .store) 0 (s .pre .0)), refl)
 
-sub-loop : tie.Need-sub-loop Inv-loop μ-loop
-sub-loop c = omega arith
-
 -- what the loop's test says: a record is left, there is room, and there is a next number
 test : (c : tie.In-loop Inv-loop μ-loop) →
     let l = c .before .loop in
@@ -67,18 +64,6 @@ room c =
     let l = c .before .loop in
     let parts = both (leb 320 (length (l .out) - l .at)) (ltb (l .next) 18446744073709551615) (test c .1) in
     (omega (arith, leb-true 320 (length (l .out) - l .at) (parts .0)), ltb-true _ _ (parts .1))
-
-odometer-at-requires : tie.Need-odometer-at-requires Inv-loop μ-loop
-odometer-at-requires c κs = tt
-
-leaves-requires : tie.Need-leaves-requires Inv-loop μ-loop
-leaves-requires c κs = tt
-
-hold-requires : tie.Need-hold-requires Inv-loop μ-loop
-hold-requires c κs = tt
-
-treat-at-requires : tie.Need-treat-at-requires Inv-loop μ-loop
-treat-at-requires c κs = tt
 
 -- what is held for a record treats it as the gap in force at its odometer does
 turned : (j : tie.Joined1 Inv-loop μ-loop) →
@@ -225,12 +210,7 @@ over-spec =
     Inv-loop
     μ-loop
     loop-holds
-    sub-loop
-    odometer-at-requires
-    leaves-requires
-    hold-requires
-    treat-at-requires
-    enum-known-reply
+    (λ c. omega arith) (λ c κs. tt) (λ c κs. tt) (λ c κs. tt) (λ c κs. tt) enum-known-reply
     put-given-requires
     add-next
     add-i
