@@ -35,6 +35,12 @@ use Rattle.viewer.proofs.moving.forward_at.Kinds as forward-at-kinds
 use Rattle.viewer.proofs.moving.forward_at.Reads as forward-at-reads
 use Rattle.viewer.proofs.moving.back_at.Kinds as back-at-kinds
 use Rattle.viewer.proofs.moving.back_at.Reads as back-at-reads
+use Rattle.viewer.proofs.going.forwards_at.Kinds as forwards-at-kinds
+use Rattle.viewer.proofs.going.forwards_at.Reads as forwards-at-reads
+use Rattle.viewer.proofs.going.times_to.Kinds as times-to-kinds
+use Rattle.viewer.proofs.going.times_to.Reads as times-to-reads
+use Rattle.viewer.proofs.going.backs_at.Kinds as backs-at-kinds
+use Rattle.viewer.proofs.going.backs_at.Reads as backs-at-reads
 
 -- From what an answer says, the answer.
 abbrev pub begunOf : Outcome Done → Begun
@@ -105,6 +111,21 @@ pub back-at-determined : (κs : Lfts 0) (a : Dens κs back-at-kinds.ps) (r r′ 
     (x x′ : AtExit (endedOf 0 back-at-kinds.ps back-at-kinds.r) κs)
     → back-at-reads.Post κs a r x → back-at-reads.Post κs a r′ x′ → r ≡ r′
 back-at-determined κs a r r′ x x′ p q = sym (came-back r) ∙ ap cameOf (p ∙ sym q) ∙ came-back r′
+
+pub forwards-at-determined : (κs : Lfts 1) (a : Dens κs forwards-at-kinds.ps) (r r′ : Came)
+    (x x′ : AtExit (endedOf 1 forwards-at-kinds.ps forwards-at-kinds.r) κs)
+    → forwards-at-reads.Post κs a r x → forwards-at-reads.Post κs a r′ x′ → r ≡ r′
+forwards-at-determined κs a r r′ x x′ p q = sym (came-back r) ∙ ap cameOf (p ∙ sym q) ∙ came-back r′
+
+pub times-to-determined : (κs : Lfts 1) (a : Dens κs times-to-kinds.ps) (r r′ : ℕ)
+    (x x′ : AtExit (endedOf 1 times-to-kinds.ps times-to-kinds.r) κs)
+    → times-to-reads.Post κs a r x → times-to-reads.Post κs a r′ x′ → r ≡ r′
+times-to-determined κs a r r′ x x′ p q = p ∙ sym q
+
+pub backs-at-determined : (κs : Lfts 0) (a : Dens κs backs-at-kinds.ps) (r r′ : Came)
+    (x x′ : AtExit (endedOf 0 backs-at-kinds.ps backs-at-kinds.r) κs)
+    → backs-at-reads.Post κs a r x → backs-at-reads.Post κs a r′ x′ → r ≡ r′
+backs-at-determined κs a r r′ x x′ p q = sym (came-back r) ∙ ap cameOf (p ∙ sym q) ∙ came-back r′
 
 -- ---- over a viewer
 

@@ -1,11 +1,12 @@
 -- A viewer over two records, the second of which is refused, computed: one back too many, two forward, one too many, and one back. So the
--- hypotheses of `Viewing` are met, with a plain gap and under a store.
+-- hypotheses of `Viewing` are met, with a plain gap and under a store, and those of `ManyAtOnce`.
 -- Assumes nothing.
-use Prim.Native.Nat.{ℕ}
+use Prim.Native.Nat.{ℕ, _+_}
 use mathlib.Core.Path.{_≡_, refl, sym, ap, _∙_}
 use mathlib.Core.List.{List, [], _∷_}
 use native.Mathlib.Omega.{arith}
 use denote.Ref.{RefT}
+use lib.ListN.{take, drop}
 use Rattle.words.specs.Answer.{gives}
 use Rattle.group.specs.declared.Group.{Group}
 use Rattle.settings.specs.Store.{plain}
@@ -19,7 +20,7 @@ use Rattle.ride.specs.Joining.{join, takeUp}
 use Rattle.ride.specs.Closing.{leave}
 use Rattle.ride.specs.Step.{closeBehind, missedLines, afterMissed, goOn, treat}
 use Rattle.ride.specs.At.{recordAt}
-use Rattle.ride.specs.Over.{linesFor}
+use Rattle.ride.specs.Over.{records, linesFor, Ridden, rideOver}
 use Rattle.viewer.specs.declared.Begun.{Begun}
 use Rattle.viewer.specs.declared.How.{How}
 use Rattle.viewer.specs.declared.Stand.{Stand}
@@ -31,9 +32,11 @@ use Rattle.viewer.specs.Stand.{opened, passed, returned}
 use Rattle.viewer.specs.Viewing.{Forward, stepOf, done}
 use Rattle.viewer.specs.Says.{over}
 use Rattle.viewer.specs.History.{Call, forth, back}
-use Rattle.viewer.specs.Laws.{Starts, Forwards, Backs, Lead, Views}
+use Rattle.viewer.specs.Going.{forwards, linesPassed}
+use Rattle.viewer.specs.Laws.{Starts, Forwards, Backs, Lead, Views, often}
 use Rattle.viewer.proofs.Calls.{open-done, forward-end, forward-step, back-none, back-done}
 use Rattle.viewer.proofs.Laws.{viewing}
+use Rattle.viewer.proofs.Often.{many-at-once}
 
 -- A position at 1000 dm, and one at 999 dm, which is refused with 17.
 abbrev bytes : List ℕ
@@ -145,3 +148,16 @@ plain-met = viewing .plainly-set 40 lent started calls (at s3) starts refl lead
 
 store-met : Views (gapAt (plain 40)) bytes calls (at s3)
 store-met = viewing .under-a-store (plain 40) lent started calls (at s3) starts refl lead
+
+-- ---- many at once: three forwards, one too many, come to where two lead; and the lines of the two
+
+thrice : Lead (often 3 forth) (at s0) (at s2)
+thrice = (went1, first-passed, (went2, second-passed, (refused23, at-end, refl)))
+
+often-met : forwards 3 bytes s0 .stand ≡ s2
+often-met = many-at-once .forward-often 3 (at s0) (at s2) thrice
+
+lines-met : _≡_ {A = Ridden} (record { lines = linesPassed 2 bytes s0; ride = forwards 2 bytes s0 .stand .ride })
+    (rideOver (gapAt (plain 40)) (s0 .ride) (s0 .number + 1) (take 2 (drop (s0 .number) (records bytes))))
+unfolding opened
+lines-met = many-at-once .lines 2 bytes s0 (plain-good 40 refl) (omega arith)

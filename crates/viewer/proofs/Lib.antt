@@ -2,7 +2,10 @@ pub mod Calls
 pub mod Turning
 pub mod Straight
 pub mod Ring
+pub mod Many
+pub mod Places
 pub mod Laws
+pub mod Often
 pub mod Determined
 pub mod Refusals
 pub mod Examples

@@ -1,23 +1,26 @@
 -- What is promised of a viewer (document 02, M-108), over the contracts of `start`, `forward` and `back`: "After any sequence of calls its
 -- state is the one that a fresh ride over the records before its number has." That it holds: proofs/Laws.antt.
 -- Assumes nothing.
-use Prim.Native.Nat.{ℕ, _/_, _<_, _≤_}
+use Prim.Native.Nat.{ℕ, zero, suc, _+_, _/_, _<_, _≤_}
 use mathlib.Core.Path.{_≡_}
 use mathlib.Core.List.{List, [], _∷_}
-use lib.ListN.{length}
+use lib.ListN.{length, take, drop}
 use denote.Ref.{RefT, now}
 use Rattle.settings.specs.declared.Store.{Store}
 use Rattle.words.specs.Answer.{gives, refuses}
 use Rattle.settings.specs.Versions.{kept}
 use Rattle.settings.specs.Store.{judged}
 use Rattle.settings.specs.At.{gapAt}
+use Rattle.ride.specs.Over.{records, Ridden, rideOver}
 use Rattle.viewer.specs.declared.Begun.{Begun}
+use Rattle.viewer.specs.declared.Stand.{Stand}
 use Rattle.viewer.specs.declared.Viewer.{Viewer}
 use Rattle.viewer.specs.declared.Started.{Started}
 use Rattle.viewer.specs.declared.Forwarded.{Forwarded}
 use Rattle.viewer.specs.declared.Backed.{Backed}
 use Rattle.viewer.specs.Viewing.{done, start, startUnder, forward, back as goesBack}
 use Rattle.viewer.specs.Says.{over, saysHow, saysStarted, saysForwarded, saysBacked}
+use Rattle.viewer.specs.Going.{forwards, backs, linesPassed}
 use Rattle.viewer.specs.History.{Plain, first, Call, forth, back, plainly, straight}
 
 -- What the contracts allow: `start` answers r, `forward` and `back` of a viewer answer r.
@@ -69,3 +72,19 @@ pub record Refusing : Type 0 where
       → (saysHow (r .how) ≡ refuses 23) × (r .viewer ≡ v)
   pub forward-done : (v : Viewer) (r : Forwarded) → Forwards v r → v .stand .number < length (now (v .trace)) / 8 → judged (v .stand .settings) ≡ gives kept
       → saysHow (r .how) ≡ gives done
+
+-- So many calls of one kind.
+abbrev pub often : ℕ → Call → List Call
+often zero c = []
+often (suc n) c = c ∷ often n c
+
+-- Many at once: "`f` forward, `b` back, `f 20` and `b 20` that often".
+pub record ManyAtOnce : Type 0 where
+  -- what is shown after so many forwards or backs at once is what so many single calls come to, refused ones too
+  pub forward-often : (n : ℕ) (v w : Viewer) → Lead (often n forth) v w → forwards n (now (v .trace)) (v .stand) .stand ≡ w .stand
+  pub back-often : (n : ℕ) (v w : Viewer) → Lead (often n back) v w → backs n (v .stand) .stand ≡ w .stand
+  -- the records that are passed give the lines of a ride over them from the state before them, which is what `listing` writes; and the viewer
+  -- has that ride's state
+  pub lines : (n : ℕ) (trace : List ℕ) (s : Stand) → judged (s .settings) ≡ gives kept → s .number + n ≤ length trace / 8
+      → _≡_ {A = Ridden} (record { lines = linesPassed n trace s; ride = forwards n trace s .stand .ride })
+      (rideOver (gapAt (s .settings)) (s .ride) (s .number + 1) (take n (drop (s .number) (records trace))))

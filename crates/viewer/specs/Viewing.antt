@@ -82,7 +82,7 @@ forward trace s =
     (under s (judged (s .settings)) (byStep s (stepOf s (recordAt trace (s .number)))))
     (stays s 23)
 
--- What going back answers: that it was done, or the number of its refusal; where the viewer stands then.
+-- What going back answers, and what going many times does: that it was done, or the number of its refusal; where the viewer stands then.
 pub record Back : Type 0 where
   pub answer : Outcome Done
   pub stand : Stand

@@ -1,13 +1,18 @@
 // A viewer that goes forward and back over the records of a lent trace.
 // Promises: after any calls its state is that of a fresh ride over the records before its number; a refused call changes nothing.
-// Specification: specs/Stand.antt (where it stands, and the last 256 states), Viewing.antt (the calls), Says.antt (the answers).
+// Specification: specs/Stand.antt (where it stands, and the last 256 states), Viewing.antt (the calls), Going.antt (many at once), Says.antt (the
+// answers); what is promised: Laws.antt.
 ghost use mathlib.Core.Path.{_≡_};
 ghost use Rattle.viewer.specs.Viewing.{start, startUnder, forward, back};
 ghost use Rattle.viewer.specs.Says.{over, saysStarted, saysForwarded, saysBacked};
 
+mod going;
 mod moving;
 mod opening;
 
+pub use going::backs_at;
+pub use going::forwards_at;
+pub use going::times_to;
 use group::Group;
 pub use moving::back_at;
 pub use moving::forward_at;
@@ -57,7 +62,7 @@ pub struct Went {
     pub how: How,
 }
 
-// What going back answers.
+// What going back answers, and what going many times answers.
 pub struct Came {
     pub stand: Stand,
     pub how: How,

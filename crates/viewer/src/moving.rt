@@ -29,7 +29,7 @@ use settings::Held;
 use settings::Store;
 
 // One more state kept, up to 256.
-fn one_more(kept: usize) -> usize
+pub fn one_more(kept: usize) -> usize
     ensures { λ r. ⌜ r ≡ oneMore kept ⌝ }
 {
     if kept < 256 {

@@ -1,0 +1,59 @@
+-- `forwards_at` asks whether any forward is wanted, then whether the settings are good; if not, the first forward is the last.
+use mathlib.Core.Path.{ap, sym, _∙_}
+use Rattle.settings.specs.Says.{saysAsked, saysBad}
+use Rattle.settings.proofs.Holding.{held-given, store-refused}
+use Rattle.viewer.proofs.Many.{forwards-none, forwards-refused}
+use borrow.Author.Needs.{needs}
+use Rattle.viewer.proofs.going.forwards_at.Statement.{statement}
+use Rattle.viewer.proofs.going.forwards_at.Tie as tie
+
+returns : tie.Need-returns
+returns c =
+    let a = c .before .before .args in
+    forwards-none (a .times) (a .trace .now) (a .stand) (c .if1 .taken)
+
+at-requires : tie.Need-at-requires
+at-requires c κs = search needs
+
+enum-told : tie.Need-enum-told
+enum-told c = search needs
+
+forward-at-requires : tie.Need-forward-at-requires
+forward-at-requires c κs = search needs
+
+enum-known-asked : tie.Need-enum-known-asked
+enum-known-asked c = search needs
+
+over-requires : tie.Need-over-requires
+over-requires c κs =
+    let k = c .before in
+    let q = k .before .before in
+    let a = q .before .before .before .before .args in
+    let held = held-given (a .stand .settings) 0 _ (sym (q .at .ensures) ∙ ap saysAsked (k .asked .given .1)) in
+    (held .0, held .2)
+
+returns-2 : tie.Need-returns-2
+returns-2 c =
+    let w = c .before in
+    let k = w .before in
+    let q = k .before .before in
+    let e = q .before .before in
+    let a = e .before .before .args in
+    forwards-refused (a .times) (a .trace .now) (a .stand) _ (w .forward-at .result) (e .if1 .left)
+    (store-refused (a .stand .settings) _ (sym (q .at .ensures) ∙ ap saysAsked (k .enum-told .given .1))) (w .forward-at .ensures)
+
+returns-3 : tie.Need-returns-3
+returns-3 c = c .over .ensures
+
+pub forwards-at-spec : {M : Type 1} → statement M
+forwards-at-spec =
+    tie.close
+    (tie.spec
+    returns
+    at-requires
+    enum-told
+    forward-at-requires
+    enum-known-asked
+    over-requires
+    returns-2
+    returns-3)

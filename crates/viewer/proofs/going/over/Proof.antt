@@ -1,0 +1,149 @@
+-- `over` passes the records one by one, with what is held for each: the forwards that are left, from here, are all of them.
+use mathlib.Core.Path.{_≡_, refl, ap, sym, _∙_}
+use mathlib.Core.Bool.{Bool, true, false, _&&_}
+use mathlib.Core.Logic.{⊎-elim}
+use Prim.Native.Nat.{ℕ, _+_, _-_, _/_, _%_, _<_}
+use native.Mathlib.Omega.{arith}
+use borrow.Author.Tests.{ltb-true}
+use lib.Dec.{ltb}
+use lib.ListN.{length, set}
+use Rattle.settings.specs.declared.Store.{Store}
+use Rattle.settings.specs.At.{heldFor}
+use Rattle.settings.proofs.Holding.{Holding, holding-at, asked-for, stays-for}
+use Rattle.ride.specs.declared.Ride.{Ride}
+use Rattle.ride.specs.Step.{Step}
+use Rattle.ride.specs.At.{Treatment}
+use Rattle.ride.proofs.At.{at-record}
+use Rattle.ride.proofs.Under.{turn}
+use mathlib.Core.List.{List}
+use Rattle.words.specs.Answer.{Outcome}
+use Rattle.viewer.specs.declared.Stand.{Stand}
+use Rattle.viewer.specs.Stand.{passed}
+use Rattle.viewer.specs.Viewing.{Done, Back}
+use Rattle.viewer.specs.Going.{forwards}
+use Rattle.viewer.proofs.Many.{forwards-next, forwards-stop}
+use borrow.Author.Needs.{needs}
+use Rattle.viewer.proofs.going.over.Statement.{statement}
+use Rattle.viewer.proofs.going.over.Tie as tie
+
+-- where the loop has come
+abbrev here : ℕ → ℕ → Ride → List Ride → Store → Stand
+here number kept ride last store = record { number = number; kept = kept; ride = ride; last = last; settings = store }
+
+abbrev Inv-loop : tie.InvT-loop
+Inv-loop trace times count store held₀ number₀ kept₀ now₀ last₀ left₀ held number kept now last left =
+    Holding store held × (forwards left trace (here number kept now last store) ≡ forwards left₀ trace (here number₀ kept₀ now₀ last₀ store))
+
+abbrev μ-loop : tie.MeasureT-loop
+μ-loop trace times count store held₀ number₀ kept₀ now₀ last₀ left₀ held number kept now last left = left
+
+loop-holds : tie.Need-loop-holds Inv-loop μ-loop
+loop-holds c =
+    let s = c .before .before .before .before in
+    (rw (s .pre .1) (holding-at (s .args .from .settings) 0 (s .pre .0)), refl)
+
+odometer-at-requires : tie.Need-odometer-at-requires Inv-loop μ-loop
+odometer-at-requires c κs = tt
+
+leaves-requires : tie.Need-leaves-requires Inv-loop μ-loop
+leaves-requires c κs = tt
+
+hold-requires : tie.Need-hold-requires Inv-loop μ-loop
+hold-requires c κs = tt
+
+treat-at-requires : tie.Need-treat-at-requires Inv-loop μ-loop
+treat-at-requires c κs = tt
+
+mul-last : tie.Need-mul-last Inv-loop μ-loop
+mul-last c = search needs
+
+array-set-from-last : tie.Need-array-set-from-last Inv-loop μ-loop
+array-set-from-last c = search needs
+
+one-more-requires : tie.Need-one-more-requires Inv-loop μ-loop
+one-more-requires c κs = tt
+
+-- what the loop's test says: a time is left, and a record
+both : (a b : Bool) → (a && b) ≡ true → (a ≡ true) × (b ≡ true)
+both true true e = (refl, refl)
+both true false e = (refl, e)
+both false b e = absurd (let z : _≡_ {A = ℕ} 0 1 = cc in omega arith)
+
+test : (c : tie.In-loop Inv-loop μ-loop) → (0 < c .before .loop .left) × (c .before .loop .number < length (c .before .before .before .before .before .before .args .trace .now) / 8)
+test c =
+    let l = c .before .loop in
+    let parts = both (ltb 0 (l .left)) (ltb (l .number) (length (c .before .before .before .before .before .before .args .trace .now) / 8)) (c .loop-test .taken) in
+    (ltb-true _ _ (parts .0), ltb-true _ _ (parts .1))
+
+add-number : tie.Need-add-number Inv-loop μ-loop
+add-number c = omega (arith, test (c .before .before .before .before .before .before) .1)
+
+sub-left : tie.Need-sub-left Inv-loop μ-loop
+sub-left c = omega (arith, test (c .before .before .before .before .before .before) .0)
+
+loop-less : tie.Need-loop-less Inv-loop μ-loop
+loop-less c = omega (arith, test (c .before .before .before .before .before .before) .0)
+
+loop-again : tie.Need-loop-again Inv-loop μ-loop
+unfolding passed
+loop-again c =
+    let m = c .before in
+    let r = m .before in
+    let j = r .before in
+    let v = j .before in
+    let o = v .before in
+    let t = o .before in
+    let l = t .before in
+    let s = l .before .before .before .before .before in
+    let a = s .args in
+    let store = a .from .settings in
+    let trace = a .trace .now in
+    let left = test t in
+    let stand = here (l .loop .number) (l .loop .kept) (l .loop .now) (l .loop .last) store in
+    let for : j .if1 .held ≡ heldFor store (l .loop .held) (o .odometer-at .result) =
+    ⊎-elim
+    (λ w. asked-for store (l .loop .held) (j .if1 .held) (o .odometer-at .result) (sym (v .leaves .ensures) ∙ w .0 .taken) (w .2 ∙ w .1 .ensures))
+    (λ w. stays-for store (l .loop .held) (j .if1 .held) (o .odometer-at .result) (sym (v .leaves .ensures) ∙ w .0 .left) (w .1))
+    (j .if1 .came) in
+    let turned = turn store (l .loop .held) (j .if1 .held) (l .loop .now) trace (l .loop .number) (o .odometer-at .result) (s .pre .0) (l .loop .inv .0)
+    (left .1) (o .odometer-at .ensures) for in
+    let treated = r .treat-at .ensures ∙ sym (at-record (l .loop .now) (j .if1 .held .gap) trace (l .loop .number) (turned .0 .gap) (left .1)) in (
+      turned .0,
+      ap (λ (k : ℕ). forwards (l .loop .left - 1) trace (record { number = l .loop .number + 1; kept = k; ride = r .treat-at .result .ride; last = set (l .loop .last) (l .loop .number % 256) (l .loop .now); settings = store })) (m .one-more .ensures)
+          ∙ forwards-next (l .loop .left) trace stand (r .treat-at .result .ride) (left .0) (left .1) (s .pre .0)
+          (ap (λ (x : Treatment). x .ride) treated ∙ ap (λ (x : Step). x .ride) (turned .1))
+          ∙ l .loop .inv .1,
+    )
+
+ended-requires : tie.Need-ended-requires Inv-loop μ-loop
+ended-requires c κs = tt
+
+returns : tie.Need-returns Inv-loop μ-loop
+returns c =
+    let l = c .before .before in
+    let a = l .before .before .before .before .before .args in
+    let stand = here (l .loop .number) (l .loop .kept) (l .loop .now) (l .loop .last) (a .from .settings) in
+    ap {B = Back} (λ (o : Outcome Done). record { answer = o; stand = stand }) (c .ended .ensures)
+    ∙ forwards-stop (l .loop .left) (a .trace .now) stand (c .before .loop-test .left)
+    ∙ l .loop .inv .1
+
+pub over-spec : {M : Type 1} → statement M
+over-spec =
+    tie.close
+    (tie.spec
+    Inv-loop
+    μ-loop
+    loop-holds
+    odometer-at-requires
+    leaves-requires
+    hold-requires
+    treat-at-requires
+    mul-last
+    array-set-from-last
+    one-more-requires
+    add-number
+    sub-left
+    loop-less
+    loop-again
+    ended-requires
+    returns)

@@ -1,0 +1,168 @@
+// Many records forward or back at once. The last states are a local while it goes, so that no record costs a copy of them all.
+ghost use mathlib.Core.Path.{_≡_};
+ghost use Prim.Native.Nat.{_-_};
+ghost use lib.Dec.{eqb, leb};
+ghost use lib.ListN.{drop};
+ghost use Rattle.words.specs.Answer.{gives, refuses, pick};
+ghost use Rattle.settings.specs.Versions.{kept};
+ghost use Rattle.settings.specs.Store.{judged};
+ghost use Rattle.settings.specs.At.{heldAt};
+ghost use Rattle.ride.specs.Over.{records};
+ghost use Rattle.viewer.specs.Viewing.{done};
+ghost use Rattle.viewer.specs.Going.{forwards, backs, timesTo};
+ghost use Rattle.viewer.specs.Says.{saysHow, saysCame};
+use crate::Came;
+use crate::How;
+use crate::Stand;
+use crate::moving::forward_at;
+use crate::moving::one_more;
+use settings::Asked;
+use settings::Held;
+
+// How going forward ended with so many times left: at the end, if any.
+fn ended(left: usize) -> How
+    ensures { λ r. ⌜ saysHow r ≡ pick (eqb left 0) (gives done) (refuses 23) ⌝ }
+{
+    if left == 0 {
+        return How::Done;
+    }
+    How::AtEnd
+}
+
+// Forward so many times, or to the end. The store is asked only where an odometer leaves the places of the settings that are held; what is
+// held at first is what is in force at place 0.
+fn over(trace: &[u8], from: Stand, first: Held, times: usize) -> Came
+    requires { ⌜ (judged (from .settings) ≡ gives kept) × (first ≡ heldAt (from .settings) 0) ⌝ }
+    ensures { λ r. ⌜ saysCame r ≡ forwards times (now (trace .entry)) from ⌝ }
+{
+    let count = trace.len() / 8;
+    let store = from.settings;
+    let mut held = first;
+    let mut number = from.number;
+    let mut kept = from.kept;
+    let mut now = from.ride;
+    let mut last = from.last;
+    let mut left = times;
+    while (left > 0) & (number < count) {
+        let odometer = ride::odometer_at(trace, number);
+        if settings::leaves(held, odometer) {
+            held = settings::hold(store, held, odometer);
+        }
+        let treated = ride::treat_at(now, held.gap, trace, number);
+        let at = number % 256;
+        last[at] = now;
+        kept = one_more(kept);
+        now = treated.ride;
+        number += 1;
+        left -= 1;
+    }
+    let stand = Stand {
+        number,
+        kept,
+        ride: now,
+        last,
+        settings: store,
+    };
+    Came {
+        stand,
+        how: ended(left),
+    }
+}
+
+// Forward so many times, over the lent trace; it stops at the first refusal.
+pub fn forwards_at(trace: &[u8], stand: Stand, times: usize) -> Came
+    ensures { λ r. ⌜ saysCame r ≡ forwards times (now (trace .entry)) stand ⌝ }
+{
+    if times == 0 {
+        return Came {
+            stand,
+            how: How::Done,
+        };
+    }
+    let store = stand.settings;
+    let asked = settings::at(store, 0);
+    match asked {
+        Asked::Refused(_) => {
+            let went = forward_at(trace, stand);
+            let here = went.stand;
+            let how = went.how;
+            Came { stand: here, how }
+        }
+        Asked::InForce(first) => over(trace, stand, first, times),
+    }
+}
+
+// How many forwards lead to just before the first record at or past the place, with so many records before the viewer; one too many where
+// there is none.
+pub fn times_to(trace: &[u8], number: usize, place: u64) -> usize
+    ensures { λ r. ⌜ r ≡ timesTo place (drop number (records (now (trace .entry)))) ⌝ }
+{
+    let count = trace.len() / 8;
+    let mut i = number;
+    let mut times: usize = 0;
+    while i < count {
+        let odometer = ride::odometer_at(trace, i);
+        if odometer as u64 >= place {
+            return times;
+        }
+        i += 1;
+        times += 1;
+    }
+    times + 1
+}
+
+// How going back so many times ends, with so many states kept.
+fn kept_for(times: usize, kept: usize) -> How
+    ensures { λ r. ⌜ saysHow r ≡ pick (leb times kept) (gives done) (refuses 22) ⌝ }
+{
+    if times <= kept {
+        return How::Done;
+    }
+    How::NothingKept
+}
+
+// The smaller of two.
+fn smaller(a: usize, b: usize) -> usize
+    ensures { λ r. ⌜ r ≡ pick (leb a b) a b ⌝ }
+{
+    if a <= b {
+        return a;
+    }
+    b
+}
+
+// What is left of a number, 0 where it is too small.
+fn less(number: usize, by: usize) -> usize
+    ensures { λ r. ⌜ r ≡ number - by ⌝ }
+{
+    if number <= by {
+        return 0;
+    }
+    number - by
+}
+
+// Back so many times; it stops at the first refusal.
+pub fn backs_at(stand: Stand, times: usize) -> Came
+    ensures { λ r. ⌜ saysCame r ≡ backs times stand ⌝ }
+{
+    let how = kept_for(times, stand.kept);
+    let far = smaller(times, stand.kept);
+    if far == 0 {
+        return Came { stand, how };
+    }
+    let number = less(stand.number, far);
+    let last = stand.last;
+    let settings = stand.settings;
+    let at = number % 256;
+    let ride = last[at];
+    Came {
+        stand: Stand {
+            number,
+            kept: stand.kept - far,
+            ride,
+            last,
+            settings,
+        },
+        how,
+    }
+}
