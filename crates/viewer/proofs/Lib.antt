@@ -1,11 +1,14 @@
 pub mod Calls
+pub mod Walking
 pub mod Turning
+pub mod Beginning
 pub mod Straight
 pub mod Ring
 pub mod Many
 pub mod Places
 pub mod Laws
 pub mod Often
+pub mod Tied
 pub mod Determined
 pub mod Refusals
 pub mod Examples

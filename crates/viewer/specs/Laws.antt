@@ -23,7 +23,9 @@ use Rattle.viewer.specs.Says.{over, saysHow, saysStarted, saysForwarded,
 use Rattle.viewer.specs.Going.{forwards, backs, linesPassed}
 use Rattle.viewer.specs.History.{Plain, first, Call, forth, back, plainly, straight}
 
--- What the contracts allow: `start` answers r, `forward` and `back` of a viewer answer r.
+-- What the contracts allow: `start` answers r, `forward` and `back` of a viewer answer r. The kit states the contract of a function that takes or hands out a struct
+-- with a slice as a formula over what is lent, and a file of specs/ cannot name it: so the clauses stand here again, and proofs/Tied.antt shows that the contracts
+-- ensure them.
 abbrev pub Starts : ℕ → RefT (List ℕ) → Started → Type 0
 Starts gap trace r = saysStarted r ≡ start gap (now trace)
 

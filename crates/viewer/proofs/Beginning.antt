@@ -1,0 +1,80 @@
+-- What the walks of `start` and `start_under` share: the answer and its types, what a slice owns, and that what is made has its type.
+-- Assumes nothing.
+use mathlib.Core.Path.{_≡_, refl, ap, _∙_, subst}
+use Prim.Native.Nat.{ℕ}
+use mathlib.Core.List.{List, [], _∷_}
+use mathlib.Core.Option.{some}
+use denote.Struct.Laws as LL
+use Rattle.viewer.proofs.Walking.{Holds, URA, Lifetime, Ty, Tys, tyStruct, tcons, tnil, named, Val, WT, hasTy, ent, sep, Lft, Fml, fieldAt, Heap, Atoms, sem, Given, Is, u8, RefT, NamedLft, now, namedLft, ShrSlice, shr-slice-tells, shr-slice-copy}
+use Rattle.viewer.specs.Viewing.{Start}
+use Rattle.viewer.specs.Says.{saysOpened, saysStarted}
+use Rattle.viewer.specs.declared.Opened.{Opened}
+use Rattle.viewer.specs.declared.Started.{Started}
+use Rattle.viewer.proofs.Begun.Laws as Begun′
+use Rattle.viewer.proofs.Stand as P
+use Rattle.viewer.proofs.Stand.Laws as P′
+use Rattle.viewer.proofs.Turning.{viewer, StandTy, ViewerTy, offset, slice, is-viewer}
+use Rattle.viewer.proofs.Opened as N
+use Rattle.viewer.proofs.Opened.Laws as N′
+use Rattle.viewer.proofs.Started as R
+use Rattle.viewer.proofs.Started.Laws as R′
+
+-- the type of `begun`, by name
+unfoldable pub BegunTy : Ty
+BegunTy = Begun′.mir
+
+-- where the viewer stands, a struct of the name "viewer::Opened", and the answer, "viewer::Started"
+abbrev pub gaveTys : Tys
+gaveTys = tcons StandTy (tcons BegunTy tnil)
+
+abbrev pub GaveTy : Ty
+GaveTy = tyStruct (118 ∷ 105 ∷ 101 ∷ 119 ∷ 101 ∷ 114 ∷ 58 ∷ 58 ∷ 79 ∷ 112 ∷ 101 ∷ 110 ∷ 101 ∷ 100 ∷ []) gaveTys
+
+abbrev pub AnswerTy : Lifetime → Ty
+AnswerTy l = tyStruct (118 ∷ 105 ∷ 101 ∷ 119 ∷ 101 ∷ 114 ∷ 58 ∷ 58 ∷ 83 ∷ 116 ∷ 97 ∷ 114 ∷ 116 ∷ 101 ∷ 100 ∷ []) (tcons (ViewerTy l) (tcons BegunTy tnil))
+
+pub gave-1 : fieldAt 0 gaveTys 1 ≡ some (BegunTy, offset (fieldAt 0 gaveTys 1))
+unfolding StandTy BegunTy
+gave-1 = refl
+
+-- the answer, of the slice and of where the viewer stands
+abbrev pub answer : RefT (List ℕ) → Opened → Started
+answer s m = record { viewer = viewer s (m .stand); begun = m .begun }
+
+-- what it says
+pub answered : (found : Start) (trace : List ℕ) (s : RefT (List ℕ)) (m : Opened) → saysOpened m trace ≡ found → now s ≡ found .trace → saysStarted (answer s m) ≡ found
+answered found trace s m e h =
+    ap {B = Start} (λ (x : Start). record { answer = x .answer; trace = now s; stand = x .stand }) e
+    ∙ ap {B = Start} (λ (t : List ℕ). record { answer = found .answer; trace = t; stand = found .stand }) h
+
+abbrev pub Got : Opened → Val → Fml
+Got m u = N.the-row .own m (u ∷ [])
+
+-- what a slice owns
+abbrev pub Lent : Lft → RefT (List ℕ) → Val → Fml
+Lent κ x v = ShrSlice (named 0) κ u8 .own x (v ∷ [])
+
+pub slice-is : (κ : Lft) (x : RefT (List ℕ)) (v : Val) → Is (ShrSlice (named 0) κ u8) x (v ∷ []) → Is (ShrSlice (named 0) κ u8) x (slice x ∷ [])
+slice-is κ x v held = subst (λ (vs : List Val). Is (ShrSlice (named 0) κ u8) x vs) (shr-slice-tells (named 0) κ u8 x (v ∷ []) held) held
+
+abbrev pub there : (m : Opened) (u : Val) → Is N.the-row m (u ∷ []) → Is P.the-row (m .stand) (LL.val P.the-type P′.the-laws (m .stand) ∷ [])
+there m u is = LL.owed N.the-type N′.the-laws m _ is .0
+
+module _ {M : Type 1} (𝓤 : URA M) (H : Heap 𝓤) (A : Atoms 𝓤) (W : Given 𝓤 H A) (κ : Lft) where
+  abbrev α : NamedLft
+  α = namedLft 1 0 tt (κ, tt)
+
+  pub again : (s : RefT (List ℕ)) → ent 𝓤 (sem 𝓤 H A (Lent κ s (slice s))) (sep 𝓤 (sem 𝓤 H A (Lent κ s (slice s))) (sem 𝓤 H A (Lent κ s (slice s))))
+  again s = shr-slice-copy 𝓤 H A W (named 0) κ u8 .twice s (slice s ∷ [])
+
+  -- what is made has its type
+  pub typed-gave : (m : Opened) (u : Val) → Is N.the-row m (u ∷ []) → Holds (hasTy GaveTy u) × WT u
+  unfolding StandTy BegunTy
+  typed-gave m u is = LL.lawful N.the-type N′.the-laws 𝓤 H A W .typed m _ is .0
+
+  pub typed-answer : (m : Opened) (u : Val) → Is N.the-row m (u ∷ []) → (x : RefT (List ℕ)) → Is (ShrSlice (named 0) κ u8) x (slice x ∷ [])
+      → Holds (hasTy (AnswerTy (named 0)) (LL.val (R.the-type α) (R′.the-laws α) (answer x m))) × WT (LL.val (R.the-type α) (R′.the-laws α) (answer x m))
+  unfolding StandTy BegunTy
+  typed-answer m u is x g =
+      LL.lawful (R.the-type α) (R′.the-laws α) 𝓤 H A W .typed (answer x m) _
+      (LL.owes (R.the-type α) (R′.the-laws α) (answer x m) (is-viewer 𝓤 H A W α (named 0) x (m .stand) g (there m u is), LL.owed N.the-type N′.the-laws m _ is .1)) .0
