@@ -22,6 +22,6 @@ pub after-a-signal : state 3 12 3 (record { odometer = 5000; group = noGroup; kn
 unfolding state place group linking speed figure speeds decimal digits noGroup
 after-a-signal = refl
 
-pub letters : (command (codes "f") ≡ Command.Forward 1) × (command (codes "b 20") ≡ Command.Back 20) × (command (codes "g 1200") ≡ Command.Go 1200) × (command (codes "q") ≡ Command.Quit) × (command (codes "g 0") ≡ Command.Unknown)
+pub letters : (command (codes "f") ≡ Command.Forward 1) × (command (codes "b 20") ≡ Command.Back 20) × (command (codes "g 1200") ≡ Command.Go 1199) × (command (codes "q") ≡ Command.Quit) × (command (codes "g 0") ≡ Command.Unknown)
 unfolding command by alone figures allDigits continued
 letters = (refl, refl, refl, refl, refl)

@@ -1,7 +1,7 @@
 -- The commands of the program `view`, a line each without its newline: a letter, and after a space a number where one is asked for.
--- It asks (`Command`) for so many records forward or back, to go to just before a record, forward to a place, the end, or nothing that is known.
+-- It asks (`Command`) for so many records forward or back, to go to where so many lie before, forward to a place, the end, or nothing that is known.
 -- Assumes nothing.
-use Prim.Native.Nat.{ℕ}
+use Prim.Native.Nat.{ℕ, _-_}
 use mathlib.Core.List.{List, [], _∷_}
 use lib.Dec.{eqb}
 use Rattle.words.specs.Answer.{pick}
@@ -13,12 +13,12 @@ use Rattle.shown.specs.declared.commands.Command.{Command}
 abbrev pub largest : ℕ
 largest = 18446744073709551615
 
--- A command by its letter, with the number after it. Record 0 is none, so `g 0` asks for nothing.
+-- A command by its letter, with the number after it. Just before record n lie n - 1; record 0 is none, so `g 0` asks for nothing.
 unfoldable pub by : ℕ → ℕ → Command
 by letter n =
     pick (eqb letter 102) (Command.Forward n)
     (pick (eqb letter 98) (Command.Back n)
-    (pick (eqb letter 103) (pick (eqb n 0) Command.Unknown (Command.Go n))
+    (pick (eqb letter 103) (pick (eqb n 0) Command.Unknown (Command.Go (n - 1)))
     (pick (eqb letter 112) (Command.Place n)
     Command.Unknown)))
 

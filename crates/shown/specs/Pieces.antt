@@ -1,4 +1,5 @@
--- The lines cut at their newlines: each piece begins with the newline of the line before. The code puts them so.
+-- Not for callers: what the private functions of src/lines.rt put, which a contract can cite from specs/ alone. The lines of Text.antt, cut so that each piece but the
+-- first begins with the newline of the line before: then words and a number are one call. That they come to `state` of Text.antt is `state-is` (proofs/Pieces.antt).
 -- Assumes nothing.
 use Prim.Native.Nat.{ℕ}
 use mathlib.Core.List.{List, _++_}
@@ -12,10 +13,12 @@ use Rattle.ride.specs.State.{isOpen}
 use Rattle.ride.specs.Closing.{firstPlace}
 use Rattle.shown.specs.Text.{speed, figure}
 
+-- `place` without its last newline.
 unfoldable pub onPlace : ℕ → ℕ → ℕ → ℕ → List ℕ
 onPlace number count kept odometer =
     (codes "" ++ decimal number) ++ (codes " of " ++ decimal count) ++ (codes ", kept " ++ decimal kept) ++ (codes "\n  odometer " ++ decimal odometer)
 
+-- `group`, with the newline before it and not after it; so are the others.
 unfoldable pub onGroup : Group → List ℕ
 onGroup g =
     pick (isOpen g)

@@ -3,7 +3,7 @@ ghost use mathlib.Core.Path.{_≡_};
 ghost use Rattle.shown.specs.Commands.{by, alone, command};
 use arguments::Figure;
 
-// What a line asks for: so many records forward or back, to just before a record, forward to a place, the end, or nothing that is known.
+// What a line asks for: so many records forward or back, to where so many lie before, forward to a place, the end, or nothing that is known.
 pub enum Command {
     Forward(u64),
     Back(u64),
@@ -27,7 +27,7 @@ fn by(letter: u8, n: u64) -> Command
         if n == 0 {
             return Command::Unknown;
         }
-        return Command::Go(n);
+        return Command::Go(n - 1);
     }
     if letter == b'p' {
         return Command::Place(n);

@@ -1,110 +1,80 @@
-// Many records forward or back at once. The last states are a local while it goes, so that no record costs a copy of them all.
+// Going as a command asks, and the lines of the records that are passed.
+ghost use Prim.Native.Nat.{_+_, _/_, _<_, _≤_};
+ghost use lib.ListN.{length};
 use crate::out;
-use ride::Reply;
-use settings::Asked;
-use settings::Held;
-use viewer::How;
+use listing::Done;
+use ride::Ride;
+use settings::Store;
+use viewer::Came;
 use viewer::Stand;
 
-// Where going ends: where the viewer stands, and the number of the refusal that stopped it, or 0.
-pub struct Gone {
-    pub stand: Stand,
-    pub refused: u8,
-}
-
-// One more, as far as numbers go.
-fn one_more(number: usize) -> usize {
-    if number < usize::MAX {
-        return number + 1;
+// The smaller of two.
+fn smaller(a: usize, b: usize) -> usize
+    ensures { λ r. ⌜ (r ≤ a) × (r ≤ b) ⌝ }
+{
+    if a < b {
+        return a;
     }
-    number
+    b
 }
 
-// How many records lie between two numbers.
-fn between(number: usize, until: usize) -> usize {
-    if until > number {
-        return until - number;
+// Where a block ends: 512 records on, for whose lines the buffer surely has room, or at the last.
+fn end_of(number: usize, to: usize) -> usize
+    requires { ⌜ number < to ⌝ }
+    ensures { λ r. ⌜ (number < r) × (r ≤ to) ⌝ }
+{
+    if to - number > 512 {
+        return number + 512;
     }
-    0
+    to
 }
 
-// Forward with the settings that are held at first, until so many records lie before the viewer or the next one is at or past the place.
-fn with(trace: &[u8], from: Stand, first: Held, until: usize, place: u64) -> Gone {
-    let count = trace.len() / 8;
+// Writes the lines of some records, the first with this number, in this state; the state after them.
+fn write_block(ride: Ride, store: Store, number: u64, records: &[u8], out: &mut [u8]) -> Ride {
+    let listed = listing::list_under(ride, store, number, records, out);
+    let done = listed.done;
+    let after = listed.ride;
+    let Done::Took { records: _, bytes } = done else {
+        return after;
+    };
+    out::write(out, bytes);
+    after
+}
+
+// Writes the lines of the records that were passed, from where a viewer stood.
+fn write_passed(trace: &[u8], from: Stand, number: usize) {
+    let to = smaller(number, trace.len() / 8);
     let store = from.settings;
     let mut out = io::large_buffer();
-    let mut at: usize = 0;
-    let mut held = first;
-    let mut number = from.number;
-    let mut kept = from.kept;
-    let mut now = from.ride;
-    let mut last = from.last;
-    let mut refused: u8 = 0;
-    let mut left = between(number, until);
-    while left > 0 {
-        if number >= count {
-            refused = 23;
-            break;
-        }
-        let odometer = ride::odometer_at(trace, number);
-        if odometer as u64 >= place {
-            break;
-        }
-        if settings::leaves(held, odometer) {
-            held = settings::hold(store, held, odometer);
-        }
-        let treated = ride::treat_at(now, held.gap, trace, number);
-        let reply = treated.reply;
-        let Reply::Record(given) = reply else {
-            break;
-        };
-        at = out::add_given(one_more(number) as u64, given, &mut out, at);
-        let i = number % 256;
-        last[i] = now;
-        if kept < 256 {
-            kept += 1;
-        }
-        now = treated.ride;
-        number = one_more(number);
-        left -= 1;
-    }
-    out::write(&out, at);
-    Gone {
-        stand: Stand {
-            number,
-            kept,
-            ride: now,
-            last,
-            settings: store,
-        },
-        refused,
+    let mut ride = from.ride;
+    let mut at = from.number;
+    while at < to {
+        let end = end_of(at, to);
+        let first = at as u64 + 1;
+        ride = write_block(ride, store, first, &trace[at * 8..end * 8], &mut out);
+        at = end;
     }
 }
 
-// Forward, and writes the lines of the records that are passed.
-pub fn forth(trace: &[u8], from: Stand, until: usize, place: u64) -> Gone {
-    let store = from.settings;
-    match settings::at(store, 0) {
-        Asked::InForce(first) => with(trace, from, first, until, place),
-        Asked::Refused(_) => Gone {
-            stand: from,
-            refused: 0,
-        },
-    }
+// Forward so often, and writes the lines of the records that are passed.
+pub fn forth(trace: &[u8], from: Stand, times: usize) -> Came {
+    let came = viewer::forwards_at(trace, from, times);
+    let stand = came.stand;
+    write_passed(trace, from, stand.number);
+    came
 }
 
-// Back so often; it stops where no state is kept.
-pub fn back(from: Stand, times: u64) -> Gone {
-    let mut stand = from;
-    let mut left = times;
-    while left > 0 {
-        let came = viewer::back_at(stand);
-        stand = came.stand;
-        let how = came.how;
-        let How::Done = how else {
-            return Gone { stand, refused: 22 };
-        };
-        left -= 1;
+// Forward to the first record at or past the place.
+pub fn to_place(trace: &[u8], from: Stand, place: u64) -> Came {
+    let times = viewer::times_to(trace, from.number, place);
+    forth(trace, from, times)
+}
+
+// To where so many records lie before the viewer.
+pub fn to_number(trace: &[u8], from: Stand, before: usize) -> Came {
+    let number = from.number;
+    if before < number {
+        return viewer::backs_at(from, number - before);
     }
-    Gone { stand, refused: 0 }
+    forth(trace, from, before - number)
 }

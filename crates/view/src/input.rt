@@ -61,13 +61,13 @@ pub fn next(buf: &mut [u8]) -> Line
     let mut turns = u64::MAX;
     while turns > 0 {
         let got = read_one();
-        if got.is_end {
+        if got.is_end & (count == 0) {
             return Line {
-                count,
-                is_end: count == 0,
+                count: 0,
+                is_end: true,
             };
         }
-        if got.byte == b'\n' {
+        if got.is_end | (got.byte == b'\n') {
             break;
         }
         count = keep(got.byte, buf, count);

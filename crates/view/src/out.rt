@@ -3,10 +3,8 @@ use libc::STDERR_FILENO;
 use libc::STDIN_FILENO;
 use libc::STDOUT_FILENO;
 use listing::Put;
-use ride::Given;
 use ride::Line;
-use ride::Lines;
-use ride::Wrong;
+use viewer::How;
 use viewer::Stand;
 
 // Writes the first bytes of the buffer.
@@ -26,55 +24,22 @@ pub fn refuse_trace() {
     write(&line, n);
 }
 
-// The line after those that stand in the buffer; where it has no room, they are written first. The place after it.
-pub fn add(line: Line, buf: &mut [u8], at: usize) -> usize {
-    match listing::put_line(line, buf, at) {
-        Put::Next(next) => next,
-        Put::NoRoom => {
-            write(buf, at);
-            match listing::put_line(line, buf, 0) {
-                Put::Next(next) => next,
-                Put::NoRoom => 0,
-            }
-        }
-    }
-}
-
-// The lines in order.
-fn add_lines(lines: Lines, buf: &mut [u8], at: usize) -> usize {
-    match lines {
-        Lines::None => at,
-        Lines::One(a) => add(a, buf, at),
-        Lines::Two(a, b) => {
-            let next = add(a, buf, at);
-            add(b, buf, next)
-        }
-    }
-}
-
-// The number of a refusal.
-fn refusal(wrong: Wrong) -> u8 {
-    match wrong {
-        Wrong::Malformed => 16,
-        Wrong::TooHigh => 18,
-        Wrong::TooLow => 17,
-    }
-}
-
-// The lines of the record with this number: those that it gives, or that it was refused.
-pub fn add_given(number: u64, given: Given, buf: &mut [u8], at: usize) -> usize {
-    match given {
-        Given::Refused(wrong) => add(Line::Record(number, refusal(wrong)), buf, at),
-        Given::Lines(lines) => add_lines(lines, buf, at),
-    }
-}
-
 // `refused 22`.
-pub fn refuse(number: u8) {
+fn refuse(number: u8) {
     let mut line = [0u8; 64];
     let a = text::put_number(b"refused ", number as u64, &mut line, 0);
     let b = text::put(b"\n", &mut line, a);
     write(&line, b);
+}
+
+// The refusal that stopped a move, if there was one: an opened viewer's settings are good, so 22 or 23.
+pub fn tell(how: How) {
+    match how {
+        How::Done => {}
+        How::NothingKept => refuse(22),
+        How::AtEnd => refuse(23),
+        How::Settings(_) => {}
+    }
 }
 
 // Where the viewer stands, of so many records.

@@ -1,45 +1,21 @@
 // A session: where the viewer stands is shown at the start and after each command.
 ghost use mathlib.Core.Path.{_≡_};
-use crate::going::Gone;
-use crate::going::back;
 use crate::going::forth;
+use crate::going::to_number;
+use crate::going::to_place;
 use crate::input;
 use crate::out;
 use settings::Store;
 use shown::Command;
 use viewer::Begun;
+use viewer::Came;
 use viewer::Stand;
 
-// A place that no odometer reaches.
-const NOWHERE: u64 = 4294967296;
-
-// The number after so many more records, as far as numbers go.
-fn ahead(number: usize, times: u64) -> usize {
-    if times > u64::MAX - number as u64 {
-        return usize::MAX;
-    }
-    number + times as usize
-}
-
-// To just before the record with this number, the first with 1.
-fn go_to(trace: &[u8], stand: Stand, record: u64) -> Gone {
-    let number = stand.number as u64;
-    if record == 0 {
-        return Gone { stand, refused: 0 };
-    }
-    let before = record - 1;
-    if before < number {
-        return back(stand, number - before);
-    }
-    forth(trace, stand, before as usize, NOWHERE)
-}
-
 // Where a move ended: the refusal that stopped it, and where the viewer stands.
-fn tell(gone: Gone, count: usize) -> Stand {
-    let stand = gone.stand;
-    if gone.refused > 0 {
-        out::refuse(gone.refused);
-    }
+fn tell(came: Came, count: usize) -> Stand {
+    let stand = came.stand;
+    let how = came.how;
+    out::tell(how);
     out::show(stand, count);
     stand
 }
@@ -48,13 +24,10 @@ fn tell(gone: Gone, count: usize) -> Stand {
 fn obey(trace: &[u8], stand: Stand, command: Command) -> Stand {
     let count = trace.len() / 8;
     match command {
-        Command::Forward(times) => {
-            let until = ahead(stand.number, times);
-            tell(forth(trace, stand, until, NOWHERE), count)
-        }
-        Command::Back(times) => tell(back(stand, times), count),
-        Command::Go(record) => tell(go_to(trace, stand, record), count),
-        Command::Place(place) => tell(forth(trace, stand, usize::MAX, place), count),
+        Command::Forward(times) => tell(forth(trace, stand, times as usize), count),
+        Command::Back(times) => tell(viewer::backs_at(stand, times as usize), count),
+        Command::Go(before) => tell(to_number(trace, stand, before as usize), count),
+        Command::Place(place) => tell(to_place(trace, stand, place), count),
         Command::Quit => stand,
         Command::Unknown => {
             out::help();
