@@ -25,6 +25,7 @@ pub mod Spelled
 pub mod StoreRules
 pub mod Explaining
 pub mod Stores
+pub mod ManyCalls
 pub mod Viewing
 pub mod Plans
 pub mod Demand1
