@@ -1,3 +1,4 @@
 pub mod Characters
 pub mod Determined
 pub mod Examples
+pub mod Largest

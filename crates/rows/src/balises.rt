@@ -1,7 +1,8 @@
 // A balise as a group's line writes it, as what was heard: X.Y.Z and 12nN are written by the crate `words`, words in hex
 // stand as they are.
-use crate::fields;
-use crate::fields::Spelt;
+use crate::spelling;
+use arguments::Byte;
+use arguments::Figure;
 use group::Heard;
 use words::LongWritten;
 use words::ShortWritten;
@@ -20,7 +21,7 @@ enum Short {
 
 // The short word of the figure that a text spells.
 fn sent(text: &[u8]) -> Short {
-    match words::write_short(fields::figure(text)) {
+    match words::write_short(spelling::figure(text)) {
         ShortWritten::Word(w) => Short::Word(w),
         ShortWritten::TooLarge => Short::Nothing,
     }
@@ -28,18 +29,10 @@ fn sent(text: &[u8]) -> Short {
 
 // The short word that two hexadecimal digits spell.
 fn received(text: &[u8]) -> Short {
-    if text.len() != 2 {
-        return Short::Nothing;
+    match arguments::hex(text) {
+        Byte::Is(w) => Short::Word(w),
+        Byte::Odd => Short::Nothing,
     }
-    let high = fields::digit(text[0]);
-    let low = fields::digit(text[1]);
-    if 15 < high {
-        return Short::Nothing;
-    }
-    if 15 < low {
-        return Short::Nothing;
-    }
-    Short::Word((high * 16 + low) as u8)
 }
 
 // Three words as one balise's.
@@ -58,7 +51,7 @@ fn words_of(x: Short, y: Short, z: Short) -> Meant {
 
 // The number balise that 12nN writes.
 fn number(text: &[u8]) -> Meant {
-    let Spelt::Number(n) = fields::number(fields::field(text, b'n', 1)) else {
+    let Figure::Number(n) = arguments::decimal(fields::field(text, b'n', 1), 65535) else {
         return Meant::Nothing;
     };
     if 65535 < n {

@@ -1,17 +1,17 @@
 // Table DF: a line holds BY, the figure, the cell in metres as the text shows it, and the decimetres it means or NA.
-use crate::fields;
-use crate::fields::Spelt;
 use crate::say;
+use crate::spelling;
 use crate::tally;
 use crate::tally::Tally;
+use arguments::Figure;
 use check::same;
 use group::Measured;
 
-// Whether a cell in metres, with or without a tenth behind a comma, shows these decimetres.
-fn shows(cell: &[u8], dm: u32) -> bool {
-    let whole = fields::spells(fields::field(cell, b',', 0), dm / 10);
+// Whether a cell in metres, with or without a tenth after a comma, shows these decimetres.
+fn shows(cell: &[u8], dm: u64) -> bool {
+    let whole = spelling::spells(fields::field(cell, b',', 0), dm / 10);
     if fields::has(cell, b',') {
-        whole & fields::spells(fields::field(cell, b',', 1), dm % 10)
+        whole & spelling::spells(fields::field(cell, b',', 1), dm % 10)
     } else {
         whole & (dm % 10 == 0)
     }
@@ -19,9 +19,10 @@ fn shows(cell: &[u8], dm: u32) -> bool {
 
 // Whether the cell had to be put right: it does not show what it means.
 fn is_put_right(cell: &[u8], means: &[u8]) -> bool {
-    match fields::number(means) {
-        Spelt::Number(dm) => !shows(cell, dm),
-        Spelt::Nothing => !same(cell, means),
+    match arguments::decimal(means, 9999999) {
+        Figure::Number(dm) => !shows(cell, dm),
+        Figure::Above => !same(cell, means),
+        Figure::Odd => !same(cell, means),
     }
 }
 
@@ -35,7 +36,7 @@ fn begin(by: u8, figure: u8) {
 fn is_so(by: u8, figure: u8, means: &[u8]) -> bool {
     match group::distance(by, figure) {
         Measured::Dm(dm) => {
-            let so = fields::spells(means, dm);
+            let so = spelling::spells(means, dm as u64);
             if !so {
                 begin(by, figure);
                 say::number(b": ", dm);
@@ -57,8 +58,8 @@ fn is_so(by: u8, figure: u8, means: &[u8]) -> bool {
 
 // One entry, counted. The table goes figure by figure from 0, and for each BY by BY.
 pub fn entry(before: Tally, line: &[u8]) -> Tally {
-    let by = fields::figure(fields::field(line, b'\t', 0));
-    let figure = fields::figure(fields::field(line, b'\t', 1));
+    let by = spelling::figure(fields::field(line, b'\t', 0));
+    let figure = spelling::figure(fields::field(line, b'\t', 1));
     if figure as u32 * 15 + by as u32 != before.compared {
         return tally::out_of_place(before, line);
     }

@@ -1,6 +1,5 @@
 // The program's files: an entry a line, but for comments, which begin with #.
 use crate::distances;
-use crate::fields;
 use crate::groups;
 use crate::speeds;
 use crate::tally;
@@ -36,7 +35,7 @@ fn lines(file: File, text: &[u8]) -> Tally {
     let mut t = tally::none();
     let mut at = 0;
     while at < text.len() {
-        let end = fields::next_of(text, at, b'\n');
+        let end = fields::place_of(text, at, b'\n');
         t = line(file, t, &text[at..end]);
         at = end + 1;
     }

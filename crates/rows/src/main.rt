@@ -1,16 +1,16 @@
-// Holds the crate `group` against tables DF, HS and FS of source 000 and groups worked out from document 01, in three files named to it.
+// Compares the crate `group` with tables DF, HS and FS of source 000 and groups worked out from document 01, in three files named to it.
 // Promises: it is safe and it ends; it writes each answer, a line for each difference, and counts, compared with the file stdout beside it.
-// Specification: none of its own; the tables as the scan shows them, and the groups worked out by hand.
+// Specification: specs/Spelling.antt (the numbers that fields spell), specs/Counting.antt; the tables as the scan shows them, and the groups worked out by hand.
 ghost use Rattle.io.specs.Counts.{Counts};
 
 mod answers;
 mod balises;
 mod distances;
-mod fields;
 mod files;
 mod groups;
 mod say;
 mod speeds;
+mod spelling;
 mod tally;
 
 use files::File;

@@ -1,7 +1,7 @@
 // Tables HS and FS: a line holds the table's name, the figure, the cell in km/h as the text shows it, and the km/h it means
 // or `none` for no information.
-use crate::fields;
 use crate::say;
+use crate::spelling;
 use crate::tally;
 use crate::tally::Tally;
 use check::same;
@@ -11,7 +11,7 @@ use group::Told;
 fn is_so(figure: u8, means: &[u8]) -> bool {
     match group::speed(figure) {
         Told::Kmh(v) => {
-            let so = fields::spells(means, v as u32);
+            let so = spelling::spells(means, v as u64);
             if !so {
                 say::number(b"figure ", figure as u32);
                 say::number(b": ", v as u32);
@@ -33,7 +33,7 @@ fn is_so(figure: u8, means: &[u8]) -> bool {
 
 // One entry, counted. The tables go figure by figure from 0 to 14, one after the other.
 pub fn entry(before: Tally, line: &[u8]) -> Tally {
-    let figure = fields::figure(fields::field(line, b'\t', 1));
+    let figure = spelling::figure(fields::field(line, b'\t', 1));
     if figure as u32 != before.compared % 15 {
         return tally::out_of_place(before, line);
     }

@@ -1,35 +1,32 @@
 // What is counted over a file's entries.
+ghost use mathlib.Core.Path.{_≡_};
+ghost use Rattle.rows.specs.Counting.{noEntries, oneEntry};
 use crate::say;
+use fields::more;
 
 pub struct Tally {
     pub compared: u32,
-    pub put_right: u32,
+    pub righted: u32,
     pub differences: u32,
 }
 
-pub fn none() -> Tally {
+pub fn none() -> Tally
+    ensures { λ r. ⌜ r ≡ noEntries ⌝ }
+{
     Tally {
         compared: 0,
-        put_right: 0,
+        righted: 0,
         differences: 0,
     }
 }
 
-// One more than n where it holds. No run comes near the end of the numbers.
-fn more(n: u32, holds: bool) -> u32 {
-    if n < 4000000000 {
-        if holds {
-            return n + 1;
-        }
-    }
-    n
-}
-
 // An entry, by whether what the scan shows was put right, and whether it came as it must.
-pub fn entry(t: Tally, put_right: bool, so: bool) -> Tally {
+pub fn entry(t: Tally, righted: bool, so: bool) -> Tally
+    ensures { λ r. ⌜ r ≡ oneEntry t righted so ⌝ }
+{
     Tally {
         compared: more(t.compared, true),
-        put_right: more(t.put_right, put_right),
+        righted: more(t.righted, righted),
         differences: more(t.differences, !so),
     }
 }
@@ -55,7 +52,7 @@ pub fn end_line(so: bool, wanted: &[u8]) {
 pub fn tell_table(name: &[u8], t: Tally) {
     say::text(name);
     say::number(b": entries ", t.compared);
-    say::number(b", put right ", t.put_right);
+    say::number(b", put right ", t.righted);
     say::number(b", differences ", t.differences);
     say::text(b"\n");
 }

@@ -1,6 +1,5 @@
 pub mod Determined
 pub mod Examples
-pub mod Figures
 pub mod Giving
 pub mod Lines
 pub mod Pieces

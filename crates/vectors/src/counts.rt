@@ -1,52 +1,58 @@
 // What is counted over table NR, and how it is told.
+ghost use mathlib.Core.Path.{_≡_};
+ghost use Rattle.vectors.specs.Counting.{noCells, noCounts, oneMore, missed, readableCell, rightCell, misreadCell, unreadableCell, anyCell, unknownLine};
 use crate::say;
-use crate::say::more;
+use fields::more;
 
 // How the word of a cell was found: written so, read so by the checks, read so by the list.
 pub struct Found {
     pub written: bool,
-    pub by_checks: bool,
-    pub by_list: bool,
+    pub checked: bool,
+    pub listed: bool,
 }
 
 // The cells of one kind, and how many of them were found so.
-struct Cells {
-    all: u32,
-    written: u32,
-    by_checks: u32,
-    by_list: u32,
+pub struct Cells {
+    pub all: u32,
+    pub written: u32,
+    pub checked: u32,
+    pub listed: u32,
 }
 
+// What was counted. Of the misread ones, what the scan shows was refused by the checks, and is absent from the list; `next` is the figure that stands next.
 pub struct Counts {
-    cells: u32,
-    readable: Cells,
-    right: Cells,
-    misread: u32,
-    refused: u32,
-    refused_by_list: u32,
-    unreadable: u32,
-    differences: u32,
-    // the figure that stands next
+    pub cells: u32,
+    pub readable: Cells,
+    pub right: Cells,
+    pub misread: u32,
+    pub refused: u32,
+    pub absent: u32,
+    pub unreadable: u32,
+    pub differences: u32,
     pub next: u32,
 }
 
-fn no_cells() -> Cells {
+fn no_cells() -> Cells
+    ensures { λ r. ⌜ r ≡ noCells ⌝ }
+{
     Cells {
         all: 0,
         written: 0,
-        by_checks: 0,
-        by_list: 0,
+        checked: 0,
+        listed: 0,
     }
 }
 
-pub fn none() -> Counts {
+pub fn none() -> Counts
+    ensures { λ r. ⌜ r ≡ noCounts ⌝ }
+{
     Counts {
         cells: 0,
         readable: no_cells(),
         right: no_cells(),
         misread: 0,
         refused: 0,
-        refused_by_list: 0,
+        absent: 0,
         unreadable: 0,
         differences: 0,
         next: 0,
@@ -54,25 +60,33 @@ pub fn none() -> Counts {
 }
 
 // One cell more of a kind.
-fn one_more(cells: Cells, found: Found) -> Cells {
+fn one_more(cells: Cells, found: Found) -> Cells
+    ensures { λ r. ⌜ r ≡ oneMore cells found ⌝ }
+{
     Cells {
         all: more(cells.all, true),
         written: more(cells.written, found.written),
-        by_checks: more(cells.by_checks, found.by_checks),
-        by_list: more(cells.by_list, found.by_list),
+        checked: more(cells.checked, found.checked),
+        listed: more(cells.listed, found.listed),
     }
 }
 
 // How often a word was not found as it should be, added to the differences.
-fn missed(differences: u32, found: Found) -> u32 {
-    more(
-        more(more(differences, !found.written), !found.by_checks),
-        !found.by_list,
-    )
+fn missed(differences: u32, found: Found) -> u32
+    ensures { λ r. ⌜ r ≡ missed differences found ⌝ }
+{
+    let written = found.written;
+    let checked = found.checked;
+    let listed = found.listed;
+    let unwritten = more(differences, !written);
+    let unchecked = more(unwritten, !checked);
+    more(unchecked, !listed)
 }
 
 // A readable cell, by how its word was found.
-pub fn readable(counts: Counts, found: Found) -> Counts {
+pub fn readable(counts: Counts, found: Found) -> Counts
+    ensures { λ r. ⌜ r ≡ readableCell counts found ⌝ }
+{
     let mut c = counts;
     let cells = c.readable;
     c.readable = one_more(cells, found);
@@ -81,7 +95,9 @@ pub fn readable(counts: Counts, found: Found) -> Counts {
 }
 
 // A cell that was put right, by how its word was found.
-pub fn right(counts: Counts, found: Found) -> Counts {
+pub fn right(counts: Counts, found: Found) -> Counts
+    ensures { λ r. ⌜ r ≡ rightCell counts found ⌝ }
+{
     let mut c = counts;
     let cells = c.right;
     c.right = one_more(cells, found);
@@ -90,34 +106,42 @@ pub fn right(counts: Counts, found: Found) -> Counts {
 }
 
 // A cell that the scan misreads, by whether what it shows was refused by the checks and by the list.
-pub fn misread(counts: Counts, refused: bool, by_list: bool) -> Counts {
+pub fn misread(counts: Counts, refused: bool, absent: bool) -> Counts
+    ensures { λ r. ⌜ r ≡ misreadCell counts refused absent ⌝ }
+{
     let mut c = counts;
     c.misread = more(c.misread, true);
     c.refused = more(c.refused, refused);
-    c.refused_by_list = more(c.refused_by_list, by_list);
+    c.absent = more(c.absent, absent);
     c.differences = more(c.differences, !refused);
-    c.differences = more(c.differences, !by_list);
+    c.differences = more(c.differences, !absent);
     c
 }
 
 // A cell that shows no word.
-pub fn unreadable(counts: Counts) -> Counts {
+pub fn unreadable(counts: Counts) -> Counts
+    ensures { λ r. ⌜ r ≡ unreadableCell counts ⌝ }
+{
     let mut c = counts;
     c.unreadable = more(c.unreadable, true);
     c
 }
 
 // A cell of whatever kind, by whether its figure is the next one.
-pub fn cell(counts: Counts, figure: u16, is_next: bool) -> Counts {
+pub fn cell(counts: Counts, figure: u16, isnext: bool) -> Counts
+    ensures { λ r. ⌜ r ≡ anyCell counts figure isnext ⌝ }
+{
     let mut c = counts;
     c.cells = more(c.cells, true);
-    c.differences = more(c.differences, !is_next);
+    c.differences = more(c.differences, !isnext);
     c.next = more(figure as u32, true);
     c
 }
 
 // A line that is no cell.
-pub fn unknown(counts: Counts) -> Counts {
+pub fn unknown(counts: Counts) -> Counts
+    ensures { λ r. ⌜ r ≡ unknownLine counts ⌝ }
+{
     let mut c = counts;
     c.differences = more(c.differences, true);
     c
@@ -131,8 +155,8 @@ fn tell_cells(kind: &[u8], so: &[u8], cells: Cells) {
     say::number(b" ", cells.written);
     say::text(b", read");
     say::text(so);
-    say::number(b" by the checks ", cells.by_checks);
-    say::number(b", by the list ", cells.by_list);
+    say::number(b" by the checks ", cells.checked);
+    say::number(b", by the list ", cells.listed);
     say::text(b"\n");
 }
 
@@ -148,7 +172,7 @@ pub fn tell(c: Counts) {
         b" of these, what it shows refused with 1 by the checks ",
         c.refused,
     );
-    say::number(b", by the list ", c.refused_by_list);
+    say::number(b", by the list ", c.absent);
     say::number(b"\nunreadable: ", c.unreadable);
     say::number(b"\ndifferences: ", c.differences);
     say::text(b"\n");

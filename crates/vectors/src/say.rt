@@ -22,13 +22,3 @@ pub fn short_word(s: &[u8], word: u8) {
     text(s);
     io::print_hex(STDOUT_FILENO, word as u64, 2);
 }
-
-// One more than n where it holds. No run comes near the end of the numbers.
-pub fn more(n: u32, holds: bool) -> u32 {
-    if n < 4000000000 {
-        if holds {
-            return n + 1;
-        }
-    }
-    n
-}

@@ -74,8 +74,8 @@ fn is_refused(figure: u16, word: u16, read: LongRead, by: &[u8]) -> bool {
 fn find(figure: u16, word: u16) -> Found {
     Found {
         written: is_written(figure, word),
-        by_checks: is_read(figure, word, words::read_long(word), b", by the checks"),
-        by_list: is_read(figure, word, printed::read_long(word), b", by the list"),
+        checked: is_read(figure, word, words::read_long(word), b", by the checks"),
+        listed: is_read(figure, word, printed::read_long(word), b", by the list"),
     }
 }
 
@@ -132,7 +132,7 @@ pub fn compare(text: &[u8]) {
     let mut c = counts::none();
     let mut at = 0;
     while at < text.len() {
-        let end = cells::next_of(text, at, b'\n');
+        let end = fields::place_of(text, at, b'\n');
         c = line(c, &text[at..end]);
         at = end + 1;
     }

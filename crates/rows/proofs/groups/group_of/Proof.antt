@@ -1,7 +1,9 @@
 -- What is left of the text falls.
-use Prim.Native.Nat.{_-_}
+use Prim.Native.Nat.{_+_, _-_, _≤_}
+use native.Mathlib.Omega.{arith}
 use lib.ListN.{length}
 use borrow.Author.Needs.{needs}
+use Rattle.fields.proofs.Signs.{found-within}
 use Rattle.rows.proofs.groups.group_of.Statement.{statement}
 use Rattle.rows.proofs.groups.group_of.Tie as tie
 
@@ -11,23 +13,32 @@ Inv-loop text group₀ at₀ group at = Unit {0}
 abbrev μ-loop : tie.MeasureT-loop
 μ-loop text group₀ at₀ group at = length text - at
 
+-- where the sign was found
+found : (p : tie.After-place-of Inv-loop μ-loop) →
+    let l = p .before .before in
+    let t = l .before .before .before .args .text .now in
+    (l .loop .at ≤ p .place-of .result) × (p .place-of .result ≤ l .loop .at + (length t - l .loop .at))
+found p =
+    let l = p .before .before in
+    found-within 32 (l .before .before .before .args .text .now) (l .loop .at) (p .place-of .result) (p .place-of .ensures)
+
 empty-requires : tie.Need-empty-requires Inv-loop μ-loop
 empty-requires c κs = search needs
 
 loop-holds : tie.Need-loop-holds Inv-loop μ-loop
 loop-holds c = search needs
 
-next-of-requires : tie.Need-next-of-requires Inv-loop μ-loop
-next-of-requires c κs = search needs
+place-of-requires : tie.Need-place-of-requires Inv-loop μ-loop
+place-of-requires c κs = search needs
 
 sub-heard-of : tie.Need-sub-heard-of Inv-loop μ-loop
-sub-heard-of c = search needs
+sub-heard-of c = omega (arith, found c)
 
 part-heard-of-start : tie.Need-part-heard-of-start Inv-loop μ-loop
-part-heard-of-start c = search needs
+part-heard-of-start c = omega (arith, found c)
 
 part-heard-of-end : tie.Need-part-heard-of-end Inv-loop μ-loop
-part-heard-of-end c = search needs
+part-heard-of-end c = omega (arith, found c)
 
 heard-of-requires : tie.Need-heard-of-requires Inv-loop μ-loop
 heard-of-requires c κs = search needs
@@ -45,10 +56,10 @@ joined-requires : tie.Need-joined-requires Inv-loop μ-loop
 joined-requires c κs = search needs
 
 add-at : tie.Need-add-at Inv-loop μ-loop
-add-at c = search needs
+add-at c = omega (arith, found (c .before .before .before .before .before .before))
 
 loop-less : tie.Need-loop-less Inv-loop μ-loop
-loop-less c = search needs
+loop-less c = omega (arith, found (c .before .before .before .before .before .before))
 
 loop-again : tie.Need-loop-again Inv-loop μ-loop
 loop-again c = search needs
@@ -64,7 +75,7 @@ group-of-spec =
     μ-loop
     empty-requires
     loop-holds
-    next-of-requires
+    place-of-requires
     sub-heard-of
     part-heard-of-start
     part-heard-of-end

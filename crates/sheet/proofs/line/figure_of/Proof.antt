@@ -4,7 +4,7 @@ use native.Mathlib.Omega.{arith}
 use Rattle.arguments.specs.Figures.{decimal}
 use Rattle.arguments.specs.declared.Figure.{Figure}
 use Rattle.sheet.specs.Line.{figure, figureOf}
-use Rattle.sheet.proofs.Figures.{no-larger}
+use Rattle.arguments.proofs.Largest.{no-larger}
 use borrow.Author.Needs.{needs}
 use Rattle.sheet.proofs.line.figure_of.Statement.{statement}
 use Rattle.sheet.proofs.line.figure_of.Tie as tie

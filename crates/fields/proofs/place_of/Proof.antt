@@ -1,0 +1,60 @@
+-- `place_of` looks at one byte a turn: the first sign from here on is always the first from the start on.
+use mathlib.Core.Path.{_≡_, refl, sym, _∙_}
+use Prim.Native.Nat.{_+_, _-_}
+use native.Mathlib.Omega.{arith}
+use lib.ListN.{length, drop}
+use Rattle.fields.specs.Fields.{before, placeOf}
+use Rattle.fields.proofs.Signs.{at-sign, at-other, at-end}
+use Rattle.fields.proofs.place_of.Statement.{statement}
+use Rattle.fields.proofs.place_of.Tie as tie
+
+abbrev Inv-loop : tie.InvT-loop
+Inv-loop text from sign i₀ i = i + before sign (drop i text) ≡ placeOf text from sign
+
+abbrev μ-loop : tie.MeasureT-loop
+μ-loop text from sign i₀ i = length text - i
+
+loop-holds : tie.Need-loop-holds Inv-loop μ-loop
+unfolding placeOf
+loop-holds c = refl
+
+shared-slice-read-if1 : tie.Need-shared-slice-read-if1 Inv-loop μ-loop
+shared-slice-read-if1 c = omega arith
+
+returns : tie.Need-returns Inv-loop μ-loop
+returns c =
+    let l = c .before .before .before in
+    let a = l .before .args in
+    sym (at-sign (a .sign) (a .text .now) (l .loop .i) (omega arith) (c .if1 .taken)) ∙ l .loop .inv
+
+add-i : tie.Need-add-i Inv-loop μ-loop
+add-i c = omega arith
+
+loop-less : tie.Need-loop-less Inv-loop μ-loop
+loop-less c = omega arith
+
+loop-again : tie.Need-loop-again Inv-loop μ-loop
+loop-again c =
+    let l = c .before .before .before in
+    let a = l .before .args in
+    sym (at-other (a .sign) (a .text .now) (l .loop .i) (omega arith) (c .if1 .left)) ∙ l .loop .inv
+
+returns-2 : tie.Need-returns-2 Inv-loop μ-loop
+returns-2 c =
+    let l = c .before in
+    let a = l .before .args in
+    sym (at-end (a .sign) (a .text .now) (l .loop .i) (omega arith)) ∙ l .loop .inv
+
+pub place-of-spec : {M : Type 1} → statement M
+place-of-spec =
+    tie.close
+    (tie.spec
+    Inv-loop
+    μ-loop
+    loop-holds
+    shared-slice-read-if1
+    returns
+    add-i
+    loop-less
+    loop-again
+    returns-2)

@@ -1,0 +1,49 @@
+// The fields of a line of text, between which one sign stands, and counting: what the programs that compare tables share.
+// Promises: every text is answered; a field that a text has not is empty.
+// Specification: specs/Fields.antt.
+ghost use mathlib.Core.Path.{_≡_};
+ghost use Rattle.fields.specs.Fields.{placeOf, field, has, more};
+
+mod places;
+
+// The place of the first such sign at or after the place `from`, or the text's end if there is none; a place beyond the text is answered as it is.
+pub fn place_of(text: &[u8], from: usize, sign: u8) -> usize
+    ensures { λ r. ⌜ r ≡ placeOf (now (text .entry)) from sign ⌝ }
+{
+    let mut i = from;
+    while i < text.len() {
+        if text[i] == sign {
+            return i;
+        }
+        i += 1;
+    }
+    i
+}
+
+// Field k of a text, counted from 0, where the sign stands between two fields; empty if there is none.
+pub fn field(text: &[u8], sign: u8, k: usize) -> &[u8]
+    ensures { λ r. ⌜ now r ≡ field (now (text .entry)) sign k ⌝ }
+{
+    let start = places::start_of(text, sign, k);
+    let end = place_of(text, start, sign);
+    &text[start..end]
+}
+
+// Whether the sign stands in a text.
+pub fn has(text: &[u8], sign: u8) -> bool
+    ensures { λ r. ⌜ r ≡ has (now (text .entry)) sign ⌝ }
+{
+    place_of(text, 0, sign) < text.len()
+}
+
+// One more than n where it holds. From 4,000,000,000 on nothing is counted: no run comes near it.
+pub fn more(n: u32, holds: bool) -> u32
+    ensures { λ r. ⌜ r ≡ more n holds ⌝ }
+{
+    if n < 4000000000 {
+        if holds {
+            return n + 1;
+        }
+    }
+    n
+}

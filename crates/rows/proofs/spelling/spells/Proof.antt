@@ -1,0 +1,47 @@
+-- `spells` compares the decimal number that a text is.
+use mathlib.Core.Path.{_≡_, sym, ap, _∙_}
+use Prim.Native.Nat.{ℕ}
+use borrow.Author.Needs.{needs}
+use Rattle.arguments.specs.Says.{saysFigure}
+use Rattle.arguments.specs.declared.Figure.{Figure}
+use Rattle.rows.specs.Spelling.{is, spells}
+use Rattle.rows.proofs.spelling.spells.Statement.{statement}
+use Rattle.rows.proofs.spelling.spells.Tie as tie
+
+decimal-requires : tie.Need-decimal-requires
+decimal-requires c κs = search needs
+
+enum-known-m : tie.Need-enum-known-m
+enum-known-m c = search needs
+
+enum-told : tie.Need-enum-told
+enum-told c = search needs
+
+enum-told-2 : tie.Need-enum-told-2
+enum-told-2 c = search needs
+
+returns : tie.Need-returns
+unfolding spells
+returns c =
+    let d = c .before .before .before in
+    let n = d .before .before .args .n in
+    ap (λ (f : Figure). is n (saysFigure f)) (sym (c .before .m .given .1)) ∙ ap (is n) (d .decimal .ensures)
+
+returns-2 : tie.Need-returns-2
+unfolding spells
+returns-2 c =
+    let d = c .before .before in
+    let n = d .before .before .args .n in
+    ap (λ (f : Figure). is n (saysFigure f)) (sym (c .enum-told .given .1)) ∙ ap (is n) (d .decimal .ensures)
+
+returns-3 : tie.Need-returns-3
+unfolding spells
+returns-3 c =
+    let d = c .before .before in
+    let n = d .before .before .args .n in
+    ap (λ (f : Figure). is n (saysFigure f)) (sym (c .enum-told2 .given .1)) ∙ ap (is n) (d .decimal .ensures)
+
+pub spells-spec : {M : Type 1} → statement M
+spells-spec =
+    tie.close
+    (tie.spec decimal-requires enum-known-m enum-told enum-told-2 returns returns-2 returns-3)

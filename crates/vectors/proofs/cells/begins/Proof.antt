@@ -1,0 +1,20 @@
+-- `begins` looks at the first byte, if there is one.
+use borrow.Author.Tests.{lt-ltb, le-ltb}
+use Rattle.vectors.specs.Lines.{begins}
+use borrow.Author.Needs.{needs}
+use Rattle.vectors.proofs.cells.begins.Statement.{statement}
+use Rattle.vectors.proofs.cells.begins.Tie as tie
+
+shared-slice-read-result : tie.Need-shared-slice-read-result
+shared-slice-read-result c = search needs
+
+returns : tie.Need-returns
+unfolding begins
+returns c = simp (lt-ltb _ _ (c .before .if1 .taken))
+
+returns-2 : tie.Need-returns-2
+unfolding begins
+returns-2 c = simp (le-ltb _ _ (c .if1 .left))
+
+pub begins-spec : {M : Type 1} → statement M
+begins-spec = tie.close (tie.spec shared-slice-read-result returns returns-2)

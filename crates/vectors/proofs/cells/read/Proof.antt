@@ -1,0 +1,91 @@
+-- `read` takes a comment for one, and else goes by the figure.
+use mathlib.Core.Path.{_≡_, sym, ap, _∙_}
+use mathlib.Core.List.{List}
+use Prim.Native.Nat.{ℕ}
+use native.Mathlib.Omega.{arith}
+use borrow.Author.Needs.{needs}
+use Rattle.arguments.specs.Figures.{number, decimal}
+use Rattle.arguments.specs.Says.{saysFigure}
+use Rattle.arguments.specs.declared.Figure.{Figure}
+use Rattle.arguments.proofs.Largest.{no-larger}
+use Rattle.vectors.specs.Lines.{column, withFigure, cellOf}
+use Rattle.vectors.proofs.cells.read.Statement.{statement}
+use Rattle.vectors.proofs.cells.read.Tie as tie
+
+-- what the figure's column says
+figured : (d : tie.After-decimal) → saysFigure (d .decimal .result) ≡ decimal (column (d .before .before .before .before .before .args .line .now) 0) 2047
+figured d = d .decimal .ensures ∙ ap (λ (t : List ℕ). decimal t 2047) (d .before .field .ensures)
+
+begins-requires : tie.Need-begins-requires
+begins-requires c κs = search needs
+
+returns : tie.Need-returns
+unfolding cellOf
+returns c = simp (← c .before .begins .ensures, c .if1 .taken)
+
+field-requires : tie.Need-field-requires
+field-requires c κs = search needs
+
+decimal-requires : tie.Need-decimal-requires
+decimal-requires c κs = search needs
+
+enum-known-n : tie.Need-enum-known-n
+enum-known-n c = search needs
+
+cast-columns : tie.Need-cast-columns
+cast-columns c =
+    let d = c .before .before .before in
+    let line = d .before .before .before .before .before .args .line .now in
+    let n = c .before .n .given .0 .0 in
+    let e : number n ≡ decimal (column line 0) 2047 = ap saysFigure (sym (c .before .n .given .1)) ∙ figured d in
+    omega (arith, no-larger (column line 0) 2047 n e)
+
+columns-requires : tie.Need-columns-requires
+columns-requires c κs = search needs
+
+enum-told : tie.Need-enum-told
+enum-told c = search needs
+
+enum-told-2 : tie.Need-enum-told-2
+enum-told-2 c = search needs
+
+returns-2 : tie.Need-returns-2
+unfolding cellOf
+returns-2 c =
+    let d = c .before .before .before .before in
+    let line = d .before .before .before .before .before .args .line .now in
+    let e = ap saysFigure (sym (c .before .before .n .given .1)) ∙ figured d in
+    simp (← d .before .before .before .begins .ensures, d .before .before .if1 .left) (c .columns .ensures ∙ ap (withFigure line) e)
+
+returns-3 : tie.Need-returns-3
+unfolding cellOf
+returns-3 c =
+    let d = c .before .before in
+    let line = d .before .before .before .before .before .args .line .now in
+    let e = ap saysFigure (sym (c .enum-told .given .1)) ∙ figured d in
+    simp (← d .before .before .before .begins .ensures, d .before .before .if1 .left) (ap (withFigure line) e)
+
+returns-4 : tie.Need-returns-4
+unfolding cellOf
+returns-4 c =
+    let d = c .before .before in
+    let line = d .before .before .before .before .before .args .line .now in
+    let e = ap saysFigure (sym (c .enum-told2 .given .1)) ∙ figured d in
+    simp (← d .before .before .before .begins .ensures, d .before .before .if1 .left) (ap (withFigure line) e)
+
+pub read-spec : {M : Type 1} → statement M
+read-spec =
+    tie.close
+    (tie.spec
+    begins-requires
+    returns
+    field-requires
+    decimal-requires
+    enum-known-n
+    cast-columns
+    columns-requires
+    enum-told
+    enum-told-2
+    returns-2
+    returns-3
+    returns-4)
