@@ -1,9 +1,13 @@
 // How many records there were, and how many are kept.
+ghost use mathlib.Core.Path.{_≡_};
+ghost use Rattle.compact.specs.Counting.{added};
 use crate::writing;
 use libc::STDERR_FILENO;
 
 // Two counts added; a sum that no trace reaches stays at the highest number.
-pub fn more(count: u64, by: usize) -> u64 {
+pub fn more(count: u64, by: usize) -> u64
+    ensures { λ r. ⌜ r ≡ added count by ⌝ }
+{
     let by = by as u64;
     if by > u64::MAX - count {
         return u64::MAX;

@@ -1,0 +1,31 @@
+-- `more` adds where the sum is a number of 64 bits, and else stays at the highest.
+use Prim.Native.Nat.{_+_, _<_, _≤_}
+use native.Mathlib.Omega.{arith}
+use borrow.Author.Needs.{needs}
+use borrow.Author.Tests.{le-leb, lt-leb}
+use Rattle.compact.specs.Counting.{added}
+use Rattle.compact.proofs.counts.more.Statement.{statement}
+use Rattle.compact.proofs.counts.more.Tie as tie
+
+sub-if1 : tie.Need-sub-if1
+sub-if1 c = search needs
+
+returns : tie.Need-returns
+unfolding added
+returns c =
+    let a = c .before .args in
+    let over : 18446744073709551615 < a .count + a .by = omega arith in
+    simp (lt-leb _ _ over)
+
+add-result : tie.Need-add-result
+add-result c = search needs
+
+returns-2 : tie.Need-returns-2
+unfolding added
+returns-2 c =
+    let a = c .before .args in
+    let fits : a .count + a .by ≤ 18446744073709551615 = omega arith in
+    simp (le-leb _ _ fits)
+
+pub more-spec : {M : Type 1} → statement M
+more-spec = tie.close (tie.spec sub-if1 returns add-result returns-2)
