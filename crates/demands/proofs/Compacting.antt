@@ -6,7 +6,7 @@ use mathlib.Core.List.{List, [], _∷_}
 use Prim.Native.Nat.{ℕ, _%_}
 use lib.Dec.{eqb}
 use lib.ListN.{length}
-use Rattle.words.specs.Answer.{Outcome, gives, refuses, pick}
+use Rattle.words.specs.Answer.{Outcome, gives, refuses, then, pick}
 use Rattle.settings.specs.declared.Store.{Store}
 use Rattle.settings.specs.Versions.{Kept}
 use Rattle.settings.specs.Store.{judged}
@@ -15,13 +15,14 @@ use Rattle.ride.specs.declared.Ride.{Ride}
 use Rattle.ride.specs.Joining.{allowed}
 use Rattle.compaction.specs.declared.Waiting.{Waiting}
 use Rattle.compaction.specs.Compact.{Compaction, untouched, smallerTrace, compact, judgedFirst, compactUnder, Settling, unsettled, settledBlock, blockFirst, blockUnder}
-use Rattle.demands.specs.Compacting.{AfterStore}
 use Rattle.demands.specs.Rules.{row, Decided, Given}
 use Rattle.demands.specs.Table.{badLength}
 use Rattle.demands.specs.Lists.{runRules}
+use Rattle.demands.specs.Stores.{storeRules}
 use Rattle.demands.proofs.Rules.{true-not-false}
 use Rattle.demands.proofs.Rides.{gives-not}
 use Rattle.demands.proofs.Spelled.{bad-gap}
+use Rattle.demands.proofs.StoreRules.{records-so}
 
 -- A compaction: 19, 16.
 pub compacting : (ride : Ride) (gap : ℕ) (trace : List ℕ) → Decided Given (runRules gap trace) (compact ride gap trace .answer)
@@ -76,18 +77,28 @@ block-untouched w store block n e = go (judged store) (eqb (length block % 8) 0)
     go (gives k) true q = absurd (gives-not q)
 
 -- under a store: its own refusal, then 16
-pub compacting-under : (ride : Ride) (store : Store) (trace : List ℕ) → AfterStore store (row 16 (badLength trace) ∷ []) (compactUnder ride store trace .answer)
-unfolding compactUnder smallerTrace badLength
-compacting-under ride store trace = (λ n e. rw e, λ e. rw e (go (eqb (length trace % 8) 0)))
+pub compacting-under : (ride : Ride) (store : Store) (trace : List ℕ)
+    → Decided Given (storeRules store (row 16 (badLength trace) ∷ [])) (compactUnder ride store trace .answer)
+unfolding compactUnder smallerTrace
+compacting-under ride store trace =
+    subst (λ o. Decided Given (storeRules store (row 16 (badLength trace) ∷ [])) o) (first (judged store) (eqb (length trace % 8) 0))
+    (records-so store trace (smallerTrace (gapAt store) ride trace .answer) (_, refl))
   where
-    go : (u : Bool) → Decided Given (row 16 (not u) ∷ []) (pick u (smallerTrace (gapAt store) ride trace) (untouched ride trace 16) .answer)
-    go false = (λ p. refl, λ p. absurd (true-not-false p))
-    go true = (λ p. absurd (true-not-false (sym p)), λ p. (_, refl))
+    first : (o : Outcome Kept) (u : Bool) → then o (λ k. pick u (smallerTrace (gapAt store) ride trace .answer) (refuses 16))
+        ≡ judgedFirst ride trace o (pick u (smallerTrace (gapAt store) ride trace) (untouched ride trace 16)) .answer
+    first (refuses m) u = refl
+    first (gives k) false = refl
+    first (gives k) true = refl
 
-pub settling-under : (w : Waiting) (store : Store) (block : List ℕ) → AfterStore store (row 16 (badLength block) ∷ []) (blockUnder w store block .answer)
-unfolding blockUnder settledBlock badLength
-settling-under w store block = (λ n e. rw e, λ e. rw e (go (eqb (length block % 8) 0)))
+pub settling-under : (w : Waiting) (store : Store) (block : List ℕ)
+    → Decided Given (storeRules store (row 16 (badLength block) ∷ [])) (blockUnder w store block .answer)
+unfolding blockUnder settledBlock
+settling-under w store block =
+    subst (λ o. Decided Given (storeRules store (row 16 (badLength block) ∷ [])) o) (first (judged store) (eqb (length block % 8) 0))
+    (records-so store block (settledBlock (gapAt store) w block .answer) (_, refl))
   where
-    go : (u : Bool) → Decided Given (row 16 (not u) ∷ []) (pick u (settledBlock (gapAt store) w block) (unsettled w block 16) .answer)
-    go false = (λ p. refl, λ p. absurd (true-not-false p))
-    go true = (λ p. absurd (true-not-false (sym p)), λ p. (_, refl))
+    first : (o : Outcome Kept) (u : Bool) → then o (λ k. pick u (settledBlock (gapAt store) w block .answer) (refuses 16))
+        ≡ blockFirst w block o (pick u (settledBlock (gapAt store) w block) (unsettled w block 16)) .answer
+    first (refuses m) u = refl
+    first (gives k) false = refl
+    first (gives k) true = refl

@@ -21,9 +21,8 @@ use Rattle.explained.specs.List.{listOf, listTaken, listUnder}
 use Rattle.demands.specs.Table.{badLength}
 use Rattle.demands.specs.Rules.{row, Decided, Given}
 use Rattle.demands.specs.Stores.{ExplainUnder, storeRules}
-use Rattle.demands.proofs.Rules.{if-not}
 use Rattle.demands.proofs.Rides.{gives-not}
-use Rattle.demands.proofs.StoreRules.{store-so}
+use Rattle.demands.proofs.StoreRules.{records-so}
 
 -- the answer, test by test
 first : (o : Outcome Kept) (b : Bool) (ride : Ride) (number : ℕ) (out : List ℕ) (l : Listing)
@@ -36,11 +35,9 @@ first (refuses n) b ride number out l = refl
 pub listing-so : (ride : Ride) (store : Store) (number : ℕ) (trace out : List ℕ) (all : Listing) → Given (all .answer)
     → Decided Given (storeRules store (row 16 (badLength trace) ∷ []))
     (judgedFirst ride number out (judged store) (pick (eqb (length trace % 8) 0) all (unlisted ride number out 16)) .answer)
-unfolding badLength
 listing-so ride store number trace out all g =
-    let whole : Bool = eqb (length trace % 8) 0 in
-    subst (λ o. Decided Given (storeRules store (row 16 (badLength trace) ∷ [])) o) (first (judged store) whole ride number out all)
-    (store-so Given (λ k. pick whole (all .answer) (refuses 16)) (row 16 (badLength trace) ∷ []) store (if-not Given [] (refuses 16) (all .answer) g whole))
+    subst (λ o. Decided Given (storeRules store (row 16 (badLength trace) ∷ [])) o) (first (judged store) (eqb (length trace % 8) 0) ride number out all)
+    (records-so store trace (all .answer) g)
 
 -- refused, it leaves everything as it was.
 pub listing-left : (o : Outcome Kept) (b : Bool) (ride : Ride) (number : ℕ) (out : List ℕ) (l : Listing) (n : ℕ) → Given (l .answer)

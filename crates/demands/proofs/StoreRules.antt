@@ -1,22 +1,22 @@
 -- A lent store's judgement goes through its versions as its rules do: one test after the other.
 -- Assumes nothing.
-use Prim.Native.Nat.{ℕ}
+use Prim.Native.Nat.{ℕ, _%_}
 use mathlib.Core.Path.{_≡_, refl, sym, subst}
 use mathlib.Core.Bool.{Bool, true, false, not}
 use mathlib.Core.List.{List, [], _∷_}
 use lib.Dec.{eqb, leb, ltb}
-use lib.ListN.{take}
+use lib.ListN.{length, take}
 use Rattle.words.specs.Answer.{Outcome, gives, refuses, then, pick}
 use Rattle.telegram.specs.Sync.{Good, good, isGood, pairOf}
 use Rattle.settings.specs.declared.Version.{Version}
 use Rattle.settings.specs.declared.Store.{Store}
 use Rattle.settings.specs.Versions.{allowed, highest, Kept, kept, settingsOf, follows}
 use Rattle.settings.specs.Store.{versionsOf, allFollow, inOrder, judged}
-use Rattle.demands.specs.Table.{notSeven}
+use Rattle.demands.specs.Table.{notSeven, badLength}
 use Rattle.demands.specs.Table02.{tooHigh, notAbove, startsLate, overfull}
-use Rattle.demands.specs.Rules.{Rule, row, Decided}
+use Rattle.demands.specs.Rules.{Rule, row, Decided, Given}
 use Rattle.demands.specs.Stores.{settingsRules, versionRules, laterRules, orderRules, storeRules}
-use Rattle.demands.proofs.Rules.{true-not-false}
+use Rattle.demands.proofs.Rules.{true-not-false, if-not}
 use Rattle.demands.proofs.Spelled.{bad-gap}
 
 -- ---- one test after the other
@@ -87,3 +87,11 @@ unfolding judged versionsOf overfull
 store-so Reading next rules store rest =
     refuse-so Reading (orderRules (take (store .count) (store .versions)) rules) 25 (inOrder (take (store .count) (store .versions))) next (ltb 32 (store .count))
     (order-so Reading next rules (take (store .count) (store .versions)) rest)
+
+-- A function under a store that asks of its bytes only that they are records: the store's own refusal, then 16.
+pub records-so : {A : Type 0} (store : Store) (bytes : List ℕ) (made : Outcome A) → Given made
+    → Decided Given (storeRules store (row 16 (badLength bytes) ∷ [])) (then (judged store) (λ k. pick (eqb (length bytes % 8) 0) made (refuses 16)))
+unfolding badLength
+records-so store bytes made g =
+    store-so Given (λ k. pick (eqb (length bytes % 8) 0) made (refuses 16)) (row 16 (badLength bytes) ∷ []) store
+    (if-not Given [] (refuses 16) made g (eqb (length bytes % 8) 0))

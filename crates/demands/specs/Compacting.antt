@@ -7,15 +7,11 @@ use contract.Lifetimes.{Lfts}
 use denote.Ref.{RefT, now}
 use borrow.Fn.Kinds.{endedOf}
 use denote.Triple.Clauses.{AtExit}
-use Rattle.words.specs.Answer.{Outcome, gives, refuses}
 use Rattle.settings.specs.declared.Store.{Store}
-use Rattle.settings.specs.Versions.{kept}
-use Rattle.settings.specs.Store.{judged}
 use Rattle.ride.specs.declared.Ride.{Ride}
 use Rattle.compaction.specs.declared.Waiting.{Waiting}
 use Rattle.compaction.specs.declared.Compacted.{Compacted}
 use Rattle.compaction.specs.declared.Block.{Block}
-use Rattle.demands.specs.Rules.{Rule, Decided, Given}
 use Rattle.compaction.proofs.compact.Kinds as compact-kinds
 use Rattle.compaction.proofs.compact.Reads as compact-reads
 use Rattle.compaction.proofs.compact_under.Kinds as under-kinds
@@ -41,7 +37,3 @@ abbrev pub BlockUnder : Waiting → Store → List ℕ → Block → List ℕ �
 BlockUnder w store before r after =
     (κs : Lfts 1) × (lent : RefT (List ℕ)) × (e : AtExit (endedOf 1 block-kinds.ps block-kinds.r) κs)
     × (now lent ≡ before) × (now (e .1 .1 .0) ≡ after) × block-reads.Post κs (w, (store, (lent, tt))) r e
-
--- An answer under a store: the store's own refusal decides first (settings/specs/Store.antt), and then this list.
-abbrev pub AfterStore : {A : Type 0} → Store → List (Rule (Outcome A)) → Outcome A → Type 0
-AfterStore store rules o = ((n : ℕ) → judged store ≡ refuses n → o ≡ refuses n) × (judged store ≡ gives kept → Decided Given rules o)

@@ -1,7 +1,6 @@
 -- What the contracts of the public functions allow: the theorems take these as their hypotheses. `Post` of a function is its `ensures`
 -- line, made into a statement by the kit: of what it was given, its answer r, and what is lent to it as it is at the end, e. A lent
--- buffer is a reference (`RefT`) whose bytes are `now` of it, and `Lfts` says how long it is lent. In `put_line` and `list` the bytes of
--- the second and of the fifth parameter at the end are taken out of e.
+-- buffer is a reference (`RefT`) whose bytes are `now` of it, and `Lfts` says how long it is lent.
 -- Assumes nothing.
 use Prim.Native.Nat.{ℕ}
 use mathlib.Core.Path.{_≡_}
@@ -24,21 +23,6 @@ use Rattle.contact.specs.declared.Search.{Search}
 use Rattle.contact.specs.declared.Begun.{Begun}
 use Rattle.contact.specs.declared.Next.{Next}
 use Rattle.contact.specs.declared.Judged.{Judged}
-use Rattle.walk.specs.declared.Placed.{Placed}
-use Rattle.walk.specs.declared.Fitted.{Fitted}
-use Rattle.group.specs.declared.Group.{Group}
-use Rattle.group.specs.declared.Measured.{Measured}
-use Rattle.group.specs.declared.Told.{Told}
-use Rattle.group.specs.declared.Judged.{Judged as GroupJudged}
-use Rattle.ride.specs.declared.Ride.{Ride}
-use Rattle.ride.specs.declared.Checked.{Checked}
-use Rattle.ride.specs.declared.Stepped.{Stepped}
-use Rattle.ride.specs.declared.trace.Treated.{Treated}
-use Rattle.ride.specs.declared.Ended.{Ended}
-use Rattle.ride.specs.declared.Ran.{Ran}
-use Rattle.ride.specs.declared.Line.{Line}
-use Rattle.listing.specs.declared.Put.{Put}
-use Rattle.listing.specs.declared.Listed.{Listed}
 use Rattle.words.proofs.read_short.Kinds as read-short-kinds
 use Rattle.words.proofs.read_short.Reads as read-short-reads
 use Rattle.words.proofs.write_short.Kinds as write-short-kinds
@@ -65,30 +49,7 @@ use Rattle.contact.proofs.next_contact.Kinds as next-kinds
 use Rattle.contact.proofs.next_contact.Reads as next-reads
 use Rattle.contact.proofs.judge.Kinds as judge-kinds
 use Rattle.contact.proofs.judge.Reads as judge-reads
-use Rattle.group.proofs.distance.Kinds as distance-kinds
-use Rattle.group.proofs.distance.Reads as distance-reads
-use Rattle.group.proofs.speed.Kinds as speed-kinds
-use Rattle.group.proofs.speed.Reads as speed-reads
-use Rattle.walk.proofs.fit.Kinds as fit-kinds
-use Rattle.walk.proofs.fit.Reads as fit-reads
-use Rattle.group.proofs.judge.Kinds as judge-group-kinds
-use Rattle.group.proofs.judge.Reads as judge-group-reads
-use Rattle.ride.proofs.fresh.Kinds as fresh-kinds
-use Rattle.ride.proofs.fresh.Reads as fresh-reads
-use Rattle.ride.proofs.check_record.Kinds as check-record-kinds
-use Rattle.ride.proofs.check_record.Reads as check-record-reads
-use Rattle.ride.proofs.step.Kinds as step-kinds
-use Rattle.ride.proofs.step.Reads as step-reads
-use Rattle.ride.proofs.treat_at.Kinds as treat-at-kinds
-use Rattle.ride.proofs.treat_at.Reads as treat-at-reads
-use Rattle.ride.proofs.end.Kinds as end-kinds
-use Rattle.ride.proofs.end.Reads as end-reads
-use Rattle.ride.proofs.run.Kinds as run-kinds
-use Rattle.ride.proofs.run.Reads as run-reads
-use Rattle.listing.proofs.put_line.Kinds as put-line-kinds
-use Rattle.listing.proofs.put_line.Reads as put-line-reads
-use Rattle.listing.proofs.list.Kinds as list-kinds
-use Rattle.listing.proofs.list.Reads as list-reads
+pub use Rattle.demands.specs.RideContracts.{FitRow, Distance, Speed, JudgeGroup, Fresh, CheckRecord, StepOf, TreatAt, EndOf, RunOver, PutLine, ListInto}
 
 -- The contract of `read_short` allows the answer r for the word w.
 abbrev pub ReadShort : ℕ → ShortRead → Type 0
@@ -156,64 +117,3 @@ abbrev pub JudgeContact : List ℕ → ℕ → ℕ → ℕ → ℕ → Judged �
 JudgeContact b start len s t r =
     (κs : Lfts 1) × (buf : RefT (List ℕ)) × (e : AtExit (endedOf 1 judge-kinds.ps judge-kinds.r) κs)
     × (now buf ≡ b) × judge-reads.Post κs (buf, (start, (len, (s, (t, tt))))) r e
-
--- The contract of `walk::fit` allows the answer r for the first n of these five balises.
-abbrev pub FitRow : List Placed → ℕ → Fitted → Type 0
-FitRow p n r = (e : AtExit (endedOf 0 fit-kinds.ps fit-kinds.r) tt) × fit-reads.Post tt (p, (n, tt)) r e
-
--- The contract of `distance` allows the answer r for column BY and this figure.
-abbrev pub Distance : ℕ → ℕ → Measured → Type 0
-Distance by figure r =
-    (e : AtExit (endedOf 0 distance-kinds.ps distance-kinds.r) tt) × distance-reads.Post tt (by, (figure, tt)) r e
-
--- The contract of `speed` allows the answer r for this figure.
-abbrev pub Speed : ℕ → Told → Type 0
-Speed figure r = (e : AtExit (endedOf 0 speed-kinds.ps speed-kinds.r) tt) × speed-reads.Post tt (figure, tt) r e
-
--- The contract of `group::judge` allows the answer r for this group.
-abbrev pub JudgeGroup : Group → GroupJudged → Type 0
-JudgeGroup g r = (e : AtExit (endedOf 0 judge-group-kinds.ps judge-group-kinds.r) tt) × judge-group-reads.Post tt (g, tt) r e
-
--- The contract of `fresh` allows the ride r.
-abbrev pub Fresh : Ride → Type 0
-Fresh r = (e : AtExit (endedOf 0 fresh-kinds.ps fresh-kinds.r) tt) × fresh-reads.Post tt tt r e
-
--- The contract of `check_record` allows the answer r for these eight bytes after this ride.
-abbrev pub CheckRecord : Ride → List ℕ → Checked → Type 0
-CheckRecord ride bytes r =
-    (e : AtExit (endedOf 0 check-record-kinds.ps check-record-kinds.r) tt) × check-record-reads.Post tt (ride, (bytes, tt)) r e
-
--- The contract of `step` allows the answer r for these eight bytes after this ride, with this gap.
-abbrev pub StepOf : Ride → ℕ → List ℕ → Stepped → Type 0
-StepOf ride gap bytes r =
-    (e : AtExit (endedOf 0 step-kinds.ps step-kinds.r) tt) × step-reads.Post tt (ride, (gap, (bytes, tt))) r e
-
--- The contract of `treat_at` allows the answer r for the record at this index of the trace after this ride, with this gap.
-abbrev pub TreatAt : Ride → ℕ → List ℕ → ℕ → Treated → Type 0
-TreatAt ride gap trace i r =
-    (κs : Lfts 1) × (lent : RefT (List ℕ)) × (e : AtExit (endedOf 1 treat-at-kinds.ps treat-at-kinds.r) κs)
-    × (now lent ≡ trace) × treat-at-reads.Post κs (ride, (gap, (lent, (i, tt)))) r e
-
--- The contract of `end` allows the answer r for this ride.
-abbrev pub EndOf : Ride → Ended → Type 0
-EndOf ride r = (e : AtExit (endedOf 0 end-kinds.ps end-kinds.r) tt) × end-reads.Post tt (ride, tt) r e
-
--- The contract of `run` allows the answer r for this trace after this ride, with this gap.
-abbrev pub RunOver : Ride → ℕ → List ℕ → Ran → Type 0
-RunOver ride gap trace r =
-    (κs : Lfts 1) × (lent : RefT (List ℕ)) × (e : AtExit (endedOf 1 run-kinds.ps run-kinds.r) κs)
-    × (now lent ≡ trace) × run-reads.Post κs (ride, (gap, (lent, tt))) r e
-
--- The contract of `put_line` allows the answer r for this line at this place, and that the lent buffer, which held `before`,
--- holds `after` then.
-abbrev pub PutLine : Line → List ℕ → ℕ → Put → List ℕ → Type 0
-PutLine line before at r after =
-    (κs : Lfts 1) × (lent : RefT (List ℕ)) × (e : AtExit (endedOf 1 put-line-kinds.ps put-line-kinds.r) κs)
-    × (now lent ≡ before) × (now (e .1 .0) ≡ after) × put-line-reads.Post κs (line, (lent, (at, tt))) r e
-
--- The contract of `list` allows the answer r for this trace, and that the lent buffer, which held `before`, holds `after` then.
-abbrev pub ListInto : Ride → ℕ → ℕ → List ℕ → List ℕ → Listed → List ℕ → Type 0
-ListInto ride gap number trace before r after =
-    (κs : Lfts 2) × (lent : RefT (List ℕ)) × (out : RefT (List ℕ)) × (e : AtExit (endedOf 2 list-kinds.ps list-kinds.r) κs)
-    × (now lent ≡ trace) × (now out ≡ before) × (now (e .1 .1 .1 .1 .0) ≡ after)
-    × list-reads.Post κs (ride, (gap, (number, (lent, (out, tt))))) r e

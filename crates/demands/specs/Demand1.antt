@@ -1,18 +1,16 @@
 -- Demand 1: "Any bits, any trace, any settings: every call ends with a named reading or a numbered refusal of document 01,
 -- given exactly under the condition written there. A refusal hands out no figure, and lent memory and state stay untouched
 -- unless the table says otherwise."
--- The first sentence is the record `Demand1`, the second the record `Untouched`. The conditions are specs/Table.antt and Table02.antt, the
+-- The first sentence is the record `Demand1`, the second the record `Untouched` of specs/Untouched.antt. The conditions are specs/Table.antt and Table02.antt, the
 -- lists specs/Lists.antt and, for a store, Stores.antt; what the contracts allow is specs/Contracts.antt. That every call ends is the kit's own check of each
 -- function, and no theorem here. Of the crates whose functions have one, those without a list give no number: `fresh`, `speed` and `end` always answer; `put_line`
--- says that a line has no room, for which document 01 has no number; `settings::allowed` says whether row 19's condition does not hold; what M-111 added without a number is named in specs/Stores.antt; but `writer::spell` gives the first two of `write`'s. Where
+-- says that a line has no room, for which document 01 has no number; `settings::allowed` says whether row 19's condition does not hold; what M-111 added
+-- without a number is named in specs/Stores.antt; but `writer::spell` gives the first two of `write`'s. Where
 -- the other crates say when they refuse, the face for C among them (crates/face), is in docs/DEMANDS.md.
 -- Assumes nothing.
 use Prim.Native.Nat.{ℕ, _+_, _*_}
-use mathlib.Core.Bool.{true}
-use mathlib.Core.Path.{_≡_}
 use mathlib.Core.List.{List, [], _∷_}
 use lib.ListN.{take}
-use Rattle.words.specs.Answer.{Answer, gives, refuses}
 use Rattle.words.specs.Why.{notCodeWord}
 use Rattle.words.specs.Plain.{figure}
 use Rattle.words.specs.Code.{exchanged, sent}
@@ -29,11 +27,10 @@ use Rattle.telegram.specs.declared.Reach.{Reach}
 use Rattle.telegram.specs.declared.TelegramRead.{TelegramRead}
 use Rattle.telegram.specs.declared.Found.{Found}
 use Rattle.telegram.specs.declared.Surveyed.{Surveyed}
-use Rattle.settings.specs.Says.{saysVerdict, saysAsked}
 use Rattle.writer.specs.Says.{saysAnswer}
 use Rattle.writer.specs.declared.Written.{Written}
 use Rattle.contact.specs.Contacts.{fromStart}
-use Rattle.contact.specs.Says.{saysBegun, saysNext, saysJudged, saysJudgedUnder}
+use Rattle.contact.specs.Says.{saysBegun, saysNext, saysJudged}
 use Rattle.contact.specs.declared.Search.{Search}
 use Rattle.contact.specs.declared.Begun.{Begun}
 use Rattle.contact.specs.declared.Next.{Next}
@@ -47,40 +44,28 @@ use Rattle.group.specs.declared.Measured.{Measured}
 use Rattle.group.specs.declared.Judged.{Judged as GroupJudged}
 use Rattle.ride.specs.Record.{odometerOf, passedOf}
 use Rattle.ride.specs.Over.{through}
-use Rattle.ride.specs.State.{noGroup, isOpen, nothingKnown}
-use Rattle.ride.specs.Joining.{takeUp}
-use Rattle.ride.specs.Closing.{firstPlace}
-use Rattle.ride.specs.Says.{saysChecked, saysReport, saysReply, saysStepped, saysTreated, saysEnded, saysWay, saysRan}
+use Rattle.ride.specs.Says.{saysChecked, saysStepped, saysTreated, saysRan}
 use Rattle.ride.specs.declared.Ride.{Ride}
 use Rattle.ride.specs.declared.Checked.{Checked}
 use Rattle.ride.specs.declared.Stepped.{Stepped}
 use Rattle.ride.specs.declared.trace.Treated.{Treated}
-use Rattle.ride.specs.declared.Ended.{Ended}
 use Rattle.ride.specs.declared.Ran.{Ran}
-use Rattle.ride.specs.declared.Line.{Line}
 use Rattle.settings.specs.declared.Store.{Store}
 use Rattle.compaction.specs.Says.{saysSize}
 use Rattle.compaction.specs.declared.Waiting.{Waiting}
 use Rattle.compaction.specs.declared.Compacted.{Compacted}
 use Rattle.compaction.specs.declared.Block.{Block}
-use Rattle.viewer.specs.Says.{saysBegun as saysOpened, saysHow}
 use Rattle.listing.specs.Says.{saysDone}
-use Rattle.listing.specs.declared.Put.{Put}
 use Rattle.listing.specs.declared.Listed.{Listed}
 use Rattle.demands.specs.Rules.{rowOf, row, Decided, Given, Is}
 use Rattle.demands.specs.Table.{notCode, above, notSeven, beyond, noRow, noDistance, badGap, badLength}
-use Rattle.demands.specs.Contracts.{ReadShort, WriteShort, ReadLong, WriteLong, GoodPair, InsideBuffer, ReadTelegram, Find, Survey, Write, Begin, NextContact, JudgeContact, FitRow, Distance, JudgeGroup, CheckRecord, StepOf, TreatAt, EndOf, RunOver, PutLine, ListInto}
-use Rattle.demands.specs.Compacting.{CompactIn, CompactUnder, BlockUnder, AfterStore}
+use Rattle.demands.specs.Contracts.{ReadShort, WriteShort, ReadLong, WriteLong, GoodPair, InsideBuffer, ReadTelegram, Find, Survey, Write, Begin, NextContact, JudgeContact, FitRow, Distance, JudgeGroup, CheckRecord, StepOf, TreatAt, RunOver, ListInto}
+use Rattle.demands.specs.Compacting.{CompactIn, CompactUnder, BlockUnder}
 use Rattle.demands.specs.Lists.{telegramRules, findRules, surveyRules, writeRules, nextRules, judgeRules, groupRules, recordRules, stepRules, runRules, findReads, surveyReads, JudgeReads, NextReads}
-use Rattle.demands.specs.Steps.{OneStep, LeavesBehind}
-use Rattle.demands.specs.Stores.{StoresDecided, StoresUntouched}
-use Rattle.demands.specs.Viewing.{ViewersDecided, ViewersUntouched}
-use Rattle.demands.specs.Plans.{PlansDecided, PlansUntouched}
-
--- A refusal carries no figure: two answers with the same refusal are the same answer, whatever was asked. A refusal is a number; that of a
--- word is its number and its parity, that of a telegram these and the letter of its first bad word.
-abbrev pub Bare : {R A B : Type 0} → (A → Answer R B) → Type 0
-Bare {R} {A} says = (refusal : R) (r r′ : A) → says r ≡ refuses refusal → says r′ ≡ refuses refusal → r ≡ r′
+use Rattle.demands.specs.Stores.{storeRules, StoresDecided}
+use Rattle.demands.specs.Viewing.{ViewersDecided}
+use Rattle.demands.specs.Plans.{PlansDecided}
+pub use Rattle.demands.specs.Untouched.{Bare, Untouched}
 
 -- Each public function refuses with the first number of its list whose condition holds, and reads exactly if none does. What the others
 -- (`Given`) read is demand 2's: `Groups` (specs/Demand2.antt), `Riding` (specs/Ride.antt), `Written` (specs/Output.antt).
@@ -120,91 +105,12 @@ pub record Demand1 : Type 0 where
   pub compact : (ride : Ride) (gap : ℕ) (before : List ℕ) (r : Compacted) (after : List ℕ) → CompactIn ride gap before r after
       → Decided Given (runRules gap before) (saysSize (r .size))
   pub compact-under : (ride : Ride) (store : Store) (before : List ℕ) (r : Compacted) (after : List ℕ) → CompactUnder ride store before r after
-      → AfterStore store (row 16 (badLength before) ∷ []) (saysSize (r .size))
+      → Decided Given (storeRules store (row 16 (badLength before) ∷ [])) (saysSize (r .size))
   pub block-under : (w : Waiting) (store : Store) (before : List ℕ) (r : Block) (after : List ℕ) → BlockUnder w store before r after
-      → AfterStore store (row 16 (badLength before) ∷ []) (saysSize (r .size))
+      → Decided Given (storeRules store (row 16 (badLength before) ∷ [])) (saysSize (r .size))
   -- the functions that make a store of settings or take one
   pub stores : StoresDecided
   -- a viewer's `start`, `forward` and `back` (M-108)
   pub viewers : ViewersDecided
   -- a plan of the depot's library (M-113)
   pub plans : PlansDecided
-
--- "A refusal hands out no figure, and lent memory and state stay untouched unless the table says otherwise."
--- Of the functions with a list only those of `listing`, `explained`, `writer` and `compaction` are lent memory that they may write; a search is given by value,
--- and a refusal of `next_contact` gives none back. Those that put a text into a lent buffer (of `text`, `hearing`, `explainer`, `explained`, `sheet`, `depot`,
--- `shown`, `unheard`) refuse with no number: what they leave without room is in their contracts. (The face for C: `left` of crates/abi/specs/Face.antt.)
-pub record Untouched : Type 0 where
-  -- a refused step closes no group, and it and a refused run leave the ride as it was
-  pub step : (ride : Ride) (gap : ℕ) (bytes : List ℕ) (r : Stepped) (n : ℕ) → StepOf ride gap bytes r
-      → saysStepped r .lines ≡ refuses n → (r .ride ≡ ride) × (r .closed ≡ noGroup)
-  pub treat-at : (ride : Ride) (gap : ℕ) (trace : List ℕ) (i : ℕ) (r : Treated) (n : ℕ) → TreatAt ride gap trace i r
-      → saysTreated r .reply ≡ refuses n → (r .ride ≡ ride) × (r .closed ≡ noGroup)
-  pub run : (ride : Ride) (gap : ℕ) (trace : List ℕ) (r : Ran) (n : ℕ) → RunOver ride gap trace r → saysRan r .answer ≡ refuses n → r .ride ≡ ride
-  -- so does a refused listing, which leaves the number and the lent buffer too; a line without room leaves the buffer
-  pub list : (ride : Ride) (gap number : ℕ) (trace before : List ℕ) (r : Listed) (after : List ℕ) (n : ℕ)
-      → ListInto ride gap number trace before r after → saysDone (r .done) ≡ refuses n
-      → (r .ride ≡ ride) × (r .number ≡ number) × (after ≡ before)
-  pub put-line : (line : Line) (before : List ℕ) (at : ℕ) (r : Put) (after : List ℕ) → PutLine line before at r after
-      → r ≡ Put.NoRoom → after ≡ before
-  -- so does a refused writing
-  pub write : (x y z s t n : ℕ) (before : List ℕ) (r : Written) (after : List ℕ) (k : ℕ) → Write x y z s t n before r after → saysAnswer r ≡ refuses k → after ≡ before
-  -- so does a refused compaction, of a trace or of a block of it
-  pub compact : (ride : Ride) (gap : ℕ) (before : List ℕ) (r : Compacted) (after : List ℕ) (n : ℕ) → CompactIn ride gap before r after
-      → saysSize (r .size) ≡ refuses n → (r .ride ≡ ride) × (after ≡ before)
-  pub compact-under : (ride : Ride) (store : Store) (before : List ℕ) (r : Compacted) (after : List ℕ) (n : ℕ) → CompactUnder ride store before r after
-      → saysSize (r .size) ≡ refuses n → (r .ride ≡ ride) × (after ≡ before)
-  pub block-under : (w : Waiting) (store : Store) (before : List ℕ) (r : Block) (after : List ℕ) (n : ℕ) → BlockUnder w store before r after
-      → saysSize (r .size) ≡ refuses n → (r .waiting ≡ w) × (after ≡ before)
-  -- "but for the group refusals": a group that is left behind and refused with n, 10 to 13 or 15, gives the fault line, is handed out as
-  -- the one that closed, and leaves nothing known and no group but what the record itself takes up
-  pub group : (o : OneStep) (j : GroupJudged) (n : ℕ) → LeavesBehind o → JudgeGroup (o .ride .group) j → saysGroup j ≡ refuses n
-      → saysStepped (o .answer)
-      ≡ record {
-        lines = gives (Line.Fault (firstPlace (o .ride .group)) n ∷ []);
-        closed = o .ride .group;
-        ride = record { odometer = o .odometer; group = takeUp noGroup (o .odometer) (o .passed); known = nothingKnown };
-      }
-  -- the same where the end of the ride closes it; the odometer stays
-  pub end : (ride : Ride) (r : Ended) (j : GroupJudged) (n : ℕ) → EndOf ride r → isOpen (ride .group) ≡ true → JudgeGroup (ride .group) j
-      → saysGroup j ≡ refuses n
-      → saysEnded r
-      ≡ record {
-        lines = Line.Fault (firstPlace (ride .group)) n ∷ [];
-        closed = ride .group;
-        ride = record { odometer = ride .odometer; group = noGroup; known = nothingKnown };
-      }
-  -- no refusal carries a figure
-  pub short-read : Bare saysShortRead
-  pub short-written : Bare saysShortWritten
-  pub long-read : Bare saysLongRead
-  pub long-written : Bare saysLongWritten
-  pub pair : Bare saysPair
-  pub reach : Bare saysReach
-  pub telegram-read : Bare saysTelegramRead
-  pub found : Bare saysFound
-  pub surveyed : Bare saysSurveyed
-  pub written : Bare saysAnswer
-  pub begun : Bare saysBegun
-  pub next : Bare saysNext
-  pub contact-judged : Bare saysJudged
-  pub measured : Bare saysMeasured
-  pub fitted : Bare saysFitted
-  pub group-judged : Bare saysGroup
-  pub checked : Bare saysChecked
-  pub report : Bare saysReport
-  pub reply : Bare saysReply
-  pub way : Bare saysWay
-  pub done : Bare saysDone
-  pub size : Bare saysSize
-  pub store : Bare saysVerdict
-  pub asked : Bare saysAsked
-  pub judged-under : Bare saysJudgedUnder
-  pub viewer-opened : Bare saysOpened
-  pub viewer-moved : Bare saysHow
-  -- the functions that make a store of settings or take one
-  pub stores : StoresUntouched
-  -- a viewer's calls
-  pub viewers : ViewersUntouched
-  -- a refused plan
-  pub plans : PlansUntouched

@@ -1,6 +1,8 @@
 pub mod Rules
+pub mod RecordTable
 pub mod Table
 pub mod Table02
+pub mod RideContracts
 pub mod Contracts
 pub mod Compacting
 pub mod Steps
@@ -8,6 +10,7 @@ pub mod Lists
 pub mod Stores
 pub mod Viewing
 pub mod Plans
+pub mod Untouched
 pub mod Demand1
 pub mod Cases
 pub mod RowCases

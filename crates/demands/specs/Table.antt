@@ -2,11 +2,11 @@
 -- 16,777,216, 64 and 11, 8 and 4, 1 to 14, 1 to 200, 4,000,000,000) stand here a second time, so that a wrong one in a crate shows as a failing proof. What a place is,
 -- when places are alike (`allAlike`), how a row fits (`fitIn`) and the ones and zeroes of a contact are cited from the crates.
 -- Assumes nothing.
-use Prim.Native.Nat.{ℕ, zero, suc, _+_, _-_, _*_, _%_, _^_}
+use Prim.Native.Nat.{ℕ, zero, suc, _+_, _-_, _*_, _^_}
 use mathlib.Core.Bool.{Bool, true, false, not, _&&_, _||_}
 use mathlib.Core.List.{List, [], _∷_}
 use lib.Dec.{eqb, ltb, leb}
-use lib.ListN.{length, getD}
+use lib.ListN.{length}
 use Rattle.words.specs.Answer.{Outcome, gives, refuses, pick}
 use Rattle.words.specs.Plain.{isCode, figure}
 use Rattle.words.specs.Code.{exchanged}
@@ -25,7 +25,8 @@ use Rattle.group.specs.declared.Group.{Group}
 use Rattle.group.specs.declared.Heard.{Heard}
 use Rattle.walk.specs.declared.Kind.{Kind}
 use Rattle.walk.specs.declared.Placed.{Placed}
-use Rattle.ride.specs.Record.{odometerOf}
+pub use Rattle.demands.specs.RecordTable.{someNotZero}
+unfoldable pub use Rattle.demands.specs.RecordTable.{badLength, badRecord, wentBack, tooFar, badGap}
 
 -- 1: "not a code word", of n bits
 unfoldable pub notCode : ℕ → ℕ → Bool
@@ -193,27 +194,3 @@ presetBarred (fit Kind.Route a) by = false
 unfoldable pub notAllowed : List Placed → Bool
 notAllowed bs =
     presetBarred (fitIn present bs) (yOf (B bs)) || (isJudged (fitIn present bs) && noLink (yOf (B bs)) (zOf (B bs)) (C bs))
-
--- 16: "trace length not a multiple of 8"
-unfoldable pub badLength : List ℕ → Bool
-badLength trace = not (eqb (length trace % 8) 0)
-
--- Whether one of bytes 5 to 7 of a record is not zero.
-abbrev pub someNotZero : List ℕ → Bool
-someNotZero r = ltb 0 (getD r 5 0) || ltb 0 (getD r 6 0) || ltb 0 (getD r 7 0)
-
--- 16: "kind above 3, or bytes 5 to 7 not zero where they must be": "all zero for kinds 1 to 3". Byte 4 is the kind.
-unfoldable pub badRecord : List ℕ → Bool
-badRecord r = ltb 3 (getD r 4 0) || (leb 1 (getD r 4 0) && someNotZero r)
-
--- 17: "odometer below the last accepted one"
-unfoldable pub wentBack : ℕ → List ℕ → Bool
-wentBack last r = ltb (odometerOf r) last
-
--- 18: "odometer above 4,000,000,000"
-unfoldable pub tooFar : List ℕ → Bool
-tooFar r = ltb 4000000000 (odometerOf r)
-
--- 19: "gap outside 1 to 200"
-unfoldable pub badGap : ℕ → Bool
-badGap gap = ltb gap 1 || ltb 200 gap
