@@ -7,7 +7,9 @@ use mathlib.Core.List.{List}
 use lib.Dec.{eqb, ltb}
 use lib.ListN.{length, getD, take, drop}
 use Rattle.words.specs.Answer.{pick}
-use Rattle.arguments.specs.Figures.{Number, number, above, none, decimal, Word, byte, noWord, hex}
+use Rattle.arguments.specs.Figures.{decimal, hex}
+use Rattle.arguments.specs.declared.Figure.{Figure}
+use Rattle.arguments.specs.declared.Byte.{Byte}
 use Rattle.fields.specs.Fields.{field}
 use Rattle.vectors.specs.declared.cells.Cell.{Cell}
 use Rattle.vectors.specs.declared.cells.Shown.{Shown}
@@ -17,10 +19,10 @@ unfoldable pub begins : List ℕ → ℕ → Bool
 begins text sign = ltb 0 (length text) && eqb (getD text 0 0) sign
 
 -- Two bytes, each of two hexadecimal digits, as one word.
-abbrev pub joined : Word → Word → Shown
-joined (byte y) (byte z) = Shown.Word (y * 256 + z)
-joined (byte y) noWord = Shown.Unknown
-joined noWord w = Shown.Unknown
+abbrev pub joined : Byte → Byte → Shown
+joined (Byte.Is y) (Byte.Is z) = Shown.Word (y * 256 + z)
+joined (Byte.Is y) Byte.Odd = Shown.Unknown
+joined Byte.Odd w = Shown.Unknown
 
 -- The word that four hexadecimal digits spell.
 unfoldable pub wordBy : List ℕ → Shown
@@ -58,10 +60,10 @@ columnsOf figure line =
     (pick (eqb (length (column line 4)) 0) Cell.Unknown (putRight figure (shownBy (column line 2)) (wordBy (column line 3))))
 
 -- A line with a figure up to 2,047.
-abbrev pub withFigure : List ℕ → Number → Cell
-withFigure line (number n) = columnsOf n line
-withFigure line above = Cell.Unknown
-withFigure line none = Cell.Unknown
+abbrev pub withFigure : List ℕ → Figure → Cell
+withFigure line (Figure.Number n) = columnsOf n line
+withFigure line Figure.Above = Cell.Unknown
+withFigure line Figure.Odd = Cell.Unknown
 
 -- What a line holds. The sign # is 35.
 unfoldable pub cellOf : List ℕ → Cell

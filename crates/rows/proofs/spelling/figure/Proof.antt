@@ -3,8 +3,7 @@ use mathlib.Core.Path.{_≡_, sym, ap, _∙_}
 use Prim.Native.Nat.{_≤_}
 use native.Mathlib.Omega.{arith}
 use borrow.Author.Needs.{needs}
-use Rattle.arguments.specs.Figures.{number, decimal}
-use Rattle.arguments.specs.Says.{saysFigure}
+use Rattle.arguments.specs.Figures.{decimal}
 use Rattle.arguments.specs.declared.Figure.{Figure}
 use Rattle.arguments.proofs.Largest.{no-larger}
 use Rattle.rows.specs.Spelling.{orNone, figureOf}
@@ -22,7 +21,7 @@ cast-result c =
     let d = c .before .before .before in
     let a = d .before .before .args in
     let m = c .before .m .given .0 .0 in
-    let e : number m ≡ decimal (a .text .now) 15 = ap saysFigure (sym (c .before .m .given .1)) ∙ d .decimal .ensures in
+    let e : Figure.Number m ≡ decimal (a .text .now) 15 = sym (c .before .m .given .1) ∙ d .decimal .ensures in
     omega (arith, no-larger (a .text .now) 15 m e)
 
 enum-told : tie.Need-enum-told
@@ -35,19 +34,19 @@ returns : tie.Need-returns
 unfolding figureOf
 returns c =
     let d = c .before .before .before in
-    ap (λ (f : Figure). orNone (saysFigure f)) (sym (c .before .m .given .1)) ∙ ap orNone (d .decimal .ensures)
+    ap orNone (sym (c .before .m .given .1)) ∙ ap orNone (d .decimal .ensures)
 
 returns-2 : tie.Need-returns-2
 unfolding figureOf
 returns-2 c =
     let d = c .before .before in
-    ap (λ (f : Figure). orNone (saysFigure f)) (sym (c .enum-told .given .1)) ∙ ap orNone (d .decimal .ensures)
+    ap orNone (sym (c .enum-told .given .1)) ∙ ap orNone (d .decimal .ensures)
 
 returns-3 : tie.Need-returns-3
 unfolding figureOf
 returns-3 c =
     let d = c .before .before in
-    ap (λ (f : Figure). orNone (saysFigure f)) (sym (c .enum-told2 .given .1)) ∙ ap orNone (d .decimal .ensures)
+    ap orNone (sym (c .enum-told2 .given .1)) ∙ ap orNone (d .decimal .ensures)
 
 pub figure-spec : {M : Type 1} → statement M
 figure-spec =

@@ -2,7 +2,6 @@
 use mathlib.Core.Path.{_≡_, sym, ap, _∙_}
 use Prim.Native.Nat.{ℕ}
 use borrow.Author.Needs.{needs}
-use Rattle.arguments.specs.Says.{saysFigure}
 use Rattle.arguments.specs.declared.Figure.{Figure}
 use Rattle.rows.specs.Spelling.{is, spells}
 use Rattle.rows.proofs.spelling.spells.Statement.{statement}
@@ -25,21 +24,21 @@ unfolding spells
 returns c =
     let d = c .before .before .before in
     let n = d .before .before .args .n in
-    ap (λ (f : Figure). is n (saysFigure f)) (sym (c .before .m .given .1)) ∙ ap (is n) (d .decimal .ensures)
+    ap (is n) (sym (c .before .m .given .1)) ∙ ap (is n) (d .decimal .ensures)
 
 returns-2 : tie.Need-returns-2
 unfolding spells
 returns-2 c =
     let d = c .before .before in
     let n = d .before .before .args .n in
-    ap (λ (f : Figure). is n (saysFigure f)) (sym (c .enum-told .given .1)) ∙ ap (is n) (d .decimal .ensures)
+    ap (is n) (sym (c .enum-told .given .1)) ∙ ap (is n) (d .decimal .ensures)
 
 returns-3 : tie.Need-returns-3
 unfolding spells
 returns-3 c =
     let d = c .before .before in
     let n = d .before .before .args .n in
-    ap (λ (f : Figure). is n (saysFigure f)) (sym (c .enum-told2 .given .1)) ∙ ap (is n) (d .decimal .ensures)
+    ap (is n) (sym (c .enum-told2 .given .1)) ∙ ap (is n) (d .decimal .ensures)
 
 pub spells-spec : {M : Type 1} → statement M
 spells-spec =

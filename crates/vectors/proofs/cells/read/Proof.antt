@@ -4,8 +4,7 @@ use mathlib.Core.List.{List}
 use Prim.Native.Nat.{ℕ}
 use native.Mathlib.Omega.{arith}
 use borrow.Author.Needs.{needs}
-use Rattle.arguments.specs.Figures.{number, decimal}
-use Rattle.arguments.specs.Says.{saysFigure}
+use Rattle.arguments.specs.Figures.{decimal}
 use Rattle.arguments.specs.declared.Figure.{Figure}
 use Rattle.arguments.proofs.Largest.{no-larger}
 use Rattle.vectors.specs.Lines.{column, withFigure, cellOf}
@@ -13,7 +12,7 @@ use Rattle.vectors.proofs.cells.read.Statement.{statement}
 use Rattle.vectors.proofs.cells.read.Tie as tie
 
 -- what the figure's column says
-figured : (d : tie.After-decimal) → saysFigure (d .decimal .result) ≡ decimal (column (d .before .before .before .before .before .args .line .now) 0) 2047
+figured : (d : tie.After-decimal) → d .decimal .result ≡ decimal (column (d .before .before .before .before .before .args .line .now) 0) 2047
 figured d = d .decimal .ensures ∙ ap (λ (t : List ℕ). decimal t 2047) (d .before .field .ensures)
 
 begins-requires : tie.Need-begins-requires
@@ -37,7 +36,7 @@ cast-columns c =
     let d = c .before .before .before in
     let line = d .before .before .before .before .before .args .line .now in
     let n = c .before .n .given .0 .0 in
-    let e : number n ≡ decimal (column line 0) 2047 = ap saysFigure (sym (c .before .n .given .1)) ∙ figured d in
+    let e : Figure.Number n ≡ decimal (column line 0) 2047 = sym (c .before .n .given .1) ∙ figured d in
     omega (arith, no-larger (column line 0) 2047 n e)
 
 columns-requires : tie.Need-columns-requires
@@ -54,7 +53,7 @@ unfolding cellOf
 returns-2 c =
     let d = c .before .before .before .before in
     let line = d .before .before .before .before .before .args .line .now in
-    let e = ap saysFigure (sym (c .before .before .n .given .1)) ∙ figured d in
+    let e = sym (c .before .before .n .given .1) ∙ figured d in
     simp (← d .before .before .before .begins .ensures, d .before .before .if1 .left) (c .columns .ensures ∙ ap (withFigure line) e)
 
 returns-3 : tie.Need-returns-3
@@ -62,7 +61,7 @@ unfolding cellOf
 returns-3 c =
     let d = c .before .before in
     let line = d .before .before .before .before .before .args .line .now in
-    let e = ap saysFigure (sym (c .enum-told .given .1)) ∙ figured d in
+    let e = sym (c .enum-told .given .1) ∙ figured d in
     simp (← d .before .before .before .begins .ensures, d .before .before .if1 .left) (ap (withFigure line) e)
 
 returns-4 : tie.Need-returns-4
@@ -70,7 +69,7 @@ unfolding cellOf
 returns-4 c =
     let d = c .before .before in
     let line = d .before .before .before .before .before .args .line .now in
-    let e = ap saysFigure (sym (c .enum-told2 .given .1)) ∙ figured d in
+    let e = sym (c .enum-told2 .given .1) ∙ figured d in
     simp (← d .before .before .before .begins .ensures, d .before .before .if1 .left) (ap (withFigure line) e)
 
 pub read-spec : {M : Type 1} → statement M

@@ -4,15 +4,15 @@ use mathlib.Core.List.{List}
 use Prim.Native.Nat.{ℕ}
 use borrow.Author.Tests.{eq-eqb, ne-eqb}
 use lib.ListN.{length, take, drop}
-use Rattle.arguments.specs.Figures.{Word, hex}
-use Rattle.arguments.specs.Says.{saysByte}
+use Rattle.arguments.specs.Figures.{hex}
+use Rattle.arguments.specs.declared.Byte.{Byte}
 use Rattle.vectors.specs.Lines.{joined, wordBy}
 use borrow.Author.Needs.{needs}
 use Rattle.vectors.proofs.cells.word.Statement.{statement}
 use Rattle.vectors.proofs.cells.word.Tie as tie
 
 -- four digits are two bytes
-pairs : (t : List ℕ) → length t ≡ 4 → {y z : Word} → hex (take 2 t) ≡ y → hex (take 2 (drop 2 t)) ≡ z → joined y z ≡ wordBy t
+pairs : (t : List ℕ) → length t ≡ 4 → {y z : Byte} → hex (take 2 t) ≡ y → hex (take 2 (drop 2 t)) ≡ z → joined y z ≡ wordBy t
 unfolding wordBy
 pairs t h e f = sym (simp (eq-eqb _ _ h) (ap₂ joined e f))
 
@@ -55,7 +55,7 @@ returns-2 c =
     let h = c .before .before in
     let g = h .before .before in
     let t = g .before .before .before .before .args .text .now in
-    pairs t (g .before .before .if1 .left) (sym (g .hex .ensures) ∙ ap saysByte (c .enum-told .given .1)) refl
+    pairs t (g .before .before .if1 .left) (sym (g .hex .ensures) ∙ (c .enum-told .given .1)) refl
 
 enum-known-low : tie.Need-enum-known-low
 enum-known-low c = search needs
@@ -68,7 +68,7 @@ returns-3 c =
     let h = c .before .before .before .before .before in
     let g = h .before .before in
     let t = g .before .before .before .before .args .text .now in
-    pairs t (g .before .before .if1 .left) (sym (g .hex .ensures) ∙ ap saysByte (c .before .before .before .high .given .1)) (sym (h .hex2 .ensures) ∙ ap saysByte (c .enum-told2 .given .1))
+    pairs t (g .before .before .if1 .left) (sym (g .hex .ensures) ∙ (c .before .before .before .high .given .1)) (sym (h .hex2 .ensures) ∙ (c .enum-told2 .given .1))
 
 cast-t14 : tie.Need-cast-t14
 cast-t14 c = search needs
@@ -87,7 +87,7 @@ returns-4 c =
     let h = c .before .before .before .before .before .before in
     let g = h .before .before in
     let t = g .before .before .before .before .args .text .now in
-    pairs t (g .before .before .if1 .left) (sym (g .hex .ensures) ∙ ap saysByte (c .before .before .before .before .high .given .1)) (sym (h .hex2 .ensures) ∙ ap saysByte (c .before .low .given .1))
+    pairs t (g .before .before .if1 .left) (sym (g .hex .ensures) ∙ (c .before .before .before .before .high .given .1)) (sym (h .hex2 .ensures) ∙ (c .before .low .given .1))
 
 pub word-spec : {M : Type 1} → statement M
 word-spec = tie.close (tie.spec returns sub-hex part-hex-start part-hex-end hex-requires sub-hex-2 part-hex-start-2 part-hex-end-2 hex-requires-2 enum-known-high enum-told returns-2 enum-known-low enum-told-2 returns-3 cast-t14 mul-t15 cast-t16 add-t17 returns-4)
