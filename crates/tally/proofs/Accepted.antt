@@ -1,145 +1,36 @@
 -- What is promised of an acceptance run holds of every run that the contracts allow.
 -- Assumes nothing.
-use Prim.Native.Nat.{ℕ, zero, suc, _+_, _-_, _≤_, _<_, _^_}
+use Prim.Native.Nat.{ℕ, _+_, _-_, _≤_, _<_, _^_}
 use native.Mathlib.Omega.{arith}
-use mathlib.Core.Path.{_≡_, refl, sym, ap, ap₂, subst, _∙_}
-use mathlib.Core.Bool.{Bool, true, false, not, _&&_, _||_}
-use mathlib.Core.List.{List, [], _∷_, _++_, map}
-use lib.Dec.{leb, ltb}
-use lib.ListN.{length, take, getD, replicate}
-use lib.Seq.{take-at}
-use borrow.Author.Tests.{ltb-true, ltb-false, lt-ltb, le-ltb, le-leb}
-use denote.Ref.{RefT, now}
-use Rattle.words.specs.Answer.{Outcome, gives, refuses, pick}
+use mathlib.Core.Path.{_≡_, refl, sym, ap, ap₂, _∙_}
+use mathlib.Core.Bool.{Bool, true, false}
+use mathlib.Core.List.{List}
+use lib.Dec.{ltb}
+use lib.ListN.{length, take, getD}
+use borrow.Author.Tests.{ltb-true, ltb-false, le-leb}
+use Rattle.words.specs.Answer.{pick}
 use Rattle.ride.specs.declared.Line.{Line}
 use Rattle.ride.specs.Over.{records}
 use Rattle.acceptance.specs.declared.Met.{Met}
 use Rattle.acceptance.specs.declared.Entry.{Entry}
 use Rattle.acceptance.specs.declared.Acceptance.{Acceptance}
-use Rattle.acceptance.specs.declared.Judged.{Judged}
-use Rattle.acceptance.specs.declared.Planned.{Planned}
 use Rattle.acceptance.specs.declared.Part.{Part}
 use Rattle.acceptance.specs.declared.Took.{Took}
 use Rattle.acceptance.specs.declared.Reported.{Reported}
 use Rattle.acceptance.specs.declared.Sums.{Sums}
-use Rattle.acceptance.specs.Plan.{Good, good, Planning, entryOf, entriesOf, noEntry, apart, wellFormed, planWith, emptyPlan, plan}
-use Rattle.acceptance.specs.Taking.{planned, isAbsent, isFor, noPart, takeLine}
-use Rattle.acceptance.specs.Report.{report, metIn, upToMost, sums}
-use Rattle.acceptance.specs.Says.{saysJudged, saysPlanned}
-use Rattle.demands.specs.Plans.{Plans}
-use Rattle.tally.specs.Contracts.{Takes, Reports, SumsUp}
+use Rattle.acceptance.specs.Plan.{entriesOf, noEntry, apart, planWith, plan}
+use Rattle.acceptance.specs.Taking.{planned, isFor, noPart, takeLine}
+use Rattle.acceptance.specs.Report.{report, metIn, sums}
+use Rattle.tally.specs.Contracts.{Reports, SumsUp}
 use Rattle.tally.specs.Lines.{isGroup, groupsIn, placeIn, kindIn, isGroupFor, someFor, firstFor, wantedIn, extraIn}
-use Rattle.tally.specs.Accepted.{Taken, after, Run, ended, entries, entry, part, Accepted}
+use Rattle.tally.specs.Accepted.{Run, ended, entries, entry, part, Accepted}
 use Rattle.tally.specs.Accepted as claim
 use Rattle.tally.proofs.Near.{and-right, only-one}
 use Rattle.tally.proofs.Meeting.{with}
 use Rattle.tally.proofs.Over.{runOver, answersTo, metAll, wanted-over, extra-over, groups-over}
-use Rattle.tally.proofs.Parts.{answer-at, absent-first, plan-length, entry-after, entry-met, first-wanted, wanted-first, others-none}
-
--- ---- the plan
-
-no : {A : Type 0} → _≡_ {A = ℕ} 0 1 → A
-no z = absurd (omega arith)
-
-good-by : (x y z : Bool) (p : Planned) (whole : Acceptance)
-    → saysPlanned p
-    ≡ pick x (pick y (pick z (record { answer = gives good; plan = whole }) (record { answer = refuses 27; plan = emptyPlan })) (record { answer = refuses 26; plan = emptyPlan }))
-    (record { answer = refuses 28; plan = emptyPlan })
-    → p .judged ≡ Judged.Good → (z ≡ true) × (p .plan ≡ whole)
-good-by true true true p whole e g = (refl, ap (λ (q : Planning). q .plan) e)
-good-by true true false p whole e g =
-    let q : _≡_ {A = Outcome Good} (gives good) (refuses 27) = sym (ap saysJudged g) ∙ ap (λ (q : Planning). q .answer) e in
-    no (cc)
-good-by true false z p whole e g =
-    let q : _≡_ {A = Outcome Good} (gives good) (refuses 26) = sym (ap saysJudged g) ∙ ap (λ (q : Planning). q .answer) e in
-    no (cc)
-good-by false y z p whole e g =
-    let q : _≡_ {A = Outcome Good} (gives good) (refuses 28) = sym (ap saysJudged g) ∙ ap (λ (q : Planning). q .answer) e in
-    no (cc)
-
-good-plan : (b : List ℕ) (tolerance : ℕ) (p : Planned) → saysPlanned p ≡ plan b tolerance → p .judged ≡ Judged.Good
-    → (apart tolerance (entriesOf b) ≡ true) × (p .plan ≡ planWith tolerance (entriesOf b))
-unfolding plan
-good-plan b tolerance p e g =
-    good-by (leb tolerance 500) (wellFormed b) (apart tolerance (entriesOf b)) p (planWith tolerance (entriesOf b)) e g
-
-plan-entries : (tolerance : ℕ) (es : List Entry) → planned (planWith tolerance es) ≡ es
-unfolding planWith
-plan-entries tolerance es = take-at es (replicate (64 - length es) noEntry) (length es) refl
-
-plan-tolerance : (tolerance : ℕ) (es : List Entry) → planWith tolerance es .tolerance ≡ tolerance
-unfolding planWith
-plan-tolerance tolerance es = refl
-
-plan-extra : (tolerance : ℕ) (es : List Entry) → planWith tolerance es .extra ≡ 0
-unfolding planWith
-plan-extra tolerance es = refl
-
--- A plan's entries are not met yet.
-unmet : (rs : List (List ℕ)) (i : ℕ) → getD (map entryOf rs) i noEntry .met ≡ Met.Absent
-unfolding entryOf
-unmet [] i = refl
-unmet (r ∷ rs) zero = refl
-unmet (r ∷ rs) (suc i) = unmet rs i
-
--- No more are met than there are.
-pub met-within : (es : List Entry) → metIn es ≤ length es
-unfolding metIn
-met-within [] = omega arith
-met-within (e ∷ es) = by-test (isAbsent (e .met)) (met-within es)
-  where
-    by-test : (b : Bool) → metIn es ≤ length es → pick b (metIn es) (suc (metIn es)) ≤ suc (length es)
-    by-test true h = omega arith
-    by-test false h = omega arith
-
-none-met : (rs : List (List ℕ)) → metIn (map entryOf rs) ≡ 0
-unfolding metIn entryOf
-none-met [] = refl
-none-met (r ∷ rs) = none-met rs
-
--- ---- the answers
-
-taken-are : (s : Acceptance) (ls : List Line) (ts : List Took) → Taken s ls ts → (ts ≡ answersTo s ls) × (after s ts ≡ runOver s ls)
-unfolding answersTo runOver
-taken-are s [] [] h = (refl, refl)
-taken-are s [] (t ∷ ts) h = absurd h
-taken-are s (l ∷ ls) [] h = absurd h
-taken-are s (l ∷ ls) (t ∷ ts) h =
-    let is : t ≡ takeLine s l = h .0 .1 in
-    let rest = taken-are (t .state) ls ts (h .1) in (
-      ap₂ (λ (x : Took) (xs : List Took). x ∷ xs) is (rest .0 ∙ ap (λ (x : Took). answersTo (x .state) ls) is),
-      rest .1 ∙ ap (λ (x : Took). runOver (x .state) ls) is,
-    )
-
--- Line k of the lines before m is among them.
-some-at : (tolerance : ℕ) (e : Entry) (ls : List Line) (k m : ℕ) → k < m → k < length ls → isGroupFor tolerance e (getD ls k (Line.Trace 0)) ≡ true
-    → someFor tolerance e (take m ls) ≡ true
-unfolding someFor
-some-at tolerance e [] k m h j g = absurd (omega arith)
-some-at tolerance e (l ∷ ls) k zero h j g = absurd (omega arith)
-some-at tolerance e (l ∷ ls) zero (suc m) h j g = ap (λ (b : Bool). b || someFor tolerance e (take m ls)) g
-some-at tolerance e (l ∷ ls) (suc k) (suc m) h j g =
-    ap (λ (b : Bool). isGroupFor tolerance e l || b) (some-at tolerance e ls k m (omega arith) (omega arith) g) ∙ or-true (isGroupFor tolerance e l)
-  where
-    or-true : (b : Bool) → (b || true) ≡ true
-    or-true true = refl
-    or-true false = refl
-
--- ---- the report
-
-reported : (s : Acceptance) (i : ℕ) → i < length (planned s) → report s i ≡ Reported.Entry (getD (planned s) i noEntry)
-unfolding report
-reported s i h = ap (λ (b : Bool). pick b (Reported.Entry (getD (planned s) i noEntry)) Reported.NoEntry) (lt-ltb i (length (planned s)) h)
-
-not-reported : (s : Acceptance) (i : ℕ) → length (planned s) ≤ i → report s i ≡ Reported.NoEntry
-unfolding report
-not-reported s i h = ap (λ (b : Bool). pick b (Reported.Entry (getD (planned s) i noEntry)) Reported.NoEntry) (le-ltb i (length (planned s)) h)
-
-sums-are : (s : Acceptance) (x : Sums) → x ≡ sums s → (x .entries ≡ length (planned s)) × (x .met ≡ metIn (planned s)) × (x .absent ≡ length (planned s) - metIn (planned s))
-    × (x .present ≡ upToMost (metIn (planned s) + s .extra)) × (x .extra ≡ s .extra)
-unfolding sums
-sums-are s x e =
-    (ap (λ (y : Sums). y .entries) e, ap (λ (y : Sums). y .met) e, ap (λ (y : Sums). y .absent) e, ap (λ (y : Sums). y .present) e, ap (λ (y : Sums). y .extra) e)
+use Rattle.tally.proofs.Parts.{answer-at, absent-first, plan-length, entry-after, first-wanted, wanted-first, others-none}
+use Rattle.tally.proofs.Plan.{no, good-plan, plan-entries, plan-tolerance, plan-extra, unmet, met-within, none-met}
+use Rattle.tally.proofs.Reports.{taken-are, some-at, reported, not-reported, sums-are}
 
 module _ (r : Run) where
   abbrev s : Acceptance

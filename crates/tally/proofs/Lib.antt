@@ -3,5 +3,7 @@ pub mod Meeting
 pub mod Cases
 pub mod Over
 pub mod Parts
+pub mod Plan
+pub mod Reports
 pub mod Accepted
 pub mod Depot
