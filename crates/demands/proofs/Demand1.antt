@@ -1,5 +1,26 @@
 -- Demand 1 holds: each contract hands over its specification, and each specification refuses as the table says.
 -- Assumes nothing.
+pub mod Refusals
+pub mod Shifted
+pub mod Cut
+pub mod NextOne
+pub mod Contacts
+pub mod Answers
+pub mod Distances
+pub mod Balises
+pub mod Groups
+pub mod Rides
+pub mod Treats
+pub mod Listings
+pub mod Compacting
+pub mod Writes
+pub mod Bare
+pub mod StoreRules
+pub mod Explaining
+pub mod Stores
+pub mod ManyCalls
+pub mod Viewing
+pub mod Plans
 use mathlib.Core.Path.{ap, ap₂, _∙_}
 use mathlib.Core.List.{List}
 use Prim.Native.Nat.{ℕ}
@@ -16,18 +37,18 @@ use Rattle.ride.specs.Over.{Run, run}
 use Rattle.listing.specs.List.{Listing, list}
 use Rattle.compaction.specs.Compact.{Compaction, compact, compactUnder, Settling, blockUnder}
 use Rattle.demands.specs.Demand1.{Demand1}
-use Rattle.demands.proofs.Refusals.{reading, writing, pairing, lying, wording, finding, surveying}
-use Rattle.demands.proofs.Writes.{writing-test}
-use Rattle.demands.proofs.Contacts.{beginning, nexting, judging}
-use Rattle.demands.proofs.Distances.{measuring}
-use Rattle.demands.proofs.Groups.{fitting-to, grouping}
-use Rattle.demands.proofs.Rides.{checking, stepping, running}
-use Rattle.demands.proofs.Treats.{treated-is, treating}
-use Rattle.demands.proofs.Listings.{listing}
-use Rattle.demands.proofs.Compacting.{compacting, compacting-under, settling-under}
-use Rattle.demands.proofs.Stores.{stores-decided}
-use Rattle.demands.proofs.Viewing.{viewers-decided}
-use Rattle.demands.proofs.Plans.{plans-decided}
+use Rattle.demands.proofs.Demand1.Refusals.{reading, writing, pairing, lying, wording, finding, surveying}
+use Rattle.demands.proofs.Demand1.Writes.{writing-test}
+use Rattle.demands.proofs.Demand1.Contacts.{beginning, nexting, judging}
+use Rattle.demands.proofs.Demand1.Distances.{measuring}
+use Rattle.demands.proofs.Demand1.Groups.{fitting-to, grouping}
+use Rattle.demands.proofs.Demand1.Rides.{checking, stepping, running}
+use Rattle.demands.proofs.Demand1.Treats.{treated-is, treating}
+use Rattle.demands.proofs.Demand1.Listings.{listing}
+use Rattle.demands.proofs.Demand1.Compacting.{compacting, compacting-under, settling-under}
+use Rattle.demands.proofs.Demand1.Stores.{stores-decided}
+use Rattle.demands.proofs.Demand1.Viewing.{viewers-decided}
+use Rattle.demands.proofs.Demand1.Plans.{plans-decided}
 
 pub demand1 : Demand1
 demand1 = record {

@@ -1,19 +1,25 @@
 -- Demand 3 holds.
 -- Assumes nothing.
+pub mod Handed
+pub mod Together
+pub mod JudgedAlike
+pub mod Clean
+pub mod Noise
+pub mod Needed
 use Rattle.words.specs.Says.{saysShortRead, saysLongRead}
 use Rattle.line.specs.Line.{OneBalise, Proper}
 use Rattle.demands.specs.Contracts.{ReadShort, ReadLong}
 use Rattle.demands.specs.Demand3.{OnlyTheSent, Demand3}
 use Rattle.words.proofs.Widths.{short, long}
-use Rattle.demands.proofs.Noise.{noise-law}
+use Rattle.demands.proofs.Demand3.Noise.{noise-law}
 use Rattle.line.proofs.Sent.{AllSent}
 use Rattle.line.proofs.TooFew.{few-flips-few}
 use Rattle.line.proofs.Stretch.{all-sent}
 use Rattle.line.proofs.Unflipped.{unflipped-among}
-use Rattle.demands.proofs.Handed.{asking-ends, every-sent, all-places-sent, unflipped-comes}
-use Rattle.demands.proofs.Together.{survey-sent}
-use Rattle.demands.proofs.JudgedAlike.{judge-sent}
-use Rattle.demands.proofs.Clean.{comes-all-sent}
+use Rattle.demands.proofs.Demand3.Handed.{asking-ends, every-sent, all-places-sent, unflipped-comes}
+use Rattle.demands.proofs.Demand3.Together.{survey-sent}
+use Rattle.demands.proofs.Demand3.JudgedAlike.{judge-sent}
+use Rattle.demands.proofs.Demand3.Clean.{comes-all-sent}
 
 -- Where every place has the words sent, only the sent is handed out. This is all that is asked of a hypothesis on the flips.
 pub only-the-sent : (o : OneBalise) → Proper o → AllSent o → OnlyTheSent o

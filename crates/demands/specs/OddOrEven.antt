@@ -1,6 +1,6 @@
 -- Odd or even, beside demand 3 (document 02, M-106): "A word refused with 1 now also says which: every code word has an even number of ones,
 -- so an odd word had an odd number of flips."
--- What the contracts allow: specs/Contracts.antt. That all of this holds: proofs/OddOrEven.antt.
+-- What the contracts allow: specs/Contracts.antt. That all of this holds: proofs/Beside/OddOrEven.antt.
 -- Assumes nothing.
 use Prim.Native.Nat.{ℕ, _%_}
 use mathlib.Core.Path.{_≡_}

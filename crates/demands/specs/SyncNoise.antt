@@ -5,7 +5,7 @@
 -- kept for them."
 -- What is sent and what flips, the equal bit and the forty bits in a row: line/specs/Line.antt and line/specs/Forty.antt. What follows is demand 3's
 -- own conclusion: specs/Demand3.antt.
--- That all of this holds: proofs/SyncNoise.antt.
+-- That all of this holds: proofs/Beside/SyncNoise.antt.
 -- Assumes nothing.
 use Prim.Native.Nat.{ℕ, _-_, _≤_, _<_}
 use mathlib.Core.Path.{_≡_}

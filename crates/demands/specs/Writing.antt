@@ -1,5 +1,5 @@
 -- Document 02, M-100: "Reading these bits as one contact gives exactly n places, the first at 0, and the same figures." The bits are those
--- that `write` wrote, whatever stands in the buffer after them. That it is so: proofs/Writing.antt.
+-- that `write` wrote, whatever stands in the buffer after them. That it is so: proofs/Beside/Writing.antt.
 -- Assumes nothing.
 use Prim.Native.Nat.{ℕ, _+_, _*_, _<_}
 use mathlib.Core.Path.{_≡_}

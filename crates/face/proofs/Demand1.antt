@@ -23,11 +23,11 @@ use Rattle.compaction.specs.Compact.{compact}
 use Rattle.demands.specs.Rules.{Rule, rowOf, row, Decided, Given, Is}
 use Rattle.demands.specs.Table.{notCode, above, beyond, noDistance}
 use Rattle.demands.specs.Lists.{telegramRules, findRules, writeRules, nextRules, judgeRules, runRules, findReads, JudgeReads, NextReads}
-use Rattle.demands.proofs.Compacting.{compacting, compact-untouched}
-use Rattle.demands.proofs.Refusals.{reading, writing, wording, finding}
-use Rattle.demands.proofs.Writes.{writing-test, write-untouched}
-use Rattle.demands.proofs.Contacts.{beginning, nexting, judging}
-use Rattle.demands.proofs.Distances.{measuring}
+use Rattle.demands.proofs.Demand1.Compacting.{compacting, compact-untouched}
+use Rattle.demands.proofs.Demand1.Refusals.{reading, writing, wording, finding}
+use Rattle.demands.proofs.Demand1.Writes.{writing-test, write-untouched}
+use Rattle.demands.proofs.Demand1.Contacts.{beginning, nexting, judging}
+use Rattle.demands.proofs.Demand1.Distances.{measuring}
 use Rattle.face.specs.Demand1.{Demand1, Untouched, DecidedAs, Refused}
 use Rattle.face.proofs.Carried.{decided-told, left-as-it-was, is-refusal}
 

@@ -28,7 +28,7 @@ use Rattle.compaction.proofs.Blocks.{whole}
 use Rattle.compaction.proofs.Determined as compaction-is
 use Rattle.demands.specs.Compacting.{CompactUnder, BlockUnder}
 use Rattle.demands.specs.Sections.{Whole}
-use Rattle.demands.proofs.Cards.{eights}
+use Rattle.demands.proofs.Beside.Cards.{eights}
 use Rattle.smaller.specs.Blocks.{Call, bytesIn, ByBlocks, written, waitsLast, InBlocks}
 use Rattle.smaller.proofs.Made.{Made}
 use Rattle.smaller.proofs.Trace.{under-made}

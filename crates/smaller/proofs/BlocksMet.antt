@@ -24,7 +24,7 @@ use Rattle.compaction.specs.Compact.{bytesOf, settledBlock, blockUnder}
 use Rattle.compaction.specs.declared.Waiting.{Waiting}
 use Rattle.compaction.proofs.Determined as compaction-is
 use Rattle.demands.specs.Table.{badLength}
-use Rattle.demands.proofs.CallsMet.{lent}
+use Rattle.demands.proofs.Witness.CallsMet.{lent}
 use Rattle.smaller.specs.Blocks.{Call, ByBlocks, written, waitsLast}
 use Rattle.smaller.proofs.TraceMet.{at, marker, two, allUnder}
 

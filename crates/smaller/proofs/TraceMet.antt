@@ -33,7 +33,7 @@ use Rattle.demands.specs.Contracts.{RunOver}
 use Rattle.demands.specs.Stores.{RunUnder}
 use Rattle.demands.specs.Compacting.{CompactIn, CompactUnder}
 use Rattle.demands.specs.Sections.{ByStep, linesFrom}
-use Rattle.demands.proofs.CallsMet.{lent}
+use Rattle.demands.proofs.Witness.CallsMet.{lent}
 
 -- A position record, and a marker, below 65,536 dm.
 abbrev pub at : ℕ → List ℕ

@@ -1,6 +1,6 @@
+-- `fill` reads on after what it has, and stays within the buffer.
 use native.Mathlib.Nat.{le-refl}
 use borrow.Rule.Slice.PartMut.{mid-len, same-len-mid, putMid}
--- `fill` reads on after what it has, and stays within the buffer.
 use Prim.Native.Nat.{ℕ, _+_, _-_, _<_, _≤_}
 use mathlib.Core.Path.{_≡_, refl, sym, ap, _∙_}
 use native.Mathlib.Omega.{arith}

@@ -1,3 +1,4 @@
+-- `decide` takes the step, and asks of it and of the next record what makes a record dropped.
 use Rattle.compaction.proofs.Turns.{decided}
 use borrow.Author.Needs.{needs}
 use Rattle.compaction.proofs.deciding.decide.Statement.{statement}

@@ -1,3 +1,4 @@
+-- `settle` keeps nothing where no record waits, and else goes by what `decide` says of the one that does.
 use borrow.Author.Tests.{not-true, not-false}
 use Rattle.compaction.proofs.Turns.{none-waits, one-waits}
 use borrow.Author.Needs.{needs}

@@ -1,0 +1,10 @@
+-- What document 02 promises beside the three demands.
+pub mod Cards
+pub mod Blocks
+pub mod Sections
+pub mod Writing
+pub mod OddOrEven
+pub mod FalsePlaces
+pub mod SyncNoise
+pub mod OneVersion
+pub mod SectionsUnder

@@ -1,0 +1,72 @@
+-- Rides in sections: the laws hold, and the program's blocks, card after card, are one listing.
+-- Assumes nothing.
+use Prim.Native.Nat.{ℕ}
+use mathlib.Core.Path.{_≡_, refl, ap, ap₂, _∙_}
+use mathlib.Core.Bool.{Bool, true, false, _||_}
+use mathlib.Core.List.{List, [], _∷_, _++_, append-nil}
+use Rattle.words.specs.Answer.{pick}
+use Rattle.ride.specs.Step.{end}
+use Rattle.ride.specs.declared.Line.{Line}
+use Rattle.ride.specs.declared.Ride.{Ride}
+use Rattle.listing.specs.Text.{text}
+use Rattle.listing.specs.List.{textOf}
+use Rattle.listing.specs.declared.Listed.{Listed}
+use Rattle.listing.proofs.Texts.{text-one}
+use Rattle.demands.specs.Table.{badLength, badGap}
+use Rattle.demands.specs.Contracts.{ListInto}
+use Rattle.demands.specs.Output.{ridden, output}
+use Rattle.demands.specs.Sections.{outputBy, outputOf, Blocks, Sections}
+use Rattle.demands.proofs.Demand2.Taking.{takes-so}
+use Rattle.demands.proofs.Beside.Cards.{two-by-run, three-by-run, empty-by-run, two-by-step, three-by-step, empty-by-step}
+use Rattle.demands.proofs.Beside.Blocks.{Taking, comes, two-by-calls, three-by-calls, empty-by-calls, goes-on-by, at-once-by, program-by}
+
+-- the lines of the records and of the end, as text
+abbrev whole : List ℕ → List ℕ
+whole trace = textOf (ridden trace .lines ++ end (ridden trace .ride) .lines)
+
+-- what `list` with a gap allows, and what it comes to with a good one
+abbrev pub Lists : ℕ → Ride → ℕ → List ℕ → List ℕ → Listed → List ℕ → Type 0
+Lists gap ride number block before answer after = ListInto ride gap number block before answer after
+
+pub takes : (gap : ℕ) → badGap gap ≡ false → Taking (λ odometer. gap) (Lists gap)
+takes gap good ride number trace before l after whole c = takes-so ride gap number trace before l after good whole c
+
+one-card-so : (card : List ℕ) → outputOf (card ∷ []) ≡ output card
+unfolding outputBy output
+one-card-so card =
+    ap₂ (λ (b : Bool) (t : List ℕ). pick b (text (Line.Trace 16)) (whole t)) (or-false (badLength card)) (append-nil card)
+    ∙ ap (λ (t : List ℕ). pick (badLength card) t (whole card)) (text-one (Line.Trace 16))
+  where
+    or-false : (b : Bool) → (b || false) ≡ b
+    or-false true = refl
+    or-false false = refl
+
+blocks : Blocks
+unfolding badGap
+blocks = record {
+  whole = λ ride gap number trace calls good c. let e = comes (λ odometer. gap) (Lists gap) (takes gap good) ride number trace calls c in (e .text, e .after, e .next);
+  goes-on = λ ride gap number c good. goes-on-by (λ odometer. gap) (Lists gap) (takes gap good) ride number c;
+  all-at-once = λ ride gap number c good. at-once-by (λ odometer. gap) (Lists gap) (takes gap good) ride number c;
+  program = program-by (λ odometer. 40) (Lists 40) (takes 40 refl);
+  one-card = one-card-so;
+}
+
+pub sections : Sections
+sections = record {
+  two = record {
+    by-run = two-by-run;
+    by-step = two-by-step;
+    by-list = λ ride gap number a b p q both good. two-by-calls (λ odometer. gap) (Lists gap) (takes gap good) ride number a b p q both;
+  };
+  three = record {
+    by-run = three-by-run;
+    by-step = three-by-step;
+    by-list = λ ride gap number a b c ab last a′ bc good. three-by-calls (λ odometer. gap) (Lists gap) (takes gap good) ride number a b c ab last a′ bc;
+  };
+  empty = record {
+    by-run = empty-by-run;
+    by-step = empty-by-step;
+    by-list = λ ride gap number q good. empty-by-calls (λ odometer. gap) (Lists gap) (takes gap good) ride number q;
+  };
+  blocks = blocks;
+}

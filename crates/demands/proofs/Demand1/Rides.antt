@@ -1,0 +1,108 @@
+-- The check of a record, the step and the run refuse as document 01's table says, and leave the ride as it was.
+-- Assumes nothing.
+use mathlib.Core.Path.{_≡_, refl, sym, subst}
+use mathlib.Core.Bool.{Bool, true, false, not}
+use mathlib.Core.List.{List, [], _∷_}
+use Prim.Native.Nat.{ℕ, _%_}
+use native.Mathlib.Omega.{arith}
+use lib.Dec.{eqb, ltb}
+use lib.ListN.{length}
+use Rattle.words.specs.Answer.{Outcome, gives, refuses, pick}
+use Rattle.ride.specs.Record.{Entry, odometerOf, passedOf, inOrder, check}
+use Rattle.ride.specs.State.{noGroup}
+use Rattle.ride.specs.Joining.{allowed}
+use Rattle.ride.specs.Step.{goOn, refuseOr, refused, treat, step}
+use Rattle.ride.specs.Over.{records, rideOver, through, Run, run}
+use Rattle.ride.specs.declared.Ride.{Ride}
+use Rattle.demands.specs.Rules.{row, Decided, Given, Is}
+use Rattle.demands.specs.Table.{badLength, wentBack, tooFar}
+use Rattle.demands.specs.Lists.{recordRules, stepRules, runRules}
+use Rattle.demands.proofs.Common.Rules.{true-not-false, if-so}
+use Rattle.demands.proofs.Common.Spelled.{bad-gap, bad-record}
+
+-- The check of a record: 16, 18, 17.
+pub checking : (ride : Ride) (r : List ℕ)
+    → Decided (Is (record { odometer = odometerOf r; passed = passedOf r })) (recordRules ride r) (check (ride .odometer) r)
+unfolding check tooFar wentBack
+checking ride r =
+    subst (λ (t : Bool). Decided (Is (record { odometer = odometerOf r; passed = passedOf r })) (row 16 t ∷ row 18 (tooFar r) ∷ row 17 (wentBack (ride .odometer) r) ∷ []) (check (ride .odometer) r))
+    (sym (bad-record r)) (
+    let e : Entry = record { odometer = odometerOf r; passed = passedOf r } in
+    let back : Outcome Entry = pick (ltb (odometerOf r) (ride .odometer)) (refuses 17) (gives e) in
+    if-so (Is e) (row 18 (tooFar r) ∷ row 17 (wentBack (ride .odometer) r) ∷ []) (refuses 16) (pick (ltb 4000000000 (odometerOf r)) (refuses 18) back)
+    (if-so (Is e) (row 17 (wentBack (ride .odometer) r) ∷ []) (refuses 18) back
+    (if-so (Is e) [] (refuses 17) (gives e) refl (ltb (odometerOf r) (ride .odometer))) (ltb 4000000000 (odometerOf r)))
+    (not (inOrder r)))
+
+-- what goes on from the check is refused as the check is
+carried : (ride : Ride) (gap : ℕ) (e : Entry) (a b c : Bool)
+    → Decided Given (row 16 a ∷ row 18 b ∷ row 17 c ∷ []) (refuseOr ride gap (pick a (refuses 16) (pick b (refuses 18) (pick c (refuses 17) (gives e)))) .lines)
+unfolding goOn
+carried ride gap e true b c = (λ q. refl, λ q. absurd (true-not-false q))
+carried ride gap e false true c = (λ q. absurd (true-not-false (sym q)), λ q. (λ p. refl, λ p. absurd (true-not-false p)))
+carried ride gap e false false true =
+    (λ q. absurd (true-not-false (sym q)), λ q. (λ p. absurd (true-not-false (sym p)), λ p. (λ o. refl, λ o. absurd (true-not-false o))))
+carried ride gap e false false false =
+    (λ q. absurd (true-not-false (sym q)), λ q. (λ p. absurd (true-not-false (sym p)), λ p. (λ o. absurd (true-not-false (sym o)), λ o. (_, refl))))
+
+-- A step: 19, then as the record is checked.
+pub stepping : (ride : Ride) (gap : ℕ) (r : List ℕ) → Decided Given (stepRules ride gap r) (step ride gap r .lines)
+unfolding step treat check tooFar wentBack
+stepping ride gap r =
+    subst (λ (t : Bool). Decided Given (row 19 t ∷ recordRules ride r) (step ride gap r .lines)) (sym (bad-gap gap))
+    (subst (λ (t : Bool). Decided Given (row 19 (not (allowed gap)) ∷ row 16 t ∷ row 18 (tooFar r) ∷ row 17 (wentBack (ride .odometer) r) ∷ []) (step ride gap r .lines)) (sym (bad-record r))
+    (go (allowed gap)))
+  where
+    go : (t : Bool)
+        → Decided Given (row 19 (not t) ∷ row 16 (not (inOrder r)) ∷ row 18 (tooFar r) ∷ row 17 (wentBack (ride .odometer) r) ∷ [])
+        (pick t (treat ride gap r) (refused ride 19) .lines)
+    go true = (
+      λ q. absurd (true-not-false (sym q)),
+      λ q. carried ride gap (record { odometer = odometerOf r; passed = passedOf r }) (not (inOrder r)) (ltb 4000000000 (odometerOf r)) (ltb (odometerOf r) (ride .odometer)),
+    )
+    go false = (λ q. refl, λ q. absurd (true-not-false q))
+
+-- a run through all records, and one that is refused with k
+abbrev over : Ride → ℕ → List ℕ → Run
+over ride gap trace = record { answer = gives through; ride = rideOver (λ odometer. gap) ride 1 (records trace) .ride }
+
+abbrev left : Ride → ℕ → Run
+left ride k = record { answer = refuses k; ride = ride }
+
+-- A run: 19, 16.
+pub running : (ride : Ride) (gap : ℕ) (trace : List ℕ) → Decided (Is through) (runRules gap trace) (run ride gap trace .answer)
+unfolding run badLength
+running ride gap trace =
+    subst (λ (t : Bool). Decided (Is through) (row 19 t ∷ row 16 (badLength trace) ∷ []) (run ride gap trace .answer)) (sym (bad-gap gap))
+    (go (allowed gap) (eqb (length trace % 8) 0))
+  where
+    go : (t u : Bool) → Decided (Is through) (row 19 (not t) ∷ row 16 (not u) ∷ []) (pick t (pick u (over ride gap trace) (left ride 16)) (left ride 19) .answer)
+    go false u = (λ q. refl, λ q. absurd (true-not-false q))
+    go true false = (λ q. absurd (true-not-false (sym q)), λ q. (λ p. refl, λ p. absurd (true-not-false p)))
+    go true true = (λ q. absurd (true-not-false (sym q)), λ q. (λ p. absurd (true-not-false (sym p)), λ p. refl))
+
+pub gives-not : {A : Type 0} {x : A} {n : ℕ} → gives x ≡ refuses n → ⊥
+gives-not e = let z : _≡_ {A = ℕ} 0 1 = cc in omega arith
+
+-- A refused step leaves the ride.
+pub step-untouched : (ride : Ride) (gap : ℕ) (r : List ℕ) (n : ℕ) → step ride gap r .lines ≡ refuses n
+    → (step ride gap r .ride ≡ ride) × (step ride gap r .closed ≡ noGroup)
+unfolding step treat goOn
+step-untouched ride gap r n e = go (allowed gap) (check (ride .odometer) r) e
+  where
+    go : (t : Bool) (o : Outcome Entry) → pick t (refuseOr ride gap o) (refused ride 19) .lines ≡ refuses n
+        → (pick t (refuseOr ride gap o) (refused ride 19) .ride ≡ ride) × (pick t (refuseOr ride gap o) (refused ride 19) .closed ≡ noGroup)
+    go false o q = (refl, refl)
+    go true (refuses k) q = (refl, refl)
+    go true (gives x) q = absurd (gives-not q)
+
+-- A refused run leaves the ride.
+pub run-untouched : (ride : Ride) (gap : ℕ) (trace : List ℕ) (n : ℕ) → run ride gap trace .answer ≡ refuses n → run ride gap trace .ride ≡ ride
+unfolding run
+run-untouched ride gap trace n e = go (allowed gap) (eqb (length trace % 8) 0) e
+  where
+    go : (t u : Bool) → pick t (pick u (over ride gap trace) (left ride 16)) (left ride 19) .answer ≡ refuses n
+        → pick t (pick u (over ride gap trace) (left ride 16)) (left ride 19) .ride ≡ ride
+    go false u q = refl
+    go true false q = refl
+    go true true q = absurd (gives-not q)

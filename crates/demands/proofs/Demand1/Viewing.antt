@@ -1,0 +1,202 @@
+-- Demand 1 holds of the viewer's functions: opening judges the settings first and then the length, forward the end, back the kept count.
+-- Assumes nothing.
+use Prim.Native.Nat.{ℕ, _/_, _%_}
+use mathlib.Core.Path.{_≡_, refl, sym, ap, subst, _∙_}
+use mathlib.Core.Bool.{Bool, true, false, not}
+use mathlib.Core.List.{List, [], _∷_}
+use lib.Dec.{eqb, leb, ltb}
+use lib.ListN.{length}
+use denote.Ref.{now}
+use Rattle.words.specs.Answer.{Outcome, gives, refuses, then, pick}
+use Rattle.settings.specs.declared.Store.{Store}
+use Rattle.settings.specs.Versions.{allowed, Kept}
+use Rattle.settings.specs.Store.{plain, judged}
+use Rattle.settings.proofs.Plain.{plain-good, plain-bad}
+use Rattle.ride.specs.declared.Lines.{Lines}
+use Rattle.ride.specs.At.{recordAt}
+use Rattle.ride.specs.Says.{saysLines}
+use Rattle.ride.proofs.Determined.{linesOf, lines-back}
+use Rattle.viewer.specs.declared.Stand.{Stand}
+use Rattle.viewer.specs.declared.Viewer.{Viewer}
+use Rattle.viewer.specs.Stand.{opened, returned}
+use Rattle.viewer.specs.Viewing.{Done, done, Start, unopened, opens, startUnder, start, Forward, stays, byStep, under, stepOf, forward, Back, back}
+use Rattle.viewer.specs.Going.{forwards, backs}
+use Rattle.viewer.specs.Says.{Over, over}
+use Rattle.viewer.proofs.Often.{forwards-stopped, backs-stopped}
+use Rattle.demands.specs.Table.{badLength}
+use Rattle.demands.specs.Table02.{nothingKept, atEnd}
+use Rattle.demands.specs.Rules.{Rule, row, Decided, Is}
+use Rattle.demands.specs.Lists.{runRules, forwardRules, backRules}
+use Rattle.demands.specs.Stores.{storeRules}
+use Rattle.demands.specs.Viewing.{ViewersDecided, ViewersUntouched}
+use Rattle.demands.proofs.Common.Rules.{true-not-false}
+use Rattle.demands.proofs.Demand1.Rides.{gives-not}
+use Rattle.demands.proofs.Common.Spelled.{bad-gap}
+use Rattle.demands.proofs.Demand1.StoreRules.{store-so}
+use Rattle.demands.proofs.Demand1.ManyCalls.{past, forwards-so, backs-so}
+
+-- ---- opening
+
+-- a viewer over a trace of whole records or not
+abbrev whole : Store → List ℕ → Bool → Start
+whole store trace t = pick t (record { answer = gives done; trace = trace; stand = opened store }) (unopened store 16)
+
+whole-so : (store : Store) (trace : List ℕ) (t : Bool) → Decided (Is done) (row 16 (not t) ∷ []) (whole store trace t .answer)
+whole-so store trace true = (λ e. absurd (true-not-false (sym e)), λ e. refl)
+whole-so store trace false = (λ e. refl, λ e. absurd (true-not-false e))
+
+opens-then : (store : Store) (trace : List ℕ) (o : Outcome Kept)
+    → then o (λ k. whole store trace (eqb (length trace % 8) 0) .answer) ≡ opens store trace o .answer
+opens-then store trace (gives k) = refl
+opens-then store trace (refuses n) = refl
+
+under-so : (store : Store) (trace : List ℕ) → Decided (Is done) (storeRules store (row 16 (badLength trace) ∷ [])) (startUnder store trace .answer)
+unfolding startUnder badLength
+under-so store trace =
+    let t : Bool = eqb (length trace % 8) 0 in
+    subst (λ (o : Outcome Done). Decided (Is done) (storeRules store (row 16 (not t) ∷ [])) o) (opens-then store trace (judged store))
+    (store-so (Is done) (λ k. whole store trace t .answer) (row 16 (not t) ∷ []) store (whole-so store trace t))
+
+gap-so : (gap : ℕ) (trace : List ℕ) (t : Bool) → allowed gap ≡ t
+    → Decided (Is done) (row 19 (not t) ∷ row 16 (badLength trace) ∷ []) (startUnder (plain gap) trace .answer)
+unfolding startUnder badLength
+gap-so gap trace true e =
+    let good = subst (λ (o : Outcome Kept). Decided (Is done) (row 16 (badLength trace) ∷ []) (opens (plain gap) trace o .answer)) (sym (plain-good gap e))
+    (whole-so (plain gap) trace (eqb (length trace % 8) 0)) in
+    (λ q. absurd (true-not-false (sym q)), λ q. good)
+gap-so gap trace false e =
+    (λ q. ap (λ (o : Outcome Kept). opens (plain gap) trace o .answer) (plain-bad gap e), λ q. absurd (true-not-false q))
+
+start-so : (gap : ℕ) (trace : List ℕ) → Decided (Is done) (runRules gap trace) (start gap trace .answer)
+start-so gap trace =
+    subst (λ (t : Bool). Decided (Is done) (row 19 t ∷ row 16 (badLength trace) ∷ []) (start gap trace .answer)) (sym (bad-gap gap))
+    (gap-so gap trace (allowed gap) refl)
+
+-- ---- forward and back
+
+under-then : (s : Stand) (o : Outcome Kept) (f : Forward) → then o (λ k. f .answer) ≡ under s o f .answer
+under-then s (gives k) f = refl
+under-then s (refuses n) f = refl
+
+end-so : (rules : List (Rule (Outcome Done))) (s : Stand) (f : Forward) (t : Bool) → Decided (Is done) rules (f .answer)
+    → Decided (Is done) (row 23 (not t) ∷ rules) (pick t f (stays s 23) .answer)
+end-so rules s f true rest = (λ e. absurd (true-not-false (sym e)), λ e. rest)
+end-so rules s f false rest = (λ e. refl, λ e. absurd (true-not-false e))
+
+forward-so : (trace : List ℕ) (s : Stand) → Decided (Is done) (forwardRules trace (s .number) (storeRules (s .settings) [])) (forward trace s .answer)
+unfolding forward atEnd
+forward-so trace s =
+    let step : Forward = byStep s (stepOf s (recordAt trace (s .number))) in
+    let rules : List (Rule (Outcome Done)) = storeRules (s .settings) [] in
+    subst (λ (t : Bool). Decided (Is done) (row 23 t ∷ rules) (forward trace s .answer)) (sym (past (length trace / 8) (s .number)))
+    (end-so rules s (under s (judged (s .settings)) step) (ltb (s .number) (length trace / 8))
+    (subst (λ (o : Outcome Done). Decided (Is done) rules o) (under-then s (judged (s .settings)) step)
+    (store-so (Is done) (λ k. gives done) [] (s .settings) refl)))
+
+back-so : (s : Stand) → Decided (Is done) (backRules (s .kept)) (back s .answer)
+unfolding back nothingKept
+back-so s = go (eqb (s .kept) 0)
+  where
+    go : (t : Bool) → Decided (Is done) (row 22 t ∷ []) (pick {A = Back} t (record { answer = refuses 22; stand = s }) (record { answer = gives done; stand = returned s }) .answer)
+    go true = (λ e. refl, λ e. absurd (true-not-false e))
+    go false = (λ e. absurd (true-not-false (sym e)), λ e. refl)
+
+pub viewers-decided : ViewersDecided
+viewers-decided = record {
+  start = λ gap trace r c. let e = ap (λ (x : Start). x .answer) c in rw e (start-so gap (now trace));
+  start-under = λ store trace r c. let e = ap (λ (x : Start). x .answer) c in rw e (under-so store (now trace));
+  forward = λ v r c. let e = ap (λ (o : Over Forward). o .answer .answer) c in rw e (forward-so (now (v .trace)) (v .stand));
+  back = λ v r c. let e = ap (λ (o : Over Back). o .answer .answer) c in rw e (back-so (v .stand));
+  start-at = λ gap trace r c.
+      let e = ap (λ (x : Start). x .answer) (c .4 ∙ ap (start gap) (c .3)) in
+      rw e (start-so gap trace);
+  start-under-at = λ store trace r c.
+      let e = ap (λ (x : Start). x .answer) (c .4 ∙ ap (startUnder store) (c .3)) in
+      rw e (under-so store trace);
+  forward-at = λ trace s r c.
+      let e = ap (λ (f : Forward). f .answer) (c .4 ∙ ap (λ (t : List ℕ). forward t s) (c .3)) in
+      rw e (forward-so trace s);
+  back-at = λ s r c. let e = ap (λ (b : Back). b .answer) (c .1) in rw e (back-so s);
+  forwards-at = λ trace s times r c.
+      let e = ap (λ (b : Back). b .answer) (c .4 ∙ ap (λ (t : List ℕ). forwards times t s) (c .3)) in
+      rw e (forwards-so times trace s);
+  backs-at = λ s times r c. let e = ap (λ (b : Back). b .answer) (c .1) in rw e (backs-so times s);
+}
+
+-- ---- what a refusal leaves
+
+opens-none : (store : Store) (trace : List ℕ) (o : Outcome Kept) (t : Bool) (n : ℕ) → eqb (length trace % 8) 0 ≡ t
+    → opens store trace o .answer ≡ refuses n → opens store trace o ≡ unopened store n
+opens-none store trace (gives k) true n h e = absurd (gives-not (rw h at e))
+opens-none store trace (gives k) false n h e = rw h (let q : whole store trace false .answer ≡ refuses n = rw h at e in let same : 16 ≡ n = cc in ap (unopened store) same)
+opens-none store trace (refuses m) t n h e = let same : m ≡ n = cc in ap (unopened store) same
+
+under-left : (store : Store) (trace : List ℕ) (n : ℕ) → startUnder store trace .answer ≡ refuses n → startUnder store trace ≡ unopened store n
+unfolding startUnder
+under-left store trace n e = opens-none store trace (judged store) (eqb (length trace % 8) 0) n refl e
+
+forward-none : (s : Stand) (o : Outcome Kept) (step : Forward) (t : Bool) (n : ℕ) → step .answer ≡ gives done
+    → pick t (under s o step) (stays s 23) .answer ≡ refuses n → pick t (under s o step) (stays s 23) ≡ stays s n
+forward-none s (gives k) step true n d e = absurd (gives-not (sym d ∙ e))
+forward-none s (refuses m) step true n d e = let same : m ≡ n = cc in ap (stays s) same
+forward-none s o step false n d e = let same : 23 ≡ n = cc in ap (stays s) same
+
+forward-left : (trace : List ℕ) (s : Stand) (n : ℕ) → forward trace s .answer ≡ refuses n → forward trace s ≡ stays s n
+unfolding forward
+forward-left trace s n e =
+    forward-none s (judged (s .settings)) (byStep s (stepOf s (recordAt trace (s .number)))) (ltb (s .number) (length trace / 8)) n refl e
+
+back-left : (s : Stand) (n : ℕ) → back s .answer ≡ refuses n → back s .stand ≡ s
+unfolding back
+back-left s n e = go (eqb (s .kept) 0) e
+  where
+    go : (t : Bool) → pick {A = Back} t (record { answer = refuses 22; stand = s }) (record { answer = gives done; stand = returned s }) .answer ≡ refuses n
+        → pick {A = Back} t (record { answer = refuses 22; stand = s }) (record { answer = gives done; stand = returned s }) .stand ≡ s
+    go true q = refl
+    go false q = absurd (gives-not q)
+
+-- the viewer of an answer
+abbrev viewerOf : Over Forward → Viewer
+viewerOf o = record { trace = o .trace; stand = o .answer .stand }
+
+no-lines : (ls : Lines) → saysLines ls ≡ [] → ls ≡ Lines.None
+no-lines ls e = sym (lines-back ls) ∙ ap linesOf e
+
+pub viewers-untouched : ViewersUntouched
+unfolding opened
+viewers-untouched = record {
+  start = λ gap trace r n c e.
+      let left = c ∙ under-left (plain gap) (now trace) n (sym (ap (λ (x : Start). x .answer) c) ∙ e) in
+      (ap (λ (x : Start). x .trace) left, ap (λ (x : Start). x .stand .number) left, ap (λ (x : Start). x .stand .kept) left);
+  start-under = λ store trace r n c e.
+      let left = c ∙ under-left store (now trace) n (sym (ap (λ (x : Start). x .answer) c) ∙ e) in
+      (ap (λ (x : Start). x .trace) left, ap (λ (x : Start). x .stand .number) left, ap (λ (x : Start). x .stand .kept) left);
+  forward = λ v r n c e.
+      let left = c ∙ ap (over (v .trace)) (forward-left (now (v .trace)) (v .stand) n (sym (ap (λ (o : Over Forward). o .answer .answer) c) ∙ e)) in
+      (ap viewerOf left, no-lines (r .lines) (ap (λ (o : Over Forward). o .answer .lines) left), ap (λ (o : Over Forward). o .answer .closed) left);
+  back = λ v r n c e.
+      let stand = ap (λ (o : Over Back). o .answer .stand) c ∙ back-left (v .stand) n (sym (ap (λ (o : Over Back). o .answer .answer) c) ∙ e) in
+      ap (λ (o : Over Back). record { trace = o .trace; stand = r .viewer .stand }) c ∙ ap (λ (s : Stand). record { trace = v .trace; stand = s }) stand;
+  start-at = λ gap trace r n c e.
+      let is = c .4 ∙ ap (start gap) (c .3) in
+      let left = is ∙ under-left (plain gap) trace n (sym (ap (λ (x : Start). x .answer) is) ∙ e) in
+      (ap (λ (x : Start). x .stand .number) left, ap (λ (x : Start). x .stand .kept) left);
+  start-under-at = λ store trace r n c e.
+      let is = c .4 ∙ ap (startUnder store) (c .3) in
+      let left = is ∙ under-left store trace n (sym (ap (λ (x : Start). x .answer) is) ∙ e) in
+      (ap (λ (x : Start). x .stand .number) left, ap (λ (x : Start). x .stand .kept) left);
+  forward-at = λ trace s r n c e.
+      let is = c .4 ∙ ap (λ (t : List ℕ). forward t s) (c .3) in
+      let left = is ∙ forward-left trace s n (sym (ap (λ (f : Forward). f .answer) is) ∙ e) in
+      (ap (λ (f : Forward). f .stand) left, no-lines (r .lines) (ap (λ (f : Forward). f .lines) left), ap (λ (f : Forward). f .closed) left);
+  back-at = λ s r n c e. ap (λ (b : Back). b .stand) (c .1) ∙ back-left s n (sym (ap (λ (b : Back). b .answer) (c .1)) ∙ e);
+  forwards-at = λ trace s times r n next c e f.
+      let is = c .4 ∙ ap (λ (t : List ℕ). forwards times t s) (c .3) in
+      let stopped = forwards-stopped times n trace s (sym (ap (λ (b : Back). b .answer) is) ∙ e) in
+      ap (λ (g : Forward). g .answer) (f .4 ∙ ap (λ (t : List ℕ). forward t (r .stand)) (f .3))
+      ∙ ap (λ (t : Stand). forward trace t .answer) (ap (λ (b : Back). b .stand) is)
+      ∙ stopped;
+  backs-at = λ s times r n next c e f.
+      let stopped = backs-stopped times n s (sym (ap (λ (b : Back). b .answer) (c .1)) ∙ e) in
+      ap (λ (b : Back). b .answer) (f .1) ∙ ap (λ (t : Stand). back t .answer) (ap (λ (b : Back). b .stand) (c .1)) ∙ stopped;
+}

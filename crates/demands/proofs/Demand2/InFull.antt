@@ -1,0 +1,87 @@
+-- Document 01's ride in full: computed once, and then handed to the contracts.
+-- Assumes nothing.
+use Prim.Native.Nat.{ℕ}
+use native.Mathlib.Omega.{arith}
+use mathlib.Core.Path.{_≡_, refl, ap, _∙_}
+use mathlib.Core.List.{List, [], _∷_, _++_}
+use lib.ListN.{length, drop}
+use Rattle.words.specs.Bits.{word}
+use Rattle.words.specs.Plain.{isCheck, covers, count, even, isCode, onwards, figure}
+use Rattle.words.specs.Code.{other, exchanged, readWord}
+use Rattle.telegram.specs.Telegram.{shortWord, longWord, telegram}
+use Rattle.group.specs.Balise.{balises, readAll}
+use Rattle.walk.specs.Row.{fits, first, fitRow, fitRows}
+use Rattle.walk.specs.Rows.{howMany, fitIn}
+use Rattle.group.specs.Distance.{distance}
+use Rattle.group.specs.Speed.{signalSpeed, targetFigure}
+use Rattle.walk.specs.Fitting.{routeSpeed, fitting}
+use Rattle.group.specs.Judge.{distanceOf, signalDistance, judgeRead, judge}
+use Rattle.walk.specs.declared.Direction.{Direction}
+use Rattle.walk.specs.declared.Kind.{Kind}
+use Rattle.group.specs.Numbers.{numberOf}
+use Rattle.group.specs.declared.Number.{Number}
+use Rattle.group.specs.declared.Told.{Told}
+use Rattle.ride.specs.Record.{odometerOf, passedOf, inOrder, check}
+use Rattle.ride.specs.State.{noGroup, nothingKnown, freshRide}
+use Rattle.ride.specs.Joining.{join, takeUp}
+use Rattle.ride.specs.Linking.{markAt}
+use Rattle.ride.specs.Closing.{close, leave}
+use Rattle.ride.specs.Step.{closeBehind, missedLines, afterMissed, goOn, treat, End, end}
+use Rattle.ride.specs.Over.{firstRecords, Ridden, rideOver, Run, run}
+use Rattle.ride.specs.declared.Known.{Known}
+use Rattle.ride.specs.declared.Line.{Line}
+use Rattle.ride.specs.declared.Linking.{Linking}
+use Rattle.ride.specs.declared.Mark.{Mark}
+use Rattle.ride.specs.declared.Ran.{Ran}
+use Rattle.ride.specs.declared.Ride.{Ride}
+use Rattle.listing.specs.Text.{digits, decimal, seen, text}
+use Rattle.listing.specs.List.{textOf}
+use Rattle.demands.specs.Table.{badLength}
+use Rattle.demands.specs.Contracts.{Fresh, RunOver}
+use Rattle.demands.specs.Output.{ridden, oneRide, itsLines, OneRide}
+use Rattle.demands.proofs.Demand2.Output.{allText, listed-so, output-whole}
+
+-- "1000 present signal first", "5800 missed"; "Main speed 130, target 80"
+abbrev inFull : Ridden
+inFull =
+    record {
+      lines = Line.Group (record { place = 1000; direction = Direction.Present; kind = Kind.Signal; mark = Mark.First; number = Number.None }) ∷ Line.Missed 5800 ∷ [];
+      ride = record { odometer = 6000; group = noGroup; known = record { linking = Linking.Unset; main = Told.Kmh 130; target = Told.Kmh 80; number = Number.None } };
+    }
+
+ridden-is : ridden oneRide ≡ inFull
+unfolding readWord isCode even count covers figure onwards isCheck exchanged other word shortWord longWord telegram balises readAll fits first fitRow fitRows howMany fitIn fitting distance signalSpeed targetFigure routeSpeed distanceOf signalDistance numberOf judgeRead judge odometerOf passedOf inOrder check noGroup nothingKnown freshRide join takeUp markAt close leave closeBehind missedLines afterMissed goOn treat firstRecords rideOver
+ridden-is = refl
+
+text-is : textOf (inFull .lines) ≡ itsLines
+unfolding textOf text seen decimal digits
+text-is = refl
+
+all-text : allText oneRide ≡ itsLines
+all-text = ap (λ (r : Ridden). textOf (r .lines)) ridden-is ∙ text-is
+
+ended-is : end (inFull .ride) .lines ≡ []
+unfolding end leave noGroup
+ended-is = refl
+
+none-more : end (ridden oneRide .ride) .lines ≡ []
+none-more = ap (λ (r : Ridden). end (r .ride) .lines) ridden-is ∙ ended-is
+
+-- the run's ride is the ride over the records
+run-is : (f : Ride) (r : Ran) → Fresh f → RunOver f 40 oneRide r → r .ride ≡ inFull .ride
+unfolding run
+run-is f r fresh c =
+    ap (λ (s : Run). s .ride) (c .4 ∙ ap (λ (v : List ℕ). run f 40 v) (c .3) ∙ ap (λ (g : Ride). run g 40 oneRide) (fresh .1))
+    ∙ ap (λ (v : Ridden). v .ride) ridden-is
+
+pub one-ride : OneRide
+unfolding badLength textOf
+one-ride = record {
+  writes = output-whole oneRide refl ∙ ap (λ (t : List ℕ). t ++ textOf (end (ridden oneRide .ride) .lines)) all-text ∙ ap (λ (ls : List Line). itsLines ++ textOf ls) none-more;
+  known = λ f r fresh c.
+      let is : r .ride .known ≡ inFull .ride .known = ap (λ (g : Ride). g .known) (run-is f r fresh c) in
+      (ap (λ (k : Known). k .main) is, ap (λ (k : Known). k .target) is, ap (λ (k : Known). k .linking) is, ap (λ (k : Known). k .number) is);
+  listed = λ f l before after fresh enough c.
+      listed-so f l oneRide before after refl (omega arith) enough fresh c .2 ∙ ap (λ (t : List ℕ). t ++ drop (length t) before) all-text;
+  no-more = λ f r e fresh c ended. ap (λ (v : End). v .lines) (ended .1) ∙ ap (λ (g : Ride). end g .lines) (run-is f r fresh c) ∙ ended-is;
+}

@@ -1,0 +1,149 @@
+-- A listing of all records, and then the end, is what the program writes.
+-- Assumes nothing.
+use Prim.Native.Nat.{ℕ, _+_, _-_, _*_, _%_, _≤_, _<_}
+use native.Mathlib.Omega.{arith}
+use mathlib.Core.Path.{_≡_, refl, sym, ap, ap₂, _∙_, subst}
+use mathlib.Core.Bool.{Bool, true, false}
+use mathlib.Core.List.{List, [], _∷_, _++_, map}
+use lib.Dec.{eqb}
+use lib.ListN.{length, take, drop}
+use lib.Seq.{take-all, take-at}
+use borrow.Author.Tests.{le-leb, lt-leb}
+use Rattle.words.specs.Answer.{gives, pick}
+use Rattle.words.proofs.Told.{told}
+use Rattle.ride.specs.State.{freshRide}
+use Rattle.ride.specs.Step.{End, end}
+use Rattle.ride.specs.Over.{records, rideOver}
+use Rattle.ride.specs.Says.{saysLines}
+use Rattle.ride.specs.declared.Line.{Line}
+use Rattle.ride.specs.declared.Ride.{Ride}
+use Rattle.ride.proofs.Cutting.{records-length}
+use Rattle.listing.specs.Text.{text, seen, decimal, digits}
+use Rattle.listing.specs.Put.{Filled, filled, placed, put}
+use Rattle.listing.specs.List.{textOf, Listing, listOf, listTaken, list, unlisted}
+use Rattle.listing.specs.Says.{saysDone}
+use Rattle.listing.specs.declared.Done.{Done}
+use Rattle.listing.specs.declared.Listed.{Listed}
+use Rattle.listing.specs.declared.Put.{Put}
+use Rattle.listing.proofs.Texts.{text-one, text-join}
+use Rattle.listing.proofs.Determined as listing-is
+use Rattle.demands.specs.Table.{badLength}
+use Rattle.demands.specs.Contracts.{Fresh, PutLine, ListInto}
+use Rattle.demands.specs.Output.{ridden, output, recordsIn, Quoted, quoted, AllQuoted, Written}
+use Rattle.demands.proofs.Common.Rules.{not-false}
+use Rattle.demands.proofs.Demand2.Room.{all-taken}
+use Rattle.demands.proofs.Demand2.Taking.{at-first, takes-so}
+
+-- ---- the listing
+
+-- the text of all records' lines
+abbrev pub allText : List ℕ → List ℕ
+allText trace = textOf (ridden trace .lines)
+
+abbrev listing : List ℕ → List ℕ → Listing
+listing trace before =
+    record {
+      answer = gives (record { records = recordsIn trace; bytes = length (allText trace) });
+      ride = ridden trace .ride;
+      number = 1 + recordsIn trace;
+      out = placed (allText trace) before 0;
+    }
+
+all-listed : (trace before : List ℕ) → badLength trace ≡ false → recordsIn trace < 18446744073709551615 → 128 * recordsIn trace ≤ length before
+    → list freshRide 40 1 trace before ≡ listing trace before
+unfolding list listOf badLength
+all-listed trace before good small enough =
+    let many : length (records trace) ≡ recordsIn trace = records-length (recordsIn trace) trace in
+    let fit : 128 * length (records trace) ≤ length before = subst (λ (k : ℕ). 128 * k ≤ length before) (sym many) enough in
+    let few : 1 + length (records trace) ≤ 18446744073709551615 = subst (λ (k : ℕ). 1 + k ≤ 18446744073709551615) (sym many) (omega arith) in
+    ap (λ (t : Bool). pick t (listTaken (λ odometer. 40) freshRide 1 (records trace) before) (unlisted freshRide 1 before 16)) (not-false (eqb (length trace % 8) 0) good)
+    ∙ ap (λ (k : ℕ). listOf (λ odometer. 40) freshRide 1 k (records trace) before) (all-taken (records trace) (λ odometer. 40) freshRide 1 (length before) fit few ∙ many)
+    ∙ ap (λ (rs : List (List ℕ)). whole rs) (take-all (recordsIn trace) (records trace) (subst (λ (k : ℕ). k ≤ recordsIn trace) (sym many) (omega arith)))
+  where
+    whole : List (List ℕ) → Listing
+    whole rs =
+        record {
+          answer = gives (record { records = recordsIn trace; bytes = length (textOf (rideOver (λ odometer. 40) freshRide 1 rs .lines)) });
+          ride = rideOver (λ odometer. 40) freshRide 1 rs .ride;
+          number = 1 + recordsIn trace;
+          out = placed (textOf (rideOver (λ odometer. 40) freshRide 1 rs .lines)) before 0;
+        }
+
+-- What `list` answers, where all records have room.
+pub listed-so : (f : Ride) (l : Listed) (trace before after : List ℕ) → badLength trace ≡ false → recordsIn trace < 18446744073709551615
+    → 128 * recordsIn trace ≤ length before → Fresh f → ListInto f 40 1 trace before l after
+    → (l .done ≡ Done.Took (recordsIn trace) (length (allText trace))) × (l .ride ≡ ridden trace .ride)
+    × (after ≡ allText trace ++ drop (length (allText trace)) before)
+listed-so f l trace before after good small enough fresh c =
+    let is = c .7 ∙ ap₂ (λ (v w : List ℕ). list f 40 1 v w) (c .4) (c .5) ∙ ap (λ (g : Ride). list g 40 1 trace before) (fresh .1)
+    ∙ all-listed trace before good small enough in (
+      told saysDone listing-is.doneOf listing-is.done-back (l .done) (Done.Took (recordsIn trace) (length (allText trace))) (ap (λ (v : Listing). v .answer) is) refl,
+      ap (λ (v : Listing). v .ride) is,
+      sym (c .6) ∙ ap (λ (v : Listing). v .out) is ∙ at-first (allText trace) before,
+    )
+
+-- ---- the output
+
+pub output-whole : (trace : List ℕ) → badLength trace ≡ false → output trace ≡ allText trace ++ textOf (end (ridden trace .ride) .lines)
+unfolding output
+output-whole trace good =
+    ap (λ (t : Bool). pick t (textOf (Line.Trace 16 ∷ [])) (textOf (ridden trace .lines ++ end (ridden trace .ride) .lines))) good
+    ∙ text-join (ridden trace .lines) (end (ridden trace .ride) .lines)
+
+output-refused : (trace : List ℕ) → badLength trace ≡ true → output trace ≡ text (Line.Trace 16)
+unfolding output
+output-refused trace bad =
+    ap (λ (t : Bool). pick t (textOf (Line.Trace 16 ∷ [])) (textOf (ridden trace .lines ++ end (ridden trace .ride) .lines))) bad
+    ∙ sym (text-one (Line.Trace 16))
+
+-- ---- one line
+
+put-so : (line : Line) (before : List ℕ) (at : ℕ) (r : Put) (after : List ℕ) → PutLine line before at r after → filled r after ≡ put (text line) before at
+put-so line before at r after c = ap (filled r) (sym (c .4)) ∙ c .5 ∙ ap (λ (v : List ℕ). put (text line) v at) (c .3)
+
+puts-so : (line : Line) (before : List ℕ) (at : ℕ) (r : Put) (after : List ℕ) → PutLine line before at r after → at + length (text line) ≤ length before
+    → (r ≡ Put.Next (at + length (text line))) × (after ≡ placed (text line) before at)
+unfolding put
+puts-so line before at r after c fits =
+    let e = put-so line before at r after c
+    ∙ ap (λ (t : Bool). pick t (filled (Put.Next (at + length (text line))) (placed (text line) before at)) (filled Put.NoRoom before)) (le-leb (at + length (text line)) (length before) fits) in
+    (ap (λ (f : Filled). f .ends) e, ap (λ (f : Filled). f .buffer) e)
+
+no-room-so : (line : Line) (before : List ℕ) (at : ℕ) (r : Put) (after : List ℕ) → PutLine line before at r after → length before < at + length (text line)
+    → (r ≡ Put.NoRoom) × (after ≡ before)
+unfolding put
+no-room-so line before at r after c full =
+    let e = put-so line before at r after c
+    ∙ ap (λ (t : Bool). pick t (filled (Put.Next (at + length (text line))) (placed (text line) before at)) (filled Put.NoRoom before)) (lt-leb (at + length (text line)) (length before) full) in
+    (ap (λ (f : Filled). f .ends) e, ap (λ (f : Filled). f .buffer) e)
+
+-- The lines that document 01 quotes, computed at once.
+each : (qs : List Quoted) → map (λ q. text (q .line)) qs ≡ map (λ q. q .reads) qs → AllQuoted qs
+each [] e = tt
+each (q ∷ qs) e =
+    let here : text (q .line) ≡ q .reads = cc in
+    let rest : map (λ q. text (q .line)) qs ≡ map (λ q. q .reads) qs = cc in
+    (here, each qs rest)
+
+all-quoted : AllQuoted quoted
+unfolding text seen decimal digits
+all-quoted = each quoted refl
+
+pub written : Written
+written = record {
+  puts = puts-so;
+  no-room = no-room-so;
+  quotes = all-quoted;
+  takes = takes-so;
+  whole = λ f l e trace before after good small enough fresh c ended.
+      let r = listed-so f l trace before after good small enough fresh c in
+      let w = allText trace in
+      let lines : saysLines (e .lines) ≡ end (ridden trace .ride) .lines =
+      ap (λ (v : End). v .lines) (ended .1) ∙ ap (λ (g : Ride). end g .lines) (r .1) in (
+        length w,
+        r .0,
+        ap₂ (λ (u v : List ℕ). u ++ v) (ap (take (length w)) (r .2) ∙ take-at w (drop (length w) before) (length w) refl) (ap textOf lines)
+            ∙ sym (output-whole trace good),
+      );
+  refused = output-refused;
+}

@@ -1,0 +1,82 @@
+-- What a listing comes to: by `list` with a gap, and by `list_under` under a store.
+-- Assumes nothing.
+use Prim.Native.Nat.{ℕ, _+_, _*_, _%_, _≤_}
+use native.Mathlib.Nat.{zero-add}
+use mathlib.Core.Path.{_≡_, refl, sym, ap, ap₂, _∙_, subst}
+use mathlib.Core.Bool.{Bool, true, false}
+use mathlib.Core.List.{List, _++_}
+use lib.Dec.{eqb}
+use lib.ListN.{length, take, drop}
+use lib.Seq.{take-at, drop-at}
+use Rattle.words.specs.Answer.{gives, pick}
+use Rattle.words.proofs.Told.{told}
+use Rattle.settings.specs.declared.Store.{Store}
+use Rattle.settings.specs.Versions.{kept}
+use Rattle.settings.specs.Store.{judged}
+use Rattle.settings.specs.At.{gapAt}
+use Rattle.ride.specs.Joining.{allowed}
+use Rattle.ride.specs.Over.{records, rideOver}
+use Rattle.ride.specs.declared.Ride.{Ride}
+use Rattle.ride.proofs.Cutting.{records-length}
+use Rattle.listing.specs.Put.{placed}
+use Rattle.listing.specs.List.{textOf, taken, Listing, listOf, listTaken, list, unlisted}
+use Rattle.listing.specs.Under.{listUnder}
+use Rattle.listing.specs.Says.{saysDone, saysListed}
+use Rattle.listing.specs.declared.Done.{Done}
+use Rattle.listing.specs.declared.Listed.{Listed}
+use Rattle.listing.proofs.Plain.{under-taken}
+use Rattle.listing.proofs.Determined as listing-is
+use Rattle.demands.specs.Table.{badLength, badGap}
+use Rattle.demands.specs.Contracts.{ListInto}
+use Rattle.demands.specs.Stores.{ListUnder}
+use Rattle.demands.specs.Output.{recordsIn, Takes}
+use Rattle.demands.proofs.Common.Rules.{not-false}
+use Rattle.demands.proofs.Common.Spelled.{bad-gap}
+use Rattle.demands.proofs.Demand2.Room.{all-taken, few-taken, one-taken}
+
+-- A text put at the beginning.
+pub at-first : (t before : List ℕ) → placed t before 0 ≡ t ++ drop (length t) before
+unfolding placed
+at-first t before = ap (λ (k : ℕ). t ++ drop k before) (zero-add (length t))
+
+-- whatever gives the gap
+takes-by : (gaps : ℕ → ℕ) (ride : Ride) (number : ℕ) (trace before : List ℕ) (l : Listed) (after : List ℕ)
+    → saysListed l after ≡ listTaken gaps ride number (records trace) before → Takes gaps ride number trace before l after
+unfolding listOf
+takes-by gaps ride number trace before l after is =
+    let n = taken gaps ride number (length before) (records trace) in
+    let w = textOf (rideOver gaps ride number (take n (records trace)) .lines) in
+    let holds : after ≡ w ++ drop (length w) before = ap (λ (v : Listing). v .out) is ∙ at-first w before in
+    let many : length (records trace) ≡ recordsIn trace = records-length (recordsIn trace) trace in
+    record {
+      n = n;
+      bytes = length w;
+      took = told saysDone listing-is.doneOf listing-is.done-back (l .done) (Done.Took n (length w)) (ap (λ (v : Listing). v .answer) is) refl;
+      of-these = subst (λ (k : ℕ). n ≤ k) many (few-taken (records trace) gaps ride number (length before));
+      one-at-least = λ some room small. one-taken (records trace) gaps ride number (length before) (subst (λ (k : ℕ). 1 ≤ k) (sym many) some) room small;
+      all-with-room = λ enough small.
+          all-taken (records trace) gaps ride number (length before) (subst (λ (k : ℕ). 128 * k ≤ length before) (sym many) enough)
+          (subst (λ (k : ℕ). number + k ≤ 18446744073709551615) (sym many) small)
+          ∙ many;
+      written = ap (take (length w)) holds ∙ take-at w (drop (length w) before) (length w) refl;
+      rest-stays = ap (drop (length w)) holds ∙ drop-at w (drop (length w) before) (length w) refl;
+      ridden-so = ap (λ (v : Listing). v .ride) is;
+      counted-on = ap (λ (v : Listing). v .number) is;
+    }
+
+pub takes-so : (ride : Ride) (gap number : ℕ) (trace before : List ℕ) (l : Listed) (after : List ℕ) → badGap gap ≡ false → badLength trace ≡ false
+    → ListInto ride gap number trace before l after → Takes (λ odometer. gap) ride number trace before l after
+unfolding list badLength
+takes-so ride gap number trace before l after good-gap good c =
+    takes-by (λ odometer. gap) ride number trace before l after
+    (ap (saysListed l) (sym (c .6)) ∙ c .7 ∙ ap₂ (λ (v w : List ℕ). list ride gap number v w) (c .4) (c .5)
+    ∙ ap₂ (λ (t u : Bool). pick t (pick u (listTaken (λ odometer. gap) ride number (records trace) before) (unlisted ride number before 16)) (unlisted ride number before 19))
+    (not-false (allowed gap) (sym (bad-gap gap) ∙ good-gap)) (not-false (eqb (length trace % 8) 0) good))
+
+pub takes-under : (ride : Ride) (store : Store) (number : ℕ) (trace before : List ℕ) (l : Listed) (after : List ℕ) → judged store ≡ gives kept
+    → badLength trace ≡ false → ListUnder ride store number trace before l after → Takes (gapAt store) ride number trace before l after
+unfolding badLength
+takes-under ride store number trace before l after good-store good c =
+    takes-by (gapAt store) ride number trace before l after
+    (ap (saysListed l) (sym (c .6)) ∙ c .7 ∙ ap₂ (λ (v w : List ℕ). listUnder ride store number v w) (c .4) (c .5)
+    ∙ sym (under-taken ride store number trace before good-store (not-false (eqb (length trace % 8) 0) good)))

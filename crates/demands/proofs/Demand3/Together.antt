@@ -1,0 +1,141 @@
+-- Where every place has the words sent, the places are alike: `survey` and `judge` never answer 7, and read what was sent.
+-- Assumes nothing.
+use mathlib.Core.Path.{_≡_, refl, sym, ap, ap₂, _∙_, subst}
+use mathlib.Core.Logic.{_⊎_, inl, inr}
+use mathlib.Core.Bool.{Bool, true}
+use mathlib.Core.List.{List, [], _∷_}
+use Prim.Native.Nat.{ℕ, _+_, _≤_}
+use native.Mathlib.Omega.{arith}
+use lib.Dec.{eqb}
+use lib.ListN.{length}
+use borrow.Author.Tests.{eq-eqb}
+use Rattle.words.specs.Answer.{Outcome, gives, refuses, pick}
+use Rattle.words.specs.Plain.{among}
+use Rattle.telegram.specs.Stretch.{bitsAt}
+use Rattle.telegram.specs.Telegram.{Received}
+use Rattle.telegram.specs.Place.{wordsAt}
+use Rattle.telegram.specs.Survey.{sameWords, allAs, Alike, alike, together, surveyed}
+use Rattle.telegram.specs.Says.{saysSurveyed}
+use Rattle.telegram.specs.declared.Telegram.{Telegram}
+use Rattle.telegram.specs.declared.Surveyed.{Surveyed}
+use Rattle.line.specs.Line.{OneBalise, Proper, placesOf}
+use Rattle.demands.specs.Contracts.{Survey as SurveyAllows}
+use Rattle.demands.specs.Demand3.{TheSent, TogetherTheSent}
+use Rattle.line.proofs.Places.{and-true, or-left, or-right}
+use Rattle.line.proofs.Sent.{Sent, AllSent}
+use Rattle.demands.proofs.Demand3.Handed.{the-sent}
+
+-- Places that have the words sent are alike.
+all-alike : (o : OneBalise) (p : ℕ) → Sent o p → (ps : List ℕ) → ((q : ℕ) → among q ps ≡ true → Sent o q) → allAs (o .buffer) p ps ≡ true
+unfolding allAs sameWords
+all-alike o p here [] all = refl
+all-alike o p here (q ∷ ps) all =
+    let there = all q (or-left (among q ps) (eq-eqb q q refl)) in
+    let b = o .buffer in
+    and-true
+    (and-true
+    (and-true (eq-eqb (bitsAt b (p + 8) 8) (bitsAt b (q + 8) 8) (here .x-is ∙ sym (there .x-is)))
+    (eq-eqb (bitsAt b (p + 16) 8) (bitsAt b (q + 16) 8) (here .y-is ∙ sym (there .y-is))))
+    (eq-eqb (bitsAt b (p + 24) 8) (bitsAt b (q + 24) 8) (here .z-is ∙ sym (there .z-is))))
+    (all-alike o p here ps (λ r within. all r (or-right (eqb r q) within)))
+
+module _ (o : OneBalise) (proper : Proper o) (every-place : AllSent o) where
+  abbrev pub b : List ℕ
+  b = o .buffer
+
+  -- What is known of a reading with its first place and their number.
+  pub record Known (m : Received) (first count : ℕ) : Type 0 where
+    pub first-is : Sent o first
+    pub read-there : m ≡ wordsAt b first
+    pub as-many : count ≡ length (placesOf o)
+
+  -- An answer that all places are alike.
+  pub record AllAlike (a : Outcome Alike) : Type 0 where
+    pub message : Received
+    pub first : ℕ
+    pub count : ℕ
+    pub is : a ≡ gives (alike message first count)
+    pub known : Known message first count
+
+  -- The survey of the stretch finds no place, or all places alike.
+  abbrev pub Survey : Outcome Alike → Type 0
+  Survey a = ((a ≡ refuses 6) × (placesOf o ≡ [])) ⊎ AllAlike a
+
+  survey-of : (ps : List ℕ) → placesOf o ≡ ps → Survey (together b ps)
+  survey-of [] list = inl (refl, list)
+  survey-of (p ∷ ps) list =
+      inr record {
+        message = wordsAt b p;
+        first = p;
+        count = length (p ∷ ps);
+        is = ap (λ (t : Bool). pick t (gives (alike (wordsAt b p) p (length (p ∷ ps)))) (refuses 7)) alike-all;
+        known = record {
+          first-is = here;
+          read-there = refl;
+          as-many = ap length (sym list);
+        };
+      }
+    where
+      sent : (q : ℕ) → among q (p ∷ ps) ≡ true → Sent o q
+      sent q there = every-place q (ap (among q) list ∙ there)
+
+      here : Sent o p
+      here = sent p (or-left (among p ps) (eq-eqb p p refl))
+
+      alike-all : allAs b p ps ≡ true
+      alike-all = all-alike o p here ps (λ q there. sent q (or-right (eqb q p) there))
+
+  pub the-survey : Survey (surveyed b (o .start) (o .len) (o .s) (o .t))
+  unfolding surveyed
+  the-survey =
+      subst Survey
+      (sym (ap₂ (λ (g i : Bool). pick g (pick i (together b (placesOf o)) (refuses 5)) (refuses 4)) (proper .pair) (proper .taken)))
+      (survey-of (placesOf o) refl)
+
+  -- What a call of `survey` answers.
+  survey-says : (r : Surveyed) → SurveyAllows b (o .start) (o .len) (o .s) (o .t) r → surveyed b (o .start) (o .len) (o .s) (o .t) ≡ saysSurveyed r
+  survey-says r c = sym (c .4 ∙ ap (λ (v : List ℕ). surveyed v (o .start) (o .len) (o .s) (o .t)) (c .3))
+
+  pub known-sent : (m : Telegram) (first count : ℕ) → Known (gives m) first count → TheSent o first m
+  known-sent m first count known = the-sent o proper first m (known .first-is) (known .read-there)
+
+  pub same-known : {m n : Received} {p q k l : ℕ} → m ≡ n → p ≡ q → k ≡ l → Known m p k → Known n q l
+  same-known {m} {n} {p} {q} {k} {l} e f g known =
+      subst (λ (v : ℕ). Known n q v) g (subst (λ (v : ℕ). Known n v k) f (subst (λ (v : Received). Known v p k) e known))
+
+  pub survey-sent : TogetherTheSent o (SurveyAllows b (o .start) (o .len) (o .s) (o .t)) 1 Surveyed.Differ Surveyed.Alike
+  survey-sent =
+      record {
+        never-7 = λ k. never the-survey (survey-says Surveyed.Differ k);
+        first-sent = λ m first count k. known-sent m first count (of m first count k);
+        counted = λ m first count k. of m first count k .as-many;
+        enough = λ many r k. reads-so r (alike-so the-survey many) (survey-says r k);
+      }
+    where
+      -- where there is a place, they are alike
+      alike-so : {a : Outcome Alike} → Survey a → 1 ≤ length (placesOf o) → AllAlike a
+      alike-so (inl none) many = absurd (let e = ap length (none .1) in omega arith)
+      alike-so (inr r) many = r
+
+      reads-so : (r : Surveyed) {a : Outcome Alike} → AllAlike a → a ≡ saysSurveyed r → (m : Telegram) × (first : ℕ) × (count : ℕ) × (r ≡ Surveyed.Alike m first count)
+      reads-so (Surveyed.Alike m first count) all e = (m, first, count, refl)
+      reads-so Surveyed.NotSeven all e = absurd (let f = all .is in let z : _≡_ {A = ℕ} 0 1 = cc in omega arith)
+      reads-so Surveyed.Beyond all e = absurd (let f = all .is in let z : _≡_ {A = ℕ} 0 1 = cc in omega arith)
+      reads-so Surveyed.NoPlace all e = absurd (let f = all .is in let z : _≡_ {A = ℕ} 0 1 = cc in omega arith)
+      reads-so Surveyed.Differ all e = absurd (let f = all .is in let z : _≡_ {A = ℕ} 0 1 = cc in omega arith)
+
+      never : {a : Outcome Alike} → Survey a → a ≡ refuses 7 → ⊥
+      never (inl none) e = let f = none .0 in let z : _≡_ {A = ℕ} 6 7 = cc in omega arith
+      never (inr r) e = let f = r .is in let z : _≡_ {A = ℕ} 0 1 = cc in omega arith
+
+      known : {a : Outcome Alike} → Survey a → (m : Received) (first count : ℕ) → a ≡ gives (alike m first count) → Known m first count
+      known (inl none) m first count e = absurd (let f = none .0 in let z : _≡_ {A = ℕ} 0 1 = cc in omega arith)
+      known (inr r) m first count e =
+          let f = r .is in
+          let same-m : r .message ≡ m = cc in
+          let same-p : r .first ≡ first = cc in
+          let same-k : r .count ≡ count = cc in
+          same-known same-m same-p same-k (r .known)
+
+      of : (m : Telegram) (first count : ℕ) → SurveyAllows b (o .start) (o .len) (o .s) (o .t) (Surveyed.Alike m first count) → Known (gives m) first count
+      of m first count k = known the-survey (gives m) first count (survey-says (Surveyed.Alike m first count) k)

@@ -1,0 +1,10 @@
+-- Hypotheses of the theorems are met: lines, calls, records and stores that do.
+pub mod SyncWitnesses
+pub mod Witnesses
+pub mod CallsMet
+pub mod WritingMet
+pub mod MarksMet
+pub mod RidesMet
+pub mod NumbersMet
+pub mod SectionsMet
+pub mod StoresMet

@@ -1,0 +1,166 @@
+-- The hypotheses of the laws on rides in sections are met: every card of whole records can be listed by a call, and document 01's ride,
+-- cut after its first record, is ridden card by card.
+-- Assumes nothing.
+use Prim.Native.Nat.{ℕ, _+_, _*_, _%_, _≤_}
+use native.Mathlib.Omega.{arith}
+use mathlib.Core.Path.{_≡_, refl, sym, ap, ap₂, _∙_}
+use mathlib.Core.Bool.{Bool, true, false}
+use mathlib.Core.List.{List, [], _∷_, _++_, append-nil}
+use lib.Dec.{eqb}
+use lib.ListN.{length, take, drop, replicate, length-replicate, drop-of-length-le}
+use Rattle.words.specs.Answer.{gives, pick}
+use Rattle.words.specs.Bits.{word}
+use Rattle.words.specs.Plain.{isCheck, covers, count, even, isCode, onwards, figure}
+use Rattle.words.specs.Code.{other, exchanged, readWord}
+use Rattle.telegram.specs.Telegram.{shortWord, longWord, telegram}
+use Rattle.group.specs.Balise.{balises, readAll}
+use Rattle.walk.specs.Row.{fits, first, fitRow, fitRows}
+use Rattle.walk.specs.Rows.{howMany, fitIn}
+use Rattle.group.specs.Distance.{distance}
+use Rattle.group.specs.Speed.{signalSpeed, targetFigure}
+use Rattle.walk.specs.Fitting.{routeSpeed, fitting}
+use Rattle.group.specs.Numbers.{numberOf}
+use Rattle.group.specs.Judge.{distanceOf, signalDistance, judgeRead, judge}
+use Rattle.ride.specs.Record.{odometerOf, passedOf, inOrder, check}
+use Rattle.ride.specs.State.{noGroup, nothingKnown, freshRide}
+use Rattle.ride.specs.Linking.{markAt}
+use Rattle.ride.specs.Closing.{close, leave}
+use Rattle.ride.specs.Step.{closeBehind, missedLines, afterMissed, goOn, treat, step}
+use Rattle.ride.specs.Joining.{allowed, join, takeUp}
+use Rattle.ride.specs.Over.{records, Ridden, rideOver, firstRecords, run}
+use Rattle.ride.specs.declared.Ran.{Ran}
+use Rattle.ride.specs.declared.Stepped.{Stepped}
+use Rattle.ride.specs.declared.Ride.{Ride}
+use Rattle.listing.specs.Put.{placed}
+use Rattle.listing.specs.List.{textOf, taken, listOf, listTaken, unlisted, list}
+use Rattle.listing.specs.declared.Done.{Done}
+use Rattle.listing.specs.declared.Listed.{Listed}
+use Rattle.ride.proofs.Determined as ride-is
+use Rattle.demands.specs.Table.{badLength, badGap}
+use Rattle.demands.specs.Contracts.{ListInto, RunOver}
+use Rattle.demands.specs.Output.{recordsIn, ridden, oneRide}
+use Rattle.demands.specs.Sections.{Whole, Call, ByCalls, ByList, ByStep, linesFrom}
+use Rattle.demands.proofs.Common.Rules.{not-false}
+use Rattle.demands.proofs.Common.Spelled.{bad-gap}
+use Rattle.demands.proofs.Beside.Cards.{eights}
+use Rattle.demands.proofs.Witness.CallsMet.{lent}
+use Rattle.demands.proofs.Beside.Blocks.{Taking}
+use Rattle.demands.proofs.Beside.Sections.{Lists, takes}
+
+-- ---- by `list`
+
+module _ (gaps : ℕ → ℕ) (ride : Ride) (number : ℕ) (card : List ℕ) where
+  -- a buffer with 128 bytes for each record
+  abbrev pub room : List ℕ
+  room = replicate (128 * recordsIn card) 0
+
+  abbrev pub many : ℕ
+  many = taken gaps ride number (length room) (records card)
+
+  abbrev pub over : Ridden
+  over = rideOver gaps ride number (take many (records card))
+
+  abbrev pub written : List ℕ
+  written = textOf (over .lines)
+
+  -- one call with the whole card
+  abbrev pub theCall : Call
+  theCall =
+      record {
+        block = card;
+        before = room;
+        answer = record { ride = over .ride; number = number + many; done = Done.Took many (length written) };
+        after = placed written room 0;
+      }
+
+  -- it takes all of the card
+  pub all-met : (Lists : Ride → ℕ → List ℕ → List ℕ → Listed → List ℕ → Type 0) → Taking gaps Lists → Lists ride number card room (theCall .answer) (theCall .after)
+      → Whole card → number + recordsIn card ≤ 18446744073709551615 → ByCalls Lists ride number card (theCall ∷ [])
+  all-met Lists takes call whole small =
+      let t = takes ride number card room (theCall .answer) (theCall .after) whole call in
+      let enough : 128 * recordsIn card ≤ length room = omega (arith, length-replicate {A = ℕ} (128 * recordsIn card) 0) in
+      let all : many ≡ recordsIn card = took (t .n) (t .bytes) (t .took) ∙ t .all-with-room enough small in
+      let behind : length card ≤ many * 8 = omega (arith, eights card whole) in
+      (record { rest = []; front = sym (append-nil card); whole = whole }, call, drop-of-length-le card behind)
+    where
+      took : (n bytes : ℕ) → Done.Took many (length written) ≡ Done.Took n bytes → many ≡ n
+      took n bytes e = cc
+
+module _ (gap : ℕ) (ride : Ride) (number : ℕ) (card : List ℕ) where
+  abbrev lentRoom : List ℕ
+  lentRoom = room (λ odometer. gap) ride number card
+
+  abbrev oneCall : Call
+  oneCall = theCall (λ odometer. gap) ride number card
+
+  allowed-so : badGap gap ≡ false → Whole card → listTaken (λ odometer. gap) ride number (records card) lentRoom ≡ list ride gap number card lentRoom
+  unfolding list badLength
+  allowed-so good whole =
+      sym
+      (ap₂ (λ (t u : Bool). pick t (pick u (listTaken (λ odometer. gap) ride number (records card) lentRoom) (unlisted ride number lentRoom 16)) (unlisted ride number lentRoom 19))
+      (not-false (allowed gap) (sym (bad-gap gap) ∙ good)) (not-false (eqb (length card % 8) 0) whole))
+
+  called : badGap gap ≡ false → Whole card → ListInto ride gap number card lentRoom (oneCall .answer) (oneCall .after)
+  unfolding listOf
+  called good whole = (
+    ([], ([], tt)),
+    lent card,
+    lent lentRoom,
+    (ride, (gap, (number, (lent card, (lent (oneCall .after), tt))))),
+    refl,
+    refl,
+    refl,
+    allowed-so good whole,
+  )
+
+  pub listed-met : badGap gap ≡ false → Whole card → number + recordsIn card ≤ 18446744073709551615 → ByList gap ride number card (oneCall ∷ [])
+  listed-met good whole small =
+      all-met (λ odometer. gap) ride number card (Lists gap) (takes gap good) (called good whole) whole small
+
+-- ---- by `step` and by `run`
+
+-- document 01's ride on two cards: its first record, and the other two
+abbrev pub firstCard : List ℕ
+firstCard = take 8 oneRide
+
+abbrev pub secondCard : List ℕ
+secondCard = drop 8 oneRide
+
+-- what the contracts' own right sides say
+abbrev stepped : Ride → List ℕ → Stepped
+stepped ride bytes = ride-is.steppedOf (step ride 40 bytes)
+
+abbrev one : Stepped
+one = stepped freshRide firstCard
+
+abbrev two : Stepped
+two = stepped (one .ride) (take 8 secondCard)
+
+abbrev three : Stepped
+three = stepped (two .ride) (drop 8 secondCard)
+
+stepped-met : ByStep (λ odometer. 40) freshRide (records firstCard) (one ∷ []) × ByStep (λ odometer. 40) (one .ride) (records secondCard) (two ∷ three ∷ [])
+unfolding readWord isCode even count covers figure onwards isCheck exchanged other word shortWord longWord telegram balises readAll fits first fitRow fitRows howMany fitIn fitting distance signalSpeed targetFigure routeSpeed distanceOf signalDistance numberOf judgeRead judge odometerOf passedOf inOrder check noGroup nothingKnown freshRide join takeUp markAt close leave closeBehind missedLines afterMissed goOn treat firstRecords rideOver step
+stepped-met = (
+  (((freshRide, (40, (firstCard, tt))), refl), tt),
+  ((((one .ride), (40, (take 8 secondCard, tt))), refl), ((((two .ride), (40, (drop 8 secondCard, tt))), refl), tt)),
+)
+
+-- its lines: none on the first card, both on the second
+lines-met : (linesFrom 1 (one ∷ []) ≡ []) × (linesFrom 2 (two ∷ three ∷ []) ≡ ridden oneRide .lines)
+unfolding readWord isCode even count covers figure onwards isCheck exchanged other word shortWord longWord telegram balises readAll fits first fitRow fitRows howMany fitIn fitting distance signalSpeed targetFigure routeSpeed distanceOf signalDistance numberOf judgeRead judge odometerOf passedOf inOrder check noGroup nothingKnown freshRide join takeUp markAt close leave closeBehind missedLines afterMissed goOn treat firstRecords rideOver step
+lines-met = (refl, refl)
+
+abbrev ran : Ride → List ℕ → Ran
+ran ride card = ride-is.ranOf (run ride 40 card)
+
+run-met : RunOver freshRide 40 firstCard (ran freshRide firstCard) × RunOver (ran freshRide firstCard .ride) 40 secondCard (ran (ran freshRide firstCard .ride) secondCard)
+unfolding run
+run-met = (
+  (([], tt), lent firstCard, (freshRide, (40, (lent firstCard, tt))), refl, refl),
+  (([], tt), lent secondCard, (ran freshRide firstCard .ride, (40, (lent secondCard, tt))), refl, refl),
+)
+
+pub whole-met : Whole firstCard × Whole secondCard
+unfolding badLength
+whole-met = (refl, refl)

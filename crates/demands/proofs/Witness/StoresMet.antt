@@ -1,0 +1,115 @@
+-- The hypotheses of the laws on rides under a store are met: a store of one version is opened with a pair that is not 00 and 7F; one of two
+-- versions is good, and document 01's ride, cut after its first record, is ridden and listed under it card by card.
+-- Assumes nothing.
+use Prim.Native.Nat.{ℕ, _+_, _%_, _≤_}
+use native.Mathlib.Omega.{arith}
+use mathlib.Core.Path.{_≡_, refl}
+use mathlib.Core.Bool.{true, false}
+use mathlib.Core.List.{List, [], _∷_}
+use lib.Dec.{eqb}
+use lib.ListN.{length}
+use Rattle.words.specs.Answer.{gives}
+use Rattle.words.specs.Bits.{bit}
+use Rattle.telegram.specs.Sync.{differing, isGood, pairOf}
+use Rattle.settings.specs.declared.Begun.{Begun}
+use Rattle.settings.specs.declared.Store.{Store}
+use Rattle.settings.specs.declared.Verdict.{Verdict}
+use Rattle.settings.specs.declared.Version.{Version}
+use Rattle.settings.specs.Versions.{kept, settingsOf, follows}
+use Rattle.settings.specs.Store.{noStore, versionsOf, firstOf, opened, begun, withOne, allFollow, inOrder, judged}
+use Rattle.settings.specs.At.{heldFrom, heldAt, gapAt}
+use Rattle.ride.specs.declared.Ran.{Ran}
+use Rattle.ride.specs.declared.Ride.{Ride}
+use Rattle.ride.specs.State.{freshRide}
+use Rattle.ride.specs.declared.Way.{Way}
+use Rattle.ride.specs.Over.{records, rideOver}
+use Rattle.ride.proofs.Under.{under-through}
+use Rattle.listing.specs.List.{listOf}
+use Rattle.listing.proofs.Plain.{under-taken}
+use Rattle.demands.specs.Table.{badLength, notSeven}
+use Rattle.demands.specs.Output.{recordsIn}
+use Rattle.demands.specs.Sections.{Whole, Call, afterCalls}
+use Rattle.demands.specs.Stores.{BeginStore, RunUnder, ListUnder}
+use Rattle.demands.specs.SectionsUnder.{Good, ByListUnder}
+use Rattle.demands.proofs.Common.Rules.{not-false}
+use Rattle.demands.proofs.Witness.CallsMet.{lent}
+use Rattle.demands.proofs.Witness.SectionsMet.{room, theCall, all-met, firstCard, secondCard, whole-met}
+use Rattle.demands.proofs.Beside.SectionsUnder.{Lists, takes}
+
+-- ---- any card under any good store
+
+module _ (store : Store) (ride : Ride) (card : List ℕ) (good : Good store) (whole : Whole card) where
+  abbrev pub underRan : Ran
+  underRan = record { ride = rideOver (gapAt store) ride 1 (records card) .ride; way = Way.Through }
+
+  pub ran-met : RunUnder ride store card underRan
+  unfolding badLength
+  ran-met = (
+    ([], tt),
+    lent card,
+    (ride, (store, (lent card, tt))),
+    refl,
+    under-through ride store card good (not-false (eqb (length card % 8) 0) whole),
+  )
+
+module _ (store : Store) (ride : Ride) (number : ℕ) (card : List ℕ) (good : Good store) (whole : Whole card) where
+  abbrev pub underCall : Call
+  underCall = theCall (gapAt store) ride number card
+
+  called : ListUnder ride store number card (underCall .before) (underCall .answer) (underCall .after)
+  unfolding listOf badLength
+  called = (
+    ([], ([], tt)),
+    lent card,
+    lent (underCall .before),
+    (ride, (store, (number, (lent card, (lent (underCall .after), tt))))),
+    refl,
+    refl,
+    refl,
+    under-taken ride store number card (underCall .before) good (not-false (eqb (length card % 8) 0) whole),
+  )
+
+  pub under-met : number + recordsIn card ≤ 18446744073709551615 → ByListUnder store ride number card (underCall ∷ [])
+  under-met small = all-met (gapAt store) ride number card (Lists store) (takes store good) called whole small
+
+-- ---- one version, and two
+
+abbrev one : Begun
+one = record { store = opened (firstOf 40 0x01 0x7E); verdict = Verdict.Kept }
+
+opened-met : (notSeven 0x01 0x7E ≡ false) × BeginStore 40 0x01 0x7E one
+unfolding notSeven begun settingsOf pairOf isGood differing
+opened-met = (refl, ((40, (0x01, (0x7E, tt))), refl))
+
+-- the gap 40, and from the second balise of document 01's ride on 20
+abbrev two : Store
+two = withOne (one .store) (record { place = 1030; gap = 20; s = 0x00; t = 0x7F })
+
+two-good : Good two
+unfolding judged versionsOf withOne opened noStore inOrder allFollow follows settingsOf pairOf isGood differing
+two-good = refl
+
+two-gaps : (gapAt two 1029 ≡ 40) × (gapAt two 1030 ≡ 20)
+unfolding gapAt heldAt heldFrom versionsOf withOne opened noStore
+two-gaps = (refl, refl)
+
+-- ---- its cards
+
+abbrev firstCall : Call
+firstCall = underCall two freshRide 1 firstCard two-good (whole-met .0)
+
+abbrev secondCall : Call
+secondCall = underCall two (firstCall .answer .ride) 2 secondCard two-good (whole-met .1)
+
+cards-met : ByListUnder two freshRide 1 firstCard (firstCall ∷ []) × ByListUnder two (afterCalls freshRide (firstCall ∷ [])) 2 secondCard (secondCall ∷ [])
+cards-met = (
+  under-met two freshRide 1 firstCard two-good (whole-met .0) (omega arith),
+  under-met two (firstCall .answer .ride) 2 secondCard two-good (whole-met .1) (omega arith),
+)
+
+abbrev firstRan : Ran
+firstRan = underRan two freshRide firstCard two-good (whole-met .0)
+
+runs-met : RunUnder freshRide two firstCard firstRan
+    × RunUnder (firstRan .ride) two secondCard (underRan two (firstRan .ride) secondCard two-good (whole-met .1))
+runs-met = (ran-met two freshRide firstCard two-good (whole-met .0), ran-met two (firstRan .ride) secondCard two-good (whole-met .1))
