@@ -11,6 +11,6 @@ pub extern "C" fn atc2_distance(by: u8, figure: u8) -> i32
 {
     match group::distance(by, figure) {
         Measured::Dm(d) => d as i32,
-        Measured::NotAllowed => -15,
+        Measured::NoDistance => -15,
     }
 }

@@ -5,7 +5,7 @@ mod out;
 mod plans;
 mod riding;
 
-use acceptance::Judged;
+use acceptance::PlanJudged;
 use asked::How;
 use cards::Found;
 use plans::Tolerance;
@@ -52,10 +52,10 @@ fn by_plan(store: Store, first: usize, tolerance: u32, cards: usize) {
     let run = read.plan;
     let judged = read.judged;
     match judged {
-        Judged::Good => ride_over(store, run, cards),
-        Judged::Tolerance => out::refuse(28),
-        Judged::Record => out::refuse(26),
-        Judged::Near => out::refuse(27),
+        PlanJudged::Good => ride_over(store, run, cards),
+        PlanJudged::Tolerance => out::refuse(28),
+        PlanJudged::Record => out::refuse(26),
+        PlanJudged::Near => out::refuse(27),
     }
 }
 

@@ -1,6 +1,6 @@
 // The plan and the tolerance as the arguments name them.
 use acceptance::Acceptance;
-use acceptance::Judged;
+use acceptance::PlanJudged;
 use arguments::Figure;
 
 // A tolerance: a number of dm (one that is too large for any plan stands for all such), or no number.
@@ -12,7 +12,7 @@ pub enum Tolerance {
 // A plan that was read, how it was judged, and whether reading it failed.
 pub struct Plan {
     pub plan: Acceptance,
-    pub judged: Judged,
+    pub judged: PlanJudged,
     pub failed: bool,
 }
 

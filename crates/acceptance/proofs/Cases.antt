@@ -16,13 +16,13 @@ use Rattle.ride.specs.declared.Line.{Line}
 use Rattle.ride.specs.Over.{records}
 use Rattle.acceptance.specs.declared.Entry.{Entry}
 use Rattle.acceptance.specs.declared.Acceptance.{Acceptance}
-use Rattle.acceptance.specs.declared.Part.{Part}
+use Rattle.acceptance.specs.declared.Role.{Role}
 use Rattle.acceptance.specs.declared.Took.{Took}
 use Rattle.acceptance.specs.declared.Reported.{Reported}
 use Rattle.acceptance.specs.declared.Sums.{Sums}
 use Rattle.acceptance.specs.Plan.{allGood, wellFormed, entriesOf, apart, noEntry, planWith}
 use Rattle.acceptance.specs.Taking.{planned, isPresent, waiting, afterWanted, afterExtra, takeGroup, noPart, takeLine}
-use Rattle.acceptance.specs.Report.{report, metIn, upToMost, sums}
+use Rattle.acceptance.specs.Report.{report, metIn, upToMost, sumUp}
 use Rattle.acceptance.proofs.Filling.{entries-length}
 
 -- ---- a plan
@@ -57,19 +57,19 @@ module _ (s : Acceptance) (n : ℕ) (size : n ≡ length (planned s)) (whole : t
     first : i ≡ waiting (s .tolerance) place kind (planned s)
     first = found ∙ ap (waiting (s .tolerance) place kind) whole
 
-    pub wanted-is : i < n → _≡_ {A = Took} (record { state = afterWanted s i place; answer = Part.Wanted i }) (takeGroup s place kind)
+    pub wanted-is : i < n → _≡_ {A = Took} (record { state = afterWanted s i place; answer = Role.Wanted i }) (takeGroup s place kind)
     unfolding takeGroup
     wanted-is h =
         let is : ltb i (length (planned s)) ≡ true = lt-ltb i (length (planned s)) (omega arith) in
-        ap (λ (b : Bool). pick b (record { state = afterWanted s i place; answer = Part.Wanted i }) (record { state = afterExtra s; answer = Part.Extra })) (sym is)
-        ∙ ap (λ (j : ℕ). pick (ltb j (length (planned s))) (record { state = afterWanted s j place; answer = Part.Wanted j }) (record { state = afterExtra s; answer = Part.Extra })) first
+        ap (λ (b : Bool). pick b (record { state = afterWanted s i place; answer = Role.Wanted i }) (record { state = afterExtra s; answer = Role.Extra })) (sym is)
+        ∙ ap (λ (j : ℕ). pick (ltb j (length (planned s))) (record { state = afterWanted s j place; answer = Role.Wanted j }) (record { state = afterExtra s; answer = Role.Extra })) first
 
-    pub extra-is : n ≤ i → _≡_ {A = Took} (record { state = afterExtra s; answer = Part.Extra }) (takeGroup s place kind)
+    pub extra-is : n ≤ i → _≡_ {A = Took} (record { state = afterExtra s; answer = Role.Extra }) (takeGroup s place kind)
     unfolding takeGroup
     extra-is h =
         let is : ltb i (length (planned s)) ≡ false = le-ltb i (length (planned s)) (omega arith) in
-        ap (λ (b : Bool). pick b (record { state = afterWanted s i place; answer = Part.Wanted i }) (record { state = afterExtra s; answer = Part.Extra })) (sym is)
-        ∙ ap (λ (j : ℕ). pick (ltb j (length (planned s))) (record { state = afterWanted s j place; answer = Part.Wanted j }) (record { state = afterExtra s; answer = Part.Extra })) first
+        ap (λ (b : Bool). pick b (record { state = afterWanted s i place; answer = Role.Wanted i }) (record { state = afterExtra s; answer = Role.Extra })) (sym is)
+        ∙ ap (λ (j : ℕ). pick (ltb j (length (planned s))) (record { state = afterWanted s j place; answer = Role.Wanted j }) (record { state = afterExtra s; answer = Role.Extra })) first
 
   -- ---- the report
 
@@ -87,8 +87,8 @@ module _ (s : Acceptance) (n : ℕ) (size : n ≡ length (planned s)) (whole : t
       ap (λ (b : Bool). pick b (Reported.Entry (getD (planned s) i noEntry)) Reported.NoEntry) (sym is)
 
   pub sums-are : (met present : ℕ) → met ≡ metIn (take n (s .entries)) → present ≡ upToMost (met + s .extra)
-      → _≡_ {A = Sums} (record { entries = n; met = met; absent = n - met; present = present; extra = s .extra }) (sums s)
-  unfolding sums
+      → _≡_ {A = Sums} (record { entries = n; met = met; absent = n - met; present = present; extra = s .extra }) (sumUp s)
+  unfolding sumUp
   sums-are met present e f =
       let m : met ≡ metIn (planned s) = e ∙ ap metIn whole in
       ap (λ (p : ℕ). record { entries = n; met = met; absent = n - met; present = p; extra = s .extra }) f

@@ -8,7 +8,7 @@ use denote.Triple.Clauses.{AtExit}
 use lib.Dec.{eqb}
 use Rattle.words.specs.Answer.{Outcome, gives, refuses, pick}
 use Rattle.acceptance.specs.declared.Acceptance.{Acceptance}
-use Rattle.acceptance.specs.declared.Judged.{Judged}
+use Rattle.acceptance.specs.declared.PlanJudged.{PlanJudged}
 use Rattle.acceptance.specs.declared.Planned.{Planned}
 use Rattle.acceptance.specs.declared.Took.{Took}
 use Rattle.acceptance.specs.declared.Reported.{Reported}
@@ -25,21 +25,21 @@ use Rattle.acceptance.proofs.sum_up.Kinds as sum-up-kinds
 use Rattle.acceptance.proofs.sum_up.Reads as sum-up-reads
 
 -- The judgement that says so.
-abbrev pub judgedBy : Outcome Good → Judged
-judgedBy (gives g) = Judged.Good
-judgedBy (refuses n) = pick (eqb n 26) Judged.Record (pick (eqb n 27) Judged.Near Judged.Tolerance)
+abbrev pub judgedBy : Outcome Good → PlanJudged
+judgedBy (gives g) = PlanJudged.Good
+judgedBy (refuses n) = pick (eqb n 26) PlanJudged.Record (pick (eqb n 27) PlanJudged.Near PlanJudged.Tolerance)
 
-judged-back : (j : Judged) → judgedBy (saysJudged j) ≡ j
-judged-back Judged.Good = refl
-judged-back Judged.Tolerance = refl
-judged-back Judged.Record = refl
-judged-back Judged.Near = refl
+judged-back : (j : PlanJudged) → judgedBy (saysJudged j) ≡ j
+judged-back PlanJudged.Good = refl
+judged-back PlanJudged.Tolerance = refl
+judged-back PlanJudged.Record = refl
+judged-back PlanJudged.Near = refl
 
 -- Two plans that say the same are the same.
 pub same-planned : (p q : Planned) → saysPlanned p ≡ saysPlanned q → p ≡ q
 same-planned p q e =
     let same : p .judged ≡ q .judged = sym (judged-back (p .judged)) ∙ ap (λ (x : Planning). judgedBy (x .answer)) e ∙ judged-back (q .judged) in
-    ap₂ (λ (a : Acceptance) (j : Judged). record { plan = a; judged = j }) (ap (λ (x : Planning). x .plan) e) same
+    ap₂ (λ (a : Acceptance) (j : PlanJudged). record { plan = a; judged = j }) (ap (λ (x : Planning). x .plan) e) same
 
 pub plan-determined : (κs : Lfts 1) (a : Dens κs plan-kinds.ps) (r r′ : Planned) (x x′ : AtExit (endedOf 1 plan-kinds.ps plan-kinds.r) κs)
     → plan-reads.Post κs a r x → plan-reads.Post κs a r′ x′ → r ≡ r′

@@ -28,8 +28,8 @@ upToMost n = pick (leb n 18446744073709551615) n 18446744073709551615
 
 -- The sums: the entries, those met and those absent; the present groups, and those of them that are extra. The others are wanted: as many as the
 -- entries met.
-unfoldable pub sums : Acceptance → Sums
-sums s =
+unfoldable pub sumUp : Acceptance → Sums
+sumUp s =
     let met : ℕ = metIn (planned s) in
     record {
       entries = length (planned s);

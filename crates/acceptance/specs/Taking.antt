@@ -16,7 +16,7 @@ use Rattle.ride.specs.declared.Line.{Line}
 use Rattle.acceptance.specs.declared.Met.{Met}
 use Rattle.acceptance.specs.declared.Entry.{Entry}
 use Rattle.acceptance.specs.declared.Acceptance.{Acceptance}
-use Rattle.acceptance.specs.declared.Part.{Part}
+use Rattle.acceptance.specs.declared.Role.{Role}
 use Rattle.acceptance.specs.declared.Took.{Took}
 use Rattle.acceptance.specs.Plan.{numberOf, noEntry}
 
@@ -73,12 +73,12 @@ unfoldable pub takeGroup : Acceptance → ℕ → Kind → Took
 takeGroup s place kind =
     let i : ℕ = waiting (s .tolerance) place kind (planned s) in
     pick (ltb i (length (planned s)))
-    (record { state = afterWanted s i place; answer = Part.Wanted i })
-    (record { state = afterExtra s; answer = Part.Extra })
+    (record { state = afterWanted s i place; answer = Role.Wanted i })
+    (record { state = afterExtra s; answer = Role.Extra })
 
 -- What takes no part leaves the run as it is.
 abbrev pub noPart : Acceptance → Took
-noPart s = record { state = s; answer = Part.NoPart }
+noPart s = record { state = s; answer = Role.NoPart }
 
 -- A line of the ride: a present group is wanted or extra; an opposite or a refused group, a missed signal and a refusal take no part.
 unfoldable pub takeLine : Acceptance → Line → Took

@@ -5,7 +5,7 @@
 ghost use mathlib.Core.Path.{_≡_};
 ghost use Rattle.acceptance.specs.Plan.{plan};
 ghost use Rattle.acceptance.specs.Taking.{takeLine};
-ghost use Rattle.acceptance.specs.Report.{report, sums};
+ghost use Rattle.acceptance.specs.Report.{report, sumUp};
 ghost use Rattle.acceptance.specs.Says.{saysPlanned};
 
 mod reading;
@@ -38,7 +38,7 @@ pub struct Acceptance {
 
 // How a plan was judged: good, or refused for the tolerance (28), for a record, the length or the count (26), or for entries out of order or
 // too near (27).
-pub enum Judged {
+pub enum PlanJudged {
     Good,
     Tolerance,
     Record,
@@ -48,11 +48,11 @@ pub enum Judged {
 // What reading a plan answers: a run over it that has not begun, and how it was judged; a refused one is the empty plan.
 pub struct Planned {
     pub plan: Acceptance,
-    pub judged: Judged,
+    pub judged: PlanJudged,
 }
 
 // What part a line takes: the group met the entry with this index, it is extra, or the line takes no part.
-pub enum Part {
+pub enum Role {
     Wanted(usize),
     Extra,
     NoPart,
@@ -61,7 +61,7 @@ pub enum Part {
 // What taking a line answers: the run after it, and the line's part.
 pub struct Took {
     pub state: Acceptance,
-    pub answer: Part,
+    pub answer: Role,
 }
 
 // What the report says of an index: the entry, met or absent, or that there is none.
@@ -84,19 +84,19 @@ pub fn plan(bytes: &[u8], tolerance: u32) -> Planned
     ensures { λ r. ⌜ saysPlanned r ≡ plan (now (bytes .entry)) tolerance ⌝ }
 {
     if tolerance > 500 {
-        return reading::refused(Judged::Tolerance);
+        return reading::refused(PlanJudged::Tolerance);
     }
     if !reading::well_formed(bytes) {
-        return reading::refused(Judged::Record);
+        return reading::refused(PlanJudged::Record);
     }
     let entries = reading::entries(bytes);
     let count = bytes.len() / 8;
     if !reading::apart(entries, count, tolerance) {
-        return reading::refused(Judged::Near);
+        return reading::refused(PlanJudged::Near);
     }
     Planned {
         plan: reading::begun(entries, count, tolerance),
-        judged: Judged::Good,
+        judged: PlanJudged::Good,
     }
 }
 
@@ -134,7 +134,7 @@ pub fn report(run: Acceptance, i: usize) -> Reported
 
 // The sums of the run.
 pub fn sum_up(run: Acceptance) -> Sums
-    ensures { λ r. ⌜ r ≡ sums run ⌝ }
+    ensures { λ r. ⌜ r ≡ sumUp run ⌝ }
 {
     let all = run.entries;
     let entries = taking::entries_in(all, run.count);

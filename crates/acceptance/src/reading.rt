@@ -8,8 +8,8 @@ ghost use Rattle.ride.specs.Over.{firstRecords, records};
 ghost use Rattle.acceptance.specs.Plan.{kindOf, isGood, allGood, wellFormed, entryOf, entriesOf, apart, noEntry, emptyPlan};
 use crate::Acceptance;
 use crate::Entry;
-use crate::Judged;
 use crate::Met;
+use crate::PlanJudged;
 use crate::Planned;
 use walk::Kind;
 
@@ -43,7 +43,7 @@ pub fn begun(entries: [Entry; 64], count: usize, tolerance: u32) -> Acceptance
 }
 
 // A refused plan: the empty one.
-pub fn refused(judged: Judged) -> Planned
+pub fn refused(judged: PlanJudged) -> Planned
     ensures { λ r. ⌜ r ≡ record { plan = emptyPlan; judged = judged } ⌝ }
 {
     Planned {

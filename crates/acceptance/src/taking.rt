@@ -7,7 +7,7 @@ ghost use Rattle.acceptance.specs.Taking.{isPresent, isAbsent, within, w
 use crate::Acceptance;
 use crate::Entry;
 use crate::Met;
-use crate::Part;
+use crate::Role;
 use crate::Took;
 use walk::Direction;
 use walk::Kind;
@@ -150,12 +150,12 @@ pub fn group(run: Acceptance, place: u64, kind: Kind) -> Took
     if i < n {
         return Took {
             state: after_wanted(run, i, place),
-            answer: Part::Wanted(i),
+            answer: Role::Wanted(i),
         };
     }
     Took {
         state: after_extra(run),
-        answer: Part::Extra,
+        answer: Role::Extra,
     }
 }
 
@@ -165,6 +165,6 @@ pub fn no_part(run: Acceptance) -> Took
 {
     Took {
         state: run,
-        answer: Part::NoPart,
+        answer: Role::NoPart,
     }
 }

@@ -15,7 +15,7 @@ use Rattle.ride.specs.declared.Known.{Known}
 use Rattle.ride.specs.declared.Line.{Line}
 use Rattle.ride.specs.declared.Passed.{Passed}
 use Rattle.ride.specs.declared.Ride.{Ride}
-use Rattle.ride.specs.Record.{odometerOf, kindOf, passedOf, inOrder, Entry, check}
+use Rattle.ride.specs.Record.{odometerOf, kindOf, passedOf, inOrder, Entry, checkRecord}
 use Rattle.ride.specs.Joining.{isBehind, takeUp}
 use Rattle.ride.specs.Closing.{Closing, close, leave}
 use Rattle.ride.specs.Step.{closeBehind, isMissed, missedLines, Step, afterClosing, goOn, refuseOr, treat}
@@ -37,8 +37,8 @@ of-tests false false true d x e f h = absurd (let z : _≡_ {A = ℕ} 0 1 = cc i
 of-tests false false false d x e f h = ap (λ (t : Bool). pick t (refuses 17) (gives x)) (f refl) ∙ h
 
 -- a record that is accepted after some odometer is accepted after any lower one, and says the same
-pub accepted-lower : (low last : ℕ) (r : List ℕ) (e : Entry) → low ≤ last → check last r ≡ gives e → check low r ≡ gives e
-unfolding check
+pub accepted-lower : (low last : ℕ) (r : List ℕ) (e : Entry) → low ≤ last → checkRecord last r ≡ gives e → checkRecord low r ≡ gives e
+unfolding checkRecord
 accepted-lower low last r e h a =
     of-tests (not (inOrder r)) (ltb 4000000000 (odometerOf r)) (ltb (odometerOf r) last) (ltb (odometerOf r) low) _ e
     (λ t.
@@ -48,7 +48,7 @@ accepted-lower low last r e h a =
     a
 
 -- an accepted record's step goes by its entry, the group and what is known
-of-check : (low : ℕ) (ride : Ride) (gap : ℕ) (r : List ℕ) (o : Outcome Entry) → low ≤ ride .odometer → check (ride .odometer) r ≡ o → isAccepted o ≡ true
+of-check : (low : ℕ) (ride : Ride) (gap : ℕ) (r : List ℕ) (o : Outcome Entry) → low ≤ ride .odometer → checkRecord (ride .odometer) r ≡ o → isAccepted o ≡ true
     → treat (atOdometer low ride) gap r ≡ treat ride gap r
 unfolding treat goOn
 of-check low ride gap r (refuses n) h e a = absurd (let z : _≡_ {A = ℕ} 0 1 = cc in omega arith)
@@ -56,9 +56,9 @@ of-check low ride gap r (gives x) h e a =
     ap (refuseOr (atOdometer low ride) gap) (accepted-lower low (ride .odometer) r x h e) ∙ sym (ap (refuseOr ride gap) e)
 
 -- so its step is the same from any lower odometer
-pub same-step : (low : ℕ) (ride : Ride) (gap : ℕ) (r : List ℕ) → low ≤ ride .odometer → isAccepted (check (ride .odometer) r) ≡ true
+pub same-step : (low : ℕ) (ride : Ride) (gap : ℕ) (r : List ℕ) → low ≤ ride .odometer → isAccepted (checkRecord (ride .odometer) r) ≡ true
     → treat (atOdometer low ride) gap r ≡ treat ride gap r
-same-step low ride gap r h a = of-check low ride gap r (check (ride .odometer) r) h refl a
+same-step low ride gap r h a = of-check low ride gap r (checkRecord (ride .odometer) r) h refl a
 
 -- ---- a quiet position record changes the odometer alone
 
@@ -79,15 +79,15 @@ said false true c x e h = absurd (let z : _≡_ {A = ℕ} 0 1 = cc in omega arit
 said false false true x e h = absurd (let z : _≡_ {A = ℕ} 0 1 = cc in omega arith)
 said false false false x e h = cc
 
-entry-is : (last : ℕ) (r : List ℕ) (e : Entry) → check last r ≡ gives e → record { odometer = odometerOf r; passed = passedOf r } ≡ e
-unfolding check
+entry-is : (last : ℕ) (r : List ℕ) (e : Entry) → checkRecord last r ≡ gives e → record { odometer = odometerOf r; passed = passedOf r } ≡ e
+unfolding checkRecord
 entry-is last r e h = said (not (inOrder r)) (ltb 4000000000 (odometerOf r)) (ltb (odometerOf r) last) _ e h
 
 stays-so : (g : Group) (o : ℕ) → takeUp g o Passed.Position ≡ g
 unfolding takeUp
 stays-so g o = refl
 
-of-answer : (ride : Ride) (gap : ℕ) (r : List ℕ) (o : Outcome Entry) → check (ride .odometer) r ≡ o → kindOf r ≡ 3 → isQuiet (refuseOr ride gap o .lines) ≡ true
+of-answer : (ride : Ride) (gap : ℕ) (r : List ℕ) (o : Outcome Entry) → checkRecord (ride .odometer) r ≡ o → kindOf r ≡ 3 → isQuiet (refuseOr ride gap o .lines) ≡ true
     → refuseOr ride gap o .ride ≡ atOdometer (odometerOf r) ride
 of-answer ride gap r (refuses n) e k q = absurd (let z : _≡_ {A = ℕ} 0 1 = cc in omega arith)
 of-answer ride gap r (gives x) e k q =
@@ -101,13 +101,13 @@ of-answer ride gap r (gives x) e k q =
 pub odometer-alone : (ride : Ride) (gap : ℕ) (r : List ℕ) → kindOf r ≡ 3 → isQuiet (treat ride gap r .lines) ≡ true
     → treat ride gap r .ride ≡ atOdometer (odometerOf r) ride
 unfolding treat
-odometer-alone ride gap r k q = of-answer ride gap r (check (ride .odometer) r) refl k q
+odometer-alone ride gap r k q = of-answer ride gap r (checkRecord (ride .odometer) r) refl k q
 
 -- a quiet record is accepted
 quiet-answer : (ride : Ride) (gap : ℕ) (o : Outcome Entry) → isQuiet (refuseOr ride gap o .lines) ≡ true → isAccepted o ≡ true
 quiet-answer ride gap (refuses n) q = absurd (let z : _≡_ {A = ℕ} 0 1 = cc in omega arith)
 quiet-answer ride gap (gives x) q = refl
 
-pub quiet-accepted : (ride : Ride) (gap : ℕ) (r : List ℕ) → isQuiet (treat ride gap r .lines) ≡ true → isAccepted (check (ride .odometer) r) ≡ true
+pub quiet-accepted : (ride : Ride) (gap : ℕ) (r : List ℕ) → isQuiet (treat ride gap r .lines) ≡ true → isAccepted (checkRecord (ride .odometer) r) ≡ true
 unfolding treat
-quiet-accepted ride gap r q = quiet-answer ride gap (check (ride .odometer) r) q
+quiet-accepted ride gap r q = quiet-answer ride gap (checkRecord (ride .odometer) r) q

@@ -11,7 +11,7 @@ use lib.Dec.{eqb}
 use borrow.Author.Tests.{eqb-true}
 use Rattle.words.specs.Answer.{pick}
 use Rattle.ride.specs.declared.Ride.{Ride}
-use Rattle.ride.specs.Record.{odometerOf, kindOf, check}
+use Rattle.ride.specs.Record.{odometerOf, kindOf, checkRecord}
 use Rattle.ride.specs.Step.{treat}
 use Rattle.ride.proofs.Law.{odometer-rises}
 use Rattle.compaction.specs.Dropped.{isQuiet, isAccepted, isDropped, isDroppedBefore}
@@ -22,7 +22,7 @@ use Rattle.compaction.proofs.Laws.{atOdometer, same-step, odometer-alon
 pub record Dropped (ride : Ride) (gap : ℕ) (r next : List ℕ) : Type 0 where
   pub kind : kindOf r ≡ 3
   pub quiet : isQuiet (treat ride gap r .lines) ≡ true
-  pub next-accepted : isAccepted (check (treat ride gap r .ride .odometer) next) ≡ true
+  pub next-accepted : isAccepted (checkRecord (treat ride gap r .ride .odometer) next) ≡ true
 
 three : (a b c : Bool) → (a && (b && c)) ≡ true → (a ≡ true) × (b ≡ true) × (c ≡ true)
 three true true true e = (refl, refl, refl)
@@ -33,14 +33,14 @@ three false b c e = absurd (let z : _≡_ {A = ℕ} 0 1 = cc in omega arith)
 pub is-dropped : (ride : Ride) (gap : ℕ) (r next : List ℕ) → isDropped ride gap r next ≡ true → Dropped ride gap r next
 unfolding isDropped
 is-dropped ride gap r next e =
-    let t = three (eqb (kindOf r) 3) (isQuiet (treat ride gap r .lines)) (isAccepted (check (treat ride gap r .ride .odometer) next)) e in
+    let t = three (eqb (kindOf r) 3) (isQuiet (treat ride gap r .lines)) (isAccepted (checkRecord (treat ride gap r .ride .odometer) next)) e in
     record { kind = eqb-true (kindOf r) 3 (t .0); quiet = t .1; next-accepted = t .2 }
 
 -- ---- a state, and one that is lower: with a lower last odometer before a record that is accepted, or the same
 
 pub data Lower (ride : Ride) : Ride → List (List ℕ) → Type 0 where
   level : {rs : List (List ℕ)} → Lower ride ride rs
-  below : (low : ℕ) {r : List ℕ} {rs : List (List ℕ)} → low ≤ ride .odometer → isAccepted (check (ride .odometer) r) ≡ true
+  below : (low : ℕ) {r : List ℕ} {rs : List (List ℕ)} → low ≤ ride .odometer → isAccepted (checkRecord (ride .odometer) r) ≡ true
       → Lower ride (atOdometer low ride) (r ∷ rs)
 
 -- the first record's step is the same from both
@@ -55,7 +55,7 @@ drop-next low ride gap r next rs h d =
     let alone : treat ride gap r .ride ≡ atOdometer (odometerOf r) ride = odometer-alone ride gap r (d .kind) (d .quiet) in
     let higher : low ≤ treat ride gap r .ride .odometer = le-trans h (odometer-rises ride gap r) in
     subst
-    (λ (x : Ride). (low ≤ x .odometer) → isAccepted (check (x .odometer) next) ≡ true → Lower x (atOdometer low ride) (next ∷ rs))
+    (λ (x : Ride). (low ≤ x .odometer) → isAccepted (checkRecord (x .odometer) next) ≡ true → Lower x (atOdometer low ride) (next ∷ rs))
     (sym alone)
     (λ m a. below low m a)
     higher

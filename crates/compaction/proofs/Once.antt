@@ -8,7 +8,7 @@ use mathlib.Core.List.{List, [], _∷_}
 use lib.Dec.{eqb}
 use Rattle.words.specs.Answer.{pick}
 use Rattle.ride.specs.declared.Ride.{Ride}
-use Rattle.ride.specs.Record.{odometerOf, kindOf, check}
+use Rattle.ride.specs.Record.{odometerOf, kindOf, checkRecord}
 use Rattle.ride.specs.Step.{Step, treat}
 use Rattle.compaction.specs.Dropped.{isQuiet, isAccepted, isDropped, isDroppedBefore, compactOver}
 use Rattle.compaction.proofs.Laws.{quiet-accepted}
@@ -20,7 +20,7 @@ by-step : (ride low : Ride) (gap : ℕ) (r : List ℕ) (ks : List (List ℕ)) �
 unfolding isDropped
 by-step ride low gap r [] e = refl
 by-step ride low gap r (next ∷ ks) e =
-    ap (λ (s : Step). eqb (kindOf r) 3 && (isQuiet (s .lines) && isAccepted (check (s .ride .odometer) next))) e
+    ap (λ (s : Step). eqb (kindOf r) 3 && (isQuiet (s .lines) && isAccepted (checkRecord (s .ride .odometer) next))) e
 
 neither : (a b c d : Bool) → (a && (b && c)) ≡ false → c ≡ true → (a && (b && d)) ≡ false
 neither true true true d e f = absurd (let z : _≡_ {A = ℕ} 0 1 = cc in omega arith)
@@ -30,12 +30,12 @@ neither false b c d e f = refl
 
 -- a record that was kept although the next one was accepted is kept before whatever follows
 kept-before : (ride : Ride) (gap : ℕ) (r next : List ℕ) (ks : List (List ℕ)) → isDropped ride gap r next ≡ false
-    → isAccepted (check (treat ride gap r .ride .odometer) next) ≡ true → isDroppedBefore ride gap r ks ≡ false
+    → isAccepted (checkRecord (treat ride gap r .ride .odometer) next) ≡ true → isDroppedBefore ride gap r ks ≡ false
 unfolding isDropped
 kept-before ride gap r next [] e a = refl
 kept-before ride gap r next (k ∷ ks) e a =
-    neither (eqb (kindOf r) 3) (isQuiet (treat ride gap r .lines)) (isAccepted (check (treat ride gap r .ride .odometer) next))
-    (isAccepted (check (treat ride gap r .ride .odometer) k)) e a
+    neither (eqb (kindOf r) 3) (isQuiet (treat ride gap r .lines)) (isAccepted (checkRecord (treat ride gap r .ride .odometer) next))
+    (isAccepted (checkRecord (treat ride gap r .ride .odometer) k)) e a
 
 -- what kept a record among the original ones keeps it among those that are left
 still-kept : (gaps : ℕ → ℕ) (ride : Ride) (gap : ℕ) (r : List ℕ) (rs : List (List ℕ)) → isDroppedBefore ride gap r rs ≡ false

@@ -18,7 +18,7 @@ use Rattle.settings.proofs.Holding.{Holding, keeps}
 use Rattle.ride.specs.declared.Checked.{Checked}
 use Rattle.ride.specs.declared.Ride.{Ride}
 use Rattle.ride.specs.declared.Stepped.{Stepped}
-use Rattle.ride.specs.Record.{odometerOf, kindOf, Entry, check}
+use Rattle.ride.specs.Record.{odometerOf, kindOf, Entry, checkRecord}
 use Rattle.ride.specs.Joining.{allowed}
 use Rattle.ride.specs.Step.{Step, treat, step}
 use Rattle.ride.specs.Says.{saysChecked, saysReport, saysStepped}
@@ -33,7 +33,7 @@ use Rattle.compaction.specs.Inside.{Serves}
 
 -- what the step and the check say decides
 pub decided : (ride : Ride) (gap : ℕ) (bytes next : List ℕ) (s : Stepped) (c : Checked) (q a : Bool) → allowed gap ≡ true
-    → saysStepped s ≡ step ride gap bytes → saysChecked c ≡ check (s .ride .odometer) next → q ≡ isQuiet (saysReport (s .report)) → a ≡ isAccepted (saysChecked c)
+    → saysStepped s ≡ step ride gap bytes → saysChecked c ≡ checkRecord (s .ride .odometer) next → q ≡ isQuiet (saysReport (s .report)) → a ≡ isAccepted (saysChecked c)
     → _≡_ {A = Decided}
     (record { ride = s .ride; dropped = eqb (kindOf bytes) 3 && (q && a) })
     (record { ride = treat ride gap bytes .ride; dropped = isDropped ride gap bytes next })
@@ -42,7 +42,7 @@ decided ride gap bytes next s c q a good stepped checked quiet accepted =
     let is : saysStepped s ≡ treat ride gap bytes = stepped ∙ step-allowed ride gap bytes good in
     rw (quiet, accepted, checked)
     (ap
-    (λ (t : Step). record { ride = t .ride; dropped = eqb (kindOf bytes) 3 && (isQuiet (t .lines) && isAccepted (check (t .ride .odometer) next)) })
+    (λ (t : Step). record { ride = t .ride; dropped = eqb (kindOf bytes) 3 && (isQuiet (t .lines) && isAccepted (checkRecord (t .ride .odometer) next)) })
     is)
 
 -- ---- the next record settles the one that waits
@@ -75,7 +75,7 @@ one-waits gaps w next d e h = (rw (e, h), settled-so (d .dropped) (w .bytes) ∙
 drops-same : (ride : Ride) (gap other : ℕ) (r next : List ℕ) → treat ride gap r ≡ treat ride other r → isDropped ride gap r next ≡ isDropped ride other r next
 unfolding isDropped
 drops-same ride gap other r next e =
-    ap (λ (s : Step). eqb (kindOf r) 3 && (isQuiet (s .lines) && isAccepted (check (s .ride .odometer) next))) e
+    ap (λ (s : Step). eqb (kindOf r) 3 && (isQuiet (s .lines) && isAccepted (checkRecord (s .ride .odometer) next))) e
 
 pub serves-next : (gaps : ℕ → ℕ) (gap : ℕ) (w : Waiting) (next : List ℕ) → Serves gaps gap (w .bytes) → waitsNext (λ odometer. gap) w next ≡ waitsNext gaps w next
 unfolding waitsNext

@@ -9,7 +9,7 @@ use lib.Dec.{eqb}
 use Rattle.words.specs.Answer.{Outcome, gives, refuses, pick}
 use Rattle.ride.specs.declared.Line.{Line}
 use Rattle.ride.specs.declared.Ride.{Ride}
-use Rattle.ride.specs.Record.{odometerOf, kindOf, Entry, check}
+use Rattle.ride.specs.Record.{odometerOf, kindOf, Entry, checkRecord}
 use Rattle.ride.specs.Step.{Step, treat}
 
 -- "it was accepted, gave no line"
@@ -28,7 +28,7 @@ isAccepted (refuses n) = false
 unfoldable pub isDropped : Ride → ℕ → List ℕ → List ℕ → Bool
 isDropped ride gap r next =
     let s : Step = treat ride gap r in
-    eqb (kindOf r) 3 && (isQuiet (s .lines) && isAccepted (check (s .ride .odometer) next))
+    eqb (kindOf r) 3 && (isQuiet (s .lines) && isAccepted (checkRecord (s .ride .odometer) next))
 
 -- Whether a record is dropped that these others follow: the last record is not.
 abbrev pub isDroppedBefore : Ride → ℕ → List ℕ → List (List ℕ) → Bool

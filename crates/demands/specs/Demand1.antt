@@ -35,13 +35,13 @@ use Rattle.contact.specs.declared.Search.{Search}
 use Rattle.contact.specs.declared.Begun.{Begun}
 use Rattle.contact.specs.declared.Next.{Next}
 use Rattle.contact.specs.declared.Judged.{Judged}
-use Rattle.group.specs.Says.{saysMeasured, saysJudged as saysGroup}
+use Rattle.group.specs.Says.{saysMeasured, saysGroupJudged as saysGroup}
 use Rattle.walk.specs.declared.Placed.{Placed}
 use Rattle.walk.specs.declared.Fitted.{Fitted}
 use Rattle.walk.specs.Fitting.{saysFitted}
 use Rattle.group.specs.declared.Group.{Group}
 use Rattle.group.specs.declared.Measured.{Measured}
-use Rattle.group.specs.declared.Judged.{Judged as GroupJudged}
+use Rattle.group.specs.declared.GroupJudged.{GroupJudged}
 use Rattle.ride.specs.Record.{odometerOf, passedOf}
 use Rattle.ride.specs.Over.{through}
 use Rattle.ride.specs.Says.{saysChecked, saysStepped, saysTreated, saysRan}

@@ -35,10 +35,10 @@ use Rattle.walk.specs.OneWay.{OneWay}
 use Rattle.walk.specs.declared.Direction.{Direction}
 use Rattle.walk.specs.declared.Kind.{Kind}
 use Rattle.group.specs.Judge.{yOf, B, judgeRead}
-use Rattle.group.specs.Says.{saysMeasured, saysJudged}
+use Rattle.group.specs.Says.{saysMeasured, saysGroupJudged}
 use Rattle.group.specs.declared.Content.{Content}
 use Rattle.group.specs.declared.Group.{Group}
-use Rattle.group.specs.declared.Judged.{Judged}
+use Rattle.group.specs.declared.GroupJudged.{GroupJudged}
 use Rattle.group.specs.declared.Measured.{Measured}
 use Rattle.group.specs.declared.Message.{Message}
 use Rattle.group.specs.declared.Told.{Told}
@@ -121,25 +121,25 @@ noColumn = column 0 (plus 0)
 -- Groups: the rows, distances and speeds.
 pub record Groups : Type 0 where
   -- two to five balises that were all read are judged by the rows (a group of none, which no ride makes, gets 13 by them)
-  pub by-rows : (g : Group) (r : Judged) → JudgeGroup g r → oneBalise g ≡ false → moreThanFive g ≡ false → unread g ≡ false
-      → saysJudged r ≡ judgeRead (partsOf g)
+  pub by-rows : (g : Group) (r : GroupJudged) → JudgeGroup g r → oneBalise g ≡ false → moreThanFive g ≡ false → unread g ≡ false
+      → saysGroupJudged r ≡ judgeRead (partsOf g)
   -- no group fits a row of each direction: the first balise that is no 12 tells it
   pub one-way : OneWay
   -- every accepted group has an A, holds its number or none, and says what its kind says
-  pub its-a : (g : Group) (m : Message) → JudgeGroup g (Judged.Accepted m) → Its-A (partsOf g) m
-  pub its-number : (g : Group) (m : Message) → JudgeGroup g (Judged.Accepted m) → Its-number (partsOf g) (m .number)
-  pub content : (g : Group) (m : Message) → JudgeGroup g (Judged.Accepted m) → Content-of m
+  pub its-a : (g : Group) (m : Message) → JudgeGroup g (GroupJudged.Accepted m) → Its-A (partsOf g) m
+  pub its-number : (g : Group) (m : Message) → JudgeGroup g (GroupJudged.Accepted m) → Its-number (partsOf g) (m .number)
+  pub content : (g : Group) (m : Message) → JudgeGroup g (GroupJudged.Accepted m) → Content-of m
   -- what present signals, present warning boards and route boards (10 x AZ km/h with AY 2, 140 km/h with AY 4) say
-  pub signal : (g : Group) (m : Message) (d : ℕ) (preset : Bool) (main target : Told) → JudgeGroup g (Judged.Accepted m)
+  pub signal : (g : Group) (m : Message) (d : ℕ) (preset : Bool) (main target : Told) → JudgeGroup g (GroupJudged.Accepted m)
       → m .content ≡ Content.Signal d preset main target → Announces (partsOf g) d × (preset ≡ eqb (yOf (B (partsOf g))) 14) × Speeds (partsOf g) m main target
   -- "a present signal with BY = 14 and AZ of 0, 1 or 13 is refused with 15": an accepted preset point has another target figure
-  pub preset-target : (g : Group) (m : Message) (d : ℕ) (main target : Told) → JudgeGroup g (Judged.Accepted m)
+  pub preset-target : (g : Group) (m : Message) (d : ℕ) (main target : Told) → JudgeGroup g (GroupJudged.Accepted m)
       → m .content ≡ Content.Signal d true main target → (m .az ≡ 0 → ⊥) × (m .az ≡ 1 → ⊥) × (m .az ≡ 13 → ⊥)
-  pub warning : (g : Group) (m : Message) (d : ℕ) → JudgeGroup g (Judged.Accepted m) → m .content ≡ Content.Warning d → Announces (partsOf g) d
-  pub route : (g : Group) (m : Message) (v : ℕ) → JudgeGroup g (Judged.Accepted m) → m .content ≡ Content.Route v
+  pub warning : (g : Group) (m : Message) (d : ℕ) → JudgeGroup g (GroupJudged.Accepted m) → m .content ≡ Content.Warning d → Announces (partsOf g) d
+  pub route : (g : Group) (m : Message) (v : ℕ) → JudgeGroup g (GroupJudged.Accepted m) → m .content ≡ Content.Route v
       → (m .ay ≡ 2 → v ≡ 10 * m .az) × (m .ay ≡ 4 → v ≡ 140)
   -- "route, present only"
-  pub route-present : (g : Group) (m : Message) → JudgeGroup g (Judged.Accepted m) → m .kind ≡ Kind.Route → m .direction ≡ Direction.Present
+  pub route-present : (g : Group) (m : Message) → JudgeGroup g (GroupJudged.Accepted m) → m .kind ≡ Kind.Route → m .direction ≡ Direction.Present
   -- every entry of table DF; "column 14 ... between 500 and 7000"
   pub distances : (by figure : ℕ) (r : Measured) → Distance by figure r → by < 15 → 1 ≤ figure → figure ≤ 14
       → saysMeasured r ≡ gives (inColumn (getD columns by noColumn) figure)

@@ -8,7 +8,7 @@ use mathlib.Core.List.{List, [], _∷_, _++_}
 use lib.ListN.{length}
 use Rattle.group.specs.declared.Content.{Content}
 use Rattle.walk.specs.declared.Direction.{Direction}
-use Rattle.group.specs.declared.Judged.{Judged}
+use Rattle.group.specs.declared.GroupJudged.{GroupJudged}
 use Rattle.walk.specs.declared.Kind.{Kind}
 use Rattle.group.specs.declared.Message.{Message}
 use Rattle.group.specs.declared.Number.{Number}
@@ -84,7 +84,7 @@ pub record Step3 (o : OneStep) (lines : List Line) (k : Known) : Type 0 where
 pub record Riding : Type 0 where
   -- 2 and 3: a group that is left behind closes; if it is accepted, its line with its mark and its number is given, and step 3 is done
   -- with what is known then
-  pub closes : (o : OneStep) (m : Message) (mark : Mark) (number : Number) → LeavesBehind o → JudgeGroup (o .ride .group) (Judged.Accepted m)
+  pub closes : (o : OneStep) (m : Message) (mark : Mark) (number : Number) → LeavesBehind o → JudgeGroup (o .ride .group) (GroupJudged.Accepted m)
       → IsMarked (before o .linking) m mark → IsNumbered m number → (k : Known) × Becomes (before o) m k × Step3 o (lineOf m mark number ∷ []) k
   -- 3: no group is open
   pub none-open : (o : OneStep) → NoneOpen o → Step3 o [] (before o)
@@ -102,7 +102,7 @@ pub record Riding : Type 0 where
   pub numbered : (m : Message) → (number : Number) × IsNumbered m number
   -- "Ending the ride closes an open group and does no step 3."
   pub ended : (ride : Ride) (r : Ended) (m : Message) (mark : Mark) (number : Number) → EndOf ride r → isOpen (ride .group) ≡ true
-      → JudgeGroup (ride .group) (Judged.Accepted m) → IsMarked (ride .known .linking) m mark → IsNumbered m number
+      → JudgeGroup (ride .group) (GroupJudged.Accepted m) → IsMarked (ride .known .linking) m mark → IsNumbered m number
       → (saysLines (r .lines) ≡ lineOf m mark number ∷ []) × Becomes (ride .known) m (r .ride .known)
       × (r .ride .group ≡ noGroup) × (r .ride .odometer ≡ ride .odometer) × (r .closed ≡ ride .group)
   pub nothing-open : (ride : Ride) (r : Ended) → EndOf ride r → isOpen (ride .group) ≡ false

@@ -13,7 +13,7 @@ use Rattle.walk.specs.declared.Fitted.{Fitted}
 use Rattle.group.specs.declared.Group.{Group}
 use Rattle.group.specs.declared.Measured.{Measured}
 use Rattle.group.specs.declared.Told.{Told}
-use Rattle.group.specs.declared.Judged.{Judged as GroupJudged}
+use Rattle.group.specs.declared.GroupJudged.{GroupJudged}
 use Rattle.ride.specs.declared.Ride.{Ride}
 use Rattle.ride.specs.declared.Checked.{Checked}
 use Rattle.ride.specs.declared.Stepped.{Stepped}

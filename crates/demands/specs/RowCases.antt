@@ -7,13 +7,13 @@ use mathlib.Core.Bool.{true, false}
 use mathlib.Core.List.{List, [], _∷_, _++_}
 use lib.ListN.{length, take, getD, replicate}
 use Rattle.words.specs.Answer.{Outcome, gives, refuses}
-use Rattle.group.specs.Says.{saysJudged}
+use Rattle.group.specs.Says.{saysGroupJudged}
 use Rattle.group.specs.declared.Balise.{Balise}
 use Rattle.group.specs.declared.Content.{Content}
 use Rattle.walk.specs.declared.Direction.{Direction}
 use Rattle.group.specs.declared.Group.{Group}
 use Rattle.group.specs.declared.Heard.{Heard}
-use Rattle.group.specs.declared.Judged.{Judged}
+use Rattle.group.specs.declared.GroupJudged.{GroupJudged}
 use Rattle.group.specs.declared.Message.{Message}
 use Rattle.walk.specs.declared.Kind.{Kind}
 use Rattle.group.specs.declared.Number.{Number}
@@ -187,4 +187,4 @@ outsideCases =
 -- Every case of a list is judged so, by every answer that the contract of `group::judge` allows.
 abbrev pub AllJudged : List RowCase → Type 0
 AllJudged [] = Unit {0}
-AllJudged (c ∷ cs) = ((r : Judged) → JudgeGroup (groupOf (c .balises)) r → saysJudged r ≡ c .judged) × AllJudged cs
+AllJudged (c ∷ cs) = ((r : GroupJudged) → JudgeGroup (groupOf (c .balises)) r → saysGroupJudged r ≡ c .judged) × AllJudged cs

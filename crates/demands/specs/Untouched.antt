@@ -13,9 +13,9 @@ use Rattle.settings.specs.Says.{saysVerdict, saysAsked}
 use Rattle.writer.specs.Says.{saysAnswer}
 use Rattle.writer.specs.declared.Written.{Written}
 use Rattle.contact.specs.Says.{saysBegun, saysNext, saysJudged, saysJudgedUnder}
-use Rattle.group.specs.Says.{saysMeasured, saysJudged as saysGroup}
+use Rattle.group.specs.Says.{saysMeasured, saysGroupJudged as saysGroup}
 use Rattle.walk.specs.Fitting.{saysFitted}
-use Rattle.group.specs.declared.Judged.{Judged as GroupJudged}
+use Rattle.group.specs.declared.GroupJudged.{GroupJudged}
 use Rattle.ride.specs.State.{noGroup, isOpen, nothingKnown}
 use Rattle.ride.specs.Joining.{takeUp}
 use Rattle.ride.specs.Closing.{firstPlace}

@@ -4,10 +4,10 @@ use mathlib.Core.Path.{_≡_, refl}
 use Rattle.text.specs.Text.{codes, digits, decimal}
 use Rattle.walk.specs.declared.Kind.{Kind}
 use Rattle.acceptance.specs.declared.Met.{Met}
-use Rattle.acceptance.specs.declared.Part.{Part}
+use Rattle.acceptance.specs.declared.Role.{Role}
 use Rattle.depot.specs.Lines.{kindWord, partWords, groupLine, metWords, entryLine, sumLine, refusedLine}
 
-pub groups : (groupLine 1003 Kind.Signal (Part.Wanted 0) ≡ codes "1003 signal wanted 1\n") × (groupLine 2000 Kind.Warning Part.Extra ≡ codes "2000 warning extra\n")
+pub groups : (groupLine 1003 Kind.Signal (Role.Wanted 0) ≡ codes "1003 signal wanted 1\n") × (groupLine 2000 Kind.Warning Role.Extra ≡ codes "2000 warning extra\n")
 unfolding groupLine kindWord partWords decimal digits
 groups = (refl, refl)
 

@@ -11,16 +11,16 @@ use Rattle.text.proofs.Standing.{numbered}
 use Rattle.walk.specs.declared.Kind.{Kind}
 use Rattle.acceptance.specs.declared.Met.{Met}
 use Rattle.acceptance.specs.declared.Entry.{Entry}
-use Rattle.acceptance.specs.declared.Part.{Part}
+use Rattle.acceptance.specs.declared.Role.{Role}
 use Rattle.acceptance.specs.declared.Sums.{Sums}
 use Rattle.acceptance.specs.Taking.{oneMore}
 use Rattle.depot.specs.Lines.{kindWord, partWords, groupLine, metWords, entryLine, sumLine, refusedLine}
 
-pub wanted-is : (i : ℕ) → numbered " wanted " (oneMore i) ++ codes "\n" ≡ partWords (Part.Wanted i)
+pub wanted-is : (i : ℕ) → numbered " wanted " (oneMore i) ++ codes "\n" ≡ partWords (Role.Wanted i)
 unfolding partWords
 wanted-is i = refl
 
-pub group-is : (place : ℕ) (kind : Kind) (part : Part) → numbered "" place ++ kindWord kind ++ partWords part ≡ groupLine place kind part
+pub group-is : (place : ℕ) (kind : Kind) (part : Role) → numbered "" place ++ kindWord kind ++ partWords part ≡ groupLine place kind part
 unfolding groupLine
 group-is place kind part = refl
 
@@ -54,11 +54,11 @@ kind-length Kind.Annulled = omega arith
 kind-length Kind.Line = omega arith
 kind-length Kind.Route = omega arith
 
-part-length : (p : Part) → length (partWords p) ≤ 29
+part-length : (p : Role) → length (partWords p) ≤ 29
 unfolding partWords
-part-length (Part.Wanted i) = simp length-append (omega (arith, decimal-length (oneMore i)))
-part-length Part.Extra = omega arith
-part-length Part.NoPart = omega arith
+part-length (Role.Wanted i) = simp length-append (omega (arith, decimal-length (oneMore i)))
+part-length Role.Extra = omega arith
+part-length Role.NoPart = omega arith
 
 met-length : (m : Met) → length (metWords m) ≤ 29
 unfolding metWords
@@ -66,7 +66,7 @@ met-length Met.Absent = omega arith
 met-length (Met.At place) = simp length-append (omega (arith, decimal-length place))
 
 -- No line is longer than this.
-pub group-length : (place : ℕ) (kind : Kind) (part : Part) → length (groupLine place kind part) ≤ 64
+pub group-length : (place : ℕ) (kind : Kind) (part : Role) → length (groupLine place kind part) ≤ 64
 unfolding groupLine
 group-length place kind part = simp length-append (omega (arith, decimal-length place, kind-length kind, part-length part))
 

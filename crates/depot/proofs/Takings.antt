@@ -13,7 +13,7 @@ use Rattle.text.proofs.Placing.{placed-none}
 use Rattle.ride.specs.declared.Seen.{Seen}
 use Rattle.ride.specs.declared.Line.{Line}
 use Rattle.acceptance.specs.declared.Acceptance.{Acceptance}
-use Rattle.acceptance.specs.declared.Part.{Part}
+use Rattle.acceptance.specs.declared.Role.{Role}
 use Rattle.acceptance.specs.declared.Took.{Took}
 use Rattle.acceptance.specs.Taking.{takeLine}
 use Rattle.depot.specs.Lines.{groupLine}
@@ -37,7 +37,7 @@ module _ (run : Acceptance) (line : Line) (b : List ℕ) (at : ℕ) (t : Took) (
   no-text e =
       ap (λ (p : Put). record { run = t .state; text = p }) (put-nothing b at ∙ ap (λ (u : List ℕ). put u b at) (sym e)) ∙ taken
 
-  pub group-text : (g : Seen) (p : Part) (next : ℕ) (x : List ℕ) → line ≡ Line.Group g → t .answer ≡ p
+  pub group-text : (g : Seen) (p : Role) (next : ℕ) (x : List ℕ) → line ≡ Line.Group g → t .answer ≡ p
       → partLine (Line.Group g) p ≡ groupLine (g .place) (g .kind) p → came next x ≡ put (groupLine (g .place) (g .kind) (t .answer)) b at
       → _≡_ {A = Going} (record { run = t .state; text = came next x }) (takeOne run line b at)
   group-text g p next x l a e f =

@@ -9,7 +9,7 @@ use Rattle.text.specs.Text.{codes, decimal}
 use Rattle.walk.specs.declared.Kind.{Kind}
 use Rattle.acceptance.specs.declared.Met.{Met}
 use Rattle.acceptance.specs.declared.Entry.{Entry}
-use Rattle.acceptance.specs.declared.Part.{Part}
+use Rattle.acceptance.specs.declared.Role.{Role}
 use Rattle.acceptance.specs.declared.Sums.{Sums}
 use Rattle.acceptance.specs.Taking.{oneMore}
 
@@ -22,13 +22,13 @@ kindWord Kind.Line = codes " line"
 kindWord Kind.Route = codes " route"
 
 -- A group's part: wanted with the number of its entry, or extra. A group that takes no part is said to.
-unfoldable pub partWords : Part → List ℕ
-partWords (Part.Wanted i) = codes " wanted " ++ decimal (oneMore i) ++ codes "\n"
-partWords Part.Extra = codes " extra\n"
-partWords Part.NoPart = codes " no part\n"
+unfoldable pub partWords : Role → List ℕ
+partWords (Role.Wanted i) = codes " wanted " ++ decimal (oneMore i) ++ codes "\n"
+partWords Role.Extra = codes " extra\n"
+partWords Role.NoPart = codes " no part\n"
 
 -- The line of a group: its A place, its kind and its part.
-unfoldable pub groupLine : ℕ → Kind → Part → List ℕ
+unfoldable pub groupLine : ℕ → Kind → Role → List ℕ
 groupLine place kind part = decimal place ++ kindWord kind ++ partWords part
 
 -- Whether an entry was met, and where.

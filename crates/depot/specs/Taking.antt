@@ -5,17 +5,17 @@ use mathlib.Core.List.{List, [], _∷_}
 use Rattle.text.specs.Put.{Put, put}
 use Rattle.ride.specs.declared.Line.{Line}
 use Rattle.acceptance.specs.declared.Acceptance.{Acceptance}
-use Rattle.acceptance.specs.declared.Part.{Part}
+use Rattle.acceptance.specs.declared.Role.{Role}
 use Rattle.acceptance.specs.declared.Took.{Took}
 use Rattle.acceptance.specs.Taking.{takeLine}
 use Rattle.depot.specs.declared.Written.{Written}
 use Rattle.depot.specs.Lines.{groupLine}
 
 -- The text of a line by its part: a present group's line; nothing for what takes no part.
-abbrev pub partLine : Line → Part → List ℕ
-partLine (Line.Group g) (Part.Wanted i) = groupLine (g .place) (g .kind) (Part.Wanted i)
-partLine (Line.Group g) Part.Extra = groupLine (g .place) (g .kind) Part.Extra
-partLine (Line.Group g) Part.NoPart = []
+abbrev pub partLine : Line → Role → List ℕ
+partLine (Line.Group g) (Role.Wanted i) = groupLine (g .place) (g .kind) (Role.Wanted i)
+partLine (Line.Group g) Role.Extra = groupLine (g .place) (g .kind) Role.Extra
+partLine (Line.Group g) Role.NoPart = []
 partLine (Line.Fault place n) part = []
 partLine (Line.Missed place) part = []
 partLine (Line.Record number n) part = []

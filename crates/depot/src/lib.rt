@@ -12,7 +12,7 @@ mod records;
 
 use acceptance::Acceptance;
 use acceptance::Entry;
-use acceptance::Part;
+use acceptance::Role;
 use acceptance::Sums;
 pub use records::Walked;
 pub use records::accept_at;
@@ -27,7 +27,7 @@ pub struct Written {
 }
 
 // The line of a present group into buf from `at` on, and the place after it; without room buf stays as it is, and the answer is `at`.
-pub fn put_group(place: u64, kind: Kind, part: Part, buf: &mut [u8], at: usize) -> usize
+pub fn put_group(place: u64, kind: Kind, part: Role, buf: &mut [u8], at: usize) -> usize
     ensures { λ r. ⌜ came r (now (buf .exit)) ≡ put (groupLine place kind part) (now (buf .entry)) at ⌝ }
 {
     let mut space = [0u8; 64];
@@ -71,16 +71,16 @@ pub fn take_line(run: Acceptance, line: Line, buf: &mut [u8], at: usize) -> Writ
     let part = took.answer;
     match line {
         Line::Group(seen) => match part {
-            Part::NoPart => Written {
+            Role::NoPart => Written {
                 run: after,
                 next: at,
             },
-            Part::Extra => {
+            Role::Extra => {
                 let kind = seen.kind;
                 let next = put_group(seen.place, kind, part, buf, at);
                 Written { run: after, next }
             }
-            Part::Wanted(_) => {
+            Role::Wanted(_) => {
                 let kind = seen.kind;
                 let next = put_group(seen.place, kind, part, buf, at);
                 Written { run: after, next }

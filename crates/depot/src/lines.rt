@@ -9,7 +9,7 @@ ghost use Rattle.acceptance.specs.Taking.{oneMore};
 ghost use Rattle.depot.specs.Lines.{kindWord, partWords, groupLine, metWords, entryLine, sumLine, refusedLine};
 use acceptance::Entry;
 use acceptance::Met;
-use acceptance::Part;
+use acceptance::Role;
 use acceptance::Sums;
 use text::put;
 use text::put_number;
@@ -41,22 +41,22 @@ fn spell_kind(kind: Kind, buf: &mut [u8], at: usize) -> usize
 }
 
 // A group's part.
-fn spell_part(part: Part, buf: &mut [u8], at: usize) -> usize
+fn spell_part(part: Role, buf: &mut [u8], at: usize) -> usize
     requires { ⌜ at + length (partWords part) ≤ length (now buf) ⌝ }
     ensures { λ r. ⌜ came r (now (buf .exit)) ≡ put (partWords part) (now (buf .entry)) at ⌝ }
 {
     match part {
-        Part::Wanted(i) => {
+        Role::Wanted(i) => {
             let a = put_number(b" wanted ", numbered(i), buf, at);
             put(b"\n", buf, a)
         }
-        Part::Extra => put(b" extra\n", buf, at),
-        Part::NoPart => put(b" no part\n", buf, at),
+        Role::Extra => put(b" extra\n", buf, at),
+        Role::NoPart => put(b" no part\n", buf, at),
     }
 }
 
 // The line of a group.
-pub fn spell_group(place: u64, kind: Kind, part: Part, buf: &mut [u8], at: usize) -> usize
+pub fn spell_group(place: u64, kind: Kind, part: Role, buf: &mut [u8], at: usize) -> usize
     requires { ⌜ at + length (groupLine place kind part) ≤ length (now buf) ⌝ }
     ensures { λ r. ⌜ came r (now (buf .exit)) ≡ put (groupLine place kind part) (now (buf .entry)) at ⌝ }
 {

@@ -18,13 +18,13 @@ use Rattle.walk.specs.Row.{Y, Z, Found, none, found, first}
 use Rattle.walk.specs.Fitting.{fitting}
 use Rattle.walk.proofs.Bools.{both, false-true}
 use Rattle.group.specs.declared.Group.{Group}
-use Rattle.group.specs.declared.Judged.{Judged}
+use Rattle.group.specs.declared.GroupJudged.{GroupJudged}
 use Rattle.group.specs.Balise as received
 use Rattle.group.specs.Distance.{isPreset, noIncrease}
 use Rattle.group.specs.Numbers.{numberOf}
 use Rattle.group.specs.declared.Message.{Message}
 use Rattle.group.specs.Judge.{yOf, B, signalDistance, contentOf, messageOf, judgeAs, judgeRead, judge}
-use Rattle.group.specs.Says.{saysJudged}
+use Rattle.group.specs.Says.{saysGroupJudged}
 use Rattle.explainer.specs.declared.Reason.{Reason}
 use Rattle.explainer.specs.Opening.{openingRun}
 use Rattle.explainer.specs.Reason.{Cause, balises, bad, Explained, noReason, because}
@@ -144,14 +144,14 @@ accepted : (g : Group) (o : Outcome Message) (e : Explained) → Right g o e →
 accepted g (gives m) e r q = (m, refl)
 accepted g (refuses n) e r q = absurd (reasoned g n e r q)
 
-right : (g : Group) (r : Reason) (j : Judged) → Explains g r → Judges g j → Right g (saysJudged j) (saysReason r)
+right : (g : Group) (r : Reason) (j : GroupJudged) → Explains g r → Judges g j → Right g (saysGroupJudged j) (saysReason r)
 right g r j e f = rw (e, f) (of-group g)
 
 pub truths : Truths
 truths =
     record {
       right = right;
-      none-if = λ g r j e f is. accepted g (saysJudged j) (saysReason r) (right g r j e f) (ap saysReason is);
+      none-if = λ g r j e f is. accepted g (saysGroupJudged j) (saysReason r) (right g r j e f) (ap saysReason is);
       some-10 = (counted 1, one-balise .1);
       some-11 = (counted 6, six-balises .1);
       some-12 = (two a-one (at 1030 Heard.Unreadable), second-unreadable .1);

@@ -20,12 +20,12 @@ use Rattle.walk.specs.Opening.{Longest}
 use Rattle.group.specs.declared.Heard.{Heard}
 use Rattle.group.specs.declared.Balise.{Balise}
 use Rattle.group.specs.declared.Group.{Group}
-use Rattle.group.specs.declared.Judged.{Judged}
+use Rattle.group.specs.declared.GroupJudged.{GroupJudged}
 use Rattle.group.specs.Balise as received
 use Rattle.group.specs.Distance.{noIncrease}
 use Rattle.group.specs.declared.Message.{Message}
 use Rattle.group.specs.Judge.{B, C, judge}
-use Rattle.group.specs.Says.{saysJudged}
+use Rattle.group.specs.Says.{saysGroupJudged}
 use Rattle.explainer.specs.declared.Reason.{Reason}
 use Rattle.explainer.specs.Reason.{Bad, unreadable, word, balises, bad, opens, figure, Explained, noReason, because}
 use Rattle.explainer.specs.Explain.{explain}
@@ -35,8 +35,8 @@ use Rattle.explainer.specs.Says.{saysReason}
 abbrev pub Explains : Group → Reason → Type 0
 Explains g r = saysReason r ≡ explain g
 
-abbrev pub Judges : Group → Judged → Type 0
-Judges g j = saysJudged j ≡ judge g
+abbrev pub Judges : Group → GroupJudged → Type 0
+Judges g j = saysGroupJudged j ≡ judge g
 
 -- The balise stands among these with the index i, counted from 0.
 pub record At {A : Type 0} (bs : List A) (i : ℕ) (b : A) : Type 0 where
@@ -124,9 +124,9 @@ RefusedWith n = (g : Group) × (judge g ≡ refuses n)
 
 -- What is claimed, for any group that is lent.
 pub record Truths : Type 0 where
-  pub right : (g : Group) (r : Reason) (j : Judged) → Explains g r → Judges g j → Right g (saysJudged j) (saysReason r)
+  pub right : (g : Group) (r : Reason) (j : GroupJudged) → Explains g r → Judges g j → Right g (saysGroupJudged j) (saysReason r)
   -- Only an accepted group has no reason.
-  pub none-if : (g : Group) (r : Reason) (j : Judged) → Explains g r → Judges g j → r ≡ Reason.None → (m : Message) × (saysJudged j ≡ gives m)
+  pub none-if : (g : Group) (r : Reason) (j : GroupJudged) → Explains g r → Judges g j → r ≡ Reason.None → (m : Message) × (saysGroupJudged j ≡ gives m)
   -- There are groups of each sort.
   pub some-10 : RefusedWith 10
   pub some-11 : RefusedWith 11

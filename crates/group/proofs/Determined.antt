@@ -11,8 +11,8 @@ use Rattle.words.proofs.Told.{told}
 use Rattle.group.specs.declared.Measured.{Measured}
 use Rattle.group.specs.declared.Told.{Told}
 use Rattle.group.specs.declared.Message.{Message}
-use Rattle.group.specs.declared.Judged.{Judged}
-use Rattle.group.specs.Says.{saysMeasured, saysJudged}
+use Rattle.group.specs.declared.GroupJudged.{GroupJudged}
+use Rattle.group.specs.Says.{saysMeasured, saysGroupJudged}
 use Rattle.group.proofs.distance.Kinds as distance-kinds
 use Rattle.group.proofs.distance.Reads as distance-reads
 use Rattle.group.proofs.speed.Kinds as speed-kinds
@@ -23,29 +23,29 @@ use Rattle.group.proofs.judge.Reads as judge-reads
 -- From what an answer says, the answer.
 pub measured : Outcome ℕ → Measured
 measured (gives d) = Measured.Dm d
-measured (refuses n) = Measured.NotAllowed
+measured (refuses n) = Measured.NoDistance
 
 pub measured-back : (r : Measured) → measured (saysMeasured r) ≡ r
 unfolding measured
 measured-back (Measured.Dm d) = refl
-measured-back Measured.NotAllowed = refl
+measured-back Measured.NoDistance = refl
 
-pub judged : Outcome Message → Judged
-judged (gives m) = Judged.Accepted m
+pub judged : Outcome Message → GroupJudged
+judged (gives m) = GroupJudged.Accepted m
 judged (refuses n) =
-    pick (eqb n 10) Judged.One
-    (pick (eqb n 11) Judged.Many
-    (pick (eqb n 12) Judged.Unread
-    (pick (eqb n 13) Judged.NoRow Judged.NoDistance)))
+    pick (eqb n 10) GroupJudged.One
+    (pick (eqb n 11) GroupJudged.Many
+    (pick (eqb n 12) GroupJudged.Unread
+    (pick (eqb n 13) GroupJudged.NoRow GroupJudged.NoDistance)))
 
-pub judged-back : (r : Judged) → judged (saysJudged r) ≡ r
+pub judged-back : (r : GroupJudged) → judged (saysGroupJudged r) ≡ r
 unfolding judged
-judged-back (Judged.Accepted m) = refl
-judged-back Judged.One = refl
-judged-back Judged.Many = refl
-judged-back Judged.Unread = refl
-judged-back Judged.NoRow = refl
-judged-back Judged.NoDistance = refl
+judged-back (GroupJudged.Accepted m) = refl
+judged-back GroupJudged.One = refl
+judged-back GroupJudged.Many = refl
+judged-back GroupJudged.Unread = refl
+judged-back GroupJudged.NoRow = refl
+judged-back GroupJudged.NoDistance = refl
 
 pub distance-determined : (κs : Lfts 0) (a : Dens κs distance-kinds.ps) (r r′ : Measured)
     (x x′ : AtExit (endedOf 0 distance-kinds.ps distance-kinds.r) κs)
@@ -57,7 +57,7 @@ pub speed-determined : (κs : Lfts 0) (a : Dens κs speed-kinds.ps) (r r′ : To
     → speed-reads.Post κs a r x → speed-reads.Post κs a r′ x′ → r ≡ r′
 speed-determined κs a r r′ x x′ p q = p ∙ sym q
 
-pub judge-determined : (κs : Lfts 0) (a : Dens κs judge-kinds.ps) (r r′ : Judged)
+pub judge-determined : (κs : Lfts 0) (a : Dens κs judge-kinds.ps) (r r′ : GroupJudged)
     (x x′ : AtExit (endedOf 0 judge-kinds.ps judge-kinds.r) κs)
     → judge-reads.Post κs a r x → judge-reads.Post κs a r′ x′ → r ≡ r′
-judge-determined κs a r r′ x x′ p q = told saysJudged judged judged-back r r′ p q
+judge-determined κs a r r′ x x′ p q = told saysGroupJudged judged judged-back r r′ p q

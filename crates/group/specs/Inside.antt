@@ -32,7 +32,7 @@ saysAllRead n r = pick (r .good) (gives (take n (r .parts))) (refuses 12)
 -- What a group says beyond its kind, if its distance is allowed; "distance not allowed" is 15.
 abbrev pub saysContained : Contained → Outcome Content
 saysContained (Contained.Is more) = gives more
-saysContained Contained.NotAllowed = refuses 15
+saysContained Contained.NoDistance = refuses 15
 
 -- The number found among the balises so far, or else that of the next one.
 abbrev pub elseNumber : Number → Part → Number

@@ -16,7 +16,7 @@ use walk::Placed;
 
 // What a present group says beyond its kind, or that its distance is not allowed.
 pub enum Contained {
-    NotAllowed,
+    NoDistance,
     Is(Content),
 }
 
@@ -56,7 +56,7 @@ fn link_distance(by: u8, bz: u8, c: Sought) -> Measured
                 let part = placed.part;
                 crate::distance(by, parts::y_of(part))
             } else {
-                Measured::NotAllowed
+                Measured::NoDistance
             }
         }
         Sought::Missing => crate::distance(by, bz),
@@ -103,7 +103,7 @@ fn signal_distance(az: u8, b: Sought, p: [Placed; 5], n: usize) -> Measured
     let by = y_sought(b);
     let bz = z_sought(b);
     if (by == 14) & no_increase(az) {
-        return Measured::NotAllowed;
+        return Measured::NoDistance;
     }
     let c = parts::first_of(p, n, 14);
     link_distance(by, bz, c)
@@ -126,7 +126,7 @@ fn of_signal(ay: u8, az: u8, p: [Placed; 5], n: usize) -> Contained
                 target: crate::speed(figure),
             })
         }
-        Measured::NotAllowed => Contained::NotAllowed,
+        Measured::NoDistance => Contained::NoDistance,
     }
 }
 
@@ -137,7 +137,7 @@ fn of_warning(ay: u8, az: u8, p: [Placed; 5], n: usize) -> Contained
 {
     match distance_of(p, n) {
         Measured::Dm(distance) => Contained::Is(Content::Warning { distance }),
-        Measured::NotAllowed => Contained::NotAllowed,
+        Measured::NoDistance => Contained::NoDistance,
     }
 }
 

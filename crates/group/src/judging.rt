@@ -4,9 +4,9 @@ ghost use Prim.Native.Nat.{_≤_};
 ghost use lib.ListN.{take};
 ghost use Rattle.group.specs.Numbers.{numberOf};
 ghost use Rattle.group.specs.Judge.{messageOf, judgeAs, judgeRead};
-ghost use Rattle.group.specs.Says.{saysJudged};
+ghost use Rattle.group.specs.Says.{saysGroupJudged};
 use crate::Content;
-use crate::Judged;
+use crate::GroupJudged;
 use crate::Message;
 use crate::Number;
 use crate::contents;
@@ -37,32 +37,36 @@ fn message(row: Picked, number: Number, content: Content) -> Message
 }
 
 // The judgement of a group that fits a present row.
-fn as_present(row: Picked, number: Number, p: [Placed; 5], n: usize) -> Judged
+fn as_present(row: Picked, number: Number, p: [Placed; 5], n: usize) -> GroupJudged
     requires { ⌜ (n ≤ 5) × (number ≡ numberOf (take n p)) ⌝ }
-    ensures { λ r. ⌜ saysJudged r ≡ judgeAs Direction.Present row (take n p) ⌝ }
+    ensures { λ r. ⌜ saysGroupJudged r ≡ judgeAs Direction.Present row (take n p) ⌝ }
 {
     let a = row.a;
     let part = a.part;
     let kind = row.kind;
     match contents::of_present(kind, row.speed, parts::y_of(part), parts::z_of(part), p, n) {
-        Contained::Is(more) => Judged::Accepted(message(row, number, more)),
-        Contained::NotAllowed => Judged::NoDistance,
+        Contained::Is(more) => GroupJudged::Accepted(message(row, number, more)),
+        Contained::NoDistance => GroupJudged::NoDistance,
     }
 }
 
 // The judgement of the first n balises, whose number this is.
-pub fn read(p: [Placed; 5], n: usize, number: Number) -> Judged
+pub fn read(p: [Placed; 5], n: usize, number: Number) -> GroupJudged
     requires { ⌜ (n ≤ 5) × (number ≡ numberOf (take n p)) ⌝ }
-    ensures { λ r. ⌜ saysJudged r ≡ judgeRead (take n p) ⌝ }
+    ensures { λ r. ⌜ saysGroupJudged r ≡ judgeRead (take n p) ⌝ }
 {
     match walk::fit(p, n) {
         Fitted::Is(row) => {
             let direction = row.direction;
             match direction {
                 Direction::Present => as_present(row, number, p, n),
-                Direction::Opposite => Judged::Accepted(message(row, number, Content::Nothing)),
+                Direction::Opposite => GroupJudged::Accepted(message(
+                    row,
+                    number,
+                    Content::Nothing,
+                )),
             }
         }
-        Fitted::NoRow => Judged::NoRow,
+        Fitted::NoRow => GroupJudged::NoRow,
     }
 }

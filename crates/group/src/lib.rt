@@ -5,7 +5,7 @@ ghost use mathlib.Core.Path.{_≡_};
 ghost use Rattle.group.specs.Distance.{distance};
 ghost use Rattle.group.specs.Speed.{signalSpeed};
 ghost use Rattle.group.specs.Judge.{judge};
-ghost use Rattle.group.specs.Says.{saysMeasured, saysJudged};
+ghost use Rattle.group.specs.Says.{saysMeasured, saysGroupJudged};
 
 mod contents;
 mod judging;
@@ -52,7 +52,7 @@ pub enum Number {
 // What looking up a distance answers: decimetres, or refusal 15.
 pub enum Measured {
     Dm(u32),
-    NotAllowed,
+    NoDistance,
 }
 
 // What a group says beyond its kind. The distance of a preset point is table DF's figure (BY 14): it announces no signal, and a ride links nothing by it.
@@ -82,7 +82,7 @@ pub struct Message {
 }
 
 // What judging a group answers: its message, or the refusals 10, 11, 12, 13 and 15 in this order. 14 is not used.
-pub enum Judged {
+pub enum GroupJudged {
     Accepted(Message),
     One,
     Many,
@@ -96,7 +96,7 @@ pub fn distance(by: u8, figure: u8) -> Measured
     ensures { λ r. ⌜ saysMeasured r ≡ distance by figure ⌝ }
 {
     if by > 14 {
-        return Measured::NotAllowed;
+        return Measured::NoDistance;
     }
     match figure {
         1..=14 => {
@@ -104,7 +104,7 @@ pub fn distance(by: u8, figure: u8) -> Measured
             let d = tables::BASES[i] as i32 + tables::STEPS[i] * figure as i32;
             Measured::Dm(d as u32)
         }
-        _ => Measured::NotAllowed,
+        _ => Measured::NoDistance,
     }
 }
 
@@ -120,16 +120,16 @@ pub fn speed(figure: u8) -> Told
 }
 
 // The judgement of a closed group: its message, or refusal 10, 11, 12, 13 or 15.
-pub fn judge(group: Group) -> Judged
-    ensures { λ r. ⌜ saysJudged r ≡ judge group ⌝ }
+pub fn judge(group: Group) -> GroupJudged
+    ensures { λ r. ⌜ saysGroupJudged r ≡ judge group ⌝ }
 {
     let count = group.count;
     let kept = group.kept;
     if count == 1 {
-        return Judged::One;
+        return GroupJudged::One;
     }
     if count > 5 {
-        return Judged::Many;
+        return GroupJudged::Many;
     }
     let n = count as usize;
     let all = reading::read_all(kept, n);
@@ -138,6 +138,6 @@ pub fn judge(group: Group) -> Judged
         let number = all.number;
         judging::read(parts, n, number)
     } else {
-        Judged::Unread
+        GroupJudged::Unread
     }
 }

@@ -15,7 +15,7 @@ use Rattle.ride.specs.declared.Line.{Line}
 use Rattle.ride.specs.declared.Passed.{Passed}
 use Rattle.ride.specs.declared.Ride.{Ride}
 use Rattle.ride.specs.State.{noBalise, noGroup, nothingKnown}
-use Rattle.ride.specs.Record.{odometerOf, passedOf, inOrder, check}
+use Rattle.ride.specs.Record.{odometerOf, passedOf, inOrder, checkRecord}
 use Rattle.ride.specs.Joining.{join, takeUp}
 use Rattle.ride.specs.Linking.{markAt, markOf}
 use Rattle.ride.specs.Closing.{leave}
@@ -24,39 +24,39 @@ use Rattle.ride.specs.Step.{closeBehind, missedLines, afterMissed, goOn,
 -- ---- the record check
 
 -- document 01's first record
-first-record : check 0 (0x00 ∷ 0x00 ∷ 0x03 ∷ 0xE8 ∷ 0 ∷ 0x17 ∷ 0x8E ∷ 0x5A ∷ []) ≡ gives (record { odometer = 1000; passed = Passed.Balise (Heard.Words 0x17 0x8E 0x5A) })
-unfolding check inOrder odometerOf passedOf
+first-record : checkRecord 0 (0x00 ∷ 0x00 ∷ 0x03 ∷ 0xE8 ∷ 0 ∷ 0x17 ∷ 0x8E ∷ 0x5A ∷ []) ≡ gives (record { odometer = 1000; passed = Passed.Balise (Heard.Words 0x17 0x8E 0x5A) })
+unfolding checkRecord inOrder odometerOf passedOf
 first-record = refl
 
 -- 4,000,000,000 is accepted, one more is 18
-highest : check 0 (0xEE ∷ 0x6B ∷ 0x28 ∷ 0x00 ∷ 3 ∷ 0 ∷ 0 ∷ 0 ∷ []) ≡ gives (record { odometer = 4000000000; passed = Passed.Position })
-unfolding check inOrder odometerOf passedOf
+highest : checkRecord 0 (0xEE ∷ 0x6B ∷ 0x28 ∷ 0x00 ∷ 3 ∷ 0 ∷ 0 ∷ 0 ∷ []) ≡ gives (record { odometer = 4000000000; passed = Passed.Position })
+unfolding checkRecord inOrder odometerOf passedOf
 highest = refl
 
-too-high : check 0 (0xEE ∷ 0x6B ∷ 0x28 ∷ 0x01 ∷ 3 ∷ 0 ∷ 0 ∷ 0 ∷ []) ≡ refuses 18
-unfolding check inOrder odometerOf passedOf
+too-high : checkRecord 0 (0xEE ∷ 0x6B ∷ 0x28 ∷ 0x01 ∷ 3 ∷ 0 ∷ 0 ∷ 0 ∷ []) ≡ refuses 18
+unfolding checkRecord inOrder odometerOf passedOf
 too-high = refl
 
 -- at the last accepted odometer it is accepted, 1 dm below it is 17
-again : check 1000 (0x00 ∷ 0x00 ∷ 0x03 ∷ 0xE8 ∷ 1 ∷ 0 ∷ 0 ∷ 0 ∷ []) ≡ gives (record { odometer = 1000; passed = Passed.Balise Heard.Marker })
-unfolding check inOrder odometerOf passedOf
+again : checkRecord 1000 (0x00 ∷ 0x00 ∷ 0x03 ∷ 0xE8 ∷ 1 ∷ 0 ∷ 0 ∷ 0 ∷ []) ≡ gives (record { odometer = 1000; passed = Passed.Balise Heard.Marker })
+unfolding checkRecord inOrder odometerOf passedOf
 again = refl
 
-below : check 1001 (0x00 ∷ 0x00 ∷ 0x03 ∷ 0xE8 ∷ 2 ∷ 0 ∷ 0 ∷ 0 ∷ []) ≡ refuses 17
-unfolding check inOrder odometerOf passedOf
+below : checkRecord 1001 (0x00 ∷ 0x00 ∷ 0x03 ∷ 0xE8 ∷ 2 ∷ 0 ∷ 0 ∷ 0 ∷ []) ≡ refuses 17
+unfolding checkRecord inOrder odometerOf passedOf
 below = refl
 
 -- kind 4 is 16; so is a marker with a word; 16 comes before 18, and 18 before 17
-kind-four : check 0 (0x00 ∷ 0x00 ∷ 0x03 ∷ 0xE8 ∷ 4 ∷ 0 ∷ 0 ∷ 0 ∷ []) ≡ refuses 16
-unfolding check inOrder odometerOf passedOf
+kind-four : checkRecord 0 (0x00 ∷ 0x00 ∷ 0x03 ∷ 0xE8 ∷ 4 ∷ 0 ∷ 0 ∷ 0 ∷ []) ≡ refuses 16
+unfolding checkRecord inOrder odometerOf passedOf
 kind-four = refl
 
-marker-with-word : check 4294967295 (0xFF ∷ 0xFF ∷ 0xFF ∷ 0xFE ∷ 1 ∷ 0 ∷ 0 ∷ 1 ∷ []) ≡ refuses 16
-unfolding check inOrder odometerOf passedOf
+marker-with-word : checkRecord 4294967295 (0xFF ∷ 0xFF ∷ 0xFF ∷ 0xFE ∷ 1 ∷ 0 ∷ 0 ∷ 1 ∷ []) ≡ refuses 16
+unfolding checkRecord inOrder odometerOf passedOf
 marker-with-word = refl
 
-high-before-low : check 4294967295 (0xFF ∷ 0xFF ∷ 0xFF ∷ 0xFE ∷ 1 ∷ 0 ∷ 0 ∷ 0 ∷ []) ≡ refuses 18
-unfolding check inOrder odometerOf passedOf
+high-before-low : checkRecord 4294967295 (0xFF ∷ 0xFF ∷ 0xFF ∷ 0xFE ∷ 1 ∷ 0 ∷ 0 ∷ 0 ∷ []) ≡ refuses 18
+unfolding checkRecord inOrder odometerOf passedOf
 high-before-low = refl
 
 -- ---- the gap, from the last balise
@@ -75,12 +75,12 @@ at-the-gap : step underway 40 (0x00 ∷ 0x00 ∷ 0x04 ∷ 0x10 ∷ 1 ∷ 0 ∷ 0
       count = 2;
       last = 1040;
     }
-unfolding step treat goOn check inOrder odometerOf passedOf closeBehind leave takeUp join
+unfolding step treat goOn checkRecord inOrder odometerOf passedOf closeBehind leave takeUp join
 at-the-gap = refl
 
 -- 1 dm past it the group closes, and another opens
 past-the-gap : step underway 40 (0x00 ∷ 0x00 ∷ 0x04 ∷ 0x11 ∷ 1 ∷ 0 ∷ 0 ∷ 0 ∷ []) .closed ≡ one
-unfolding step treat goOn check inOrder odometerOf passedOf closeBehind Rattle.ride.specs.Closing.close
+unfolding step treat goOn checkRecord inOrder odometerOf passedOf closeBehind Rattle.ride.specs.Closing.close
 past-the-gap = refl
 
 -- a gap of 0 or 201 is 19

@@ -24,7 +24,7 @@ use Rattle.ride.specs.declared.Mark.{Mark}
 use Rattle.ride.specs.declared.Line.{Line}
 use Rattle.ride.specs.declared.Ride.{Ride}
 use Rattle.ride.specs.State.{noGroup, nothingKnown, freshRide}
-use Rattle.ride.specs.Record.{odometerOf, passedOf, inOrder, check}
+use Rattle.ride.specs.Record.{odometerOf, passedOf, inOrder, checkRecord}
 use Rattle.ride.specs.Joining.{join, takeUp}
 use Rattle.ride.specs.Closing.{close, leave}
 use Rattle.ride.specs.Step.{closeBehind, missedLines, afterMissed, goOn, treat, End, end}
@@ -48,7 +48,7 @@ pub in-full : rideOver (λ odometer. 40) freshRide 1 (records trace)
       lines = Line.Group (record { place = 1000; direction = Direction.Present; kind = Kind.Signal; mark = Mark.First; number = Number.None }) ∷ Line.Missed 5800 ∷ [];
       ride = after;
     }
-unfolding word isCheck covers count even isCode onwards figure other exchanged readWord shortWord longWord telegram balises readAll fits first fitRow fitRows howMany fitIn fitting distance signalSpeed targetFigure distanceOf signalDistance numberOf judgeRead judge noGroup nothingKnown freshRide odometerOf passedOf inOrder check join takeUp close leave closeBehind missedLines afterMissed goOn treat firstRecords rideOver
+unfolding word isCheck covers count even isCode onwards figure other exchanged readWord shortWord longWord telegram balises readAll fits first fitRow fitRows howMany fitIn fitting distance signalSpeed targetFigure distanceOf signalDistance numberOf judgeRead judge noGroup nothingKnown freshRide odometerOf passedOf inOrder checkRecord join takeUp close leave closeBehind missedLines afterMissed goOn treat firstRecords rideOver
 in-full = refl
 
 -- its end closes no group, gives no line, and leaves the state

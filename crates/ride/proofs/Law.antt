@@ -15,7 +15,7 @@ use borrow.Author.Tests.{ltb-false}
 use Rattle.words.specs.Answer.{Outcome, gives, refuses, pick}
 use Rattle.ride.specs.declared.Line.{Line}
 use Rattle.ride.specs.declared.Ride.{Ride}
-use Rattle.ride.specs.Record.{Entry, odometerOf, passedOf, inOrder, check}
+use Rattle.ride.specs.Record.{Entry, odometerOf, passedOf, inOrder, checkRecord}
 use Rattle.ride.specs.Joining.{allowed}
 use Rattle.ride.specs.Step.{Step, refused, goOn, refuseOr, treat, step, end}
 use Rattle.ride.specs.Over.{firstRecords, linesFor, Ridden, before, rideOver}
@@ -31,7 +31,7 @@ of-check ride gap (gives x) n e = absurd (let z : _≡_ {A = ℕ} 0 1 = cc in om
 
 pub treat-refused : (ride : Ride) (gap : ℕ) (r : List ℕ) (n : ℕ) → treat ride gap r .lines ≡ refuses n → treat ride gap r ≡ refused ride n
 unfolding treat
-treat-refused ride gap r n e = of-check ride gap (check (ride .odometer) r) n e
+treat-refused ride gap r n e = of-check ride gap (checkRecord (ride .odometer) r) n e
 
 of-gap : (b : Bool) (ride : Ride) (gap : ℕ) (r : List ℕ) (n : ℕ) → pick b (treat ride gap r) (refused ride 19) .lines ≡ refuses n
     → pick b (treat ride gap r) (refused ride 19) ≡ refused ride n
@@ -54,22 +54,22 @@ of-tests false false true x e h = absurd (let z : _≡_ {A = ℕ} 0 1 = cc in om
 of-tests false false false x e h = (refl, cc)
 
 -- an accepted record's odometer is not below the last accepted one
-pub accepted-from : (last : ℕ) (r : List ℕ) (e : Entry) → check last r ≡ gives e → last ≤ e .odometer
-unfolding check
+pub accepted-from : (last : ℕ) (r : List ℕ) (e : Entry) → checkRecord last r ≡ gives e → last ≤ e .odometer
+unfolding checkRecord
 accepted-from last r e h =
     let t = of-tests (not (inOrder r)) (ltb 4000000000 (odometerOf r)) (ltb (odometerOf r) last) (record { odometer = odometerOf r; passed = passedOf r }) e h in
     let low : last ≤ odometerOf r = ltb-false (odometerOf r) last (t .0) in
     let same : odometerOf r ≡ e .odometer = ap (λ (x : Entry). x .odometer) (t .1) in
     omega arith
 
-of-answer : (ride : Ride) (gap : ℕ) (r : List ℕ) (o : Outcome Entry) → check (ride .odometer) r ≡ o → ride .odometer ≤ refuseOr ride gap o .ride .odometer
+of-answer : (ride : Ride) (gap : ℕ) (r : List ℕ) (o : Outcome Entry) → checkRecord (ride .odometer) r ≡ o → ride .odometer ≤ refuseOr ride gap o .ride .odometer
 unfolding goOn
 of-answer ride gap r (refuses n) h = le-refl (ride .odometer)
 of-answer ride gap r (gives e) h = accepted-from (ride .odometer) r e h
 
 pub odometer-rises : (ride : Ride) (gap : ℕ) (r : List ℕ) → ride .odometer ≤ treat ride gap r .ride .odometer
 unfolding treat
-odometer-rises ride gap r = of-answer ride gap r (check (ride .odometer) r) refl
+odometer-rises ride gap r = of-answer ride gap r (checkRecord (ride .odometer) r) refl
 
 pub odometer-rises-over : (gaps : ℕ → ℕ) (ride : Ride) (number : ℕ) (rs : List (List ℕ)) → ride .odometer ≤ rideOver gaps ride number rs .ride .odometer
 unfolding rideOver

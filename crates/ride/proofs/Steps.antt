@@ -18,7 +18,7 @@ use Rattle.ride.specs.declared.Passed.{Passed}
 use Rattle.ride.specs.declared.Line.{Line}
 use Rattle.ride.specs.declared.Lines.{Lines}
 use Rattle.ride.specs.State.{noGroup, isOpen}
-use Rattle.ride.specs.Record.{Entry, check}
+use Rattle.ride.specs.Record.{Entry, checkRecord}
 use Rattle.ride.specs.Joining.{allowed, isBehind, counted, join, takeUp}
 use Rattle.ride.specs.Linking.{isOverdue, missedPlace}
 use Rattle.ride.specs.Closing.{Closing, close, leave}
@@ -145,10 +145,10 @@ pub step-allowed : (ride : Ride) (gap : ℕ) (r : List ℕ) → allowed gap ≡ 
 unfolding step
 step-allowed ride gap r e = rw e
 
-pub treat-not : (ride : Ride) (gap : ℕ) (r : List ℕ) (n : ℕ) → refuses n ≡ check (ride .odometer) r → refused ride n ≡ treat ride gap r
+pub treat-not : (ride : Ride) (gap : ℕ) (r : List ℕ) (n : ℕ) → refuses n ≡ checkRecord (ride .odometer) r → refused ride n ≡ treat ride gap r
 unfolding treat
 treat-not ride gap r n h = rw (← h)
 
-pub treat-on : (ride : Ride) (gap : ℕ) (r : List ℕ) (e : Entry) → gives e ≡ check (ride .odometer) r → goOn ride gap e ≡ treat ride gap r
+pub treat-on : (ride : Ride) (gap : ℕ) (r : List ℕ) (e : Entry) → gives e ≡ checkRecord (ride .odometer) r → goOn ride gap e ≡ treat ride gap r
 unfolding treat
 treat-on ride gap r e h = rw (← h)

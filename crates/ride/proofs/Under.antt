@@ -18,7 +18,7 @@ use Rattle.settings.specs.At.{heldFrom, heldAmong, heldAt, gapAt, heldFor}
 use Rattle.settings.proofs.Holding.{Holding, holding-at, keeps, held-is}
 use Rattle.settings.proofs.Plain.{plain-good, plain-bad, plain-gap}
 use Rattle.ride.specs.declared.Ride.{Ride}
-use Rattle.ride.specs.Record.{Entry, odometerOf, passedOf, inOrder, check}
+use Rattle.ride.specs.Record.{Entry, odometerOf, passedOf, inOrder, checkRecord}
 use Rattle.ride.specs.Joining.{allowed}
 use Rattle.ride.specs.Step.{Step, refuseOr, treat}
 use Rattle.ride.specs.At.{recordAt, odometerAt}
@@ -44,7 +44,7 @@ refused-by true ride gap other e = refl
 refused-by false ride gap other e = refl
 
 high-refused : (ride : Ride) (gap other : ℕ) (r : List ℕ) → ltb 4000000000 (odometerOf r) ≡ true → treat ride gap r ≡ treat ride other r
-unfolding treat check
+unfolding treat checkRecord
 high-refused ride gap other r e =
     rw e (refused-by (not (inOrder r)) ride gap other (pick (ltb (odometerOf r) (ride .odometer)) (refuses 17) (gives (record { odometer = odometerOf r; passed = passedOf r }))))
 

@@ -45,8 +45,8 @@ pub record Entry : Type 0 where
 
 -- The check of a record after one accepted at the odometer `last`, 16, 18, 17 in this order: "kind above 3, or bytes 5 to
 -- 7 not zero where they must be", "odometer above 4,000,000,000", "odometer below the last accepted one".
-unfoldable pub check : ℕ → List ℕ → Outcome Entry
-check last r =
+unfoldable pub checkRecord : ℕ → List ℕ → Outcome Entry
+checkRecord last r =
     pick (not (inOrder r)) (refuses 16)
     (pick (ltb 4000000000 (odometerOf r)) (refuses 18)
     (pick (ltb (odometerOf r) last) (refuses 17)

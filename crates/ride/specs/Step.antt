@@ -12,7 +12,7 @@ use Rattle.ride.specs.declared.Linking.{Linking}
 use Rattle.ride.specs.declared.Known.{Known}
 use Rattle.ride.specs.declared.Line.{Line}
 use Rattle.ride.specs.declared.Ride.{Ride}
-use Rattle.ride.specs.Record.{Entry, check}
+use Rattle.ride.specs.Record.{Entry, checkRecord}
 use Rattle.ride.specs.State.{noGroup, isOpen}
 use Rattle.ride.specs.Joining.{allowed, isBehind, takeUp}
 use Rattle.ride.specs.Linking.{isOverdue, missedPlace}
@@ -73,7 +73,7 @@ refuseOr ride gap (gives e) = goOn ride gap e
 
 -- Steps 1 to 4.
 unfoldable pub treat : Ride → ℕ → List ℕ → Step
-treat ride gap r = refuseOr ride gap (check (ride .odometer) r)
+treat ride gap r = refuseOr ride gap (checkRecord (ride .odometer) r)
 
 -- A record's step under a gap that is judged first: "gap outside 1 to 200" is 19.
 unfoldable pub step : Ride → ℕ → List ℕ → Step

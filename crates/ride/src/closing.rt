@@ -17,7 +17,7 @@ use crate::joining::no_group;
 use crate::shown::seen_from;
 use group::Content;
 use group::Group;
-use group::Judged;
+use group::GroupJudged;
 use group::Message;
 use group::Number;
 use group::Told;
@@ -128,12 +128,12 @@ pub fn judge(group: Group, known: Known) -> Verdict
     ensures { λ r. ⌜ r ≡ record { line = lineOf group (known .linking) (judge group); known = knownAfter (judge group) known } ⌝ }
 {
     match group::judge(group) {
-        Judged::Accepted(message) => accepted(group, known, message),
-        Judged::One => faulty(group, known, 10),
-        Judged::Many => faulty(group, known, 11),
-        Judged::Unread => faulty(group, known, 12),
-        Judged::NoRow => faulty(group, known, 13),
-        Judged::NoDistance => faulty(group, known, 15),
+        GroupJudged::Accepted(message) => accepted(group, known, message),
+        GroupJudged::One => faulty(group, known, 10),
+        GroupJudged::Many => faulty(group, known, 11),
+        GroupJudged::Unread => faulty(group, known, 12),
+        GroupJudged::NoRow => faulty(group, known, 13),
+        GroupJudged::NoDistance => faulty(group, known, 15),
     }
 }
 

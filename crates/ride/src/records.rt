@@ -1,7 +1,7 @@
 // The eight bytes of a record: odometer, kind, and the received words; their check.
 ghost use mathlib.Core.Path.{_≡_};
 ghost use Prim.Native.Nat.{_+_, _*_};
-ghost use Rattle.ride.specs.Record.{odometerOf, inOrder, passedOf, check};
+ghost use Rattle.ride.specs.Record.{odometerOf, inOrder, passedOf, checkRecord};
 ghost use Rattle.ride.specs.Says.{saysChecked};
 ghost use Rattle.ride.specs.declared.Wrong.{Wrong};
 ghost use Rattle.ride.specs.declared.Checked.{Checked};
@@ -59,7 +59,7 @@ fn what_passed(bytes: [u8; 8]) -> Passed
 // The check of a record's eight bytes: 16, 18, 17 in this order, or what the record says. That is read first, since its kind is looked at then once
 // and not again after the odometer.
 pub fn check_record(ride: Ride, bytes: [u8; 8]) -> Checked
-    ensures { λ r. ⌜ saysChecked r ≡ check (ride .odometer) bytes ⌝ }
+    ensures { λ r. ⌜ saysChecked r ≡ checkRecord (ride .odometer) bytes ⌝ }
 {
     let passed = what_passed(bytes);
     if !in_order(bytes) {

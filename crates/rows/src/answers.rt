@@ -1,6 +1,6 @@
 // What judging a group answers, as text into a lent buffer: each function puts its text at `at` and answers the next place.
 use group::Content;
-use group::Judged;
+use group::GroupJudged;
 use group::Message;
 use group::Told;
 use walk::Direction;
@@ -116,13 +116,13 @@ fn message(out: &mut [u8], m: Message) -> usize {
 }
 
 // The whole answer; answers how many bytes it has.
-pub fn put(out: &mut [u8], j: Judged) -> usize {
+pub fn put(out: &mut [u8], j: GroupJudged) -> usize {
     match j {
-        Judged::Accepted(m) => message(out, m),
-        Judged::One => text(out, 0, b"refused 10"),
-        Judged::Many => text(out, 0, b"refused 11"),
-        Judged::Unread => text(out, 0, b"refused 12"),
-        Judged::NoRow => text(out, 0, b"refused 13"),
-        Judged::NoDistance => text(out, 0, b"refused 15"),
+        GroupJudged::Accepted(m) => message(out, m),
+        GroupJudged::One => text(out, 0, b"refused 10"),
+        GroupJudged::Many => text(out, 0, b"refused 11"),
+        GroupJudged::Unread => text(out, 0, b"refused 12"),
+        GroupJudged::NoRow => text(out, 0, b"refused 13"),
+        GroupJudged::NoDistance => text(out, 0, b"refused 15"),
     }
 }

@@ -44,7 +44,7 @@ fn is_so(by: u8, figure: u8, means: &[u8]) -> bool {
             }
             so
         }
-        Measured::NotAllowed => {
+        Measured::NoDistance => {
             let so = same(means, b"NA");
             if !so {
                 begin(by, figure);

@@ -8,8 +8,8 @@ use Rattle.sheet.specs.declared.line.Line.{Line}
 use Rattle.sheet.specs.Words.{upTo, onward}
 use Rattle.sheet.specs.Line.{figure, version, wordsOf, lineOf}
 use Rattle.sheet.specs.declared.How.{How}
-use Rattle.sheet.specs.Taking.{given, taken}
-use Rattle.sheet.specs.Sheet.{linesOf, ended, linesFrom, sheetOf}
+use Rattle.sheet.specs.Taking.{given, takeLine}
+use Rattle.sheet.specs.Sheet.{linesOf, ended, linesFrom, sheet}
 use Rattle.sheet.specs.Told.{refusal, told}
 use Rattle.settings.specs.Store.{noStore}
 
@@ -37,9 +37,9 @@ unfolding linesOf
 lines = (refl, refl, refl)
 
 -- The first bad line, counted with comments and blank ones; no version at all.
-pub bad-ones : (sheetOf (codes "# settings\n\n1 40 72 0D\nx") .line ≡ 3) × (sheetOf (codes "# settings\n\n1 40 72 0D\nx") .how ≡ How.Unreadable)
-    × (sheetOf [] .line ≡ 0) × (sheetOf [] .how ≡ How.Refused 19) × (sheetOf (codes "# nothing") .how ≡ How.Refused 19)
-unfolding sheetOf linesFrom linesOf ended taken given noStore lineOf wordsOf version figure upTo onward decimal allDigits continued hex hexDigit
+pub bad-ones : (sheet (codes "# settings\n\n1 40 72 0D\nx") .line ≡ 3) × (sheet (codes "# settings\n\n1 40 72 0D\nx") .how ≡ How.Unreadable)
+    × (sheet [] .line ≡ 0) × (sheet [] .how ≡ How.Refused 19) × (sheet (codes "# nothing") .how ≡ How.Refused 19)
+unfolding sheet linesFrom linesOf ended takeLine given noStore lineOf wordsOf version figure upTo onward decimal allDigits continued hex hexDigit
 bad-ones = (refl, refl, refl, refl, refl)
 
 -- The request's own words.

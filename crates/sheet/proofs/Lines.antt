@@ -15,8 +15,8 @@ use Rattle.sheet.specs.declared.How.{How}
 use Rattle.sheet.specs.declared.Taken.{Taken}
 use Rattle.sheet.specs.declared.Sheet.{Sheet}
 use Rattle.sheet.specs.Words.{upTo, onward}
-use Rattle.sheet.specs.Taking.{taken}
-use Rattle.sheet.specs.Sheet.{onto, linesOf, isFine, ended, linesFrom, sheetOf}
+use Rattle.sheet.specs.Taking.{takeLine}
+use Rattle.sheet.specs.Sheet.{onto, linesOf, isFine, ended, linesFrom, sheet}
 
 -- The lines after a newline, if there is one.
 unfoldable later : List ℕ → List (List ℕ)
@@ -33,7 +33,7 @@ unfolding linesOf upTo onward later
 split [] = refl
 split (c ∷ cs) = at-character (eqb c 10) c cs (upTo Stop.Newline cs) (onward Stop.Newline cs) (linesOf cs) (split cs) refl
 
-module _ (store : Store) (n : ℕ) (t : List ℕ) (r : Taken) (is : r ≡ taken store (upTo Stop.Newline t)) where
+module _ (store : Store) (n : ℕ) (t : List ℕ) (r : Taken) (is : r ≡ takeLine store (upTo Stop.Newline t)) where
   by-first : linesFrom store n (linesOf t)
       ≡ pick (isFine (r .how)) (linesFrom (r .store) (n + 1) (later (onward Stop.Newline t))) (record { store = r .store; line = n; how = r .how })
   unfolding linesFrom
@@ -56,10 +56,10 @@ module _ (store : Store) (n : ℕ) (t : List ℕ) (r : Taken) (is : r ≡ taken 
   next-line c cs e o = by-first ∙ simp (e, o)
 
 -- A text that is not too long is its lines.
-pub too-long : (t : List ℕ) → 1048576 < length t → _≡_ {A = Sheet} (record { store = noStore; line = 0; how = How.TooLong }) (sheetOf t)
-unfolding sheetOf
+pub too-long : (t : List ℕ) → 1048576 < length t → _≡_ {A = Sheet} (record { store = noStore; line = 0; how = How.TooLong }) (sheet t)
+unfolding sheet
 too-long t h = simp (lt-leb _ _ h)
 
-pub all-lines : (t : List ℕ) → length t ≤ 1048576 → linesFrom noStore 1 (linesOf t) ≡ sheetOf t
-unfolding sheetOf
+pub all-lines : (t : List ℕ) → length t ≤ 1048576 → linesFrom noStore 1 (linesOf t) ≡ sheet t
+unfolding sheet
 all-lines t h = simp (le-leb _ _ h)

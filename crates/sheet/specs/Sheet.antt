@@ -10,7 +10,7 @@ use Rattle.settings.specs.declared.Store.{Store}
 use Rattle.settings.specs.Store.{noStore}
 use Rattle.sheet.specs.declared.How.{How}
 use Rattle.sheet.specs.declared.Sheet.{Sheet}
-use Rattle.sheet.specs.Taking.{taken}
+use Rattle.sheet.specs.Taking.{takeLine}
 
 -- A character before the lines that follow: it begins the first of them.
 abbrev pub onto : ℕ → List (List ℕ) → List (List ℕ)
@@ -37,17 +37,17 @@ ended store = record { store = store; line = 0; how = pick (eqb (store .count) 0
 unfoldable pub linesFrom : Store → ℕ → List (List ℕ) → Sheet
 linesFrom store n [] = ended store
 linesFrom store n (line ∷ lines) =
-    pick (isFine (taken store line .how))
-    (linesFrom (taken store line .store) (n + 1) lines)
-    (record { store = taken store line .store; line = n; how = taken store line .how })
+    pick (isFine (takeLine store line .how))
+    (linesFrom (takeLine store line .store) (n + 1) lines)
+    (record { store = takeLine store line .store; line = n; how = takeLine store line .how })
 
 -- The longest text that is read, in bytes.
 abbrev pub longest : ℕ
 longest = 1048576
 
 -- The settings of a text: the store that its lines make, or the first bad line and what is wrong with it.
-unfoldable pub sheetOf : List ℕ → Sheet
-sheetOf text =
+unfoldable pub sheet : List ℕ → Sheet
+sheet text =
     pick (leb (length text) longest)
     (linesFrom noStore 1 (linesOf text))
     (record { store = noStore; line = 0; how = How.TooLong })

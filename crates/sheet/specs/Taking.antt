@@ -37,5 +37,5 @@ saidTo store (Line.Version place gap s t) = given store (record { place = place;
 saidTo store Line.Unreadable = record { store = store; how = How.Unreadable }
 
 -- A line taken.
-unfoldable pub taken : Store → List ℕ → Taken
-taken store line = saidTo store (lineOf line)
+unfoldable pub takeLine : Store → List ℕ → Taken
+takeLine store line = saidTo store (lineOf line)

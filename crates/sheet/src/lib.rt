@@ -4,8 +4,8 @@
 // text), Told.antt (what is said of a bad one).
 ghost use mathlib.Core.Path.{_≡_};
 ghost use Rattle.text.specs.Put.{put, came};
-ghost use Rattle.sheet.specs.Taking.{taken};
-ghost use Rattle.sheet.specs.Sheet.{isFine, sheetOf};
+ghost use Rattle.sheet.specs.Taking.{takeLine};
+ghost use Rattle.sheet.specs.Sheet.{isFine, sheet};
 ghost use Rattle.sheet.specs.Told.{told};
 
 mod cutting;
@@ -41,7 +41,7 @@ pub struct Sheet {
 
 // A line given to the store, without its newline. A store of no version is one that is not opened yet. A line that is not fine leaves the store.
 pub fn take(store: Store, line: &[u8]) -> Taken
-    ensures { λ r. ⌜ r ≡ taken store (now (line .entry)) ⌝ }
+    ensures { λ r. ⌜ r ≡ takeLine store (now (line .entry)) ⌝ }
 {
     let said = line::line_of(line);
     match said {
@@ -71,7 +71,7 @@ fn is_fine(how: How) -> bool
 
 // The settings of a text of at most 1,048,576 bytes.
 pub fn read(text: &[u8]) -> Sheet
-    ensures { λ r. ⌜ r ≡ sheetOf (now (text .entry)) ⌝ }
+    ensures { λ r. ⌜ r ≡ sheet (now (text .entry)) ⌝ }
 {
     let mut store = taking::no_version();
     if text.len() > 1048576 {

@@ -16,7 +16,7 @@ use Rattle.ride.specs.declared.Line.{Line}
 use Rattle.ride.specs.declared.Ride.{Ride}
 use Rattle.ride.specs.declared.Stepped.{Stepped}
 use Rattle.ride.specs.State.{noGroup, nothingKnown, freshRide}
-use Rattle.ride.specs.Record.{odometerOf, passedOf, inOrder, check}
+use Rattle.ride.specs.Record.{odometerOf, passedOf, inOrder, checkRecord}
 use Rattle.ride.specs.Joining.{join, takeUp}
 use Rattle.ride.specs.Closing.{close, leave}
 use Rattle.ride.specs.Step.{closeBehind, missedLines, afterMissed, goOn, treat, step}
@@ -81,12 +81,12 @@ abbrev after : List ℕ
 after = compact freshRide 40 (bytesOf all) .buffer
 
 compact-met : CompactIn freshRide 40 (bytesOf all) answered after × (answered .size ≡ Size.Bytes 40) × (take 40 after ≡ bytesOf small)
-unfolding balises readAll judgeRead judge noGroup nothingKnown freshRide odometerOf passedOf inOrder check join takeUp close leave closeBehind missedLines afterMissed goOn treat firstRecords rideOver isDropped compactOver smallerTrace compact
+unfolding balises readAll judgeRead judge noGroup nothingKnown freshRide odometerOf passedOf inOrder checkRecord join takeUp close leave closeBehind missedLines afterMissed goOn treat firstRecords rideOver isDropped compactOver smallerTrace compact
 compact-met = ((([], tt), lent (bytesOf all), (freshRide, (40, (lent after, tt))), refl, refl, refl), refl, refl)
 
 -- compacted once more
 again-met : CompactIn freshRide 40 (bytesOf small) answered (bytesOf small)
-unfolding balises readAll judgeRead judge noGroup nothingKnown freshRide odometerOf passedOf inOrder check join takeUp close leave closeBehind missedLines afterMissed goOn treat firstRecords rideOver isDropped compactOver smallerTrace compact
+unfolding balises readAll judgeRead judge noGroup nothingKnown freshRide odometerOf passedOf inOrder checkRecord join takeUp close leave closeBehind missedLines afterMissed goOn treat firstRecords rideOver isDropped compactOver smallerTrace compact
 again-met = (([], tt), lent (bytesOf small), (freshRide, (40, (lent (bytesOf small), tt))), refl, refl, refl)
 
 run-met : RunOver freshRide 40 (bytesOf all) (ride-is.ranOf (run freshRide 40 (bytesOf all)))
@@ -98,7 +98,7 @@ run-met = (
 )
 
 steps-met : ByStep forty freshRide (records (bytesOf all)) (steps forty freshRide all) × ByStep forty freshRide (records (bytesOf small)) (steps forty freshRide small)
-unfolding balises readAll judgeRead judge noGroup nothingKnown freshRide odometerOf passedOf inOrder check join takeUp close leave closeBehind missedLines afterMissed goOn treat firstRecords step
+unfolding balises readAll judgeRead judge noGroup nothingKnown freshRide odometerOf passedOf inOrder checkRecord join takeUp close leave closeBehind missedLines afterMissed goOn treat firstRecords step
 steps-met = (
   by-step forty freshRide all (refl, (refl, (refl, (refl, (refl, (refl, (refl, tt))))))),
   by-step forty freshRide small (refl, (refl, (refl, (refl, (refl, tt))))),
@@ -106,7 +106,7 @@ steps-met = (
 
 -- the lines: the refused record was the fifth, and is the fourth
 lines-met : (linesFrom 1 (steps forty freshRide all) ≡ Line.Fault 1000 10 ∷ Line.Record 5 17 ∷ []) × (linesFrom 1 (steps forty freshRide small) ≡ Line.Fault 1000 10 ∷ Line.Record 4 17 ∷ [])
-unfolding balises readAll judgeRead judge noGroup nothingKnown freshRide odometerOf passedOf inOrder check join takeUp close leave closeBehind missedLines afterMissed goOn treat firstRecords step
+unfolding balises readAll judgeRead judge noGroup nothingKnown freshRide odometerOf passedOf inOrder checkRecord join takeUp close leave closeBehind missedLines afterMissed goOn treat firstRecords step
 lines-met = (refl, refl)
 
 -- ---- under a store: the gap is 40, and 100 from 2000 on. The position at 1041 closes a group, and so does that at 2101; 2041 is within the gap
@@ -127,11 +127,11 @@ abbrev pub afterUnder : List ℕ
 afterUnder = compactUnder freshRide two (bytesOf allUnder) .buffer
 
 pub under-met : CompactUnder freshRide two (bytesOf allUnder) answeredUnder afterUnder × (answeredUnder .size ≡ Size.Bytes 40) × (take 40 afterUnder ≡ bytesOf smallUnder)
-unfolding differing isGood pairOf settingsOf follows noStore versionsOf opened begun allFollow versionsInOrder judged withOne mayAdd added heldFrom heldAt gapAt balises readAll judgeRead judge noGroup nothingKnown freshRide odometerOf passedOf inOrder check join takeUp close leave closeBehind missedLines afterMissed goOn treat firstRecords rideOver isDropped compactOver smallerTrace compactUnder
+unfolding differing isGood pairOf settingsOf follows noStore versionsOf opened begun allFollow versionsInOrder judged withOne mayAdd added heldFrom heldAt gapAt balises readAll judgeRead judge noGroup nothingKnown freshRide odometerOf passedOf inOrder checkRecord join takeUp close leave closeBehind missedLines afterMissed goOn treat firstRecords rideOver isDropped compactOver smallerTrace compactUnder
 under-met = ((([], tt), lent (bytesOf allUnder), (freshRide, (two, (lent afterUnder, tt))), refl, refl, refl), refl, refl)
 
 again-under-met : CompactUnder freshRide two (bytesOf smallUnder) answeredUnder (bytesOf smallUnder)
-unfolding differing isGood pairOf settingsOf follows noStore versionsOf opened begun allFollow versionsInOrder judged withOne mayAdd added heldFrom heldAt gapAt balises readAll judgeRead judge noGroup nothingKnown freshRide odometerOf passedOf inOrder check join takeUp close leave closeBehind missedLines afterMissed goOn treat firstRecords rideOver isDropped compactOver smallerTrace compactUnder
+unfolding differing isGood pairOf settingsOf follows noStore versionsOf opened begun allFollow versionsInOrder judged withOne mayAdd added heldFrom heldAt gapAt balises readAll judgeRead judge noGroup nothingKnown freshRide odometerOf passedOf inOrder checkRecord join takeUp close leave closeBehind missedLines afterMissed goOn treat firstRecords rideOver isDropped compactOver smallerTrace compactUnder
 again-under-met = (([], tt), lent (bytesOf smallUnder), (freshRide, (two, (lent (bytesOf smallUnder), tt))), refl, refl, refl)
 
 run-under-met : RunUnder freshRide two (bytesOf allUnder) (ride-is.ranOf (runUnder freshRide two (bytesOf allUnder)))
@@ -144,12 +144,12 @@ run-under-met = (
 
 steps-under-met : ByStep (gapAt two) freshRide (records (bytesOf allUnder)) (steps (gapAt two) freshRide allUnder)
     × ByStep (gapAt two) freshRide (records (bytesOf smallUnder)) (steps (gapAt two) freshRide smallUnder)
-unfolding differing isGood pairOf settingsOf follows noStore versionsOf opened begun allFollow versionsInOrder judged withOne mayAdd added heldFrom heldAt gapAt balises readAll judgeRead judge noGroup nothingKnown freshRide odometerOf passedOf inOrder check join takeUp close leave closeBehind missedLines afterMissed goOn treat firstRecords step
+unfolding differing isGood pairOf settingsOf follows noStore versionsOf opened begun allFollow versionsInOrder judged withOne mayAdd added heldFrom heldAt gapAt balises readAll judgeRead judge noGroup nothingKnown freshRide odometerOf passedOf inOrder checkRecord join takeUp close leave closeBehind missedLines afterMissed goOn treat firstRecords step
 steps-under-met = (
   by-step (gapAt two) freshRide allUnder (refl, (refl, (refl, (refl, (refl, (refl, (refl, tt))))))),
   by-step (gapAt two) freshRide smallUnder (refl, (refl, (refl, (refl, (refl, tt))))),
 )
 
 lines-under-met : linesFrom 1 (steps (gapAt two) freshRide allUnder) ≡ Line.Fault 1000 10 ∷ Line.Fault 2000 10 ∷ []
-unfolding differing isGood pairOf settingsOf follows noStore versionsOf opened begun allFollow versionsInOrder judged withOne mayAdd added heldFrom heldAt gapAt balises readAll judgeRead judge noGroup nothingKnown freshRide odometerOf passedOf inOrder check join takeUp close leave closeBehind missedLines afterMissed goOn treat firstRecords step
+unfolding differing isGood pairOf settingsOf follows noStore versionsOf opened begun allFollow versionsInOrder judged withOne mayAdd added heldFrom heldAt gapAt balises readAll judgeRead judge noGroup nothingKnown freshRide odometerOf passedOf inOrder checkRecord join takeUp close leave closeBehind missedLines afterMissed goOn treat firstRecords step
 lines-under-met = refl

@@ -14,13 +14,13 @@ use Rattle.ride.specs.Over.{records}
 use Rattle.acceptance.specs.declared.Met.{Met}
 use Rattle.acceptance.specs.declared.Entry.{Entry}
 use Rattle.acceptance.specs.declared.Acceptance.{Acceptance}
-use Rattle.acceptance.specs.declared.Part.{Part}
+use Rattle.acceptance.specs.declared.Role.{Role}
 use Rattle.acceptance.specs.declared.Took.{Took}
 use Rattle.acceptance.specs.declared.Reported.{Reported}
 use Rattle.acceptance.specs.declared.Sums.{Sums}
 use Rattle.acceptance.specs.Plan.{entriesOf, noEntry, apart, planWith, plan}
 use Rattle.acceptance.specs.Taking.{planned, isFor, noPart, takeLine}
-use Rattle.acceptance.specs.Report.{report, metIn, sums}
+use Rattle.acceptance.specs.Report.{report, metIn, sumUp}
 use Rattle.tally.specs.Contracts.{Reports, SumsUp}
 use Rattle.tally.specs.Lines.{isGroup, groupsIn, placeIn, kindIn, isGroupFor, someFor, firstFor, wantedIn, extraIn}
 use Rattle.tally.specs.Accepted.{Run, ended, entries, entry, part, Accepted}
@@ -97,8 +97,8 @@ module _ (r : Run) where
   no-other : (i : ℕ) (x : Reported) → entries r ≤ i → Reports (ended r) i x → x ≡ Reported.NoEntry
   no-other i x h p = p .1 ∙ ap (λ (e : Acceptance). report e i) over ∙ not-reported (runOver s (r .lines)) i (omega (arith, size-after))
 
-  in-sums : (x : Sums) → SumsUp (ended r) x → x ≡ sums (runOver s (r .lines))
-  in-sums x p = p .1 ∙ ap sums over
+  in-sums : (x : Sums) → SumsUp (ended r) x → x ≡ sumUp (runOver s (r .lines))
+  in-sums x p = p .1 ∙ ap sumUp over
 
   met-and-absent : (x : Sums) → SumsUp (ended r) x → (x .entries ≡ entries r) × (x .met + x .absent ≡ entries r)
   met-and-absent x p =
@@ -129,13 +129,13 @@ module _ (r : Run) where
         are .3 ∙ ap (λ (b : Bool). pick b (metIn (planned (runOver s (r .lines))) + runOver s (r .lines) .extra) 18446744073709551615) (le-leb _ _ fits) ∙ all,
       )
 
-  first-is-wanted : (k i : ℕ) → k < length (r .lines) → i < entries r → claim.isFor r i k → claim.noneBefore r i k → part r k ≡ Part.Wanted i
+  first-is-wanted : (k i : ℕ) → k < length (r .lines) → i < entries r → claim.isFor r i k → claim.noneBefore r i k → part r k ≡ Role.Wanted i
   first-is-wanted k i h j f n =
       let l : Line = getD (r .lines) k (Line.Trace 0) in
       part-is k h
       ∙ first-wanted s (take k (r .lines)) apart-is l i (omega (arith, size)) (fresh i) (for-is i l ∙ f) (some-is i (take k (r .lines)) ∙ n)
 
-  wanted-is-first : (k i : ℕ) → k < length (r .lines) → part r k ≡ Part.Wanted i → (i < entries r) × (claim.isFor r i k) × (claim.noneBefore r i k)
+  wanted-is-first : (k i : ℕ) → k < length (r .lines) → part r k ≡ Role.Wanted i → (i < entries r) × (claim.isFor r i k) × (claim.noneBefore r i k)
   wanted-is-first k i h p =
       let l : Line = getD (r .lines) k (Line.Trace 0) in
       let all = wanted-first s (take k (r .lines)) apart-is l i fresh (sym (part-is k h) ∙ p) in
@@ -149,7 +149,7 @@ module _ (r : Run) where
       (and-right (isGroup l) (isFor (r .tolerance) (placeIn l) (kindIn l) (entry r j)) q)
 
   -- Of two lines answered wanted for one entry neither comes first.
-  not-before : (k m i : ℕ) → k < length (r .lines) → m < length (r .lines) → part r k ≡ Part.Wanted i → part r m ≡ Part.Wanted i → k < m → ⊥
+  not-before : (k m i : ℕ) → k < length (r .lines) → m < length (r .lines) → part r k ≡ Role.Wanted i → part r m ≡ Role.Wanted i → k < m → ⊥
   not-before k m i h j p q before =
       let early = wanted-is-first k i h p in
       let late = wanted-is-first m i j q in
@@ -157,7 +157,7 @@ module _ (r : Run) where
       let z : true ≡ false = sym found ∙ late .2 in
       no (cc)
 
-  one-group : (k m i : ℕ) → k < length (r .lines) → m < length (r .lines) → part r k ≡ Part.Wanted i → part r m ≡ Part.Wanted i → k ≡ m
+  one-group : (k m i : ℕ) → k < length (r .lines) → m < length (r .lines) → part r k ≡ Role.Wanted i → part r m ≡ Role.Wanted i → k ≡ m
   one-group k m i h j p q = by-order (ltb k m) (ltb m k) refl refl
     where
       by-order : (a b : Bool) → ltb k m ≡ a → ltb m k ≡ b → k ≡ m

@@ -14,7 +14,7 @@ use Rattle.ride.specs.declared.Line.{Line}
 use Rattle.acceptance.specs.declared.Met.{Met}
 use Rattle.acceptance.specs.declared.Entry.{Entry}
 use Rattle.acceptance.specs.declared.Acceptance.{Acceptance}
-use Rattle.acceptance.specs.declared.Part.{Part}
+use Rattle.acceptance.specs.declared.Role.{Role}
 use Rattle.acceptance.specs.declared.Took.{Took}
 use Rattle.acceptance.specs.Plan.{noEntry, apart}
 use Rattle.acceptance.specs.Taking.{planned, isPresent, isFor, waiting, metAt, afterWanted, afterExtra, takeGroup, noPart, takeLine}
@@ -26,10 +26,10 @@ abbrev pub waitsFor : Acceptance → Line → ℕ
 waitsFor s l = waiting (s .tolerance) (placeIn l) (kindIn l) (planned s)
 
 abbrev pub wantedTook : Acceptance → Line → ℕ → Took
-wantedTook s l i = record { state = afterWanted s i (placeIn l); answer = Part.Wanted i }
+wantedTook s l i = record { state = afterWanted s i (placeIn l); answer = Role.Wanted i }
 
 abbrev pub extraTook : Acceptance → Took
-extraTook s = record { state = afterExtra s; answer = Part.Extra }
+extraTook s = record { state = afterExtra s; answer = Role.Extra }
 
 -- What taking a line comes to: no part, wanted, or extra.
 pub data Case (s : Acceptance) (l : Line) : Type 0 where

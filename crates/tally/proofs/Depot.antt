@@ -9,13 +9,13 @@ use Rattle.ride.specs.declared.Line.{Line}
 use Rattle.ride.specs.Over.{firstRecords}
 use Rattle.acceptance.specs.declared.Met.{Met}
 use Rattle.acceptance.specs.declared.Acceptance.{Acceptance}
-use Rattle.acceptance.specs.declared.Judged.{Judged}
+use Rattle.acceptance.specs.declared.PlanJudged.{PlanJudged}
 use Rattle.acceptance.specs.declared.Planned.{Planned}
-use Rattle.acceptance.specs.declared.Part.{Part}
+use Rattle.acceptance.specs.declared.Role.{Role}
 use Rattle.acceptance.specs.declared.Sums.{Sums}
 use Rattle.acceptance.specs.Plan.{placeOf, kindOf, isGood, allGood, entryOf, entriesOf, apart, planWith, wellFormed, plan}
 use Rattle.acceptance.specs.Taking.{planned, waiting, afterWanted, afterExtra, takeGroup, takeLine}
-use Rattle.acceptance.specs.Report.{metIn, sums}
+use Rattle.acceptance.specs.Report.{metIn, sumUp}
 use Rattle.demands.specs.Plans.{Plans}
 use Rattle.tally.specs.Lines.{firstFor}
 use Rattle.tally.specs.Accepted.{Run}
@@ -34,7 +34,7 @@ start : Acceptance
 start = planWith 5 (entriesOf bytes)
 
 read : Planned
-read = record { plan = start; judged = Judged.Good }
+read = record { plan = start; judged = PlanJudged.Good }
 
 is-plan : Plans bytes 5 read
 unfolding plan wellFormed allGood isGood apart entryOf placeOf kindOf firstRecords planWith bytes lent start read
@@ -64,12 +64,12 @@ the-run =
     }
 
 -- What it comes to: the signal is wanted, the warning board extra, the line board absent.
-the-answers : (takeLine start first .answer ≡ Part.Wanted 0) × (takeLine middle second .answer ≡ Part.Extra)
+the-answers : (takeLine start first .answer ≡ Role.Wanted 0) × (takeLine middle second .answer ≡ Role.Extra)
 unfolding takeLine takeGroup waiting afterWanted afterExtra planWith entryOf placeOf kindOf firstRecords bytes start first second middle
 the-answers = (refl, refl)
 
-the-sums : sums (takeLine middle second .state) ≡ record { entries = 2; met = 1; absent = 1; present = 2; extra = 1 }
-unfolding sums metIn takeLine takeGroup waiting afterWanted afterExtra planWith entryOf placeOf kindOf firstRecords bytes start first second middle
+the-sums : sumUp (takeLine middle second .state) ≡ record { entries = 2; met = 1; absent = 1; present = 2; extra = 1 }
+unfolding sumUp metIn takeLine takeGroup waiting afterWanted afterExtra planWith entryOf placeOf kindOf firstRecords bytes start first second middle
 the-sums = refl
 
 -- ---- too near

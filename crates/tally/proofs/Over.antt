@@ -13,7 +13,7 @@ use Rattle.ride.specs.declared.Line.{Line}
 use Rattle.acceptance.specs.declared.Met.{Met}
 use Rattle.acceptance.specs.declared.Entry.{Entry}
 use Rattle.acceptance.specs.declared.Acceptance.{Acceptance}
-use Rattle.acceptance.specs.declared.Part.{Part}
+use Rattle.acceptance.specs.declared.Role.{Role}
 use Rattle.acceptance.specs.declared.Took.{Took}
 use Rattle.acceptance.specs.Plan.{noEntry, isBeyond, apart}
 use Rattle.acceptance.specs.Taking.{planned, isAbsent, metAt, oneMore, afterWanted, afterExtra, noPart, takeLine}

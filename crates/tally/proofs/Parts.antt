@@ -12,7 +12,7 @@ use Rattle.ride.specs.declared.Line.{Line}
 use Rattle.acceptance.specs.declared.Met.{Met}
 use Rattle.acceptance.specs.declared.Entry.{Entry}
 use Rattle.acceptance.specs.declared.Acceptance.{Acceptance}
-use Rattle.acceptance.specs.declared.Part.{Part}
+use Rattle.acceptance.specs.declared.Role.{Role}
 use Rattle.acceptance.specs.declared.Took.{Took}
 use Rattle.acceptance.specs.Plan.{noEntry, apart}
 use Rattle.acceptance.specs.Taking.{planned, isAbsent, isFor, waits, takeLine}
@@ -96,7 +96,7 @@ module _ (s : Acceptance) (ls : List Line) (a : apart (s .tolerance) (planned s)
     within-now : i < length (planned now)
     within-now = omega (arith, plan-length s ls a)
 
-    by-case : Case now l → takeLine now l .answer ≡ Part.Wanted i
+    by-case : Case now l → takeLine now l .answer ≡ Role.Wanted i
     by-case (none g is) =
         let t : isGroup l ≡ true = and-left (isGroup l) (isFor (s .tolerance) (placeIn l) (kindIn l) e) for in
         no (cc)
@@ -106,21 +106,21 @@ module _ (s : Acceptance) (ls : List Line) (a : apart (s .tolerance) (planned s)
         only-one (now .tolerance) (placeIn l) (kindIn l) (planned now) (apart-over s ls a) (waitsFor now l) i w within-now
         (and-right (isAbsent (getD (planned now) (waitsFor now l) noEntry .met)) (isFor (now .tolerance) (placeIn l) (kindIn l) (getD (planned now) (waitsFor now l) noEntry)) there)
         (and-right (isAbsent (getD (planned now) i noEntry .met)) (isFor (now .tolerance) (placeIn l) (kindIn l) (getD (planned now) i noEntry)) waits-now) in
-        ap (λ (t : Took). t .answer) is ∙ ap Part.Wanted same
+        ap (λ (t : Took). t .answer) is ∙ ap Role.Wanted same
     by-case (extra g w is) =
         absurd (omega (arith, within-now, not-later (now .tolerance) (placeIn l) (kindIn l) (planned now) i within-now waits-now))
 
-    pub first-wanted : takeLine now l .answer ≡ Part.Wanted i
+    pub first-wanted : takeLine now l .answer ≡ Role.Wanted i
     first-wanted = by-case (case now l)
 
   module _ (fresh : (i : ℕ) → getD (planned s) i noEntry .met ≡ Met.Absent) where
-    by-answer : Case now l → takeLine now l .answer ≡ Part.Wanted i
+    by-answer : Case now l → takeLine now l .answer ≡ Role.Wanted i
         → (i < length (planned s)) × (isGroupFor (s .tolerance) e l ≡ true) × (someFor (s .tolerance) e ls ≡ false)
     by-answer (none g is) p =
-        let q : Part.NoPart ≡ Part.Wanted i = sym (ap (λ (t : Took). t .answer) is) ∙ p in
+        let q : Role.NoPart ≡ Role.Wanted i = sym (ap (λ (t : Took). t .answer) is) ∙ p in
         no (cc)
     by-answer (wanted g w is) p =
-        let q : Part.Wanted (waitsFor now l) ≡ Part.Wanted i = sym (ap (λ (t : Took). t .answer) is) ∙ p in
+        let q : Role.Wanted (waitsFor now l) ≡ Role.Wanted i = sym (ap (λ (t : Took). t .answer) is) ∙ p in
         let same : waitsFor now l ≡ i = cc in
         let h : i < length (planned s) = omega (arith, plan-length s ls a) in
         let there : waits (now .tolerance) (placeIn l) (kindIn l) (getD (planned now) i noEntry) ≡ true =
@@ -131,18 +131,18 @@ module _ (s : Acceptance) (ls : List Line) (a : apart (s .tolerance) (planned s)
           flip (someFor (s .tolerance) e ls) (and-left (not (someFor (s .tolerance) e ls)) (isFor (s .tolerance) (placeIn l) (kindIn l) e) both-hold),
         )
     by-answer (extra g w is) p =
-        let q : Part.Extra ≡ Part.Wanted i = sym (ap (λ (t : Took). t .answer) is) ∙ p in
+        let q : Role.Extra ≡ Role.Wanted i = sym (ap (λ (t : Took). t .answer) is) ∙ p in
         no (cc)
 
-    pub wanted-first : takeLine now l .answer ≡ Part.Wanted i
+    pub wanted-first : takeLine now l .answer ≡ Role.Wanted i
         → (i < length (planned s)) × (isGroupFor (s .tolerance) e l ≡ true) × (someFor (s .tolerance) e ls ≡ false)
     wanted-first p = by-answer (case now l) p
 
 -- A line that is no present group takes no part.
-by-kind : (s : Acceptance) (l : Line) → isGroup l ≡ false → Case s l → takeLine s l .answer ≡ Part.NoPart
+by-kind : (s : Acceptance) (l : Line) → isGroup l ≡ false → Case s l → takeLine s l .answer ≡ Role.NoPart
 by-kind s l n (none g is) = ap (λ (t : Took). t .answer) is
 by-kind s l n (wanted g w is) = no (cc)
 by-kind s l n (extra g w is) = no (cc)
 
-pub others-none : (s : Acceptance) (l : Line) → isGroup l ≡ false → takeLine s l .answer ≡ Part.NoPart
+pub others-none : (s : Acceptance) (l : Line) → isGroup l ≡ false → takeLine s l .answer ≡ Role.NoPart
 others-none s l n = by-kind s l n (case s l)

@@ -12,7 +12,7 @@ use Rattle.words.specs.Answer.{Outcome, gives, refuses, pick}
 use Rattle.acceptance.specs.declared.Met.{Met}
 use Rattle.acceptance.specs.declared.Entry.{Entry}
 use Rattle.acceptance.specs.declared.Acceptance.{Acceptance}
-use Rattle.acceptance.specs.declared.Judged.{Judged}
+use Rattle.acceptance.specs.declared.PlanJudged.{PlanJudged}
 use Rattle.acceptance.specs.declared.Planned.{Planned}
 use Rattle.acceptance.specs.Plan.{Good, good, Planning, entryOf, entriesOf, noEntry, apart, wellFormed, planWith, emptyPlan, plan}
 use Rattle.acceptance.specs.Taking.{planned, isAbsent}
@@ -26,7 +26,7 @@ good-by : (x y z : Bool) (p : Planned) (whole : Acceptance)
     → saysPlanned p
     ≡ pick x (pick y (pick z (record { answer = gives good; plan = whole }) (record { answer = refuses 27; plan = emptyPlan })) (record { answer = refuses 26; plan = emptyPlan }))
     (record { answer = refuses 28; plan = emptyPlan })
-    → p .judged ≡ Judged.Good → (z ≡ true) × (p .plan ≡ whole)
+    → p .judged ≡ PlanJudged.Good → (z ≡ true) × (p .plan ≡ whole)
 good-by true true true p whole e g = (refl, ap (λ (q : Planning). q .plan) e)
 good-by true true false p whole e g =
     let q : _≡_ {A = Outcome Good} (gives good) (refuses 27) = sym (ap saysJudged g) ∙ ap (λ (q : Planning). q .answer) e in
@@ -38,7 +38,7 @@ good-by false y z p whole e g =
     let q : _≡_ {A = Outcome Good} (gives good) (refuses 28) = sym (ap saysJudged g) ∙ ap (λ (q : Planning). q .answer) e in
     no (cc)
 
-pub good-plan : (b : List ℕ) (tolerance : ℕ) (p : Planned) → saysPlanned p ≡ plan b tolerance → p .judged ≡ Judged.Good
+pub good-plan : (b : List ℕ) (tolerance : ℕ) (p : Planned) → saysPlanned p ≡ plan b tolerance → p .judged ≡ PlanJudged.Good
     → (apart tolerance (entriesOf b) ≡ true) × (p .plan ≡ planWith tolerance (entriesOf b))
 unfolding plan
 good-plan b tolerance p e g =

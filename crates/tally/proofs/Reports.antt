@@ -16,7 +16,7 @@ use Rattle.acceptance.specs.declared.Reported.{Reported}
 use Rattle.acceptance.specs.declared.Sums.{Sums}
 use Rattle.acceptance.specs.Plan.{noEntry}
 use Rattle.acceptance.specs.Taking.{planned, takeLine}
-use Rattle.acceptance.specs.Report.{report, metIn, upToMost, sums}
+use Rattle.acceptance.specs.Report.{report, metIn, upToMost, sumUp}
 use Rattle.tally.specs.Lines.{isGroupFor, someFor}
 use Rattle.tally.specs.Accepted.{Taken, after, entries}
 use Rattle.tally.proofs.Over.{runOver, answersTo}
@@ -59,8 +59,8 @@ pub not-reported : (s : Acceptance) (i : ℕ) → length (planned s) ≤ i → r
 unfolding report
 not-reported s i h = ap (λ (b : Bool). pick b (Reported.Entry (getD (planned s) i noEntry)) Reported.NoEntry) (le-ltb i (length (planned s)) h)
 
-pub sums-are : (s : Acceptance) (x : Sums) → x ≡ sums s → (x .entries ≡ length (planned s)) × (x .met ≡ metIn (planned s)) × (x .absent ≡ length (planned s) - metIn (planned s))
+pub sums-are : (s : Acceptance) (x : Sums) → x ≡ sumUp s → (x .entries ≡ length (planned s)) × (x .met ≡ metIn (planned s)) × (x .absent ≡ length (planned s) - metIn (planned s))
     × (x .present ≡ upToMost (metIn (planned s) + s .extra)) × (x .extra ≡ s .extra)
-unfolding sums
+unfolding sumUp
 sums-are s x e =
     (ap (λ (y : Sums). y .entries) e, ap (λ (y : Sums). y .met) e, ap (λ (y : Sums). y .absent) e, ap (λ (y : Sums). y .present) e, ap (λ (y : Sums). y .extra) e)

@@ -8,9 +8,9 @@ use lib.ListN.{length, take, getD}
 use Rattle.ride.specs.declared.Line.{Line}
 use Rattle.acceptance.specs.declared.Entry.{Entry}
 use Rattle.acceptance.specs.declared.Acceptance.{Acceptance}
-use Rattle.acceptance.specs.declared.Judged.{Judged}
+use Rattle.acceptance.specs.declared.PlanJudged.{PlanJudged}
 use Rattle.acceptance.specs.declared.Planned.{Planned}
-use Rattle.acceptance.specs.declared.Part.{Part}
+use Rattle.acceptance.specs.declared.Role.{Role}
 use Rattle.acceptance.specs.declared.Took.{Took}
 use Rattle.acceptance.specs.declared.Reported.{Reported}
 use Rattle.acceptance.specs.declared.Sums.{Sums}
@@ -40,7 +40,7 @@ pub record Run : Type 0 where
   pub lines : List Line
   pub answers : List Took
   pub is-plan : Plans bytes tolerance planned
-  pub is-good : planned .judged ≡ Judged.Good
+  pub is-good : planned .judged ≡ PlanJudged.Good
   pub are-taken : Taken (planned .plan) lines answers
 
 -- The run at its end.
@@ -62,7 +62,7 @@ abbrev pub noneBefore : Run → ℕ → ℕ → Type 0
 noneBefore r i k = someFor (r .tolerance) (entry r i) (take k (r .lines)) ≡ false
 
 -- The part of line k as it was answered.
-abbrev pub part : Run → ℕ → Part
+abbrev pub part : Run → ℕ → Role
 part r k = getD (r .answers) k (noPart (r .planned .plan)) .answer
 
 -- The promise.
@@ -82,12 +82,12 @@ pub record Accepted (r : Run) : Type 0 where
   pub wanted : (x : Sums) → SumsUp (ended r) x → x .met ≡ wantedIn (r .answers)
   pub extra : (x : Sums) → SumsUp (ended r) x → groupsIn (r .lines) < 2 ^ 64 → x .extra ≡ extraIn (r .answers)
   -- "wanted (it is the one that met an entry)": a group is answered wanted, for entry i, exactly if it is the first such group of entry i
-  pub first-is-wanted : (k i : ℕ) → k < length (r .lines) → i < entries r → isFor r i k → noneBefore r i k → part r k ≡ Part.Wanted i
-  pub wanted-is-first : (k i : ℕ) → k < length (r .lines) → part r k ≡ Part.Wanted i → (i < entries r) × (isFor r i k) × (noneBefore r i k)
+  pub first-is-wanted : (k i : ℕ) → k < length (r .lines) → i < entries r → isFor r i k → noneBefore r i k → part r k ≡ Role.Wanted i
+  pub wanted-is-first : (k i : ℕ) → k < length (r .lines) → part r k ≡ Role.Wanted i → (i < entries r) × (isFor r i k) × (noneBefore r i k)
   -- "Opposite and refused groups take no part", nor does any other line
-  pub no-part : (k : ℕ) → k < length (r .lines) → isGroup (getD (r .lines) k (Line.Trace 0)) ≡ false → part r k ≡ Part.NoPart
+  pub no-part : (k : ℕ) → k < length (r .lines) → isGroup (getD (r .lines) k (Line.Trace 0)) ≡ false → part r k ≡ Role.NoPart
   -- each group meets at most one entry: neighbours lie more than twice the tolerance apart
   pub one-entry : (l : Line) (i j : ℕ) → i < entries r → j < entries r
       → isGroupFor (r .tolerance) (entry r i) l ≡ true → isGroupFor (r .tolerance) (entry r j) l ≡ true → i ≡ j
   -- each entry is met by at most one group
-  pub one-group : (k m i : ℕ) → k < length (r .lines) → m < length (r .lines) → part r k ≡ Part.Wanted i → part r m ≡ Part.Wanted i → k ≡ m
+  pub one-group : (k m i : ℕ) → k < length (r .lines) → m < length (r .lines) → part r k ≡ Role.Wanted i → part r m ≡ Role.Wanted i → k ≡ m

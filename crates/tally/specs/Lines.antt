@@ -9,7 +9,7 @@ use Rattle.walk.specs.declared.Kind.{Kind}
 use Rattle.ride.specs.declared.Line.{Line}
 use Rattle.acceptance.specs.declared.Met.{Met}
 use Rattle.acceptance.specs.declared.Entry.{Entry}
-use Rattle.acceptance.specs.declared.Part.{Part}
+use Rattle.acceptance.specs.declared.Role.{Role}
 use Rattle.acceptance.specs.declared.Took.{Took}
 use Rattle.acceptance.specs.Taking.{isPresent, isFor}
 
@@ -56,15 +56,15 @@ firstFor tolerance e [] = Met.Absent
 firstFor tolerance e (l ∷ ls) = pick (isGroupFor tolerance e l) (Met.At (placeIn l)) (firstFor tolerance e ls)
 
 -- Whether a line was answered wanted, or extra.
-abbrev pub isWanted : Part → Bool
-isWanted (Part.Wanted i) = true
-isWanted Part.Extra = false
-isWanted Part.NoPart = false
+abbrev pub isWanted : Role → Bool
+isWanted (Role.Wanted i) = true
+isWanted Role.Extra = false
+isWanted Role.NoPart = false
 
-abbrev pub isExtra : Part → Bool
-isExtra (Part.Wanted i) = false
-isExtra Part.Extra = true
-isExtra Part.NoPart = false
+abbrev pub isExtra : Role → Bool
+isExtra (Role.Wanted i) = false
+isExtra Role.Extra = true
+isExtra Role.NoPart = false
 
 -- How many lines were.
 unfoldable pub wantedIn : List Took → ℕ

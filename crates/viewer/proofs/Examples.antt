@@ -15,7 +15,7 @@ use Rattle.settings.proofs.Plain.{plain-good}
 use Rattle.ride.specs.declared.Line.{Line}
 use Rattle.ride.specs.declared.Lines.{Lines}
 use Rattle.ride.specs.State.{noGroup, nothingKnown, freshRide}
-use Rattle.ride.specs.Record.{odometerOf, passedOf, inOrder, check}
+use Rattle.ride.specs.Record.{odometerOf, passedOf, inOrder, checkRecord}
 use Rattle.ride.specs.Joining.{join, takeUp}
 use Rattle.ride.specs.Closing.{leave}
 use Rattle.ride.specs.Step.{closeBehind, missedLines, afterMissed, goOn, treat}
@@ -81,11 +81,11 @@ none-kept = ap (over lent) (back-none s0 refl)
 -- ---- forward, twice
 
 no-lines : linesFor 1 (stepOf s0 (recordAt bytes 0) .lines) ≡ []
-unfolding opened freshRide noGroup nothingKnown odometerOf passedOf inOrder check join takeUp leave closeBehind missedLines afterMissed goOn treat
+unfolding opened freshRide noGroup nothingKnown odometerOf passedOf inOrder checkRecord join takeUp leave closeBehind missedLines afterMissed goOn treat
 no-lines = refl
 
 its-line : linesFor 2 (stepOf s1 (recordAt bytes 1) .lines) ≡ Line.Record 2 17 ∷ []
-unfolding opened passed freshRide noGroup nothingKnown odometerOf passedOf inOrder check join takeUp leave closeBehind missedLines afterMissed goOn treat
+unfolding opened passed freshRide noGroup nothingKnown odometerOf passedOf inOrder checkRecord join takeUp leave closeBehind missedLines afterMissed goOn treat
 its-line = refl
 
 abbrev forwarded : Stand → Lines → Group → Forwarded

@@ -28,7 +28,7 @@ use Rattle.group.specs.Speed.{signalSpeed, targetFigure}
 use Rattle.walk.specs.Fitting.{routeSpeed, fitting}
 use Rattle.group.specs.Judge.{distanceOf, signalDistance, judgeRead, judge}
 use Rattle.group.specs.Numbers.{numberOf}
-use Rattle.ride.specs.Record.{odometerOf, passedOf, inOrder, check}
+use Rattle.ride.specs.Record.{odometerOf, passedOf, inOrder, checkRecord}
 use Rattle.ride.specs.State.{noGroup, nothingKnown, freshRide}
 use Rattle.ride.specs.Joining.{join, takeUp}
 use Rattle.ride.specs.Linking.{markAt}
@@ -70,7 +70,7 @@ unfolding recordOf contentOf atOdometer spelt asked tooLarge hasFifteen wordsOf 
 both-recorded = (refl, refl)
 
 both-listed : (textOf (ridden .lines) ≡ []) × (textOf (end (ridden .ride) .lines) ≡ codes "1000 present signal first\n")
-unfolding ridden end readWord isCode even count covers figure onwards isCheck exchanged other word shortWord longWord telegram balises readAll fits first fitRow fitRows howMany fitIn fitting distance signalSpeed targetFigure routeSpeed distanceOf signalDistance numberOf judgeRead judge odometerOf passedOf inOrder check noGroup nothingKnown freshRide join takeUp markAt close leave closeBehind missedLines afterMissed goOn treat rideOver textOf text seen decimal digits
+unfolding ridden end readWord isCode even count covers figure onwards isCheck exchanged other word shortWord longWord telegram balises readAll fits first fitRow fitRows howMany fitIn fitting distance signalSpeed targetFigure routeSpeed distanceOf signalDistance numberOf judgeRead judge odometerOf passedOf inOrder checkRecord noGroup nothingKnown freshRide join takeUp markAt close leave closeBehind missedLines afterMissed goOn treat rideOver textOf text seen decimal digits
 both-listed = (refl, refl)
 
 pub in-full : InFull

@@ -23,7 +23,7 @@ use Rattle.recorder.proofs.Determined.{wentOf, went-back}
 use Rattle.recorder.proofs.Received.{place-words, as-received}
 use Rattle.group.specs.Balise.{partOf, partSaid, partHeard}
 use Rattle.group.specs.declared.Heard.{Heard}
-use Rattle.ride.specs.Record.{odometerOf, passedOf, inOrder, Entry, check}
+use Rattle.ride.specs.Record.{odometerOf, passedOf, inOrder, Entry, checkRecord}
 use Rattle.ride.specs.declared.Ride.{Ride}
 use Rattle.ride.specs.declared.Passed.{Passed}
 use Rattle.ride.specs.declared.Checked.{Checked}
@@ -44,8 +44,8 @@ odometer-kept odometer c = four odometer
 
 -- In order, not too high and not too low: accepted.
 checks : (last odometer : ℕ) (c : Content) → inOrder (bytesOf odometer c) ≡ true → odometer ≤ 4000000000 → last ≤ odometer
-    → check last (bytesOf odometer c) ≡ gives (record { odometer = odometer; passed = passedOf (bytesOf odometer c) })
-unfolding check
+    → checkRecord last (bytesOf odometer c) ≡ gives (record { odometer = odometer; passed = passedOf (bytesOf odometer c) })
+unfolding checkRecord
 checks last odometer c order high low =
     simp (order, odometer-kept odometer c, le-ltb 4000000000 odometer high, le-ltb odometer last low)
 
@@ -54,7 +54,7 @@ takes : (ride : Ride) (odometer : ℕ) (c : Content) (h : Heard) (bytes : List �
     → passedOf (bytesOf odometer c) ≡ Passed.Balise h → odometer ≤ 4000000000 → ride .odometer ≤ odometer → CheckRecord ride bytes k → k ≡ Checked.Accepted odometer (Passed.Balise h)
 takes ride odometer c h bytes k is order said high low call =
     sym (checked-back k)
-    ∙ ap checkedOf (call .1 ∙ ap (check (ride .odometer)) is ∙ checks (ride .odometer) odometer c order high low)
+    ∙ ap checkedOf (call .1 ∙ ap (checkRecord (ride .odometer)) is ∙ checks (ride .odometer) odometer c order high low)
     ∙ ap (Checked.Accepted odometer) said
 
 -- Words are in order, and so is what has none.

@@ -9,7 +9,7 @@ use Rattle.writer.specs.Write.{Writing, write}
 use Rattle.writer.specs.Says.{saysAnswer}
 use Rattle.contact.specs.Says.{saysBegun, saysNext, saysJudged, saysJudgedUnder}
 use Rattle.walk.specs.Fitting.{saysFitted}
-use Rattle.group.specs.Says.{saysMeasured, saysJudged as saysGroup}
+use Rattle.group.specs.Says.{saysMeasured, saysGroupJudged as saysGroup}
 use Rattle.ride.specs.Says.{saysChecked, saysReport, saysReply, saysWay}
 use Rattle.ride.specs.Step.{Step, step}
 use Rattle.ride.specs.Over.{Run, run}

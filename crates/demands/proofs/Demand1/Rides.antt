@@ -8,7 +8,7 @@ use native.Mathlib.Omega.{arith}
 use lib.Dec.{eqb, ltb}
 use lib.ListN.{length}
 use Rattle.words.specs.Answer.{Outcome, gives, refuses, pick}
-use Rattle.ride.specs.Record.{Entry, odometerOf, passedOf, inOrder, check}
+use Rattle.ride.specs.Record.{Entry, odometerOf, passedOf, inOrder, checkRecord}
 use Rattle.ride.specs.State.{noGroup}
 use Rattle.ride.specs.Joining.{allowed}
 use Rattle.ride.specs.Step.{goOn, refuseOr, refused, treat, step}
@@ -22,10 +22,10 @@ use Rattle.demands.proofs.Common.Spelled.{bad-gap, bad-record}
 
 -- The check of a record: 16, 18, 17.
 pub checking : (ride : Ride) (r : List ℕ)
-    → Decided (Is (record { odometer = odometerOf r; passed = passedOf r })) (recordRules ride r) (check (ride .odometer) r)
-unfolding check tooFar wentBack
+    → Decided (Is (record { odometer = odometerOf r; passed = passedOf r })) (recordRules ride r) (checkRecord (ride .odometer) r)
+unfolding checkRecord tooFar wentBack
 checking ride r =
-    subst (λ (t : Bool). Decided (Is (record { odometer = odometerOf r; passed = passedOf r })) (row 16 t ∷ row 18 (tooFar r) ∷ row 17 (wentBack (ride .odometer) r) ∷ []) (check (ride .odometer) r))
+    subst (λ (t : Bool). Decided (Is (record { odometer = odometerOf r; passed = passedOf r })) (row 16 t ∷ row 18 (tooFar r) ∷ row 17 (wentBack (ride .odometer) r) ∷ []) (checkRecord (ride .odometer) r))
     (sym (bad-record r)) (
     let e : Entry = record { odometer = odometerOf r; passed = passedOf r } in
     let back : Outcome Entry = pick (ltb (odometerOf r) (ride .odometer)) (refuses 17) (gives e) in
@@ -47,7 +47,7 @@ carried ride gap e false false false =
 
 -- A step: 19, then as the record is checked.
 pub stepping : (ride : Ride) (gap : ℕ) (r : List ℕ) → Decided Given (stepRules ride gap r) (step ride gap r .lines)
-unfolding step treat check tooFar wentBack
+unfolding step treat checkRecord tooFar wentBack
 stepping ride gap r =
     subst (λ (t : Bool). Decided Given (row 19 t ∷ recordRules ride r) (step ride gap r .lines)) (sym (bad-gap gap))
     (subst (λ (t : Bool). Decided Given (row 19 (not (allowed gap)) ∷ row 16 t ∷ row 18 (tooFar r) ∷ row 17 (wentBack (ride .odometer) r) ∷ []) (step ride gap r .lines)) (sym (bad-record r))
@@ -88,7 +88,7 @@ gives-not e = let z : _≡_ {A = ℕ} 0 1 = cc in omega arith
 pub step-untouched : (ride : Ride) (gap : ℕ) (r : List ℕ) (n : ℕ) → step ride gap r .lines ≡ refuses n
     → (step ride gap r .ride ≡ ride) × (step ride gap r .closed ≡ noGroup)
 unfolding step treat goOn
-step-untouched ride gap r n e = go (allowed gap) (check (ride .odometer) r) e
+step-untouched ride gap r n e = go (allowed gap) (checkRecord (ride .odometer) r) e
   where
     go : (t : Bool) (o : Outcome Entry) → pick t (refuseOr ride gap o) (refused ride 19) .lines ≡ refuses n
         → (pick t (refuseOr ride gap o) (refused ride 19) .ride ≡ ride) × (pick t (refuseOr ride gap o) (refused ride 19) .closed ≡ noGroup)

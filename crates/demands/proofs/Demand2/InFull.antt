@@ -21,7 +21,7 @@ use Rattle.walk.specs.declared.Kind.{Kind}
 use Rattle.group.specs.Numbers.{numberOf}
 use Rattle.group.specs.declared.Number.{Number}
 use Rattle.group.specs.declared.Told.{Told}
-use Rattle.ride.specs.Record.{odometerOf, passedOf, inOrder, check}
+use Rattle.ride.specs.Record.{odometerOf, passedOf, inOrder, checkRecord}
 use Rattle.ride.specs.State.{noGroup, nothingKnown, freshRide}
 use Rattle.ride.specs.Joining.{join, takeUp}
 use Rattle.ride.specs.Linking.{markAt}
@@ -50,7 +50,7 @@ inFull =
     }
 
 ridden-is : ridden oneRide ≡ inFull
-unfolding readWord isCode even count covers figure onwards isCheck exchanged other word shortWord longWord telegram balises readAll fits first fitRow fitRows howMany fitIn fitting distance signalSpeed targetFigure routeSpeed distanceOf signalDistance numberOf judgeRead judge odometerOf passedOf inOrder check noGroup nothingKnown freshRide join takeUp markAt close leave closeBehind missedLines afterMissed goOn treat firstRecords rideOver
+unfolding readWord isCode even count covers figure onwards isCheck exchanged other word shortWord longWord telegram balises readAll fits first fitRow fitRows howMany fitIn fitting distance signalSpeed targetFigure routeSpeed distanceOf signalDistance numberOf judgeRead judge odometerOf passedOf inOrder checkRecord noGroup nothingKnown freshRide join takeUp markAt close leave closeBehind missedLines afterMissed goOn treat firstRecords rideOver
 ridden-is = refl
 
 text-is : textOf (inFull .lines) ≡ itsLines

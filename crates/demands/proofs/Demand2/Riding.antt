@@ -8,7 +8,7 @@ use borrow.Author.Tests.{lt-ltb, le-ltb}
 use Rattle.words.specs.Answer.{gives, pick}
 use Rattle.group.specs.Judge.{judge}
 use Rattle.group.specs.declared.Group.{Group}
-use Rattle.group.specs.declared.Judged.{Judged}
+use Rattle.group.specs.declared.GroupJudged.{GroupJudged}
 use Rattle.group.specs.declared.Message.{Message}
 use Rattle.group.specs.declared.Number.{Number}
 use Rattle.group.specs.declared.Told.{Told}
@@ -70,7 +70,7 @@ line-so : (g : Group) (m : Message) → judge g ≡ gives m → (linking : Linki
 line-so g m judged linking mark number marked numbered =
     ap₂ (λ (v : Mark) (n : Number). lineOf m v n) (mark-so g m judged linking mark marked) (number-so m number numbered)
 
-module _ (o : OneStep) (m : Message) (b : LeavesBehind o) (j : JudgeGroup (o .ride .group) (Judged.Accepted m)) where
+module _ (o : OneStep) (m : Message) (b : LeavesBehind o) (j : JudgeGroup (o .ride .group) (GroupJudged.Accepted m)) where
   -- what is known after it, before step 3
   abbrev told : Known
   told = knownFrom (m .content) (m .place) (m .number) (before o)
@@ -131,7 +131,7 @@ moved o a = ap (λ (v : Step). v .ride .odometer) (goes-on o a)
 
 -- ---- the end
 
-ended-so : (ride : Ride) (r : Ended) (m : Message) (mark : Mark) (number : Number) → EndOf ride r → isOpen (ride .group) ≡ true → JudgeGroup (ride .group) (Judged.Accepted m)
+ended-so : (ride : Ride) (r : Ended) (m : Message) (mark : Mark) (number : Number) → EndOf ride r → isOpen (ride .group) ≡ true → JudgeGroup (ride .group) (GroupJudged.Accepted m)
     → IsMarked (ride .known .linking) m mark → IsNumbered m number
     → (saysEnded r ≡ ended (ride .odometer) (record { lines = lineOf m mark number ∷ []; closed = ride .group; group = noGroup; known = knownFrom (m .content) (m .place) (m .number) (ride .known) }))
 unfolding end close

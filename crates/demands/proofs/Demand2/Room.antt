@@ -8,7 +8,7 @@ use mathlib.Core.List.{List, [], _∷_, _++_}
 use lib.ListN.{length, drop, length-append}
 use borrow.Author.Tests.{le-leb, lt-ltb}
 use Rattle.words.specs.Answer.{Outcome, gives, refuses, pick}
-use Rattle.ride.specs.Record.{Entry, check, odometerOf}
+use Rattle.ride.specs.Record.{Entry, checkRecord, odometerOf}
 use Rattle.ride.specs.Joining.{isBehind}
 use Rattle.group.specs.Judge.{judge}
 use Rattle.group.specs.declared.Group.{Group}
@@ -51,7 +51,7 @@ missed-short false l = none-short
 -- The lines of a record have at most 128 bytes.
 record-short : (ride : Ride) (gap number : ℕ) (r : List ℕ) → length (textOf (linesFor number (treat ride gap r .lines))) ≤ 128
 unfolding treat goOn closeBehind missedLines atMostOne
-record-short ride gap number r = go (check (ride .odometer) r)
+record-short ride gap number r = go (checkRecord (ride .odometer) r)
   where
     go : (o : Outcome Entry) → length (textOf (linesFor number (refuseOr ride gap o .lines))) ≤ 128
     go (refuses n) = omega (arith, one-short (Line.Record number n))

@@ -9,8 +9,8 @@ use borrow.Author.Tests.{lt-ltb, le-ltb}
 use Rattle.words.specs.Answer.{Outcome, gives, refuses, pick}
 use Rattle.group.specs.Judge.{judge}
 use Rattle.group.specs.declared.Message.{Message}
-use Rattle.group.specs.Says.{saysJudged}
-use Rattle.group.specs.declared.Judged.{Judged}
+use Rattle.group.specs.Says.{saysGroupJudged}
+use Rattle.group.specs.declared.GroupJudged.{GroupJudged}
 use Rattle.ride.specs.Record.{Entry}
 use Rattle.ride.specs.State.{noGroup, isOpen, nothingKnown}
 use Rattle.ride.specs.Joining.{allowed, takeUp}
@@ -72,7 +72,7 @@ stays-open o a is near =
 -- ---- a refused group
 
 -- A refused group leaves no group but the one that the record opens, and nothing known.
-pub group-refused : (o : OneStep) (j : Judged) (n : ℕ) → LeavesBehind o → JudgeGroup (o .ride .group) j → saysJudged j ≡ refuses n
+pub group-refused : (o : OneStep) (j : GroupJudged) (n : ℕ) → LeavesBehind o → JudgeGroup (o .ride .group) j → saysGroupJudged j ≡ refuses n
     → saysStepped (o .answer)
     ≡ record {
       lines = gives (Line.Fault (firstPlace (o .ride .group)) n ∷ []);
@@ -83,8 +83,8 @@ unfolding noGroup nothingKnown missedLines afterMissed
 group-refused o j n b c e = closes o b (refuses n) (sym (c .1) ∙ e)
 
 -- So does the end.
-pub end-refused : (ride : Ride) (r : Ended) (j : Judged) (n : ℕ) → EndOf ride r → isOpen (ride .group) ≡ true → JudgeGroup (ride .group) j
-    → saysJudged j ≡ refuses n
+pub end-refused : (ride : Ride) (r : Ended) (j : GroupJudged) (n : ℕ) → EndOf ride r → isOpen (ride .group) ≡ true → JudgeGroup (ride .group) j
+    → saysGroupJudged j ≡ refuses n
     → saysEnded r
     ≡ record {
       lines = Line.Fault (firstPlace (ride .group)) n ∷ [];

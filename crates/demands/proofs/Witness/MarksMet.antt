@@ -22,12 +22,12 @@ use Rattle.group.specs.declared.Content.{Content}
 use Rattle.walk.specs.declared.Direction.{Direction}
 use Rattle.group.specs.declared.Group.{Group}
 use Rattle.group.specs.declared.Heard.{Heard}
-use Rattle.group.specs.declared.Judged.{Judged}
+use Rattle.group.specs.declared.GroupJudged.{GroupJudged}
 use Rattle.walk.specs.declared.Kind.{Kind}
 use Rattle.group.specs.declared.Message.{Message}
 use Rattle.group.specs.declared.Number.{Number}
 use Rattle.group.specs.declared.Told.{Told}
-use Rattle.ride.specs.Record.{odometerOf, passedOf, inOrder, check}
+use Rattle.ride.specs.Record.{odometerOf, passedOf, inOrder, checkRecord}
 use Rattle.ride.specs.State.{noBalise, noGroup, nothingKnown, freshRide}
 use Rattle.ride.specs.Joining.{join, takeUp}
 use Rattle.ride.specs.Linking.{markAt}
@@ -99,7 +99,7 @@ Answered linking mark = StepOf (lastStep linking mark .ride) 40 last (lastStep l
 
 -- Where the contract allows it, the record leaves the group behind.
 behind : (linking : Linking) (mark : Mark) → Answered linking mark → LeavesBehind (lastStep linking mark)
-unfolding odometerOf passedOf inOrder check badGap
+unfolding odometerOf passedOf inOrder checkRecord badGap
 behind linking mark called =
     record {
       accepts = record { called = called; good-gap = refl; accepted = ((lastStep linking mark .ride, (last, tt)), refl) };
@@ -109,16 +109,16 @@ behind linking mark called =
 
 -- What the theorem `closes` asks.
 abbrev Met : Linking → Mark → Type 0
-Met linking mark = LeavesBehind (lastStep linking mark) × JudgeGroup itsGroup (Judged.Accepted itsMessage) × IsMarked linking itsMessage mark
+Met linking mark = LeavesBehind (lastStep linking mark) × JudgeGroup itsGroup (GroupJudged.Accepted itsMessage) × IsMarked linking itsMessage mark
 
 -- what the step was lent
 abbrev lent : Linking → Ride × (ℕ × (List ℕ × Unit {0}))
 lent linking = (lastStep linking Mark.First .ride, (40, (last, tt)))
 
 -- D = 500: 4D is 5 x 400, 6D is 5 x 600. At 399 early, at 400 and 600 good, at 601 late; with no linking first.
-pub its-answers : JudgeGroup itsGroup (Judged.Accepted itsMessage) × Answered Linking.Unset Mark.First × Answered (Linking.Set 500 601) Mark.Early
+pub its-answers : JudgeGroup itsGroup (GroupJudged.Accepted itsMessage) × Answered Linking.Unset Mark.First × Answered (Linking.Set 500 601) Mark.Early
     × Answered (Linking.Set 500 600) Mark.Good × Answered (Linking.Set 500 400) Mark.Good × Answered (Linking.Set 500 399) Mark.Late
-unfolding readWord isCode even count covers figure onwards isCheck exchanged other word shortWord longWord telegram balises readAll fits first fitRow fitRows howMany fitIn fitting distance signalSpeed targetFigure routeSpeed distanceOf signalDistance numberOf judgeRead judge odometerOf passedOf inOrder check noGroup nothingKnown freshRide join takeUp markAt close leave closeBehind missedLines afterMissed goOn treat step badGap
+unfolding readWord isCode even count covers figure onwards isCheck exchanged other word shortWord longWord telegram balises readAll fits first fitRow fitRows howMany fitIn fitting distance signalSpeed targetFigure routeSpeed distanceOf signalDistance numberOf judgeRead judge odometerOf passedOf inOrder checkRecord noGroup nothingKnown freshRide join takeUp markAt close leave closeBehind missedLines afterMissed goOn treat step badGap
 its-answers = (
   ((itsGroup, tt), refl),
   (lent Linking.Unset, refl),

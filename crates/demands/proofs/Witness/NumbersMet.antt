@@ -22,7 +22,7 @@ use Rattle.group.specs.Numbers.{numberOf}
 use Rattle.group.specs.Judge.{distanceOf, signalDistance, judgeRead, judge}
 use Rattle.group.specs.declared.Content.{Content}
 use Rattle.group.specs.declared.Group.{Group}
-use Rattle.group.specs.declared.Judged.{Judged}
+use Rattle.group.specs.declared.GroupJudged.{GroupJudged}
 use Rattle.group.specs.declared.Message.{Message}
 use Rattle.group.specs.declared.Number.{Number}
 use Rattle.group.specs.declared.Told.{Told}
@@ -74,14 +74,14 @@ ended g m mark known =
     }
 
 -- The present one sets the number.
-ahead-met : JudgeGroup ahead (Judged.Accepted aheadSaid) × IsNumbered aheadSaid (Number.Figure 1612)
+ahead-met : JudgeGroup ahead (GroupJudged.Accepted aheadSaid) × IsNumbered aheadSaid (Number.Figure 1612)
     × EndOf (openRide ahead)
     (ended ahead aheadSaid Mark.First (record { linking = Linking.Set 4000 1000; main = Told.Kmh 130; target = Told.Kmh 80; number = Number.Figure 1612 }))
 unfolding readWord isCode even count covers figure onwards isCheck exchanged other word shortWord longWord telegram balises readAll fits first fitRow fitRows howMany fitIn fitting distance signalSpeed targetFigure distanceOf signalDistance numberOf judgeRead judge noGroup close end
 ahead-met = (((ahead, tt), refl), of-signal refl, ((openRide ahead, tt), refl))
 
 -- The opposite one shows its own and leaves the state's.
-back-met : JudgeGroup back (Judged.Accepted backSaid) × IsNumbered backSaid (Number.Figure 1612)
+back-met : JudgeGroup back (GroupJudged.Accepted backSaid) × IsNumbered backSaid (Number.Figure 1612)
     × EndOf (openRide back) (ended back backSaid Mark.Unmarked before)
 unfolding readWord isCode even count covers figure onwards isCheck exchanged other word shortWord longWord telegram balises readAll fits first fitRow fitRows howMany fitIn fitting distance signalSpeed targetFigure distanceOf signalDistance numberOf judgeRead judge noGroup close end
 back-met = (((back, tt), refl), of-signal refl, ((openRide back, tt), refl))

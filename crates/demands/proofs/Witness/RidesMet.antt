@@ -21,12 +21,12 @@ use Rattle.group.specs.declared.Content.{Content}
 use Rattle.walk.specs.declared.Direction.{Direction}
 use Rattle.group.specs.declared.Group.{Group}
 use Rattle.group.specs.declared.Heard.{Heard}
-use Rattle.group.specs.declared.Judged.{Judged}
+use Rattle.group.specs.declared.GroupJudged.{GroupJudged}
 use Rattle.walk.specs.declared.Kind.{Kind}
 use Rattle.group.specs.declared.Message.{Message}
 use Rattle.group.specs.declared.Number.{Number}
 use Rattle.group.specs.declared.Told.{Told}
-use Rattle.ride.specs.Record.{odometerOf, passedOf, inOrder, check}
+use Rattle.ride.specs.Record.{odometerOf, passedOf, inOrder, checkRecord}
 use Rattle.ride.specs.State.{noBalise, noGroup, nothingKnown, freshRide}
 use Rattle.ride.specs.Joining.{join, takeUp}
 use Rattle.ride.specs.Linking.{markAt}
@@ -75,7 +75,7 @@ missedStep =
     }
 
 missed-met : NoneOpen missedStep
-unfolding odometerOf passedOf inOrder check noGroup leave closeBehind missedLines afterMissed goOn treat step takeUp badGap
+unfolding odometerOf passedOf inOrder checkRecord noGroup leave closeBehind missedLines afterMissed goOn treat step takeUp badGap
 missed-met =
     record {
       accepts = record { called = ((missedStep .ride, (40, (far, tt))), refl); good-gap = refl; accepted = ((missedStep .ride, (far, tt)), refl) };
@@ -105,8 +105,8 @@ aloneStep =
           };
     }
 
-alone-met : LeavesBehind aloneStep × JudgeGroup alone Judged.One
-unfolding odometerOf passedOf inOrder check noGroup nothingKnown close closeBehind missedLines afterMissed goOn treat step takeUp judge badGap
+alone-met : LeavesBehind aloneStep × JudgeGroup alone GroupJudged.One
+unfolding odometerOf passedOf inOrder checkRecord noGroup nothingKnown close closeBehind missedLines afterMissed goOn treat step takeUp judge badGap
 alone-met = (
   record {
     accepts = record { called = ((aloneStep .ride, (40, (far, tt))), refl); good-gap = refl; accepted = ((aloneStep .ride, (far, tt)), refl) };
@@ -140,7 +140,7 @@ joinsStep =
     }
 
 joins-met : StaysOpen joinsStep
-unfolding odometerOf passedOf inOrder check noGroup nothingKnown leave closeBehind missedLines afterMissed goOn treat step join takeUp badGap
+unfolding odometerOf passedOf inOrder checkRecord noGroup nothingKnown leave closeBehind missedLines afterMissed goOn treat step join takeUp badGap
 joins-met =
     record {
       accepts = record { called = ((joinsStep .ride, (40, (second, tt))), refl); good-gap = refl; accepted = ((joinsStep .ride, (second, tt)), refl) };
@@ -160,7 +160,7 @@ endedWith g line known = record { ride = record { odometer = 1030; group = noGro
 ends-met : EndOf (openRide itsGroup)
     (endedWith itsGroup (Line.Group (record { place = 1000; direction = Direction.Present; kind = Kind.Signal; mark = Mark.First; number = Number.None }))
     (record { linking = Linking.Set 4000 1000; main = Told.Kmh 130; target = Told.Kmh 80; number = Number.None }))
-unfolding readWord isCode even count covers figure onwards isCheck exchanged other word shortWord longWord telegram balises readAll fits first fitRow fitRows howMany fitIn fitting distance signalSpeed targetFigure routeSpeed distanceOf signalDistance numberOf judgeRead judge odometerOf passedOf inOrder check noGroup nothingKnown freshRide join takeUp markAt close leave closeBehind missedLines afterMissed goOn treat step badGap end
+unfolding readWord isCode even count covers figure onwards isCheck exchanged other word shortWord longWord telegram balises readAll fits first fitRow fitRows howMany fitIn fitting distance signalSpeed targetFigure routeSpeed distanceOf signalDistance numberOf judgeRead judge odometerOf passedOf inOrder checkRecord noGroup nothingKnown freshRide join takeUp markAt close leave closeBehind missedLines afterMissed goOn treat step badGap end
 ends-met = ((openRide itsGroup, tt), refl)
 
 ends-alone-met : EndOf (openRide alone) (endedWith alone (Line.Fault 1000 10) nothingKnown)
@@ -189,6 +189,6 @@ backwards =
 abbrev itsOther : Message
 itsOther = record { direction = Direction.Opposite; kind = Kind.Signal; place = 1030; ay = 8; az = 5; number = Number.None; content = Content.Nothing }
 
-other-met : JudgeGroup backwards (Judged.Accepted itsOther) × IsMarked Linking.Unset itsOther Mark.Unmarked
-unfolding readWord isCode even count covers figure onwards isCheck exchanged other word shortWord longWord telegram balises readAll fits first fitRow fitRows howMany fitIn fitting distance signalSpeed targetFigure routeSpeed distanceOf signalDistance numberOf judgeRead judge odometerOf passedOf inOrder check noGroup nothingKnown freshRide join takeUp markAt close leave closeBehind missedLines afterMissed goOn treat step badGap end
+other-met : JudgeGroup backwards (GroupJudged.Accepted itsOther) × IsMarked Linking.Unset itsOther Mark.Unmarked
+unfolding readWord isCode even count covers figure onwards isCheck exchanged other word shortWord longWord telegram balises readAll fits first fitRow fitRows howMany fitIn fitting distance signalSpeed targetFigure routeSpeed distanceOf signalDistance numberOf judgeRead judge odometerOf passedOf inOrder checkRecord noGroup nothingKnown freshRide join takeUp markAt close leave closeBehind missedLines afterMissed goOn treat step badGap end
 other-met = (((backwards, tt), refl), unmarked (λ s. let e = s .0 in let z : _≡_ {A = ℕ} 0 1 = cc in omega arith))

@@ -2,7 +2,7 @@
 -- Assumes nothing.
 use mathlib.Core.Path.{refl, ap, _∙_}
 use Rattle.ride.specs.declared.Line.{Line}
-use Rattle.acceptance.specs.declared.Part.{Part}
+use Rattle.acceptance.specs.declared.Role.{Role}
 use Rattle.depot.specs.Taking.{partLine}
 use Rattle.depot.proofs.Takings.{no-text, group-text}
 use borrow.Author.Needs.{needs}
@@ -24,7 +24,7 @@ returns-2 c =
     let k = e .before .before .before in
     let t = k .before .before .before in
     let a = t .before .before .args in
-    group-text (a .run) (a .line) (a .buf .now) (a .at) (t .take .result) (t .take .ensures) (k .line .given .0 .0) Part.Extra (p .put-group .result) (p .put-group .last .1 .1 .1 .0)
+    group-text (a .run) (a .line) (a .buf .now) (a .at) (t .take .result) (t .take .ensures) (k .line .given .0 .0) Role.Extra (p .put-group .result) (p .put-group .last .1 .1 .1 .0)
     (k .line .given .1) (e .enum-told2 .given .1) refl (p .put-group .ensures)
 
 returns-3 : tie.Need-returns-3
@@ -34,7 +34,7 @@ returns-3 c =
     let k = e .before .before .before in
     let t = k .before .before .before in
     let a = t .before .before .args in
-    group-text (a .run) (a .line) (a .buf .now) (a .at) (t .take .result) (t .take .ensures) (k .line .given .0 .0) (Part.Wanted (e .enum-told3 .given .0 .0)) (p .put-group2 .result)
+    group-text (a .run) (a .line) (a .buf .now) (a .at) (t .take .result) (t .take .ensures) (k .line .given .0 .0) (Role.Wanted (e .enum-told3 .given .0 .0)) (p .put-group2 .result)
     (p .put-group2 .last .1 .1 .1 .0) (k .line .given .1) (e .enum-told3 .given .1) refl (p .put-group2 .ensures)
 
 returns-4 : tie.Need-returns-4

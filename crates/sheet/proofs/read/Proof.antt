@@ -12,7 +12,7 @@ use Rattle.sheet.specs.declared.cutting.Stop.{Stop}
 use Rattle.sheet.specs.declared.How.{How}
 use Rattle.sheet.specs.declared.Sheet.{Sheet}
 use Rattle.sheet.specs.Words.{upTo, onward}
-use Rattle.sheet.specs.Taking.{taken}
+use Rattle.sheet.specs.Taking.{takeLine}
 use Rattle.sheet.specs.Sheet.{linesOf, linesFrom}
 use Rattle.sheet.proofs.Stretches.{part, drop-to, next}
 use Rattle.sheet.proofs.Lines.{bad-line, last-line, next-line, too-long, all-lines}
@@ -66,14 +66,14 @@ after-it c =
 took : (c : tie.After-take Inv-loop μ-loop) →
     let l = c .before .before .before in
     let t = l .before .before .before .before .args .text .now in
-    c .take .result ≡ taken (l .loop .store) (upTo Stop.Newline (drop (l .loop .from) t))
+    c .take .result ≡ takeLine (l .loop .store) (upTo Stop.Newline (drop (l .loop .from) t))
 took c =
     let e = c .before .before in
     let l = e .before in
     let t = l .before .before .before .before .args .text .now in
     let long : e .end-of .result - l .loop .from ≡ length (upTo Stop.Newline (drop (l .loop .from) t)) = omega (arith, e .end-of .ensures .0) in
     c .take .ensures
-    ∙ ap (taken (l .loop .store)) (ap (λ (n : ℕ). take n (drop (l .loop .from) t)) long ∙ part Stop.Newline (drop (l .loop .from) t))
+    ∙ ap (takeLine (l .loop .store)) (ap (λ (n : ℕ). take n (drop (l .loop .from) t)) long ∙ part Stop.Newline (drop (l .loop .from) t))
 
 returns-2 : tie.Need-returns-2 Inv-loop μ-loop
 returns-2 c =

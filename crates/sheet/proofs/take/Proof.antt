@@ -1,19 +1,19 @@
 -- `take` goes by what the line says.
 use mathlib.Core.Path.{sym, ap, _∙_}
-use Rattle.sheet.specs.Taking.{saidTo, taken}
+use Rattle.sheet.specs.Taking.{saidTo, takeLine}
 use borrow.Author.Needs.{needs}
 use Rattle.sheet.proofs.take.Statement.{statement}
 use Rattle.sheet.proofs.take.Tie as tie
 
 returns : tie.Need-returns
-unfolding taken
+unfolding takeLine
 returns c =
     let l = c .before .before in
     let s = l .before .before .args .store in
     ap (saidTo s) (sym (c .enum-told .given .1)) ∙ ap (saidTo s) (l .line-of .ensures)
 
 returns-2 : tie.Need-returns-2
-unfolding taken
+unfolding takeLine
 returns-2 c =
     let k = c .before .before in
     let l = k .before .before in
@@ -21,7 +21,7 @@ returns-2 c =
     c .give .ensures ∙ ap (saidTo s) (sym (k .said .given .1)) ∙ ap (saidTo s) (l .line-of .ensures)
 
 returns-3 : tie.Need-returns-3
-unfolding taken
+unfolding takeLine
 returns-3 c =
     let l = c .before .before in
     let s = l .before .before .args .store in

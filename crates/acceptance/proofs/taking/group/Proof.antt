@@ -2,7 +2,7 @@
 -- Assumes nothing.
 use mathlib.Core.Path.{ap, _∙_}
 use Rattle.acceptance.specs.declared.Acceptance.{Acceptance}
-use Rattle.acceptance.specs.declared.Part.{Part}
+use Rattle.acceptance.specs.declared.Role.{Role}
 use Rattle.acceptance.proofs.Cases.{wanted-is, extra-is}
 use borrow.Author.Needs.{needs}
 use Rattle.acceptance.proofs.taking.group.Statement.{statement}
@@ -22,7 +22,7 @@ returns c =
     let w = c .before .before in
     let n = w .before in
     let a = n .before .before .args in
-    ap (λ (s : Acceptance). record { state = s; answer = Part.Wanted (w .waiting .result) }) (c .after-wanted .ensures)
+    ap (λ (s : Acceptance). record { state = s; answer = Role.Wanted (w .waiting .result) }) (c .after-wanted .ensures)
     ∙ wanted-is (a .run) (n .entries-in .result) (n .entries-in .ensures .0) (n .entries-in .ensures .1 .0) (a .place) (a .kind) (w .waiting .result) (w .waiting .ensures) (c .before .if1 .taken)
 
 after-extra-requires : tie.Need-after-extra-requires
@@ -33,7 +33,7 @@ returns-2 c =
     let w = c .before .before in
     let n = w .before in
     let a = n .before .before .args in
-    ap (λ (s : Acceptance). record { state = s; answer = Part.Extra }) (c .after-extra .ensures)
+    ap (λ (s : Acceptance). record { state = s; answer = Role.Extra }) (c .after-extra .ensures)
     ∙ extra-is (a .run) (n .entries-in .result) (n .entries-in .ensures .0) (n .entries-in .ensures .1 .0) (a .place) (a .kind) (w .waiting .result) (w .waiting .ensures) (c .before .if1 .left)
 
 pub group-spec : {M : Type 1} → statement M

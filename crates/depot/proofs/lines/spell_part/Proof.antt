@@ -6,7 +6,7 @@ use Prim.Native.Nat.{ℕ}
 use Rattle.text.specs.Text.{codes}
 use Rattle.text.specs.Put.{put}
 use Rattle.text.proofs.Standing.{join, numbered, room-as}
-use Rattle.acceptance.specs.declared.Part.{Part}
+use Rattle.acceptance.specs.declared.Role.{Role}
 use Rattle.acceptance.specs.Taking.{oneMore}
 use Rattle.depot.specs.Lines.{partWords}
 use Rattle.depot.proofs.Pieces.{wanted-is}
@@ -34,7 +34,7 @@ returns-2 c =
     let p = c .before .before in
     let k = p .before .before .before in
     let a = k .before .before .before .args in
-    p .put2 .ensures ∙ ap (λ (j : Part). put (partWords j) (a .buf .now) (a .at)) (sym (k .enum-told .given .1))
+    p .put2 .ensures ∙ ap (λ (j : Role). put (partWords j) (a .buf .now) (a .at)) (sym (k .enum-told .given .1))
 
 returns-3 : tie.Need-returns-3
 unfolding partWords
@@ -42,7 +42,7 @@ returns-3 c =
     let p = c .before .before in
     let k = p .before .before .before in
     let a = k .before .before .before .args in
-    p .put3 .ensures ∙ ap (λ (j : Part). put (partWords j) (a .buf .now) (a .at)) (sym (k .enum-told2 .given .1))
+    p .put3 .ensures ∙ ap (λ (j : Role). put (partWords j) (a .buf .now) (a .at)) (sym (k .enum-told2 .given .1))
 
 pub spell-part-spec : {M : Type 1} → statement M
 spell-part-spec =
