@@ -1,7 +1,7 @@
 // Contacts: a search begun, the next contact of a search, and the judgement of one contact.
 ghost use mathlib.Core.Path.{_≡_};
-ghost use Rattle.contact.specs.Contacts.{begun, nextContact};
-ghost use Rattle.contact.specs.Judge.{judged};
+ghost use Rattle.contact.specs.Contacts.{begin, nextContact};
+ghost use Rattle.contact.specs.Judge.{judge};
 ghost use Rattle.abi.specs.Face.{returned, left};
 ghost use Rattle.abi.specs.Contacts.{searchIn, begunNumber, begunPut, nextNumber, nextPut, nextMoved, judgedNumber, judgedPut};
 use crate::number::as_one;
@@ -13,8 +13,8 @@ use contact::Search;
 // 0, with the beginning of a search over the stretch in `search`; -5.
 #[no_mangle]
 pub extern "C" fn atc2_begin(buf: &[u8], start: usize, len: usize, search: &mut [u64; 3]) -> i32
-    ensures { λ r. ⌜ r ≡ returned begunNumber (begun (now (buf .entry)) start len) ⌝ }
-    ensures { λ _. ⌜ now (search .exit) ≡ left begunPut (begun (now (buf .entry)) start len) (now (search .entry)) ⌝ }
+    ensures { λ r. ⌜ r ≡ returned begunNumber (begin (now (buf .entry)) start len) ⌝ }
+    ensures { λ _. ⌜ now (search .exit) ≡ left begunPut (begin (now (buf .entry)) start len) (now (search .entry)) ⌝ }
 {
     match contact::begin(buf, start, len) {
         Begun::Search(begun) => {
@@ -64,8 +64,8 @@ pub extern "C" fn atc2_judge(
     t: u8,
     out: &mut [u64; 3],
 ) -> i32
-    ensures { λ r. ⌜ r ≡ returned judgedNumber (judged (now (buf .entry)) start len s t) ⌝ }
-    ensures { λ _. ⌜ now (out .exit) ≡ left judgedPut (judged (now (buf .entry)) start len s t) (now (out .entry)) ⌝ }
+    ensures { λ r. ⌜ r ≡ returned judgedNumber (judge (now (buf .entry)) start len s t) ⌝ }
+    ensures { λ _. ⌜ now (out .exit) ≡ left judgedPut (judge (now (buf .entry)) start len s t) (now (out .entry)) ⌝ }
 {
     match contact::judge(buf, start, len, s, t) {
         Judged::Read {

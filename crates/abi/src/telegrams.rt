@@ -1,7 +1,7 @@
 // Telegrams: three words read as one, and the first place of a stretch.
 ghost use mathlib.Core.Path.{_≡_};
 ghost use Rattle.telegram.specs.Telegram.{telegram};
-ghost use Rattle.telegram.specs.Place.{found};
+ghost use Rattle.telegram.specs.Place.{find};
 ghost use Rattle.abi.specs.Face.{returned, left, asOne, told, foundNumber, foundPut};
 use crate::number::as_one;
 use telegram::Found;
@@ -29,8 +29,8 @@ pub extern "C" fn atc2_find(
     t: u8,
     out: &mut [u64; 2],
 ) -> i32
-    ensures { λ r. ⌜ r ≡ returned foundNumber (found (now (buf .entry)) start len s t) ⌝ }
-    ensures { λ _. ⌜ now (out .exit) ≡ left foundPut (found (now (buf .entry)) start len s t) (now (out .entry)) ⌝ }
+    ensures { λ r. ⌜ r ≡ returned foundNumber (find (now (buf .entry)) start len s t) ⌝ }
+    ensures { λ _. ⌜ now (out .exit) ≡ left foundPut (find (now (buf .entry)) start len s t) (now (out .entry)) ⌝ }
 {
     match telegram::find(buf, start, len, s, t) {
         Found::At { place, telegram } => {

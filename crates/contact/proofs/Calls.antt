@@ -10,7 +10,7 @@ use borrow.Fn.Kinds.{Dens, endedOf}
 use denote.Triple.Clauses.{AtExit}
 use Rattle.words.specs.Answer.{Outcome, gives, refuses, pick}
 use Rattle.telegram.specs.Stretch.{inside}
-use Rattle.contact.specs.Contacts.{Contacts, contactsFrom, Handed, nextContact, fromStart, begun}
+use Rattle.contact.specs.Contacts.{Contacts, contactsFrom, Handed, nextContact, fromStart, begin}
 use Rattle.contact.specs.Says.{saysNext}
 use Rattle.contact.specs.declared.Search.{Search}
 use Rattle.contact.specs.declared.Begun.{Begun}
@@ -71,8 +71,8 @@ pub called-to-the-end : (b : List ℕ) → ((s : Search) → (o : Outcome Handed
 called-to-the-end b ask s = specified-called b ask (law b s)
 
 -- A search that begins is the one at the stretch's start.
-begun-start : (b : List ℕ) (start len : ℕ) (s : Search) → begun b start len ≡ gives s → s ≡ fromStart start len
-unfolding begun
+begun-start : (b : List ℕ) (start len : ℕ) (s : Search) → begin b start len ≡ gives s → s ≡ fromStart start len
+unfolding begin
 begun-start b start len s e = go (inside b start len) e
   where
     go : (t : Bool) → pick {A = Outcome Search} t (gives (fromStart start len)) (refuses 5) ≡ gives s → s ≡ fromStart start len
@@ -83,5 +83,5 @@ begun-start b start len s e = go (inside b start len) e
 pub called-from-begin : (b : List ℕ) (start len : ℕ) (s : Search) (w : Contacts)
     → Begins b start len (Begun.Search s) → Comes (Called b) s w → w ≡ contactsFrom b (fromStart start len)
 called-from-begin b start len s w k p =
-    let same : begun (k .given .0 .now) (k .given .1 .0) (k .given .1 .1 .0) ≡ begun b start len = simp (k .buffer, k .first, k .bits) in
+    let same : begin (k .given .0 .now) (k .given .1 .0) (k .given .1 .1 .0) ≡ begin b start len = simp (k .buffer, k .first, k .bits) in
     called-on b s w p ∙ ap (contactsFrom b) (begun-start b start len s (sym same ∙ sym (k .kept)))

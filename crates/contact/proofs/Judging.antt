@@ -11,8 +11,8 @@ use Rattle.telegram.specs.Stretch.{inside}
 use Rattle.telegram.specs.Sync.{isGood}
 use Rattle.telegram.specs.Telegram.{Received}
 use Rattle.telegram.specs.Place.{wordsAt, places}
-use Rattle.telegram.specs.Survey.{allAs, Alike, alike, together, surveyed}
-use Rattle.contact.specs.Judge.{Contact, read, marker, isMarker, judgement, judged}
+use Rattle.telegram.specs.Survey.{allAs, Alike, alike, together, survey}
+use Rattle.contact.specs.Judge.{Contact, read, marker, isMarker, judgement, judge}
 
 -- What is left where there are not two places: a marker, or refusal 8.
 abbrev pub markerOr : List ℕ → ℕ → ℕ → Outcome Contact
@@ -43,8 +43,8 @@ module _ (b : List ℕ) (start len s t : ℕ) where
   by-places [] = refl
   by-places (p ∷ ps) = several (markerOr b start len) (wordsAt b p) p (length (p ∷ ps)) (allAs b p ps)
 
-  pub by-survey : judged b start len s t ≡ fromSurvey (markerOr b start len) (surveyed b start len s t)
-  unfolding judged surveyed
+  pub by-survey : judge b start len s t ≡ fromSurvey (markerOr b start len) (survey b start len s t)
+  unfolding judge survey
   by-survey = go (isGood s t) (inside b start len)
     where
       go : (g i : Bool) → pick g (pick i (judgement b start len (places b start len s t)) (refuses 5)) (refuses 4)
@@ -54,8 +54,8 @@ module _ (b : List ℕ) (start len s t : ℕ) where
       go false i = refl
 
   -- A survey that is not refused with 4 or 5 is of a stretch that is taken.
-  pub is-taken : (o : Outcome Alike) → surveyed b start len s t ≡ o → (o ≡ refuses 4 → ⊥) → (o ≡ refuses 5 → ⊥) → inside b start len ≡ true
-  unfolding surveyed
+  pub is-taken : (o : Outcome Alike) → survey b start len s t ≡ o → (o ≡ refuses 4 → ⊥) → (o ≡ refuses 5 → ⊥) → inside b start len ≡ true
+  unfolding survey
   is-taken o e not4 not5 = go (isGood s t) (inside b start len) refl e
     where
       go : (g i : Bool) → inside b start len ≡ i → pick g (pick i (together b (places b start len s t)) (refuses 5)) (refuses 4) ≡ o

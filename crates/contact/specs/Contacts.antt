@@ -65,5 +65,5 @@ unfoldable pub fromStart : ℕ → ℕ → Search
 fromStart start len = record { next = start; left = len; history = sixteenOnes }
 
 -- The beginning of a search over a stretch, or refusal 5.
-unfoldable pub begun : List ℕ → ℕ → ℕ → Outcome Search
-begun b start len = pick (inside b start len) (gives (fromStart start len)) (refuses 5)
+unfoldable pub begin : List ℕ → ℕ → ℕ → Outcome Search
+begin b start len = pick (inside b start len) (gives (fromStart start len)) (refuses 5)

@@ -53,6 +53,6 @@ judgement b start len ps =
     (refuses 8)))
 
 -- Judging a contact: 4, then 5, then its judgement by its places.
-unfoldable pub judged : List ℕ → ℕ → ℕ → ℕ → ℕ → Outcome Contact
-judged b start len s t =
+unfoldable pub judge : List ℕ → ℕ → ℕ → ℕ → ℕ → Outcome Contact
+judge b start len s t =
     pick (isGood s t) (pick (inside b start len) (judgement b start len (places b start len s t)) (refuses 5)) (refuses 4)

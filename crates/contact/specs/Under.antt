@@ -6,10 +6,10 @@ use mathlib.Core.List.{List}
 use Rattle.words.specs.Answer.{Outcome, then}
 use Rattle.settings.specs.declared.Store.{Store}
 use Rattle.settings.specs.At.{asked}
-use Rattle.contact.specs.Judge.{Contact, judged}
+use Rattle.contact.specs.Judge.{Contact, judge}
 
 -- The store's own refusal, then 18 for the odometer; then 5, 7 and 8, as the contact is judged with the pair in force there.
-unfoldable pub judgedUnder : Store → ℕ → List ℕ → ℕ → ℕ → Outcome Contact
-judgedUnder store odometer b start len =
+unfoldable pub judgeUnder : Store → ℕ → List ℕ → ℕ → ℕ → Outcome Contact
+judgeUnder store odometer b start len =
     then (asked store odometer) λ held.
-    judged b start len (held .s) (held .t)
+    judge b start len (held .s) (held .t)

@@ -3,9 +3,9 @@
 // Specification: specs/History.antt (the latest sixteen bits), specs/Contacts.antt, specs/Judge.antt, specs/Under.antt (under a store of
 // settings), specs/Says.antt (the answers).
 ghost use mathlib.Core.Path.{_≡_};
-ghost use Rattle.contact.specs.Contacts.{begun, nextContact};
-ghost use Rattle.contact.specs.Judge.{judged};
-ghost use Rattle.contact.specs.Under.{judgedUnder};
+ghost use Rattle.contact.specs.Contacts.{begin, nextContact};
+ghost use Rattle.contact.specs.Judge.{judge};
+ghost use Rattle.contact.specs.Under.{judgeUnder};
 ghost use Rattle.contact.specs.Says.{saysBegun, saysNext, saysJudged, saysJudgedUnder};
 
 mod count;
@@ -77,7 +77,7 @@ pub enum JudgedUnder {
 
 // The search that begins a stretch, or refusal 5.
 pub fn begin(buf: &[u8], start: usize, len: usize) -> Begun
-    ensures { λ r. ⌜ saysBegun r ≡ begun (now (buf .entry)) start len ⌝ }
+    ensures { λ r. ⌜ saysBegun r ≡ begin (now (buf .entry)) start len ⌝ }
 {
     let reach = telegram::inside(buf, start, len);
     match reach {
@@ -106,7 +106,7 @@ pub fn next_contact(search: Search, buf: &[u8]) -> Next
 
 // The contact of `len` bits from bit `start` on, judged: read, or a marker, or refusal 4, 5, 7 or 8.
 pub fn judge(buf: &[u8], start: usize, len: usize, s: u8, t: u8) -> Judged
-    ensures { λ r. ⌜ saysJudged r ≡ judged (now (buf .entry)) start len s t ⌝ }
+    ensures { λ r. ⌜ saysJudged r ≡ judge (now (buf .entry)) start len s t ⌝ }
 {
     let surveyed = telegram::survey(buf, start, len, s, t);
     match surveyed {
@@ -133,7 +133,7 @@ pub fn judge(buf: &[u8], start: usize, len: usize, s: u8, t: u8) -> Judged
 
 // The contact judged with the sync pair that is in force at the odometer given with it; the store's own refusal first, then 18.
 pub fn judge_under(store: Store, odometer: u32, buf: &[u8], start: usize, len: usize) -> JudgedUnder
-    ensures { λ r. ⌜ saysJudgedUnder r ≡ judgedUnder store odometer (now (buf .entry)) start len ⌝ }
+    ensures { λ r. ⌜ saysJudgedUnder r ≡ judgeUnder store odometer (now (buf .entry)) start len ⌝ }
 {
     let asked = settings::at(store, odometer);
     match asked {

@@ -26,11 +26,11 @@ use mathlib.Core.List.{List}
 use Prim.Native.Nat.{ℕ}
 use lib.ListN.{take}
 use Rattle.telegram.specs.Stretch.{stretchOf}
-use Rattle.telegram.specs.Place.{found}
-use Rattle.telegram.specs.Survey.{surveyed}
+use Rattle.telegram.specs.Place.{find}
+use Rattle.telegram.specs.Survey.{survey}
 use Rattle.writer.specs.Write.{Writing, write}
-use Rattle.contact.specs.Contacts.{begun, nextContact}
-use Rattle.contact.specs.Judge.{judged}
+use Rattle.contact.specs.Contacts.{begin, nextContact}
+use Rattle.contact.specs.Judge.{judge}
 use Rattle.ride.specs.Step.{Step}
 use Rattle.ride.specs.At.{Treatment}
 use Rattle.ride.specs.Over.{Run, run}
@@ -59,14 +59,14 @@ demand1 = record {
   good-pair = λ s t r c. rw (c .1) (pairing s t);
   inside = λ b start len r c. let e = c .4 ∙ ap (λ (v : List ℕ). stretchOf v start len) (c .3) in rw e (lying b start len);
   read-telegram = λ x y z r c. rw (c .1) (wording x y z);
-  find = λ b start len s t r c. let e = c .4 ∙ ap (λ (v : List ℕ). found v start len s t) (c .3) in rw e (finding b start len s t);
-  survey = λ b start len s t r c. let e = c .4 ∙ ap (λ (v : List ℕ). surveyed v start len s t) (c .3) in rw e (surveying b start len s t);
+  find = λ b start len s t r c. let e = c .4 ∙ ap (λ (v : List ℕ). find v start len s t) (c .3) in rw e (finding b start len s t);
+  survey = λ b start len s t r c. let e = c .4 ∙ ap (λ (v : List ℕ). survey v start len s t) (c .3) in rw e (surveying b start len s t);
   write = λ x y z s t n before r after c.
       let e = ap (λ (w : Writing). w .answer) (c .5 ∙ ap (write x y z s t n) (c .3)) in
       rw e (writing-test x y z s t n before);
-  begin = λ b start len r c. let e = c .4 ∙ ap (λ (v : List ℕ). begun v start len) (c .3) in rw e (beginning b start len);
+  begin = λ b start len r c. let e = c .4 ∙ ap (λ (v : List ℕ). begin v start len) (c .3) in rw e (beginning b start len);
   next-contact = λ b search r c. let e = c .4 ∙ ap (λ (v : List ℕ). nextContact v search) (c .3) in rw e (nexting b search);
-  judge-contact = λ b start len s t r c. let e = c .4 ∙ ap (λ (v : List ℕ). judged v start len s t) (c .3) in rw e (judging b start len s t);
+  judge-contact = λ b start len s t r c. let e = c .4 ∙ ap (λ (v : List ℕ). judge v start len s t) (c .3) in rw e (judging b start len s t);
   fit-row = λ p n r c. rw (c .1) (fitting-to (take n p));
   distance = λ by figure r c. rw (c .1) (measuring by figure);
   judge-group = λ g r c. rw (c .1) (grouping g);

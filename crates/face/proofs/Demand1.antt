@@ -10,10 +10,10 @@ use Rattle.words.specs.Why.{Why, numbered, notCodeWord}
 use Rattle.words.specs.Plain.{figure}
 use Rattle.words.specs.Code.{exchanged, sent, readWord, writeWord}
 use Rattle.telegram.specs.Telegram.{Received, telegram}
-use Rattle.telegram.specs.Place.{Single, found}
+use Rattle.telegram.specs.Place.{Single, find}
 use Rattle.contact.specs.declared.Search.{Search}
-use Rattle.contact.specs.Contacts.{Handed, begun, fromStart, nextContact}
-use Rattle.contact.specs.Judge.{Contact, judged}
+use Rattle.contact.specs.Contacts.{Handed, begin, fromStart, nextContact}
+use Rattle.contact.specs.Judge.{Contact, judge}
 use Rattle.group.specs.Distance.{distance}
 use Rattle.writer.specs.Write.{Writing, onto, write}
 use Rattle.abi.specs.Face.{returned, left, itself, asOne, told, whyNumber, foundNumber, foundPut}
@@ -51,19 +51,19 @@ demand1 = record {
   why-telegram = λ x y z r c. decided-of (λ (o : Received). pos (whyNumber o)) Given (telegramRules x y z) (telegram x y z) (c .1) (wording x y z);
   distance = λ by f r c. decided-of (returned itself) Given (row 15 (noDistance by f) ∷ []) (distance by f) (c .1) (measuring by f);
   find = λ b start len s t before r after c.
-      let e : r ≡ returned foundNumber (found b start len s t) =
-      c .7 .0 ∙ ap (λ (v : List ℕ). returned foundNumber (found v start len s t)) (c .4) in
-      decided-of (returned foundNumber) (Is (findReads b start len s t)) (findRules b start len s t) (found b start len s t) e (finding b start len s t);
+      let e : r ≡ returned foundNumber (find b start len s t) =
+      c .7 .0 ∙ ap (λ (v : List ℕ). returned foundNumber (find v start len s t)) (c .4) in
+      decided-of (returned foundNumber) (Is (findReads b start len s t)) (findRules b start len s t) (find b start len s t) e (finding b start len s t);
   begin = λ b start len before r after c.
-      let e : r ≡ returned begunNumber (begun b start len) = c .7 .0 ∙ ap (λ (v : List ℕ). returned begunNumber (begun v start len)) (c .4) in
-      decided-of (returned begunNumber) (Is (fromStart start len)) (row 5 (beyond b start len) ∷ []) (begun b start len) e (beginning b start len);
+      let e : r ≡ returned begunNumber (begin b start len) = c .7 .0 ∙ ap (λ (v : List ℕ). returned begunNumber (begin v start len)) (c .4) in
+      decided-of (returned begunNumber) (Is (fromStart start len)) (row 5 (beyond b start len) ∷ []) (begin b start len) e (beginning b start len);
   next-contact = λ b from before r moved after c.
       let e : r ≡ returned nextNumber (nextContact b (searchIn from)) =
       c .10 .0 ∙ ap₂ (λ (v w : List ℕ). returned nextNumber (nextContact v (searchIn w))) (c .5) (c .6) in
       decided-of (returned nextNumber) (NextReads b (searchIn from)) (nextRules b (searchIn from)) (nextContact b (searchIn from)) e (nexting b (searchIn from));
   judge = λ b start len s t before r after c.
-      let e : r ≡ returned judgedNumber (judged b start len s t) = c .7 .0 ∙ ap (λ (v : List ℕ). returned judgedNumber (judged v start len s t)) (c .4) in
-      decided-of (returned judgedNumber) (JudgeReads b start len s t) (judgeRules b start len s t) (judged b start len s t) e (judging b start len s t);
+      let e : r ≡ returned judgedNumber (judge b start len s t) = c .7 .0 ∙ ap (λ (v : List ℕ). returned judgedNumber (judge v start len s t)) (c .4) in
+      decided-of (returned judgedNumber) (JudgeReads b start len s t) (judgeRules b start len s t) (judge b start len s t) e (judging b start len s t);
   write-balise = λ x y z s t n before r after c.
       let e : r ≡ returned itself (write x y z s t n before .answer) =
       c .5 .0 ∙ ap (λ (v : List ℕ). returned itself (write x y z s t n v .answer)) (c .3) in
@@ -81,11 +81,11 @@ kept numberOf put o {before} e l refused = l ∙ left-as-it-was numberOf put o b
 pub untouched : Untouched
 untouched = record {
   find = λ b start len s t before r after c refused.
-      kept foundNumber foundPut (found b start len s t) (c .7 .0 ∙ ap (λ (v : List ℕ). returned foundNumber (found v start len s t)) (c .4))
-      (sym (c .6) ∙ c .7 .1 ∙ ap₂ (λ (v w : List ℕ). left foundPut (found v start len s t) w) (c .4) (c .5)) refused;
+      kept foundNumber foundPut (find b start len s t) (c .7 .0 ∙ ap (λ (v : List ℕ). returned foundNumber (find v start len s t)) (c .4))
+      (sym (c .6) ∙ c .7 .1 ∙ ap₂ (λ (v w : List ℕ). left foundPut (find v start len s t) w) (c .4) (c .5)) refused;
   begin = λ b start len before r after c refused.
-      kept begunNumber begunPut (begun b start len) (c .7 .0 ∙ ap (λ (v : List ℕ). returned begunNumber (begun v start len)) (c .4))
-      (sym (c .6) ∙ c .7 .1 ∙ ap₂ (λ (v w : List ℕ). left begunPut (begun v start len) w) (c .4) (c .5)) refused;
+      kept begunNumber begunPut (begin b start len) (c .7 .0 ∙ ap (λ (v : List ℕ). returned begunNumber (begin v start len)) (c .4))
+      (sym (c .6) ∙ c .7 .1 ∙ ap₂ (λ (v w : List ℕ). left begunPut (begin v start len) w) (c .4) (c .5)) refused;
   next-contact = λ b from before r moved after c refused.
       let o : Outcome Handed = nextContact b (searchIn from) in
       let e : r ≡ returned nextNumber o = c .10 .0 ∙ ap₂ (λ (v w : List ℕ). returned nextNumber (nextContact v (searchIn w))) (c .5) (c .6) in
@@ -96,8 +96,8 @@ untouched = record {
       ∙ ap₂ (λ (v w : List ℕ). left nextPut (nextContact v (searchIn w)) (now (c .3))) (c .5) (c .6) ∙ ap (λ (w : List ℕ). left nextPut o w) (c .7) in
       (kept nextNumber nextMoved o e m refused, kept nextNumber nextPut o e l refused);
   judge = λ b start len s t before r after c refused.
-      kept judgedNumber judgedPut (judged b start len s t) (c .7 .0 ∙ ap (λ (v : List ℕ). returned judgedNumber (judged v start len s t)) (c .4))
-      (sym (c .6) ∙ c .7 .1 ∙ ap₂ (λ (v w : List ℕ). left judgedPut (judged v start len s t) w) (c .4) (c .5)) refused;
+      kept judgedNumber judgedPut (judge b start len s t) (c .7 .0 ∙ ap (λ (v : List ℕ). returned judgedNumber (judge v start len s t)) (c .4))
+      (sym (c .6) ∙ c .7 .1 ∙ ap₂ (λ (v w : List ℕ). left judgedPut (judge v start len s t) w) (c .4) (c .5)) refused;
   write-balise = λ x y z s t n before r after c refused.
       let e : r ≡ returned itself (write x y z s t n before .answer) =
       c .5 .0 ∙ ap (λ (v : List ℕ). returned itself (write x y z s t n v .answer)) (c .3) in

@@ -19,14 +19,14 @@ use Rattle.telegram.specs.Survey.{sameWords, allAs}
 use Rattle.line.specs.Line.{OneBalise, Proper, placesOf}
 use Rattle.line.proofs.Places.{and-true, or-parts, or-left, or-right}
 use Rattle.line.proofs.Sent.{Sent, AllSent, read-as-sent}
-use Rattle.contact.specs.Judge.{read, marker, isMarker, judgement, judged}
+use Rattle.contact.specs.Judge.{read, marker, isMarker, judgement, judge}
 use Rattle.contact.specs.declared.Judged.{Judged}
 use Rattle.contact.proofs.Determined.{judgedOf, judged-back}
 use Rattle.heard.specs.Calls.{JudgeContact}
 
 -- What a call of `judge` answers is what is specified.
-pub judges : (b : List ℕ) (start len s t : ℕ) (a : Judged) → JudgeContact b start len s t a → a ≡ judgedOf (judged b start len s t)
-judges b start len s t a call = sym (judged-back a) ∙ ap judgedOf (call .4 ∙ ap (λ (v : List ℕ). judged v start len s t) (call .3))
+pub judges : (b : List ℕ) (start len s t : ℕ) (a : Judged) → JudgeContact b start len s t a → a ≡ judgedOf (judge b start len s t)
+judges b start len s t a call = sym (judged-back a) ∙ ap judgedOf (call .4 ∙ ap (λ (v : List ℕ). judge v start len s t) (call .3))
 
 -- Places that have the words sent are alike.
 all-alike : (o : OneBalise) (p : ℕ) → Sent o p → (ps : List ℕ) → ((q : ℕ) → among q ps ≡ true → Sent o q) → allAs (o .buffer) p ps ≡ true
@@ -44,8 +44,8 @@ all-alike o p here (q ∷ ps) all =
 
 -- A good pair and a stretch that is taken: the judgement is by the places.
 pub judged-taken : (b : List ℕ) (start len s t : ℕ) → isGood s t ≡ true → inside b start len ≡ true
-    → judged b start len s t ≡ judgement b start len (places b start len s t)
-unfolding judged
+    → judge b start len s t ≡ judgement b start len (places b start len s t)
+unfolding judge
 judged-taken b start len s t good taken =
     ap₂ (λ (g i : Bool). pick g (pick i (judgement b start len (places b start len s t)) (refuses 5)) (refuses 4)) good taken
 
@@ -71,7 +71,7 @@ read-so o proper every two a call = go (placesOf o) refl
         let here = sent p (or-left (among p ps) (eq-eqb p p refl)) in
         let alike = all-alike o p here ps (λ q there. sent q (or-right (eqb q p) there)) in
         let many : 2 ≤ length (p ∷ ps) = subst (λ (l : List ℕ). 2 ≤ length l) list two in
-        let is : judged b (o .start) (o .len) (o .s) (o .t) ≡ gives (read (gives (o .telegram)) p (length (p ∷ ps))) =
+        let is : judge b (o .start) (o .len) (o .s) (o .t) ≡ gives (read (gives (o .telegram)) p (length (p ∷ ps))) =
         judged-taken b (o .start) (o .len) (o .s) (o .t) (proper .pair) (proper .taken)
         ∙ ap (judgement b (o .start) (o .len)) list ∙ two-alike b (o .start) (o .len) p ps many alike
         ∙ ap (λ (r : Received). gives (read r p (length (p ∷ ps)))) (read-as-sent o proper p here) in

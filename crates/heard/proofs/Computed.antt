@@ -14,7 +14,7 @@ use Rattle.line.specs.Line.{OneBalise, Proper, Clean, sentBit, receivedBit, inS
 use Rattle.line.proofs.Sums.{unequal-same}
 use Rattle.line.proofs.Places.{and-parts}
 use Rattle.contact.specs.Contacts.{contact, quiet, contactsFrom, fromStart}
-use Rattle.contact.specs.Judge.{judged}
+use Rattle.contact.specs.Judge.{judge}
 use Rattle.contact.specs.declared.Search.{Search}
 use Rattle.contact.specs.declared.Judged.{Judged}
 use Rattle.contact.proofs.Determined.{judgedOf}
@@ -52,7 +52,7 @@ clean-computed o t j = go (leb (o .phase) j && ltb j (o .phase + o .len)) refl
 pub answered-so : (o : OneBalise) (from to skipped ones-in : ℕ) (then : Search) (r : Judged) → Proper o → Audible o → Pass o from to
     → skipped ≤ cutBits o + 47 → ones-in ≤ 11
     → contactsFrom (o .buffer) (fromStart from (to - from)) ≡ contact (o .start + skipped) (o .len + ones-in - skipped) then quiet
-    → judgedOf (judged (o .buffer) (o .start + skipped) (o .len + ones-in - skipped) (o .s) (o .t)) ≡ r → Answered o r
+    → judgedOf (judge (o .buffer) (o .start + skipped) (o .len + ones-in - skipped) (o .s) (o .t)) ≡ r → Answered o r
 answered-so o from to skipped ones-in then r proper audible pass low few is so =
     record {
       from = from;

@@ -15,7 +15,7 @@ use Rattle.telegram.specs.declared.Telegram.{Telegram}
 use Rattle.line.specs.Line.{OneBalise, Proper, sentBit}
 use Rattle.contact.specs.History.{after, zeroesOf, zeroes, opens, closes}
 use Rattle.contact.specs.Contacts.{contact, quiet, contacts, contactsFrom, fromStart}
-use Rattle.contact.specs.Judge.{onesAtEnd, allZero, isMarker, judgement, judged}
+use Rattle.contact.specs.Judge.{onesAtEnd, allZero, isMarker, judgement, judge}
 use Rattle.contact.specs.declared.Judged.{Judged}
 use Rattle.contact.proofs.Determined.{judgedOf}
 use Rattle.heard.specs.Zeroes.{zeroesSent, Audible}
@@ -64,8 +64,8 @@ zeroes-ahead-contact : contactsFrom (zeroes-ahead .buffer) (fromStart 0 232) ≡
 unfolding contactsFrom fromStart contacts inside after zeroesOf zeroes opens closes
 zeroes-ahead-contact = refl
 
-zeroes-ahead-judged : judgedOf (judged (zeroes-ahead .buffer) 23 196 (zeroes-ahead .s) (zeroes-ahead .t)) ≡ Judged.Differ
-unfolding judged judgement isMarker onesAtEnd allZero sameWords allAs isGood differing inside places those from isPlace areSyncs wordsAt bitsAt telegram shortWord longWord readWord isCode even count covers exchanged other word figure onwards isCheck
+zeroes-ahead-judged : judgedOf (judge (zeroes-ahead .buffer) 23 196 (zeroes-ahead .s) (zeroes-ahead .t)) ≡ Judged.Differ
+unfolding judge judgement isMarker onesAtEnd allZero sameWords allAs isGood differing inside places those from isPlace areSyncs wordsAt bitsAt telegram shortWord longWord readWord isCode even count covers exchanged other word figure onwards isCheck
 zeroes-ahead-judged = refl
 
 pub zeroes-ahead-answered : Answered zeroes-ahead (Judged.Differ)

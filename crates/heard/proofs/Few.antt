@@ -11,7 +11,7 @@ use Rattle.telegram.specs.Stretch.{inside}
 use Rattle.telegram.specs.Sync.{isGood}
 use Rattle.telegram.specs.Place.{places, from, those}
 use Rattle.telegram.specs.Survey.{allAs}
-use Rattle.contact.specs.Judge.{marker, isMarker, judgement, judged}
+use Rattle.contact.specs.Judge.{marker, isMarker, judgement, judge}
 use Rattle.heard.proofs.Alike.{judged-taken}
 
 module _ (test : ℕ → Bool) where
@@ -49,5 +49,5 @@ module _ (b : List ℕ) (start len s t : ℕ) where
 
   -- With at most one place it is a marker, or refused with 8.
   pub few-judged : isGood s t ≡ true → inside b start len ≡ true → length (places b start len s t) ≤ 1
-      → judged b start len s t ≡ pick (isMarker b start len) (gives marker) (refuses 8)
+      → judge b start len s t ≡ pick (isMarker b start len) (gives marker) (refuses 8)
   few-judged good taken few = judged-taken b start len s t good taken ∙ of-few (places b start len s t) few

@@ -15,7 +15,7 @@ use Rattle.telegram.specs.declared.Telegram.{Telegram}
 use Rattle.line.specs.Line.{OneBalise, Proper, sentBit}
 use Rattle.contact.specs.History.{after, zeroesOf, zeroes, opens, closes}
 use Rattle.contact.specs.Contacts.{contact, quiet, contacts, contactsFrom, fromStart}
-use Rattle.contact.specs.Judge.{onesAtEnd, allZero, isMarker, judgement, judged}
+use Rattle.contact.specs.Judge.{onesAtEnd, allZero, isMarker, judgement, judge}
 use Rattle.contact.specs.declared.Judged.{Judged}
 use Rattle.contact.proofs.Determined.{judgedOf}
 use Rattle.heard.specs.Zeroes.{zeroesSent, Audible}
@@ -66,8 +66,8 @@ short-contact : contactsFrom (short .buffer) (fromStart 0 200) ≡ contact 80 10
 unfolding contactsFrom fromStart contacts inside after zeroesOf zeroes opens closes
 short-contact = refl
 
-short-judged : judgedOf (judged (short .buffer) 80 106 (short .s) (short .t)) ≡ Judged.Neither
-unfolding judged judgement isMarker onesAtEnd allZero sameWords allAs isGood differing inside places those from isPlace areSyncs wordsAt bitsAt telegram shortWord longWord readWord isCode even count covers exchanged other word figure onwards isCheck
+short-judged : judgedOf (judge (short .buffer) 80 106 (short .s) (short .t)) ≡ Judged.Neither
+unfolding judge judgement isMarker onesAtEnd allZero sameWords allAs isGood differing inside places those from isPlace areSyncs wordsAt bitsAt telegram shortWord longWord readWord isCode even count covers exchanged other word figure onwards isCheck
 short-judged = refl
 
 pub short-answered : Answered short (Judged.Neither)

@@ -19,7 +19,7 @@ use Rattle.line.proofs.TooFew.{few-flips-few}
 use Rattle.line.proofs.Stretch.{place-sent}
 use Rattle.line.proofs.Clean.{clean-few}
 use Rattle.contact.specs.Contacts.{Contacts, contact, quiet, refused}
-use Rattle.contact.specs.Judge.{Contact, marker, isMarker, judged}
+use Rattle.contact.specs.Judge.{Contact, marker, isMarker, judge}
 use Rattle.contact.specs.declared.Judged.{Judged}
 use Rattle.contact.proofs.Determined.{judgedOf}
 use Rattle.heard.specs.Calls.{JudgeContact}

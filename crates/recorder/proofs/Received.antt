@@ -21,15 +21,15 @@ use Rattle.telegram.specs.Place.{wordsAt, places}
 use Rattle.telegram.specs.declared.Telegram.{Telegram}
 use Rattle.telegram.specs.declared.Word.{Word}
 use Rattle.telegram.proofs.Window.{bits-lt}
-use Rattle.contact.specs.Judge.{allAlike, firstPlace, isMarker, Contact, read, marker, judgement, judged}
+use Rattle.contact.specs.Judge.{allAlike, firstPlace, isMarker, Contact, read, marker, judgement, judge}
 use Rattle.contact.specs.declared.Judged.{Judged}
-use Rattle.writer.specs.Words.{Words, asked, tooLarge, hasFifteen, wordsOf, spelt}
+use Rattle.writer.specs.Words.{Words, asked, tooLarge, hasFifteen, wordsOf, spell}
 use Rattle.recorder.specs.Record.{Content, telegramOf, informed, contentOf, bytesOf, atOdometer, recordOf}
 use Rattle.recorder.specs.Received.{AsReceived}
 
 -- A reading says what the words at its first place say.
-pub place-words : (b : List ℕ) (start len s t : ℕ) (m : Telegram) (first count : ℕ) → judged b start len s t ≡ gives (read (gives m) first count) → wordsAt b first ≡ gives m
-unfolding judged judgement
+pub place-words : (b : List ℕ) (start len s t : ℕ) (m : Telegram) (first count : ℕ) → judge b start len s t ≡ gives (read (gives m) first count) → wordsAt b first ≡ gives m
+unfolding judge judgement
 place-words b start len s t m first count = go (isGood s t) (inside b start len) (leb 2 (length ps) && allAlike b ps) (not (allAlike b ps)) (isMarker b start len)
   where
     ps : List ℕ
@@ -83,52 +83,52 @@ module _ (x y z : ℕ) (x-low : x < 256) (y-low : y < 256) (z-low : z < 256) whe
   abbrev three : Words
   three = record { x = x; y = y; z = z }
 
-  figures-spelt : (a b c : ℕ) → eqb a 12 ≡ false → Short x a → Short y b → Short z c → spelt (telegramOf (Telegram.Figures a b c)) ≡ gives three
-  unfolding asked spelt tooLarge hasFifteen wordsOf
+  figures-spelt : (a b c : ℕ) → eqb a 12 ≡ false → Short x a → Short y b → Short z c → spell (telegramOf (Telegram.Figures a b c)) ≡ gives three
+  unfolding asked spell tooLarge hasFifteen wordsOf
   figures-spelt a b c other p q r =
       simp (other, p .small, q .small, r .small, p .not-fifteen, q .not-fifteen, r .not-fifteen, p .is, q .is, r .is)
 
-  number-spelt : (n : ℕ) → Short x 12 → longWord y z ≡ gives n → spelt (telegramOf (Telegram.Number n)) ≡ gives three
-  unfolding longWord spelt tooLarge hasFifteen wordsOf
+  number-spelt : (n : ℕ) → Short x 12 → longWord y z ≡ gives n → spell (telegramOf (Telegram.Number n)) ≡ gives three
+  unfolding longWord spell tooLarge hasFifteen wordsOf
   number-spelt n p e =
       let whole : sent 16 n ≡ y * 256 + z = writes-back long (y * 256 + z) n (omega arith) e in
       let high : sent 16 n / 256 ≡ y = omega arith in
       let low : sent 16 n % 256 ≡ z = omega arith in
       simp (long-small (y * 256 + z) n e, p .is, high, low)
 
-  spelt-back : (m : Telegram) → telegram x y z ≡ gives m → spelt (telegramOf m) ≡ gives three
+  spelt-back : (m : Telegram) → telegram x y z ≡ gives m → spell (telegramOf m) ≡ gives three
   unfolding telegram
   spelt-back m = first (shortWord x) refl
     where
       last : (a b : ℕ) → eqb a 12 ≡ false → Short x a → Short y b → (o : Answer Why ℕ) → shortWord z ≡ o
-          → then (named Word.Z o) (λ c. gives (Telegram.Figures a b c)) ≡ gives m → spelt (telegramOf m) ≡ gives three
+          → then (named Word.Z o) (λ c. gives (Telegram.Figures a b c)) ≡ gives m → spell (telegramOf m) ≡ gives three
       last a b other p q (refuses k) is e = absurd (let z : _≡_ {A = ℕ} 0 1 = cc in omega arith)
       last a b other p q (gives c) is e =
           let same : Telegram.Figures a b c ≡ m = cc in
-          ap (λ (t : Telegram). spelt (telegramOf t)) (sym same) ∙ figures-spelt a b c other p q (of-short z c z-low is)
+          ap (λ (t : Telegram). spell (telegramOf t)) (sym same) ∙ figures-spelt a b c other p q (of-short z c z-low is)
 
       middle : (a : ℕ) → eqb a 12 ≡ false → Short x a → (o : Answer Why ℕ) → shortWord y ≡ o
-          → then (named Word.Y o) (λ b. then (named Word.Z (shortWord z)) (λ c. gives (Telegram.Figures a b c))) ≡ gives m → spelt (telegramOf m) ≡ gives three
+          → then (named Word.Y o) (λ b. then (named Word.Z (shortWord z)) (λ c. gives (Telegram.Figures a b c))) ≡ gives m → spell (telegramOf m) ≡ gives three
       middle a other p (refuses k) is e = absurd (let z : _≡_ {A = ℕ} 0 1 = cc in omega arith)
       middle a other p (gives b) is e = last a b other p (of-short y b y-low is) (shortWord z) refl e
 
-      number : Short x 12 → (o : Answer Why ℕ) → longWord y z ≡ o → then (named Word.YZ o) (λ n. gives (Telegram.Number n)) ≡ gives m → spelt (telegramOf m) ≡ gives three
+      number : Short x 12 → (o : Answer Why ℕ) → longWord y z ≡ o → then (named Word.YZ o) (λ n. gives (Telegram.Number n)) ≡ gives m → spell (telegramOf m) ≡ gives three
       number p (refuses k) is e = absurd (let z : _≡_ {A = ℕ} 0 1 = cc in omega arith)
       number p (gives n) is e =
           let same : Telegram.Number n ≡ m = cc in
-          ap (λ (t : Telegram). spelt (telegramOf t)) (sym same) ∙ number-spelt n p is
+          ap (λ (t : Telegram). spell (telegramOf t)) (sym same) ∙ number-spelt n p is
 
       by : (a : ℕ) (t : Bool) → eqb a 12 ≡ t → Short x a
           → pick t (then (named Word.YZ (longWord y z)) (λ n. gives (Telegram.Number n)))
           (then (named Word.Y (shortWord y)) (λ b. then (named Word.Z (shortWord z)) (λ c. gives (Telegram.Figures a b c)))) ≡ gives m
-          → spelt (telegramOf m) ≡ gives three
+          → spell (telegramOf m) ≡ gives three
       by a true is p e = number (subst (Short x) (eqb-true a 12 is) p) (longWord y z) refl e
       by a false is p e = middle a is p (shortWord y) refl e
 
       first : (o : Answer Why ℕ) → shortWord x ≡ o
           → then (named Word.X o) (λ a. pick (eqb a 12) (then (named Word.YZ (longWord y z)) (λ n. gives (Telegram.Number n)))
           (then (named Word.Y (shortWord y)) (λ b. then (named Word.Z (shortWord z)) (λ c. gives (Telegram.Figures a b c))))) ≡ gives m
-          → spelt (telegramOf m) ≡ gives three
+          → spell (telegramOf m) ≡ gives three
       first (refuses k) is e = absurd (let z : _≡_ {A = ℕ} 0 1 = cc in omega arith)
       first (gives a) is e = by a (eqb a 12) refl (of-short x a x-low is) e
 

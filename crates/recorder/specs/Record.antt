@@ -7,7 +7,7 @@ use lib.Dec.{ltb}
 use Rattle.words.specs.Answer.{Outcome, gives, refuses, then, pick}
 use Rattle.telegram.specs.declared.Telegram.{Telegram}
 use Rattle.contact.specs.declared.Judged.{Judged}
-use Rattle.writer.specs.Words.{Words, asked, spelt}
+use Rattle.writer.specs.Words.{Words, asked, spell}
 
 -- What a record says beyond its odometer: its kind and the words X, Y and Z.
 pub record Content : Type 0 where
@@ -32,7 +32,7 @@ blank kind = record { kind = kind; x = 0; y = 0; z = 0 }
 
 -- What a judged contact is kept as: a reading as information, a marker as one, refusals 7 and 8 as unreadable; 4 and 5 are handed on.
 unfoldable pub contentOf : Judged → Outcome Content
-contentOf (Judged.Read t first count) = informed (spelt (telegramOf t))
+contentOf (Judged.Read t first count) = informed (spell (telegramOf t))
 contentOf Judged.Marker = gives (blank 1)
 contentOf Judged.Differ = gives (blank 2)
 contentOf Judged.Neither = gives (blank 2)

@@ -1,7 +1,7 @@
 // What a record says beyond its odometer, and its eight bytes.
 ghost use mathlib.Core.Path.{_≡_};
 ghost use Rattle.words.specs.Answer.{gives};
-ghost use Rattle.writer.specs.Words.{spelt};
+ghost use Rattle.writer.specs.Words.{spell};
 ghost use Rattle.writer.specs.Says.{saysSpelt};
 ghost use Rattle.recorder.specs.Record.{telegramOf, informed, blank, contentOf, atOdometer, eightZeroes, recording};
 ghost use Rattle.recorder.specs.Says.{saysKept, saysWent, saysRecorded};
@@ -22,7 +22,7 @@ pub enum Kept {
 
 // The words that were received where this telegram was read.
 fn words_of(telegram: Telegram) -> Spelt
-    ensures { λ r. ⌜ saysSpelt r ≡ spelt (telegramOf telegram) ⌝ }
+    ensures { λ r. ⌜ saysSpelt r ≡ spell (telegramOf telegram) ⌝ }
 {
     match telegram {
         Telegram::Figures(x, y, z) => writer::spell(x, y as u16, z),
@@ -32,7 +32,7 @@ fn words_of(telegram: Telegram) -> Spelt
 
 // A reading: kind 0, with its words.
 fn as_information(telegram: Telegram) -> Kept
-    ensures { λ r. ⌜ saysKept r ≡ informed (spelt (telegramOf telegram)) ⌝ }
+    ensures { λ r. ⌜ saysKept r ≡ informed (spell (telegramOf telegram)) ⌝ }
 {
     let spelt = words_of(telegram);
     match spelt {

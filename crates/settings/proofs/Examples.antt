@@ -6,12 +6,12 @@ use mathlib.Core.Bool.{true, false}
 use mathlib.Core.List.{List, [], _∷_}
 use lib.ListN.{replicate}
 use Rattle.words.specs.Answer.{Outcome, gives, refuses}
-use Rattle.telegram.specs.Sync.{differing, isGood, pairOf}
+use Rattle.telegram.specs.Sync.{differing, isGood, goodPair}
 use Rattle.settings.specs.declared.Version.{Version}
 use Rattle.settings.specs.declared.Store.{Store}
 use Rattle.settings.specs.declared.Held.{Held}
 use Rattle.settings.specs.Versions.{allowed, kept, settingsOf, follows}
-use Rattle.settings.specs.Store.{noVersion, noStore, versionsOf, opened, begun, allFollow, inOrder, judged, withOne, mayAdd, added}
+use Rattle.settings.specs.Store.{noVersion, noStore, versionsOf, opened, begin, allFollow, inOrder, judged, withOne, mayAdd, add}
 use Rattle.settings.specs.At.{heldFrom, heldAt, gapAt, asked}
 
 -- "The gap is a setting, 1 to 200 dm."
@@ -33,41 +33,41 @@ version place gap s t = record { place = place; gap = gap; s = s; t = t }
 
 -- Gap 40 from 0 on, and gap 60 with another pair from 5000 on.
 abbrev two : Store
-two = added (begun 40 0x00 0x7F .store) (version 5000 60 0xFF 0x01) .store
+two = add (begin 40 0x00 0x7F .store) (version 5000 60 0xFF 0x01) .store
 
 first-held : asked two 4999 ≡ gives (record { gap = 40; s = 0x00; t = 0x7F; from = 0; until = 5000 })
-unfolding differing isGood pairOf settingsOf follows noStore versionsOf opened begun allFollow inOrder judged withOne mayAdd added heldFrom heldAt asked
+unfolding differing isGood goodPair settingsOf follows noStore versionsOf opened begin allFollow inOrder judged withOne mayAdd add heldFrom heldAt asked
 first-held = refl
 
 -- "in force from a stated odometer place": that place included.
 second-held : asked two 5000 ≡ gives (record { gap = 60; s = 0xFF; t = 0x01; from = 5000; until = 4000000001 })
-unfolding differing isGood pairOf settingsOf follows noStore versionsOf opened begun allFollow inOrder judged withOne mayAdd added heldFrom heldAt asked
+unfolding differing isGood goodPair settingsOf follows noStore versionsOf opened begin allFollow inOrder judged withOne mayAdd add heldFrom heldAt asked
 second-held = refl
 
 at-the-highest : asked two 4000000000 ≡ gives (record { gap = 60; s = 0xFF; t = 0x01; from = 5000; until = 4000000001 })
-unfolding differing isGood pairOf settingsOf follows noStore versionsOf opened begun allFollow inOrder judged withOne mayAdd added heldFrom heldAt asked
+unfolding differing isGood goodPair settingsOf follows noStore versionsOf opened begin allFollow inOrder judged withOne mayAdd add heldFrom heldAt asked
 at-the-highest = refl
 
 beyond-it : asked two 4000000001 ≡ refuses 18
-unfolding differing isGood pairOf settingsOf follows noStore versionsOf opened begun allFollow inOrder judged withOne mayAdd added heldFrom heldAt asked
+unfolding differing isGood goodPair settingsOf follows noStore versionsOf opened begin allFollow inOrder judged withOne mayAdd add heldFrom heldAt asked
 beyond-it = refl
 
 -- ---- refusals: 4 and 19, then 18, then 24, each before those that follow
 
 bad-pair : mayAdd two (version 4000000001 0 0x00 0x00) ≡ refuses 4
-unfolding differing isGood pairOf settingsOf follows noStore versionsOf opened begun allFollow inOrder judged withOne mayAdd added
+unfolding differing isGood goodPair settingsOf follows noStore versionsOf opened begin allFollow inOrder judged withOne mayAdd add
 bad-pair = refl
 
 bad-gap : mayAdd two (version 4000000001 201 0x00 0x7F) ≡ refuses 19
-unfolding differing isGood pairOf settingsOf follows noStore versionsOf opened begun allFollow inOrder judged withOne mayAdd added
+unfolding differing isGood goodPair settingsOf follows noStore versionsOf opened begin allFollow inOrder judged withOne mayAdd add
 bad-gap = refl
 
 bad-place : mayAdd two (version 4000000001 200 0x00 0x7F) ≡ refuses 18
-unfolding differing isGood pairOf settingsOf follows noStore versionsOf opened begun allFollow inOrder judged withOne mayAdd added
+unfolding differing isGood goodPair settingsOf follows noStore versionsOf opened begin allFollow inOrder judged withOne mayAdd add
 bad-place = refl
 
 not-above : mayAdd two (version 5000 200 0x00 0x7F) ≡ refuses 24
-unfolding differing isGood pairOf settingsOf follows noStore versionsOf opened begun allFollow inOrder judged withOne mayAdd added
+unfolding differing isGood goodPair settingsOf follows noStore versionsOf opened begin allFollow inOrder judged withOne mayAdd add
 not-above = refl
 
 -- ---- lent stores that no call made
@@ -78,11 +78,11 @@ rising place Prim.Native.Nat.zero = []
 rising place (Prim.Native.Nat.suc n) = version place 40 0x00 0x7F ∷ rising (Prim.Native.Nat.suc place) n
 
 full : judged (record { versions = rising 0 32; count = 32 }) ≡ gives kept
-unfolding differing isGood pairOf settingsOf follows versionsOf allFollow inOrder judged
+unfolding differing isGood goodPair settingsOf follows versionsOf allFollow inOrder judged
 full = refl
 
 one-too-many : mayAdd (record { versions = rising 0 32; count = 32 }) (version 32 40 0x00 0x7F) ≡ refuses 25
-unfolding differing isGood pairOf settingsOf follows versionsOf allFollow inOrder judged mayAdd
+unfolding differing isGood goodPair settingsOf follows versionsOf allFollow inOrder judged mayAdd
 one-too-many = refl
 
 above-32 : judged (record { versions = rising 0 32; count = 33 }) ≡ refuses 25
@@ -94,9 +94,9 @@ unfolding noStore versionsOf inOrder judged
 empty = refl
 
 late-start : judged (record { versions = rising 1 32; count = 2 }) ≡ refuses 24
-unfolding differing isGood pairOf settingsOf follows versionsOf allFollow inOrder judged
+unfolding differing isGood goodPair settingsOf follows versionsOf allFollow inOrder judged
 late-start = refl
 
 same-place : judged (record { versions = version 0 40 0x00 0x7F ∷ replicate 31 (version 7 40 0x00 0x7F); count = 3 }) ≡ refuses 24
-unfolding differing isGood pairOf settingsOf follows versionsOf allFollow inOrder judged
+unfolding differing isGood goodPair settingsOf follows versionsOf allFollow inOrder judged
 same-place = refl

@@ -8,7 +8,7 @@ use native.Mathlib.Omega.{arith}
 use borrow.Author.Tests.{leb-false, ltb-false}
 use lib.Dec.{leb, ltb}
 use Rattle.words.specs.Answer.{Outcome, gives, refuses, pick}
-use Rattle.telegram.specs.Sync.{pairOf}
+use Rattle.telegram.specs.Sync.{goodPair}
 use Rattle.settings.specs.declared.Version.{Version}
 use Rattle.settings.specs.Versions.{then, allowed, highest, Kept, kept, settingsOf, follows}
 use Rattle.settings.specs.Store.{allFollow}
@@ -57,4 +57,4 @@ gap-by false (gives g) h = never _ kept 19 h
 
 pub gap-good : (gap s t : ℕ) → settingsOf gap s t ≡ gives kept → allowed gap ≡ true
 unfolding settingsOf
-gap-good gap s t h = gap-by (allowed gap) (pairOf s t) h
+gap-good gap s t h = gap-by (allowed gap) (goodPair s t) h

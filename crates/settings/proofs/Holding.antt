@@ -14,7 +14,7 @@ use Rattle.settings.specs.declared.Store.{Store}
 use Rattle.settings.specs.declared.Held.{Held}
 use Rattle.settings.specs.Versions.{then, allowed, highest, Kept, kept, settingsOf, follows}
 use Rattle.settings.specs.Store.{versionsOf, allFollow, inOrder, judged}
-use Rattle.settings.specs.At.{ending, holds, heldFrom, heldAmong, heldAt, gapAt, asked, leaves, heldOr, heldOn, heldFor}
+use Rattle.settings.specs.At.{ending, holds, heldFrom, heldAmong, heldAt, gapAt, asked, leaves, heldOr, hold, heldFor}
 use Rattle.settings.proofs.Counts.{in-order}
 use Rattle.settings.proofs.Following.{never, same, first-kept, Next, follow-split, gap-good}
 
@@ -114,8 +114,8 @@ asked-by : (b : Bool) (store : Store) (held : Held) (place : ℕ) → ltb highes
 asked-by true store held place e h hold = hold
 asked-by false store held place e h hold = holding-at store place h
 
-keeps-by : (b : Bool) (store : Store) (held : Held) (place : ℕ) → judged store ≡ gives kept → Holding store held → Holding store (pick b (heldOn store held place) held)
-unfolding heldOn asked
+keeps-by : (b : Bool) (store : Store) (held : Held) (place : ℕ) → judged store ≡ gives kept → Holding store held → Holding store (pick b (hold store held place) held)
+unfolding hold asked
 keeps-by true store held place h hold = rw h (asked-by (ltb highest place) store held place refl h hold)
 keeps-by false store held place h hold = hold
 
@@ -131,8 +131,8 @@ within false true held place eb ec h = absurd (let z : _≡_ {A = ℕ} 0 1 = cc 
 within false false held place eb ec h = (ltb-false place (held .from) eb, leb-false (held .until) place ec)
 
 gap-by-asking : (b : Bool) (store : Store) (held : Held) (place : ℕ) → leaves held place ≡ b → judged store ≡ gives kept → Holding store held → ltb highest place ≡ false
-    → pick b (heldOn store held place) held ≡ heldAt store place
-unfolding leaves heldOn asked
+    → pick b (hold store held place) held ≡ heldAt store place
+unfolding leaves hold asked
 gap-by-asking true store held place e h hold low = rw (h, low)
 gap-by-asking false store held place e h hold low =
     let w = within (ltb place (held .from)) (leb (held .until) place) held place refl refl e in
@@ -145,7 +145,7 @@ unfolding heldFor
 held-is store held place h hold low = gap-by-asking (leaves held place) store held place refl h hold low
 
 -- A store that was asked, and one that was not.
-pub asked-for : (store : Store) (held next : Held) (place : ℕ) → leaves held place ≡ true → next ≡ heldOn store held place → next ≡ heldFor store held place
+pub asked-for : (store : Store) (held next : Held) (place : ℕ) → leaves held place ≡ true → next ≡ hold store held place → next ≡ heldFor store held place
 unfolding heldFor
 asked-for store held next place e h = rw e h
 

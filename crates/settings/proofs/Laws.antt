@@ -12,7 +12,7 @@ use Rattle.settings.specs.declared.Version.{Version}
 use Rattle.settings.specs.declared.Store.{Store}
 use Rattle.settings.specs.declared.Held.{Held}
 use Rattle.settings.specs.Versions.{then, highest, Kept, kept, settingsOf}
-use Rattle.settings.specs.Store.{noVersion, noStore, versionsOf, firstOf, opened, openedIf, begun, allFollow, inOrder, judged, withOne, mayAdd, addedIf, added, Change}
+use Rattle.settings.specs.Store.{noVersion, noStore, versionsOf, firstOf, opened, openedIf, begin, allFollow, inOrder, judged, withOne, mayAdd, addedIf, add, Change}
 use Rattle.settings.specs.At.{ending, holds, heldFrom, heldAmong, heldAt, asked}
 use Rattle.settings.specs.Laws.{versionAt, versionIn, answer, InForce, Settings}
 use Rattle.settings.proofs.Counts.{at-most, in-order}
@@ -101,8 +101,8 @@ first-good : (gap s t : ℕ) → settingsOf gap s t ≡ gives kept → judged (o
 unfolding judged versionsOf opened noStore inOrder allFollow
 first-good gap s t e = rw e
 
-begun-good : (gap s t : ℕ) → begun gap s t .answer ≡ gives kept → judged (begun gap s t .store) ≡ gives kept
-unfolding begun
+begun-good : (gap s t : ℕ) → begin gap s t .answer ≡ gives kept → judged (begin gap s t .store) ≡ gives kept
+unfolding begin
 begun-good gap s t e =
     let good : settingsOf gap s t ≡ gives kept = open-by (firstOf gap s t) (settingsOf gap s t) e in
     ap (λ (o : Outcome Kept). judged (openedIf (firstOf gap s t) o .store)) good ∙ first-good gap s t good
@@ -111,32 +111,32 @@ add-by : (store : Store) (v : Version) (o : Outcome Kept) → addedIf store v o 
 add-by store v (gives k) e = e
 add-by store v (refuses n) e = never _ kept n e
 
-may : (store : Store) (v : Version) → added store v .answer ≡ gives kept → mayAdd store v ≡ gives kept
-unfolding added
+may : (store : Store) (v : Version) → add store v .answer ≡ gives kept → mayAdd store v ≡ gives kept
+unfolding add
 may store v e = add-by store v (mayAdd store v) e
 
-added-is : (store : Store) (v : Version) → mayAdd store v ≡ gives kept → added store v .store ≡ withOne store v
-unfolding added
+added-is : (store : Store) (v : Version) → mayAdd store v ≡ gives kept → add store v .store ≡ withOne store v
+unfolding add
 added-is store v e = ap (λ (o : Outcome Kept). addedIf store v o .store) e
 
-module _ (store : Store) (v : Version) (long : length (store .versions) ≡ 32) (did : added store v .answer ≡ gives kept) where
-  good : judged (added store v .store) ≡ gives kept
+module _ (store : Store) (v : Version) (long : length (store .versions) ≡ 32) (did : add store v .answer ≡ gives kept) where
+  good : judged (add store v .store) ≡ gives kept
   good = ap judged (added-is store v (may store v did)) ∙ still-good store v long (may store v did)
 
-  asked-then : (place : ℕ) → place ≤ highest → answer (asked (added store v .store) place) ≡ gives (versionIn (heldAmong (versionsOf (withOne store v)) place))
+  asked-then : (place : ℕ) → place ≤ highest → answer (asked (add store v .store) place) ≡ gives (versionIn (heldAmong (versionsOf (withOne store v)) place))
   unfolding heldAt
   asked-then place e =
-      ap answer (asked-good (added store v .store) place good e)
+      ap answer (asked-good (add store v .store) place good e)
       ∙ ap (λ (s : Store). gives (versionIn (heldAmong (versionsOf s) place))) (added-is store v (may store v did))
 
-  same-below : (place : ℕ) → place < v .place → answer (asked (added store v .store) place) ≡ answer (asked store place)
+  same-below : (place : ℕ) → place < v .place → answer (asked (add store v .store) place) ≡ answer (asked store place)
   unfolding heldAt
   same-below place h =
       let inside : place ≤ highest = omega (arith, place-within store v long (may store v did)) in
       asked-then place inside ∙ ap gives (below-added store v long (may store v did) place h)
       ∙ sym (ap answer (asked-good store place (was-good store v long (may store v did)) inside))
 
-  new-from : (place : ℕ) → v .place ≤ place → place ≤ highest → answer (asked (added store v .store) place) ≡ gives v
+  new-from : (place : ℕ) → v .place ≤ place → place ≤ highest → answer (asked (add store v .store) place) ≡ gives v
   new-from place h e = asked-then place e ∙ ap (λ (held : Held). gives (versionIn held)) (from-added store v long (may store v did) place h)
 
 pub settings : Settings

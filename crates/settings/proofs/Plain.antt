@@ -6,26 +6,26 @@ use mathlib.Core.Bool.{true, false}
 use lib.Dec.{leb}
 use Rattle.words.specs.Answer.{Outcome, gives, refuses}
 use Rattle.words.specs.Bits.{bit}
-use Rattle.telegram.specs.Sync.{differing, isGood, pairOf}
+use Rattle.telegram.specs.Sync.{differing, isGood, goodPair}
 use Rattle.settings.specs.declared.Store.{Store}
 use Rattle.settings.specs.Versions.{allowed, Kept, kept, settingsOf}
-use Rattle.settings.specs.Store.{noStore, versionsOf, firstOf, opened, openedIf, begun, plain, allFollow, inOrder, judged}
+use Rattle.settings.specs.Store.{noStore, versionsOf, firstOf, opened, openedIf, begin, plain, allFollow, inOrder, judged}
 use Rattle.settings.specs.At.{heldFrom, heldAt, gapAt}
 
 pair-good : (gap : ℕ) → allowed gap ≡ true → settingsOf gap 0x00 0x7F ≡ gives kept
-unfolding settingsOf pairOf isGood differing
+unfolding settingsOf goodPair isGood differing
 pair-good gap e = rw e
 
 gap-bad : (gap : ℕ) → allowed gap ≡ false → settingsOf gap 0x00 0x7F ≡ refuses 19
-unfolding settingsOf pairOf isGood differing
+unfolding settingsOf goodPair isGood differing
 gap-bad gap e = rw e
 
 pub plain-is : (gap : ℕ) → allowed gap ≡ true → plain gap ≡ opened (firstOf gap 0x00 0x7F)
-unfolding begun
+unfolding begin
 plain-is gap e = ap (λ (o : Outcome Kept). openedIf (firstOf gap 0x00 0x7F) o .store) (pair-good gap e)
 
 none-is : (gap : ℕ) → allowed gap ≡ false → plain gap ≡ noStore
-unfolding begun
+unfolding begin
 none-is gap e = ap (λ (o : Outcome Kept). openedIf (firstOf gap 0x00 0x7F) o .store) (gap-bad gap e)
 
 opened-good : (gap : ℕ) → allowed gap ≡ true → judged (opened (firstOf gap 0x00 0x7F)) ≡ gives kept

@@ -57,9 +57,9 @@ heldOr held (gives next) = next
 heldOr held (refuses n) = held
 
 -- The settings to hold at a place that was asked for.
-unfoldable pub heldOn : Store → Held → ℕ → Held
-heldOn store held place = heldOr held (asked store place)
+unfoldable pub hold : Store → Held → ℕ → Held
+hold store held place = heldOr held (asked store place)
 
 -- Going over many places, the settings to hold at the next one: the store is asked only where it lies outside those of the held ones.
 unfoldable pub heldFor : Store → Held → ℕ → Held
-heldFor store held place = pick (leaves held place) (heldOn store held place) held
+heldFor store held place = pick (leaves held place) (hold store held place) held

@@ -8,7 +8,7 @@ use Rattle.settings.specs.declared.Version.{Version}
 use Rattle.settings.specs.declared.Store.{Store}
 use Rattle.settings.specs.declared.Held.{Held}
 use Rattle.settings.specs.Versions.{then, highest, Kept, kept}
-use Rattle.settings.specs.Store.{noVersion, begun, judged, mayAdd, added, Change}
+use Rattle.settings.specs.Store.{noVersion, begin, judged, mayAdd, add, Change}
 use Rattle.settings.specs.At.{asked}
 
 -- Version i of a store, the first at 0.
@@ -34,9 +34,9 @@ pub record InForce (store : Store) (place : ℕ) (held : Held) : Type 0 where
 -- The laws of the settings. A store's array has 32 places, as the type says.
 pub record Settings : Type 0 where
   -- "A store is opened with its first version, at place 0, so it is never empty."
-  pub opened-good : (gap s t : ℕ) → begun gap s t .answer ≡ gives kept → judged (begun gap s t .store) ≡ gives kept
+  pub opened-good : (gap s t : ℕ) → begin gap s t .answer ≡ gives kept → judged (begin gap s t .store) ≡ gives kept
   -- "Versions are added in rising place order": what is added to leaves a store without a fault.
-  pub added-good : (store : Store) (v : Version) → length (store .versions) ≡ 32 → added store v .answer ≡ gives kept → judged (added store v .store) ≡ gives kept
+  pub added-good : (store : Store) (v : Version) → length (store .versions) ≡ 32 → add store v .answer ≡ gives kept → judged (add store v .store) ≡ gives kept
   -- "Any place up to 4,000,000,000 can be asked"
   pub any-place : (store : Store) (place : ℕ) → judged store ≡ gives kept → place ≤ highest → (held : Held) × (asked store place ≡ gives held)
   -- "and answers with the version in force there": the one with the highest place not above the asked one.
@@ -45,7 +45,7 @@ pub record Settings : Type 0 where
   pub from-there : (store : Store) (place : ℕ) (held : Held) → asked store place ≡ gives held → (held .from ≤ place) × (place < held .until)
   pub until-there : (store : Store) (place other : ℕ) (held : Held) → asked store place ≡ gives held → held .from ≤ other → other < held .until → asked store other ≡ gives held
   -- "never altered": adding changes no answer below the added place, and from it on the added version is in force.
-  pub same-below : (store : Store) (v : Version) (place : ℕ) → length (store .versions) ≡ 32 → added store v .answer ≡ gives kept → place < v .place
-      → answer (asked (added store v .store) place) ≡ answer (asked store place)
-  pub new-from : (store : Store) (v : Version) (place : ℕ) → length (store .versions) ≡ 32 → added store v .answer ≡ gives kept → v .place ≤ place → place ≤ highest
-      → answer (asked (added store v .store) place) ≡ gives v
+  pub same-below : (store : Store) (v : Version) (place : ℕ) → length (store .versions) ≡ 32 → add store v .answer ≡ gives kept → place < v .place
+      → answer (asked (add store v .store) place) ≡ answer (asked store place)
+  pub new-from : (store : Store) (v : Version) (place : ℕ) → length (store .versions) ≡ 32 → add store v .answer ≡ gives kept → v .place ≤ place → place ≤ highest
+      → answer (asked (add store v .store) place) ≡ gives v

@@ -44,12 +44,12 @@ openedIf v (gives k) = record { answer = gives k; store = opened v }
 openedIf v (refuses n) = record { answer = refuses n; store = noStore }
 
 -- Opening a store: "4 and 19 for the settings".
-unfoldable pub begun : ℕ → ℕ → ℕ → Change
-begun gap s t = openedIf (firstOf gap s t) (settingsOf gap s t)
+unfoldable pub begin : ℕ → ℕ → ℕ → Change
+begin gap s t = openedIf (firstOf gap s t) (settingsOf gap s t)
 
 -- A plain gap as a store: one version, in force everywhere. No ride looks at its sync pair.
 abbrev pub plain : ℕ → Store
-plain gap = begun gap 0x00 0x7F .store
+plain gap = begin gap 0x00 0x7F .store
 
 -- ---- a lent store, judged as opening it and adding version by version would
 
@@ -97,5 +97,5 @@ addedIf store v (gives k) = record { answer = gives k; store = withOne store v }
 addedIf store v (refuses n) = record { answer = refuses n; store = store }
 
 -- Adding a version to a store.
-unfoldable pub added : Store → Version → Change
-added store v = addedIf store v (mayAdd store v)
+unfoldable pub add : Store → Version → Change
+add store v = addedIf store v (mayAdd store v)

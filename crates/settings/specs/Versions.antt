@@ -6,7 +6,7 @@ use mathlib.Core.Bool.{Bool, _&&_}
 use lib.Dec.{leb, ltb}
 use Rattle.words.specs.Answer.{Outcome, gives, refuses, pick}
 pub use Rattle.words.specs.Answer.{then}
-use Rattle.telegram.specs.Sync.{pairOf}
+use Rattle.telegram.specs.Sync.{goodPair}
 use Rattle.settings.specs.declared.Version.{Version}
 
 -- "The gap is a setting, 1 to 200 dm."
@@ -24,7 +24,7 @@ pub data Kept : Type 0 where
 -- "4 and 19 for the settings": the sync pair is judged first, then the gap.
 unfoldable pub settingsOf : ℕ → ℕ → ℕ → Outcome Kept
 settingsOf gap s t =
-    then (pairOf s t) λ g.
+    then (goodPair s t) λ g.
     pick (allowed gap) (gives kept) (refuses 19)
 
 -- A version to be added after one that is in force from `last` on: "4 and 19 for the settings, then 18 for a place above

@@ -4,8 +4,8 @@
 // that they did not make is refused with the number that opening it and adding version by version would have given.
 // Specification: specs/Versions.antt, Store.antt, At.antt, Says.antt (the answers); laws: specs/Laws.antt.
 ghost use mathlib.Core.Path.{_≡_};
-ghost use Rattle.settings.specs.Store.{begun, added};
-ghost use Rattle.settings.specs.At.{asked, heldOn};
+ghost use Rattle.settings.specs.Store.{begin, add};
+ghost use Rattle.settings.specs.At.{asked, hold};
 ghost use Rattle.settings.specs.Says.{saysBegun, saysAdded, saysAsked};
 
 mod judging;
@@ -74,7 +74,7 @@ pub enum Asked {
 
 // A store with its first version, at place 0; or 4 or 19.
 pub fn begin(gap: u32, s: u8, t: u8) -> Begun
-    ensures { λ r. ⌜ saysBegun r ≡ begun gap s t ⌝ }
+    ensures { λ r. ⌜ saysBegun r ≡ begin gap s t ⌝ }
 {
     let verdict = versions::settings_of(gap, s, t);
     match verdict {
@@ -96,7 +96,7 @@ pub fn begin(gap: u32, s: u8, t: u8) -> Begun
 
 // The store with one version more, in force from this place on; or the store's own refusal, 4, 19, 18, 24 or 25, and the store as it was.
 pub fn add(store: Store, place: u32, gap: u32, s: u8, t: u8) -> Added
-    ensures { λ r. ⌜ saysAdded r ≡ added store (record { place = place; gap = gap; s = s; t = t }) ⌝ }
+    ensures { λ r. ⌜ saysAdded r ≡ add store (record { place = place; gap = gap; s = s; t = t }) ⌝ }
 {
     let version = Version { place, gap, s, t };
     let verdict = judging::may_add(store, version);
@@ -130,7 +130,7 @@ pub fn at(store: Store, place: u32) -> Asked
 
 // The settings to hold at a place, by whoever goes over many: those in force there; where asking is refused, those held before.
 pub fn hold(store: Store, held: Held, place: u32) -> Held
-    ensures { λ r. ⌜ r ≡ heldOn store held place ⌝ }
+    ensures { λ r. ⌜ r ≡ hold store held place ⌝ }
 {
     let answer = at(store, place);
     match answer {

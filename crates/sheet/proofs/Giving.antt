@@ -6,17 +6,17 @@ use native.Mathlib.Omega.{arith}
 use borrow.Author.Tests.{eq-eqb, ne-eqb}
 use Rattle.settings.specs.declared.Version.{Version}
 use Rattle.settings.specs.declared.Store.{Store}
-use Rattle.settings.specs.Store.{begun, added}
+use Rattle.settings.specs.Store.{begin, add}
 use Rattle.sheet.specs.declared.How.{How}
 use Rattle.sheet.specs.declared.Taken.{Taken}
 use Rattle.sheet.specs.Taking.{changed, given}
 
 module _ (store : Store) (v : Version) where
-  pub to-a-store : 0 < store .count → changed store (added store v) ≡ given store v
+  pub to-a-store : 0 < store .count → changed store (add store v) ≡ given store v
   unfolding given
   to-a-store h = let some : store .count ≡ 0 → ⊥ = λ e. omega arith in simp (ne-eqb _ _ some)
 
-  pub to-none : store .count ≡ 0 → v .place ≡ 0 → changed store (begun (v .gap) (v .s) (v .t)) ≡ given store v
+  pub to-none : store .count ≡ 0 → v .place ≡ 0 → changed store (begin (v .gap) (v .s) (v .t)) ≡ given store v
   unfolding given
   to-none e z = simp (eq-eqb _ _ e, eq-eqb _ _ z)
 

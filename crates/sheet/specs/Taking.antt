@@ -7,7 +7,7 @@ use Rattle.words.specs.Answer.{Outcome, gives, refuses, pick}
 use Rattle.settings.specs.declared.Version.{Version}
 use Rattle.settings.specs.declared.Store.{Store}
 use Rattle.settings.specs.Versions.{Kept}
-use Rattle.settings.specs.Store.{Change, begun, added}
+use Rattle.settings.specs.Store.{Change, begin, add}
 use Rattle.sheet.specs.declared.line.Line.{Line}
 use Rattle.sheet.specs.declared.How.{How}
 use Rattle.sheet.specs.declared.Taken.{Taken}
@@ -26,9 +26,9 @@ unfoldable pub given : Store → Version → Taken
 given store v =
     pick (eqb (store .count) 0)
     (pick (eqb (v .place) 0)
-    (changed store (begun (v .gap) (v .s) (v .t)))
+    (changed store (begin (v .gap) (v .s) (v .t)))
     (record { store = store; how = How.Unreadable }))
-    (changed store (added store v))
+    (changed store (add store v))
 
 -- What a line says, given to the store: blank lines and comments leave it.
 abbrev pub saidTo : Store → Line → Taken

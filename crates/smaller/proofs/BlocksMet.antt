@@ -6,9 +6,9 @@ use mathlib.Core.Path.{_≡_, refl}
 use mathlib.Core.Bool.{false}
 use mathlib.Core.List.{List, [], _∷_}
 use lib.ListN.{take, drop, replicate}
-use Rattle.telegram.specs.Sync.{differing, isGood, pairOf}
+use Rattle.telegram.specs.Sync.{differing, isGood, goodPair}
 use Rattle.settings.specs.Versions.{settingsOf, follows}
-use Rattle.settings.specs.Store.{noStore, versionsOf, opened, begun, allFollow, inOrder as versionsInOrder, judged, withOne, mayAdd, added}
+use Rattle.settings.specs.Store.{noStore, versionsOf, opened, begin, allFollow, inOrder as versionsInOrder, judged, withOne, mayAdd, add}
 use Rattle.settings.specs.At.{heldFrom, heldAt, gapAt}
 use Rattle.group.specs.Balise.{balises, readAll}
 use Rattle.group.specs.Judge.{judgeRead, judge}
@@ -43,7 +43,7 @@ abbrev second : Call
 second = call (first .answer .waiting) (drop 24 (bytesOf allUnder))
 
 blocks-met : ByBlocks two none (bytesOf allUnder) (first ∷ second ∷ [])
-unfolding differing isGood pairOf settingsOf follows noStore versionsOf opened begun allFollow versionsInOrder judged withOne mayAdd added heldFrom heldAt gapAt balises readAll judgeRead judge noGroup nothingKnown freshRide odometerOf passedOf inOrder checkRecord join takeUp close leave closeBehind missedLines afterMissed goOn treat firstRecords isDropped settled waitsNext keptOver waitsAfter settledBlock blockUnder badLength
+unfolding differing isGood goodPair settingsOf follows noStore versionsOf opened begin allFollow versionsInOrder judged withOne mayAdd add heldFrom heldAt gapAt balises readAll judgeRead judge noGroup nothingKnown freshRide odometerOf passedOf inOrder checkRecord join takeUp close leave closeBehind missedLines afterMissed goOn treat firstRecords isDropped settled waitsNext keptOver waitsAfter settledBlock blockUnder badLength
 blocks-met = (
   drop 24 (bytesOf allUnder),
   refl,
@@ -54,5 +54,5 @@ blocks-met = (
 
 -- what they write, and the record that waits after them
 written-met : (written (first ∷ second ∷ []) ≡ bytesOf (marker 1000 ∷ at 1041 ∷ marker 2000 ∷ at 2101 ∷ [])) × (waitingRecord (waitsLast none (first ∷ second ∷ [])) ≡ at 2102 ∷ [])
-unfolding differing isGood pairOf settingsOf follows noStore versionsOf opened begun allFollow versionsInOrder judged withOne mayAdd added heldFrom heldAt gapAt balises readAll judgeRead judge noGroup nothingKnown freshRide odometerOf passedOf inOrder checkRecord join takeUp close leave closeBehind missedLines afterMissed goOn treat firstRecords isDropped settled waitsNext keptOver waitsAfter settledBlock blockUnder
+unfolding differing isGood goodPair settingsOf follows noStore versionsOf opened begin allFollow versionsInOrder judged withOne mayAdd add heldFrom heldAt gapAt balises readAll judgeRead judge noGroup nothingKnown freshRide odometerOf passedOf inOrder checkRecord join takeUp close leave closeBehind missedLines afterMissed goOn treat firstRecords isDropped settled waitsNext keptOver waitsAfter settledBlock blockUnder
 written-met = (refl, refl)

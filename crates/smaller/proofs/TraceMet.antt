@@ -5,10 +5,10 @@ use Prim.Native.Nat.{ℕ, _/_, _%_}
 use mathlib.Core.Path.{_≡_, refl}
 use mathlib.Core.List.{List, [], _∷_}
 use lib.ListN.{take}
-use Rattle.telegram.specs.Sync.{differing, isGood, pairOf}
+use Rattle.telegram.specs.Sync.{differing, isGood, goodPair}
 use Rattle.settings.specs.declared.Store.{Store}
 use Rattle.settings.specs.Versions.{settingsOf, follows}
-use Rattle.settings.specs.Store.{noStore, versionsOf, opened, begun, allFollow, inOrder as versionsInOrder, judged, withOne, mayAdd, added}
+use Rattle.settings.specs.Store.{noStore, versionsOf, opened, begin, allFollow, inOrder as versionsInOrder, judged, withOne, mayAdd, add}
 use Rattle.settings.specs.At.{heldFrom, heldAt, gapAt}
 use Rattle.group.specs.Balise.{balises, readAll}
 use Rattle.group.specs.Judge.{judgeRead, judge}
@@ -112,7 +112,7 @@ lines-met = (refl, refl)
 -- ---- under a store: the gap is 40, and 100 from 2000 on. The position at 1041 closes a group, and so does that at 2101; 2041 is within the gap
 
 abbrev pub two : Store
-two = added (begun 40 0x72 0x0D .store) (record { place = 2000; gap = 100; s = 0x72; t = 0x0D }) .store
+two = add (begin 40 0x72 0x0D .store) (record { place = 2000; gap = 100; s = 0x72; t = 0x0D }) .store
 
 abbrev pub allUnder : List (List ℕ)
 allUnder = marker 1000 ∷ at 1041 ∷ at 1042 ∷ marker 2000 ∷ at 2041 ∷ at 2101 ∷ at 2102 ∷ []
@@ -127,16 +127,16 @@ abbrev pub afterUnder : List ℕ
 afterUnder = compactUnder freshRide two (bytesOf allUnder) .buffer
 
 pub under-met : CompactUnder freshRide two (bytesOf allUnder) answeredUnder afterUnder × (answeredUnder .size ≡ Size.Bytes 40) × (take 40 afterUnder ≡ bytesOf smallUnder)
-unfolding differing isGood pairOf settingsOf follows noStore versionsOf opened begun allFollow versionsInOrder judged withOne mayAdd added heldFrom heldAt gapAt balises readAll judgeRead judge noGroup nothingKnown freshRide odometerOf passedOf inOrder checkRecord join takeUp close leave closeBehind missedLines afterMissed goOn treat firstRecords rideOver isDropped compactOver smallerTrace compactUnder
+unfolding differing isGood goodPair settingsOf follows noStore versionsOf opened begin allFollow versionsInOrder judged withOne mayAdd add heldFrom heldAt gapAt balises readAll judgeRead judge noGroup nothingKnown freshRide odometerOf passedOf inOrder checkRecord join takeUp close leave closeBehind missedLines afterMissed goOn treat firstRecords rideOver isDropped compactOver smallerTrace compactUnder
 under-met = ((([], tt), lent (bytesOf allUnder), (freshRide, (two, (lent afterUnder, tt))), refl, refl, refl), refl, refl)
 
 again-under-met : CompactUnder freshRide two (bytesOf smallUnder) answeredUnder (bytesOf smallUnder)
-unfolding differing isGood pairOf settingsOf follows noStore versionsOf opened begun allFollow versionsInOrder judged withOne mayAdd added heldFrom heldAt gapAt balises readAll judgeRead judge noGroup nothingKnown freshRide odometerOf passedOf inOrder checkRecord join takeUp close leave closeBehind missedLines afterMissed goOn treat firstRecords rideOver isDropped compactOver smallerTrace compactUnder
+unfolding differing isGood goodPair settingsOf follows noStore versionsOf opened begin allFollow versionsInOrder judged withOne mayAdd add heldFrom heldAt gapAt balises readAll judgeRead judge noGroup nothingKnown freshRide odometerOf passedOf inOrder checkRecord join takeUp close leave closeBehind missedLines afterMissed goOn treat firstRecords rideOver isDropped compactOver smallerTrace compactUnder
 again-under-met = (([], tt), lent (bytesOf smallUnder), (freshRide, (two, (lent (bytesOf smallUnder), tt))), refl, refl, refl)
 
 run-under-met : RunUnder freshRide two (bytesOf allUnder) (ride-is.ranOf (runUnder freshRide two (bytesOf allUnder)))
     × RunUnder freshRide two (bytesOf smallUnder) (ride-is.ranOf (runUnder freshRide two (bytesOf smallUnder)))
-unfolding differing isGood pairOf settingsOf follows noStore versionsOf opened begun allFollow versionsInOrder judged withOne mayAdd added heldFrom heldAt gapAt runUnder
+unfolding differing isGood goodPair settingsOf follows noStore versionsOf opened begin allFollow versionsInOrder judged withOne mayAdd add heldFrom heldAt gapAt runUnder
 run-under-met = (
   (([], tt), lent (bytesOf allUnder), (freshRide, (two, (lent (bytesOf allUnder), tt))), refl, refl),
   (([], tt), lent (bytesOf smallUnder), (freshRide, (two, (lent (bytesOf smallUnder), tt))), refl, refl),
@@ -144,12 +144,12 @@ run-under-met = (
 
 steps-under-met : ByStep (gapAt two) freshRide (records (bytesOf allUnder)) (steps (gapAt two) freshRide allUnder)
     × ByStep (gapAt two) freshRide (records (bytesOf smallUnder)) (steps (gapAt two) freshRide smallUnder)
-unfolding differing isGood pairOf settingsOf follows noStore versionsOf opened begun allFollow versionsInOrder judged withOne mayAdd added heldFrom heldAt gapAt balises readAll judgeRead judge noGroup nothingKnown freshRide odometerOf passedOf inOrder checkRecord join takeUp close leave closeBehind missedLines afterMissed goOn treat firstRecords step
+unfolding differing isGood goodPair settingsOf follows noStore versionsOf opened begin allFollow versionsInOrder judged withOne mayAdd add heldFrom heldAt gapAt balises readAll judgeRead judge noGroup nothingKnown freshRide odometerOf passedOf inOrder checkRecord join takeUp close leave closeBehind missedLines afterMissed goOn treat firstRecords step
 steps-under-met = (
   by-step (gapAt two) freshRide allUnder (refl, (refl, (refl, (refl, (refl, (refl, (refl, tt))))))),
   by-step (gapAt two) freshRide smallUnder (refl, (refl, (refl, (refl, (refl, tt))))),
 )
 
 lines-under-met : linesFrom 1 (steps (gapAt two) freshRide allUnder) ≡ Line.Fault 1000 10 ∷ Line.Fault 2000 10 ∷ []
-unfolding differing isGood pairOf settingsOf follows noStore versionsOf opened begun allFollow versionsInOrder judged withOne mayAdd added heldFrom heldAt gapAt balises readAll judgeRead judge noGroup nothingKnown freshRide odometerOf passedOf inOrder checkRecord join takeUp close leave closeBehind missedLines afterMissed goOn treat firstRecords step
+unfolding differing isGood goodPair settingsOf follows noStore versionsOf opened begin allFollow versionsInOrder judged withOne mayAdd add heldFrom heldAt gapAt balises readAll judgeRead judge noGroup nothingKnown freshRide odometerOf passedOf inOrder checkRecord join takeUp close leave closeBehind missedLines afterMissed goOn treat firstRecords step
 lines-under-met = refl

@@ -10,29 +10,29 @@ use Rattle.words.specs.declared.Parity.{Parity}
 use Rattle.words.specs.Plain.{isCheck, covers, count, even, isCode, onwards, figure}
 use Rattle.words.specs.Code.{other, exchanged, readWord}
 use Rattle.telegram.specs.Stretch.{bitsAt, inside}
-use Rattle.telegram.specs.Sync.{differing, isGood, good, pairOf}
+use Rattle.telegram.specs.Sync.{differing, isGood, good, goodPair}
 use Rattle.telegram.specs.Telegram.{shortWord, longWord, telegram, badWord}
 use Rattle.telegram.specs.declared.Telegram.{Telegram}
 use Rattle.telegram.specs.declared.Word.{Word}
-use Rattle.telegram.specs.Place.{areSyncs, wordsAt, isPlace, from, those, places, at, found}
-use Rattle.telegram.specs.Survey.{sameWords, allAs, alike, surveyed}
+use Rattle.telegram.specs.Place.{areSyncs, wordsAt, isPlace, from, those, places, at, find}
+use Rattle.telegram.specs.Survey.{sameWords, allAs, alike, survey}
 
 -- The pair 72 and 0D hex (source 001, figure 5.4-1) is good.
-source-pair : pairOf 0x72 0x0d ≡ gives good
-unfolding pairOf isGood differing
+source-pair : goodPair 0x72 0x0d ≡ gives good
+unfolding goodPair isGood differing
 source-pair = refl
 
 -- Pairs that differ in six, seven and eight bits.
-six : pairOf 0x00 0x3f ≡ refuses 4
-unfolding pairOf isGood differing
+six : goodPair 0x00 0x3f ≡ refuses 4
+unfolding goodPair isGood differing
 six = refl
 
-seven : pairOf 0x00 0x7f ≡ gives good
-unfolding pairOf isGood differing
+seven : goodPair 0x00 0x7f ≡ gives good
+unfolding goodPair isGood differing
 seven = refl
 
-eight : pairOf 0x00 0xff ≡ refuses 4
-unfolding pairOf isGood differing
+eight : goodPair 0x00 0xff ≡ refuses 4
+unfolding goodPair isGood differing
 eight = refl
 
 -- Three figures, and a number after an X that reads 12.
@@ -70,25 +70,25 @@ unfolding two places those from isPlace areSyncs wordsAt bitsAt telegram shortWo
 two-places = refl
 
 -- Forty bits hold one of them, thirty-nine none.
-forty-bits : found two 32 40 0x72 0x0d ≡ gives (at 32 (gives (Telegram.Figures 9 2 4)))
-unfolding two found isGood differing inside places those from isPlace areSyncs wordsAt bitsAt telegram shortWord longWord readWord parity onesOf isCode even count covers exchanged other word figure onwards isCheck
+forty-bits : find two 32 40 0x72 0x0d ≡ gives (at 32 (gives (Telegram.Figures 9 2 4)))
+unfolding two find isGood differing inside places those from isPlace areSyncs wordsAt bitsAt telegram shortWord longWord readWord parity onesOf isCode even count covers exchanged other word figure onwards isCheck
 forty-bits = refl
 
-thirty-nine : found two 32 39 0x72 0x0d ≡ refuses 6
-unfolding two found isGood differing inside places those from isPlace areSyncs wordsAt bitsAt telegram shortWord longWord readWord parity onesOf isCode even count covers exchanged other word figure onwards isCheck
+thirty-nine : find two 32 39 0x72 0x0d ≡ refuses 6
+unfolding two find isGood differing inside places those from isPlace areSyncs wordsAt bitsAt telegram shortWord longWord readWord parity onesOf isCode even count covers exchanged other word figure onwards isCheck
 thirty-nine = refl
 
 -- S at both ends is no telegram.
-same-ends : found (0x72 ∷ 0x17 ∷ 0x8e ∷ 0x5a ∷ 0x72 ∷ []) 0 40 0x72 0x0d ≡ refuses 6
-unfolding found isGood differing inside places those from isPlace areSyncs wordsAt bitsAt telegram shortWord longWord readWord parity onesOf isCode even count covers exchanged other word figure onwards isCheck
+same-ends : find (0x72 ∷ 0x17 ∷ 0x8e ∷ 0x5a ∷ 0x72 ∷ []) 0 40 0x72 0x0d ≡ refuses 6
+unfolding find isGood differing inside places those from isPlace areSyncs wordsAt bitsAt telegram shortWord longWord readWord parity onesOf isCode even count covers exchanged other word figure onwards isCheck
 same-ends = refl
 
 -- Two places that differ, and two that are alike.
-two-differ : surveyed two 0 72 0x72 0x0d ≡ refuses 7
-unfolding two surveyed sameWords allAs isGood differing inside places those from isPlace areSyncs wordsAt bitsAt telegram shortWord longWord readWord parity onesOf isCode even count covers exchanged other word figure onwards isCheck
+two-differ : survey two 0 72 0x72 0x0d ≡ refuses 7
+unfolding two survey sameWords allAs isGood differing inside places those from isPlace areSyncs wordsAt bitsAt telegram shortWord longWord readWord parity onesOf isCode even count covers exchanged other word figure onwards isCheck
 two-differ = refl
 
-two-alike : surveyed (0x72 ∷ 0x17 ∷ 0x8e ∷ 0x5a ∷ 0x0d ∷ 0x17 ∷ 0x8e ∷ 0x5a ∷ 0x72 ∷ []) 0 72 0x72 0x0d
+two-alike : survey (0x72 ∷ 0x17 ∷ 0x8e ∷ 0x5a ∷ 0x0d ∷ 0x17 ∷ 0x8e ∷ 0x5a ∷ 0x72 ∷ []) 0 72 0x72 0x0d
     ≡ gives (alike (gives (Telegram.Figures 1 8 5)) 0 2)
-unfolding surveyed sameWords allAs isGood differing inside places those from isPlace areSyncs wordsAt bitsAt telegram shortWord longWord readWord parity onesOf isCode even count covers exchanged other word figure onwards isCheck
+unfolding survey sameWords allAs isGood differing inside places those from isPlace areSyncs wordsAt bitsAt telegram shortWord longWord readWord parity onesOf isCode even count covers exchanged other word figure onwards isCheck
 two-alike = refl

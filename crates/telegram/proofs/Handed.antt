@@ -9,8 +9,8 @@ use Rattle.words.specs.Answer.{gives, refuses, pick}
 use Rattle.telegram.specs.Stretch.{inside}
 use Rattle.telegram.specs.Sync.{isGood}
 use Rattle.telegram.specs.Telegram.{Received}
-use Rattle.telegram.specs.Place.{wordsAt, places, at, firstOf, found}
-use Rattle.telegram.specs.Survey.{together, surveyed}
+use Rattle.telegram.specs.Place.{wordsAt, places, at, firstOf, find}
+use Rattle.telegram.specs.Survey.{together, survey}
 use Rattle.telegram.proofs.Rest.{First, first-and-rest}
 
 -- What it says that the place p is handed out with m: the stretch is a good one, p is its first place, and m is read there.
@@ -23,8 +23,8 @@ pub record Handed (b : List ℕ) (start len s t p : ℕ) (m : Received) : Type 0
   pub says : m ≡ wordsAt b p
 
 module _ (b : List ℕ) (start len s t : ℕ) where
-  pub handed : (p : ℕ) (m : Received) → found b start len s t ≡ gives (at p m) → Handed b start len s t p m
-  unfolding found
+  pub handed : (p : ℕ) (m : Received) → find b start len s t ≡ gives (at p m) → Handed b start len s t p m
+  unfolding find
   handed p m e = go (isGood s t) (inside b start len) (places b start len s t) refl refl refl e
     where
       go : (g i : Bool) (ps : List ℕ) → isGood s t ≡ g → inside b start len ≡ i → places b start len s t ≡ ps
@@ -44,8 +44,8 @@ module _ (b : List ℕ) (start len s t : ℕ) where
       go true false ps g-is i-is list e = absurd (let z : _≡_ {A = ℕ} 0 1 = cc in omega arith)
       go false i ps g-is i-is list e = absurd (let z : _≡_ {A = ℕ} 0 1 = cc in omega arith)
 
-  pub as-refused : (n : ℕ) → found b start len s t ≡ refuses n → surveyed b start len s t ≡ refuses n
-  unfolding found surveyed
+  pub as-refused : (n : ℕ) → find b start len s t ≡ refuses n → survey b start len s t ≡ refuses n
+  unfolding find survey
   as-refused n e = go (isGood s t) (inside b start len) (places b start len s t) e
     where
       go : (g i : Bool) (ps : List ℕ) → pick g (pick i (firstOf b ps) (refuses 5)) (refuses 4) ≡ refuses n

@@ -11,7 +11,7 @@ use Rattle.words.specs.Answer.{Outcome, gives, refuses}
 use Rattle.telegram.specs.Stretch.{inside}
 use Rattle.telegram.specs.Sync.{isGood}
 use Rattle.telegram.specs.Telegram.{Received}
-use Rattle.telegram.specs.Place.{wordsAt, places, Single, at, firstOf, found}
+use Rattle.telegram.specs.Place.{wordsAt, places, Single, at, firstOf, find}
 use Rattle.telegram.proofs.Taken.{part-taken}
 use Rattle.telegram.proofs.Rest.{first-and-rest}
 
@@ -29,12 +29,12 @@ withTelegrams b (p ∷ ps) = at p (wordsAt b p) ∷ withTelegrams b ps
 
 -- The specification's answers.
 abbrev pub Specified : List ℕ → ℕ → ℕ → ℕ → ℕ → Outcome Single → Type 0
-Specified b s t start len o = found b start len s t ≡ o
+Specified b s t start len o = find b start len s t ≡ o
 
 module _ (b : List ℕ) (s t : ℕ) (good : isGood s t ≡ true) where
   -- Of a good pair and a stretch that is taken, the search says the first of the places.
-  is-first : (start len : ℕ) → inside b start len ≡ true → found b start len s t ≡ firstOf b (places b start len s t)
-  unfolding found
+  is-first : (start len : ℕ) → inside b start len ≡ true → find b start len s t ≡ firstOf b (places b start len s t)
+  unfolding find
   is-first start len taken = simp (good, taken)
 
   step : (start len : ℕ) → inside b start len ≡ true

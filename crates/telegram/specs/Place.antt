@@ -53,6 +53,6 @@ firstOf b [] = refuses 6
 firstOf b (p ∷ ps) = gives (at p (wordsAt b p))
 
 -- The search for single telegrams: 4, then 5, then 6, or the first place of the stretch.
-unfoldable pub found : List ℕ → ℕ → ℕ → ℕ → ℕ → Outcome Single
-found b start len s t =
+unfoldable pub find : List ℕ → ℕ → ℕ → ℕ → ℕ → Outcome Single
+find b start len s t =
     pick (isGood s t) (pick (inside b start len) (firstOf b (places b start len s t)) (refuses 5)) (refuses 4)

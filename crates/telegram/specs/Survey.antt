@@ -35,6 +35,6 @@ together b [] = refuses 6
 together b (p ∷ ps) = pick (allAs b p ps) (gives (alike (wordsAt b p) p (length (p ∷ ps)))) (refuses 7)
 
 -- The survey of a stretch: 4, then 5, then its places taken together.
-unfoldable pub surveyed : List ℕ → ℕ → ℕ → ℕ → ℕ → Outcome Alike
-surveyed b start len s t =
+unfoldable pub survey : List ℕ → ℕ → ℕ → ℕ → ℕ → Outcome Alike
+survey b start len s t =
     pick (isGood s t) (pick (inside b start len) (together b (places b start len s t)) (refuses 5)) (refuses 4)

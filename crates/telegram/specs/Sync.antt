@@ -21,5 +21,5 @@ pub data Good : Type 0 where
   good : Good
 
 -- The judgement of a sync pair: good, or refusal 4.
-unfoldable pub pairOf : ℕ → ℕ → Outcome Good
-pairOf s t = pick (isGood s t) (gives good) (refuses 4)
+unfoldable pub goodPair : ℕ → ℕ → Outcome Good
+goodPair s t = pick (isGood s t) (gives good) (refuses 4)

@@ -3,10 +3,10 @@
 // Specification: specs/Sync.antt, specs/Telegram.antt, specs/Stretch.antt, specs/Place.antt, specs/Survey.antt, specs/Says.antt (the answers).
 ghost use mathlib.Core.Path.{_≡_};
 ghost use Rattle.telegram.specs.Stretch.{stretchOf};
-ghost use Rattle.telegram.specs.Sync.{pairOf};
+ghost use Rattle.telegram.specs.Sync.{goodPair};
 ghost use Rattle.telegram.specs.Telegram.{telegram};
-ghost use Rattle.telegram.specs.Place.{found};
-ghost use Rattle.telegram.specs.Survey.{surveyed};
+ghost use Rattle.telegram.specs.Place.{find};
+ghost use Rattle.telegram.specs.Survey.{survey};
 ghost use Rattle.telegram.specs.Says.{saysPair, saysReach, saysTelegramRead, saysFound, saysSurveyed};
 
 mod after_x;
@@ -78,7 +78,7 @@ pub enum Surveyed {
 
 // Whether the sync words S and S* make a good pair, or refusal 4.
 pub fn good_pair(s: u8, t: u8) -> Pair
-    ensures { λ r. ⌜ saysPair r ≡ pairOf s t ⌝ }
+    ensures { λ r. ⌜ saysPair r ≡ goodPair s t ⌝ }
 {
     if sync::is_good(s, t) {
         Pair::Good
@@ -118,7 +118,7 @@ pub fn read(x: u8, y: u8, z: u8) -> TelegramRead
 
 // The first place of the stretch that begins at bit `start` and has `len` bits, or refusal 4, 5 or 6.
 pub fn find(buf: &[u8], start: usize, len: usize, s: u8, t: u8) -> Found
-    ensures { λ r. ⌜ saysFound r ≡ found (now (buf .entry)) start len s t ⌝ }
+    ensures { λ r. ⌜ saysFound r ≡ find (now (buf .entry)) start len s t ⌝ }
 {
     if !sync::is_good(s, t) {
         return Found::NotSeven;
@@ -134,7 +134,7 @@ pub fn find(buf: &[u8], start: usize, len: usize, s: u8, t: u8) -> Found
 
 // All places of the stretch together: alike, each with the same X, Y and Z, or refusal 4, 5, 6 or 7.
 pub fn survey(buf: &[u8], start: usize, len: usize, s: u8, t: u8) -> Surveyed
-    ensures { λ r. ⌜ saysSurveyed r ≡ surveyed (now (buf .entry)) start len s t ⌝ }
+    ensures { λ r. ⌜ saysSurveyed r ≡ survey (now (buf .entry)) start len s t ⌝ }
 {
     let found = find(buf, start, len, s, t);
     match found {

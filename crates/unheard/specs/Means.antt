@@ -4,14 +4,14 @@ use Prim.Native.Nat.{ℕ}
 use mathlib.Core.Path.{_≡_}
 use Rattle.words.specs.Answer.{gives}
 use Rattle.line.specs.Line.{OneBalise}
-use Rattle.writer.specs.Words.{Words, asked, spelt}
+use Rattle.writer.specs.Words.{Words, asked, spell}
 use Rattle.heard.specs.Zeroes.{Audible, Broken}
 use Rattle.unheard.specs.Sound.{Heard, audible, broken, soundOf}
 
 -- The balise o sends the words spelt for x, y and z, and the answer for them and its sync words is a.
 pub record Asked (x y z : ℕ) (o : OneBalise) (a : Heard) : Type 0 where
   pub words : Words
-  pub spelt-so : spelt (asked x y z) ≡ gives words
+  pub spelt-so : spell (asked x y z) ≡ gives words
   pub x-is : o .x ≡ words .x
   pub y-is : o .y ≡ words .y
   pub z-is : o .z ≡ words .z

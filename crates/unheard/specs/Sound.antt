@@ -8,7 +8,7 @@ use Rattle.words.specs.Answer.{Outcome, gives, refuses, then, pick}
 use Rattle.telegram.specs.Sync.{isGood}
 use Rattle.telegram.specs.declared.Telegram.{Telegram}
 use Rattle.line.specs.Line.{OneBalise}
-use Rattle.writer.specs.Words.{Words, asked, spelt}
+use Rattle.writer.specs.Words.{Words, asked, spell}
 use Rattle.heard.specs.Zeroes.{zeroesSent, fewest}
 
 -- Whether a test holds at some number below n.
@@ -36,4 +36,4 @@ soundWith s t w = pick (isGood s t) (gives (pick (isBroken (sending s t w)) brok
 
 -- What is asked for: 2, 3, 4 in this order, or whether it can be heard.
 unfoldable pub soundOf : ℕ → ℕ → ℕ → ℕ → ℕ → Outcome Heard
-soundOf x y z s t = then (spelt (asked x y z)) (soundWith s t)
+soundOf x y z s t = then (spell (asked x y z)) (soundWith s t)

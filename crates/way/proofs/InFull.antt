@@ -15,9 +15,9 @@ use Rattle.telegram.specs.Survey.{sameWords, allAs}
 use Rattle.telegram.specs.declared.Telegram.{Telegram}
 use Rattle.contact.specs.History.{after, zeroesOf, zeroes, opens, closes}
 use Rattle.contact.specs.Contacts.{contact, quiet, contacts, contactsFrom, fromStart}
-use Rattle.contact.specs.Judge.{onesAtEnd, allZero, isMarker, read, judgement, judged}
+use Rattle.contact.specs.Judge.{onesAtEnd, allZero, isMarker, read, judgement, judge as judge-contact}
 use Rattle.contact.specs.declared.Judged.{Judged}
-use Rattle.writer.specs.Words.{asked, tooLarge, hasFifteen, wordsOf, spelt}
+use Rattle.writer.specs.Words.{asked, tooLarge, hasFifteen, wordsOf, spell}
 use Rattle.writer.specs.Write.{telegrams, inRange, bytesOf, write}
 use Rattle.recorder.specs.Record.{contentOf, atOdometer, recordOf}
 use Rattle.group.specs.Balise.{balises, readAll}
@@ -45,11 +45,11 @@ bytes =
     255 ∷ 255 ∷ 114 ∷ 23 ∷ 142 ∷ 90 ∷ 13 ∷ 23 ∷ 142 ∷ 90 ∷ 114 ∷ 23 ∷ 142 ∷ 90 ∷ 13 ∷ 23 ∷ 142 ∷ 90 ∷ 114 ∷ 23 ∷ 142 ∷ 90 ∷ 13 ∷ 23 ∷ 142 ∷ 90 ∷ 114 ∷ 255 ∷ 255 ∷ 114 ∷ 153 ∷ 43 ∷ 77 ∷ 13 ∷ 153 ∷ 43 ∷ 77 ∷ 114 ∷ 153 ∷ 43 ∷ 77 ∷ 13 ∷ 153 ∷ 43 ∷ 77 ∷ 114 ∷ 153 ∷ 43 ∷ 77 ∷ 13 ∷ 153 ∷ 43 ∷ 77 ∷ 114 ∷ 255 ∷ 255 ∷ []
 
 both-written : (write 1 8 5 0x72 0x0d 6 room .answer ≡ gives 25) × (write 9 2 4 0x72 0x0d 6 room .answer ≡ gives 25)
-unfolding write spelt asked tooLarge hasFifteen wordsOf bytesOf inRange telegrams isGood differing sent exchanged other word plainWord madeEven carried carriers count covers isCheck
+unfolding write spell asked tooLarge hasFifteen wordsOf bytesOf inRange telegrams isGood differing sent exchanged other word plainWord madeEven carried carriers count covers isCheck
 both-written = (refl, refl)
 
 cable-is : cable ≡ bytes
-unfolding cable write spelt asked tooLarge hasFifteen wordsOf bytesOf inRange telegrams isGood differing sent exchanged other word plainWord madeEven carried carriers count covers isCheck
+unfolding cable write spell asked tooLarge hasFifteen wordsOf bytesOf inRange telegrams isGood differing sent exchanged other word plainWord madeEven carried carriers count covers isCheck
 cable-is = refl
 
 both-detected : contactsFrom bytes (fromStart 0 448)
@@ -57,16 +57,16 @@ both-detected : contactsFrom bytes (fromStart 0 448)
 unfolding contactsFrom fromStart contacts inside after zeroesOf zeroes opens closes
 both-detected = refl
 
-first-judged : judged bytes 28 195 0x72 0x0d ≡ gives (read (gives (Telegram.Figures 1 8 5)) 48 5)
-unfolding judged judgement isMarker onesAtEnd allZero sameWords allAs isGood differing inside places those from isPlace areSyncs wordsAt bitsAt telegram shortWord longWord readWord isCode even count covers exchanged other word figure onwards isCheck
+first-judged : judge-contact bytes 28 195 0x72 0x0d ≡ gives (read (gives (Telegram.Figures 1 8 5)) 48 5)
+unfolding judge-contact judgement isMarker onesAtEnd allZero sameWords allAs isGood differing inside places those from isPlace areSyncs wordsAt bitsAt telegram shortWord longWord readWord isCode even count covers exchanged other word figure onwards isCheck
 first-judged = refl
 
-second-judged : judged bytes 246 192 0x72 0x0d ≡ gives (read (gives (Telegram.Figures 9 2 4)) 264 5)
-unfolding judged judgement isMarker onesAtEnd allZero sameWords allAs isGood differing inside places those from isPlace areSyncs wordsAt bitsAt telegram shortWord longWord readWord isCode even count covers exchanged other word figure onwards isCheck
+second-judged : judge-contact bytes 246 192 0x72 0x0d ≡ gives (read (gives (Telegram.Figures 9 2 4)) 264 5)
+unfolding judge-contact judgement isMarker onesAtEnd allZero sameWords allAs isGood differing inside places those from isPlace areSyncs wordsAt bitsAt telegram shortWord longWord readWord isCode even count covers exchanged other word figure onwards isCheck
 second-judged = refl
 
 both-recorded : (recordOf 1000 (Judged.Read (Telegram.Figures 1 8 5) 48 5) ≡ gives recordA) × (recordOf 1030 (Judged.Read (Telegram.Figures 9 2 4) 264 5) ≡ gives recordB)
-unfolding recordOf contentOf atOdometer spelt asked tooLarge hasFifteen wordsOf sent exchanged other word plainWord madeEven carried carriers count covers isCheck
+unfolding recordOf contentOf atOdometer spell asked tooLarge hasFifteen wordsOf sent exchanged other word plainWord madeEven carried carriers count covers isCheck
 both-recorded = (refl, refl)
 
 both-listed : (textOf (ridden .lines) ≡ []) × (textOf (end (ridden .ride) .lines) ≡ codes "1000 present signal first\n")
@@ -79,8 +79,8 @@ in-full =
       written = both-written;
       detected = ap (λ (b : List ℕ). contactsFrom b (fromStart 0 448)) cable-is ∙ both-detected;
       judged-so = (
-        ap (λ (b : List ℕ). judged b 28 195 0x72 0x0d) cable-is ∙ first-judged,
-        ap (λ (b : List ℕ). judged b 246 192 0x72 0x0d) cable-is ∙ second-judged,
+        ap (λ (b : List ℕ). judge-contact b 28 195 0x72 0x0d) cable-is ∙ first-judged,
+        ap (λ (b : List ℕ). judge-contact b 246 192 0x72 0x0d) cable-is ∙ second-judged,
       );
       recorded = both-recorded;
       listed = both-listed;

@@ -12,7 +12,7 @@ use Rattle.telegram.specs.Stretch.{bitsAt}
 use Rattle.telegram.specs.Telegram.{Received, telegram}
 use Rattle.telegram.specs.Place.{wordsAt}
 use Rattle.telegram.specs.declared.Telegram.{Telegram}
-use Rattle.contact.specs.Judge.{read, judged}
+use Rattle.contact.specs.Judge.{read, judge}
 use Rattle.contact.specs.declared.Judged.{Judged}
 use Rattle.heard.specs.Calls.{JudgeContact}
 use Rattle.recorder.specs.Record.{Content, contentOf, bytesOf, blank, atOdometer, recordOf, Made, made, Recording, recording}
@@ -102,8 +102,8 @@ kept odometer j r call so = go (contentOf j) refl (call .1)
 
 -- What was judged of a contact in the buffer b.
 module _ (b : List ℕ) (start len s t : ℕ) where
-  reading : (m : Telegram) (first count : ℕ) → JudgeContact b start len s t (Judged.Read m first count) → judged b start len s t ≡ gives (read (gives m) first count)
-  reading m first count call = sym (call .4 ∙ ap (λ (v : List ℕ). judged v start len s t) (call .3))
+  reading : (m : Telegram) (first count : ℕ) → JudgeContact b start len s t (Judged.Read m first count) → judge b start len s t ≡ gives (read (gives m) first count)
+  reading m first count call = sym (call .4 ∙ ap (λ (v : List ℕ). judge v start len s t) (call .3))
 
   -- the record of a reading has the words received
   words-kept : (m : Telegram) (first count odometer : ℕ) (r : Recorded) → JudgeContact b start len s t (Judged.Read m first count) → RecordOf odometer (Judged.Read m first count) r

@@ -7,7 +7,7 @@ use lib.ListN.{length}
 use Rattle.words.specs.Answer.{gives}
 use Rattle.telegram.specs.declared.Telegram.{Telegram}
 use Rattle.contact.specs.Contacts.{contact, quiet, contactsFrom, fromStart}
-use Rattle.contact.specs.Judge.{read, judged}
+use Rattle.contact.specs.Judge.{read, judge}
 use Rattle.contact.specs.declared.Judged.{Judged}
 use Rattle.writer.specs.Write.{write}
 use Rattle.recorder.specs.Record.{recordOf}
@@ -53,7 +53,7 @@ pub record InFull : Type 0 where
   pub detected : contactsFrom cable (fromStart 0 448)
       ≡ contact 28 195 (record { next = 224; left = 224; history = 29439 }) (contact 246 192 (record { next = 439; left = 9; history = 47487 }) quiet)
   -- judged: both read
-  pub judged-so : (judged cable 28 195 0x72 0x0d ≡ gives (read (gives (Telegram.Figures 1 8 5)) 48 5)) × (judged cable 246 192 0x72 0x0d ≡ gives (read (gives (Telegram.Figures 9 2 4)) 264 5))
+  pub judged-so : (judge cable 28 195 0x72 0x0d ≡ gives (read (gives (Telegram.Figures 1 8 5)) 48 5)) × (judge cable 246 192 0x72 0x0d ≡ gives (read (gives (Telegram.Figures 9 2 4)) 264 5))
   -- recorded at the odometers 1000 and 1030
   pub recorded : (recordOf 1000 (Judged.Read (Telegram.Figures 1 8 5) 48 5) ≡ gives recordA) × (recordOf 1030 (Judged.Read (Telegram.Figures 9 2 4) 264 5) ≡ gives recordB)
   -- and ridden over: no line yet, and at the end of the ride the group's

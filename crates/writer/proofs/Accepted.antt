@@ -12,7 +12,7 @@ use Rattle.words.specs.Answer.{Outcome, gives, refuses, pick}
 use Rattle.telegram.specs.Sync.{isGood}
 use Rattle.telegram.specs.declared.Telegram.{Telegram}
 use Rattle.line.proofs.Places.{and-parts}
-use Rattle.writer.specs.Words.{asked, tooLarge, hasFifteen, wordsOf, spelt}
+use Rattle.writer.specs.Words.{asked, tooLarge, hasFifteen, wordsOf, spell}
 use Rattle.writer.specs.Write.{telegrams, inRange, bytesOf, Writing, onto, withWords, write}
 use Rattle.writer.proofs.Bytes.{telegrams-length}
 
@@ -30,7 +30,7 @@ no e = absurd (let z : _≡_ {A = ℕ} 0 1 = cc in omega arith)
 
 pub accepted : (x y z s t n : ℕ) (before : List ℕ) (bytes : ℕ) (after : List ℕ)
     → record { answer = gives bytes; buffer = after } ≡ write x y z s t n before → Accepted (asked x y z) s t n before bytes after
-unfolding write spelt bytesOf inRange
+unfolding write spell bytesOf inRange
 accepted x y z s t n before bytes after e =
     go (tooLarge m) (hasFifteen m) (isGood s t) (leb 2 n && leb n 1000) (leb (4 * n + 1) (length before)) refl refl refl refl refl e
   where

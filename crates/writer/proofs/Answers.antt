@@ -8,15 +8,15 @@ use lib.Dec.{leb, ltb}
 use lib.ListN.{length, drop}
 use borrow.Author.Tests.{ltb-true, ltb-false, le-leb, lt-leb}
 use Rattle.words.specs.Answer.{Outcome, gives, refuses, pick}
-use Rattle.telegram.specs.Sync.{isGood, Good, good, pairOf}
+use Rattle.telegram.specs.Sync.{isGood, Good, good, goodPair}
 use Rattle.writer.specs.Words.{Words}
 use Rattle.writer.specs.Write.{telegrams, inRange, bytesOf, onto}
 use Rattle.writer.proofs.Bytes.{telegrams-length}
 
 module _ (s t : ℕ) where
   -- A pair that is called good is good,
-  pub is-good : gives good ≡ pairOf s t → isGood s t ≡ true
-  unfolding pairOf
+  pub is-good : gives good ≡ goodPair s t → isGood s t ≡ true
+  unfolding goodPair
   is-good e = go (isGood s t) e
     where
       go : (b : Bool) → _≡_ {A = Outcome Good} (gives good) (pick b (gives good) (refuses 4)) → b ≡ true
@@ -24,8 +24,8 @@ module _ (s t : ℕ) where
       go false e = cc
 
   -- and one that is refused is not.
-  pub not-good : refuses 4 ≡ pairOf s t → isGood s t ≡ false
-  unfolding pairOf
+  pub not-good : refuses 4 ≡ goodPair s t → isGood s t ≡ false
+  unfolding goodPair
   not-good e = go (isGood s t) e
     where
       go : (b : Bool) → _≡_ {A = Outcome Good} (refuses 4) (pick b (gives good) (refuses 4)) → b ≡ false

@@ -9,7 +9,7 @@ use borrow.Author.Tests.{leb-true, leb-false, lt-ltb, le-ltb}
 use Rattle.words.specs.Answer.{Outcome, gives, refuses, pick}
 use Rattle.words.specs.Code.{writeWord, sent}
 use Rattle.telegram.specs.declared.Telegram.{Telegram}
-use Rattle.writer.specs.Words.{tooLarge, hasFifteen, wordsOf, spelt}
+use Rattle.writer.specs.Words.{tooLarge, hasFifteen, wordsOf, spell}
 
 module _ (n largest x : ℕ) where
   -- A figure that was written is small enough, and its word is the one sent for it.
@@ -32,8 +32,8 @@ module _ (n largest x : ℕ) where
 
 -- Three figures.
 module _ (x y z : ℕ) where
-  pub large : (ltb 15 x || ltb 15 y || ltb 15 z) ≡ true → refuses 2 ≡ spelt (Telegram.Figures x y z)
-  unfolding spelt tooLarge
+  pub large : (ltb 15 x || ltb 15 y || ltb 15 z) ≡ true → refuses 2 ≡ spell (Telegram.Figures x y z)
+  unfolding spell tooLarge
   large e = simp e
 
   none-large : x ≤ 15 → y ≤ 15 → z ≤ 15 → tooLarge (Telegram.Figures x y z) ≡ false
@@ -41,21 +41,21 @@ module _ (x y z : ℕ) where
   none-large hx hy hz = simp (le-ltb _ _ hx, le-ltb _ _ hy, le-ltb _ _ hz)
 
   module _ (hx : x ≤ 15) (hy : y ≤ 15) (hz : z ≤ 15) where
-    pub fifteen : (eqb x 15 || eqb y 15 || eqb z 15) ≡ true → refuses 3 ≡ spelt (Telegram.Figures x y z)
-    unfolding spelt hasFifteen
+    pub fifteen : (eqb x 15 || eqb y 15 || eqb z 15) ≡ true → refuses 3 ≡ spell (Telegram.Figures x y z)
+    unfolding spell hasFifteen
     fifteen e = simp (none-large hx hy hz, e)
 
     pub spelt-out : (u v w : ℕ) → u ≡ sent 8 x → v ≡ sent 8 y → w ≡ sent 8 z → (eqb x 15 || eqb y 15 || eqb z 15) ≡ false
-        → gives (record { x = u; y = v; z = w }) ≡ spelt (Telegram.Figures x y z)
-    unfolding spelt hasFifteen wordsOf
+        → gives (record { x = u; y = v; z = w }) ≡ spell (Telegram.Figures x y z)
+    unfolding spell hasFifteen wordsOf
     spelt-out u v w hu hv hw e = simp (hu, hv, hw, none-large hx hy hz, e)
 
 -- A number.
 module _ (m : ℕ) where
-  pub large-number : 2047 < m → refuses 2 ≡ spelt (Telegram.Number m)
-  unfolding spelt tooLarge
+  pub large-number : 2047 < m → refuses 2 ≡ spell (Telegram.Number m)
+  unfolding spell tooLarge
   large-number h = simp (lt-ltb _ _ h)
 
-  pub number-out : m ≤ 2047 → gives (wordsOf (Telegram.Number m)) ≡ spelt (Telegram.Number m)
-  unfolding spelt tooLarge hasFifteen
+  pub number-out : m ≤ 2047 → gives (wordsOf (Telegram.Number m)) ≡ spell (Telegram.Number m)
+  unfolding spell tooLarge hasFifteen
   number-out h = simp (le-ltb _ _ h)

@@ -34,5 +34,5 @@ wordsOf (Telegram.Figures x y z) = record { x = sent 8 x; y = sent 8 y; z = sent
 wordsOf (Telegram.Number m) = record { x = sent 8 12; y = sent 16 m / 256; z = sent 16 m % 256 }
 
 -- The words to send for a telegram: the figures are judged together, first for 2, then for 3.
-unfoldable pub spelt : Telegram → Outcome Words
-spelt m = pick (tooLarge m) (refuses 2) (pick (hasFifteen m) (refuses 3) (gives (wordsOf m)))
+unfoldable pub spell : Telegram → Outcome Words
+spell m = pick (tooLarge m) (refuses 2) (pick (hasFifteen m) (refuses 3) (gives (wordsOf m)))

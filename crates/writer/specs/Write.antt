@@ -9,7 +9,7 @@ use lib.Dec.{leb}
 use lib.ListN.{length, drop}
 use Rattle.words.specs.Answer.{Outcome, gives, refuses, pick}
 use Rattle.telegram.specs.Sync.{isGood}
-use Rattle.writer.specs.Words.{asked, Words, spelt}
+use Rattle.writer.specs.Words.{asked, Words, spell}
 
 -- n telegrams of the same words, the sync words s and t in turn, s first, and one sync word to close.
 unfoldable pub telegrams : ℕ → ℕ → Words → ℕ → List ℕ
@@ -46,4 +46,4 @@ withWords (refuses n) next = refuses n
 
 -- Writing a test balise: n telegrams of the figures x, y, z with the sync words s and t, into the buffer `out`.
 unfoldable pub write : ℕ → ℕ → ℕ → ℕ → ℕ → ℕ → List ℕ → Writing
-write x y z s t n out = onto out (withWords (spelt (asked x y z)) (bytesOf s t n (length out)))
+write x y z s t n out = onto out (withWords (spell (asked x y z)) (bytesOf s t n (length out)))

@@ -3,7 +3,7 @@ ghost use mathlib.Core.Path.{_≡_};
 ghost use Rattle.words.specs.Code.{writeShort};
 ghost use Rattle.words.specs.Says.{saysShortWritten};
 ghost use Rattle.telegram.specs.declared.Telegram.{Telegram};
-ghost use Rattle.writer.specs.Words.{asked, spelt};
+ghost use Rattle.writer.specs.Words.{asked, spell};
 ghost use Rattle.writer.specs.Says.{saysSpelt};
 use words::LongWritten;
 use words::ShortWritten;
@@ -30,7 +30,7 @@ fn short(figure: u16) -> ShortWritten
 
 // The words of three figures.
 fn figures(x: u8, y: u16, z: u8) -> Spelt
-    ensures { λ r. ⌜ saysSpelt r ≡ spelt (Telegram.Figures x y z) ⌝ }
+    ensures { λ r. ⌜ saysSpelt r ≡ spell (Telegram.Figures x y z) ⌝ }
 {
     let ShortWritten::Word(a) = words::write_short(x) else {
         return Spelt::TooLarge;
@@ -49,7 +49,7 @@ fn figures(x: u8, y: u16, z: u8) -> Spelt
 
 // The words of a number.
 fn number(m: u16) -> Spelt
-    ensures { λ r. ⌜ saysSpelt r ≡ spelt (Telegram.Number m) ⌝ }
+    ensures { λ r. ⌜ saysSpelt r ≡ spell (Telegram.Number m) ⌝ }
 {
     let LongWritten::Word(w) = words::write_long(m) else {
         return Spelt::TooLarge;
@@ -63,7 +63,7 @@ fn number(m: u16) -> Spelt
 
 // The words of what is asked for.
 pub fn spell(x: u8, y: u16, z: u8) -> Spelt
-    ensures { λ r. ⌜ saysSpelt r ≡ spelt (asked x y z) ⌝ }
+    ensures { λ r. ⌜ saysSpelt r ≡ spell (asked x y z) ⌝ }
 {
     if x == 12 { number(y) } else { figures(x, y, z) }
 }

@@ -2,7 +2,7 @@
 -- Assumes nothing.
 use borrow.Author.Needs.{needs}
 use Rattle.telegram.proofs.Taken.{judged-inside, judged-beyond}
-use Rattle.contact.specs.Contacts.{begun, fromStart}
+use Rattle.contact.specs.Contacts.{begin, fromStart}
 use Rattle.contact.proofs.begin.Statement.{statement}
 use Rattle.contact.proofs.begin.Tie as tie
 
@@ -16,14 +16,14 @@ enum-told-2 : tie.Need-enum-told-2
 enum-told-2 c = search needs
 
 returns : tie.Need-returns
-unfolding begun fromStart
+unfolding begin fromStart
 returns c =
     let a = c .before .before .before .before .args in
     let i = c .before .before .inside in
     simp (judged-inside (a .buf .now) (a .start) (a .len) (i .result) (i .ensures) (c .enum-told .given .1))
 
 returns-2 : tie.Need-returns-2
-unfolding begun fromStart
+unfolding begin fromStart
 returns-2 c =
     let a = c .before .before .before .before .args in
     let i = c .before .before .inside in

@@ -11,23 +11,23 @@ use lib.Dec.{leb}
 use Rattle.words.specs.Answer.{Outcome, gives, refuses, pick}
 use Rattle.telegram.specs.Stretch.{inside}
 use Rattle.telegram.specs.Telegram.{Received}
-use Rattle.telegram.specs.Survey.{Alike, alike, surveyed}
+use Rattle.telegram.specs.Survey.{Alike, alike, survey}
 use Rattle.telegram.specs.Says.{saysSurveyed}
 use Rattle.telegram.specs.declared.Surveyed.{Surveyed}
 use Rattle.telegram.proofs.Taken.{taken}
-use Rattle.contact.specs.Judge.{read, judged}
+use Rattle.contact.specs.Judge.{read, judge}
 use Rattle.contact.proofs.Judging.{markerOr, fromSurvey, by-survey, is-taken}
 use Rattle.contact.proofs.judge.Statement.{statement}
 use Rattle.contact.proofs.judge.Tie as tie
 
 -- A contact whose survey answered r.
-module _ (b : List ℕ) (start len s t : ℕ) (r : Surveyed) (says : saysSurveyed r ≡ surveyed b start len s t) where
+module _ (b : List ℕ) (start len s t : ℕ) (r : Surveyed) (says : saysSurveyed r ≡ survey b start len s t) where
   -- What the survey said decides.
-  decided : (o : Outcome Alike) → saysSurveyed r ≡ o → fromSurvey (markerOr b start len) o ≡ judged b start len s t
+  decided : (o : Outcome Alike) → saysSurveyed r ≡ o → fromSurvey (markerOr b start len) o ≡ judge b start len s t
   decided o e = sym (by-survey b start len s t ∙ ap (fromSurvey (markerOr b start len)) (sym says ∙ e))
 
   count-alike : (m : Received) (first count : ℕ) (x : Bool) → saysSurveyed r ≡ gives (alike m first count) → leb 2 count ≡ x
-      → pick x (gives (read m first count)) (markerOr b start len) ≡ judged b start len s t
+      → pick x (gives (read m first count)) (markerOr b start len) ≡ judge b start len s t
   count-alike m first count x e x-is =
       ap (λ (y : Bool). pick y (gives (read m first count)) (markerOr b start len)) (sym x-is) ∙ decided (gives (alike m first count)) e
 

@@ -1,7 +1,7 @@
 -- `judge_under` asks the store, and judges with the pair in force.
 use mathlib.Core.Path.{_≡_, sym, ap, _∙_}
 use Rattle.settings.specs.Says.{saysAsked}
-use Rattle.contact.specs.Under.{judgedUnder}
+use Rattle.contact.specs.Under.{judgeUnder}
 use borrow.Author.Needs.{needs}
 use Rattle.contact.proofs.judge_under.Statement.{statement}
 use Rattle.contact.proofs.judge_under.Tie as tie
@@ -22,14 +22,14 @@ with-pair-requires : tie.Need-with-pair-requires
 with-pair-requires c κs = search needs
 
 returns : tie.Need-returns
-unfolding judgedUnder
+unfolding judgeUnder
 returns c =
     let v = c .before in
     let asked = sym (v .before .before .at .ensures) ∙ ap saysAsked (v .asked .given .1) in
     rw asked
 
 returns-2 : tie.Need-returns-2
-unfolding judgedUnder
+unfolding judgeUnder
 returns-2 c =
     let j = c .before in
     let v = j .before .before in

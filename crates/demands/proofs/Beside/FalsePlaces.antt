@@ -18,7 +18,7 @@ use Rattle.words.proofs.Ranges.{below}
 use Rattle.telegram.specs.Stretch.{bitsAt, inside}
 use Rattle.telegram.specs.Sync.{differing, isGood}
 use Rattle.telegram.specs.Telegram.{shortWord, longWord, telegram}
-use Rattle.telegram.specs.Place.{areSyncs, wordsAt, isPlace, from, those, places, firstOf, found}
+use Rattle.telegram.specs.Place.{areSyncs, wordsAt, isPlace, from, those, places, firstOf, find}
 use Rattle.telegram.specs.Says.{saysFound}
 use Rattle.telegram.specs.declared.Telegram.{Telegram}
 use Rattle.telegram.specs.declared.Found.{Found}
@@ -80,8 +80,8 @@ proper : (i : ℕ) → i < 8 → Proper (line i)
 unfolding inside telegram shortWord readWord isCode even count covers exchanged other word figure onwards isCheck
 proper i l = let h = bytes i l in record { bytes = (h .0, h .1, omega arith, omega arith, omega arith); pair = pair i l; valid = refl; taken = refl }
 
-found-there : (i : ℕ) → i < 8 → found (line i .buffer) 0 40 (line i .s) (line i .t) ≡ saysFound (Found.At 0 (Telegram.Figures 0 0 0))
-unfolding found inside wordsAt bitsAt telegram shortWord readWord isCode even count covers exchanged other word figure onwards isCheck
+found-there : (i : ℕ) → i < 8 → find (line i .buffer) 0 40 (line i .s) (line i .t) ≡ saysFound (Found.At 0 (Telegram.Figures 0 0 0))
+unfolding find inside wordsAt bitsAt telegram shortWord readWord isCode even count covers exchanged other word figure onwards isCheck
 found-there i l =
     let b = line i .buffer in
     let s = line i .s in

@@ -9,11 +9,11 @@ use lib.Dec.{eqb}
 use lib.ListN.{length}
 use Rattle.words.specs.Answer.{Outcome, gives, refuses, then, pick}
 use Rattle.words.proofs.Told.{told}
-use Rattle.telegram.specs.Sync.{Good, good, isGood, pairOf}
+use Rattle.telegram.specs.Sync.{Good, good, isGood, goodPair}
 use Rattle.settings.specs.declared.Begun.{Begun}
 use Rattle.settings.specs.declared.Store.{Store}
 use Rattle.settings.specs.Versions.{allowed, Kept, kept, settingsOf}
-use Rattle.settings.specs.Store.{noStore, versionsOf, firstOf, Change, opened, openedIf, begun, allFollow, inOrder, judged}
+use Rattle.settings.specs.Store.{noStore, versionsOf, firstOf, Change, opened, openedIf, begin, allFollow, inOrder, judged}
 use Rattle.settings.specs.At.{heldFrom, heldAt, gapAt}
 use Rattle.ride.specs.declared.Ran.{Ran}
 use Rattle.ride.specs.declared.Ride.{Ride}
@@ -37,12 +37,12 @@ use Rattle.demands.proofs.Demand2.Runs.{ran}
 
 module _ (gap s t : ℕ) (pair : notSeven s t ≡ false) where
   settings-are : settingsOf gap s t ≡ pick (allowed gap) (gives kept) (refuses 19)
-  unfolding settingsOf pairOf notSeven isGood
+  unfolding settingsOf goodPair notSeven isGood
   settings-are =
       ap (λ (b : Bool). then (pick {A = Outcome Good} b (gives good) (refuses 4)) λ g. pick {A = Outcome Kept} (allowed gap) (gives kept) (refuses 19)) (not-false (isGood s t) pair)
 
-  opened-is : begun gap s t .store ≡ pick (allowed gap) (opened (firstOf gap s t)) noStore
-  unfolding begun
+  opened-is : begin gap s t .store ≡ pick (allowed gap) (opened (firstOf gap s t)) noStore
+  unfolding begin
   opened-is = ap (λ (o : Outcome Kept). openedIf (firstOf gap s t) o .store) settings-are ∙ by (allowed gap)
     where
       by : (b : Bool) → openedIf (firstOf gap s t) (pick b (gives kept) (refuses 19)) .store ≡ pick b (opened (firstOf gap s t)) noStore

@@ -8,7 +8,7 @@ use Prim.Native.Nat.{ℕ, _<_}
 use native.Mathlib.Omega.{arith}
 use Rattle.words.specs.Answer.{refuses, pick}
 use Rattle.words.proofs.Told.{told}
-use Rattle.telegram.specs.Place.{firstOf, found}
+use Rattle.telegram.specs.Place.{firstOf, find}
 use Rattle.telegram.specs.Says.{saysFound}
 use Rattle.telegram.specs.declared.Found.{Found}
 use Rattle.telegram.proofs.Determined.{foundOf, found-back}
@@ -26,7 +26,7 @@ use Rattle.demands.proofs.Demand3.{only-the-sent}
 
 -- A stretch of fewer than forty bits has no place.
 nothing-comes : (o : OneBalise) → Proper o → o .len < 40 → NothingComes o
-unfolding found
+unfolding find
 nothing-comes o proper short = record { no-place = none; answers-6 = λ r c. told saysFound foundOf found-back r Found.NoPlace (sym (specified b (o .start) (o .len) (o .s) (o .t) r c)) (sym six) }
   where
     b : List ℕ
@@ -35,7 +35,7 @@ nothing-comes o proper short = record { no-place = none; answers-6 = λ r c. tol
     none : placesOf o ≡ []
     none = too-short b (o .s) (o .t) (o .start) (o .len) short
 
-    six : found b (o .start) (o .len) (o .s) (o .t) ≡ refuses 6
+    six : find b (o .start) (o .len) (o .s) (o .t) ≡ refuses 6
     six =
         ap₂ (λ (g i : Bool). pick g (pick i (firstOf b (placesOf o)) (refuses 5)) (refuses 4)) (proper .pair) (proper .taken) ∙ ap (firstOf b) none
 

@@ -12,7 +12,7 @@ use Rattle.telegram.specs.Telegram.{Received}
 use Rattle.telegram.specs.Place.{from, wordsAt}
 use Rattle.telegram.specs.declared.Telegram.{Telegram}
 use Rattle.telegram.specs.declared.Found.{Found}
-use Rattle.contact.specs.Judge.{Contact, allAlike, firstPlace, isMarker, read, marker, judgement, judged}
+use Rattle.contact.specs.Judge.{Contact, allAlike, firstPlace, isMarker, read, marker, judgement, judge}
 use Rattle.contact.specs.Says.{saysJudged}
 use Rattle.contact.specs.declared.Judged.{Judged}
 use Rattle.line.specs.Line.{OneBalise, Proper, placesOf}
@@ -68,8 +68,8 @@ module _ (m : Telegram) (s t n : ℕ) (rest : List ℕ) (most : 2 ≤ n) where
     as-many : length (placesOf o) ≡ n
     as-many = ap length (places-are m s t n rest proper) ∙ length-map (from 0 n) (λ k. 32 * k) ∙ length-from 0 n
 
-    judgement-is : judged b 0 (8 * (4 * n + 1)) s t ≡ judgement b 0 (8 * (4 * n + 1)) (placesOf o)
-    unfolding judged
+    judgement-is : judge b 0 (8 * (4 * n + 1)) s t ≡ judgement b 0 (8 * (4 * n + 1)) (placesOf o)
+    unfolding judge
     judgement-is =
         ap₂ (λ (g i : Bool). pick g (pick i (judgement b 0 (8 * (4 * n + 1)) (placesOf o)) (refuses 5)) (refuses 4)) (proper .pair) (proper .taken)
 
@@ -80,7 +80,7 @@ module _ (m : Telegram) (s t n : ℕ) (rest : List ℕ) (most : 2 ≤ n) where
         let is : r ≡ Judged.Read (q .0) (q .1) (q .2) = q .3 in
         let k′ : JudgeContact b 0 (8 * (4 * n + 1)) s t (Judged.Read (q .0) (q .1) (q .2)) = subst (JudgeContact b 0 (8 * (4 * n + 1)) s t) is k in
         let says : judgement b 0 (8 * (4 * n + 1)) (placesOf o) ≡ saysJudged (Judged.Read (q .0) (q .1) (q .2)) =
-        sym judgement-is ∙ sym (k′ .4 ∙ ap (λ (v : List ℕ). judged v 0 (8 * (4 * n + 1)) s t) (k′ .3)) in
+        sym judgement-is ∙ sym (k′ .4 ∙ ap (λ (v : List ℕ). judge v 0 (8 * (4 * n + 1)) s t) (k′ .3)) in
         let same : q .0 ≡ m = sent .first-sent (q .0) (q .1) (q .2) k′ .as-sent in
         let first : q .1 ≡ 0 =
         first-of b 0 (8 * (4 * n + 1)) (placesOf o) (gives (q .0)) (q .1) (q .2) says ∙ ap firstPlace (places-are m s t n rest proper) ∙ first-from n most in

@@ -10,8 +10,8 @@ use Rattle.words.specs.Answer.{gives, refuses, pick}
 use Rattle.telegram.specs.Stretch.{bitAt, inside}
 use Rattle.telegram.specs.Place.{places, wordsAt}
 use Rattle.contact.specs.History.{opens, closes, after}
-use Rattle.contact.specs.Contacts.{Mode, outside, since, Contacts, contact, quiet, refused, contacts, contactsFrom, first, nextContact, fromStart, begun}
-use Rattle.contact.specs.Judge.{allAlike, firstPlace, isMarker, Contact, read, marker, judgement, judged}
+use Rattle.contact.specs.Contacts.{Mode, outside, since, Contacts, contact, quiet, refused, contacts, contactsFrom, first, nextContact, fromStart, begin}
+use Rattle.contact.specs.Judge.{allAlike, firstPlace, isMarker, Contact, read, marker, judgement, judge}
 use Rattle.contact.specs.declared.Search.{Search}
 use Rattle.demands.specs.Rules.{row, Decided, Is}
 use Rattle.demands.specs.Table.{beyond, placesDiffer, isRead, isMarked, neither, cut}
@@ -22,10 +22,10 @@ use Rattle.demands.proofs.Demand1.Cut.{cutFirst, cut-is}
 use Rattle.demands.proofs.Demand1.NextOne.{next-reads}
 
 -- The beginning of a search: 5.
-pub beginning : (b : List ℕ) (start len : ℕ) → Decided (Is (fromStart start len)) (row 5 (beyond b start len) ∷ []) (begun b start len)
-unfolding begun
+pub beginning : (b : List ℕ) (start len : ℕ) → Decided (Is (fromStart start len)) (row 5 (beyond b start len) ∷ []) (begin b start len)
+unfolding begin
 beginning b start len =
-    subst (λ (t : Bool). Decided (Is (fromStart start len)) (row 5 t ∷ []) (begun b start len)) (sym (beyond-is b start len))
+    subst (λ (t : Bool). Decided (Is (fromStart start len)) (row 5 t ∷ []) (begin b start len)) (sym (beyond-is b start len))
     (if-not (Is (fromStart start len)) [] (refuses 5) (gives (fromStart start len)) refl (inside b start len))
 
 -- what comes first, where it is a refusal, is 9
@@ -83,8 +83,8 @@ lettered false true true a m =
 lettered false true false a m = (λ q. absurd (true-not-false (sym q)), λ q. (λ p. refl, λ p. absurd (true-not-false p)))
 
 -- The judging of a contact: 4, 5, 7, 8.
-pub judging : (b : List ℕ) (start len s t : ℕ) → Decided (JudgeReads b start len s t) (judgeRules b start len s t) (judged b start len s t)
-unfolding judged judgement placesDiffer neither isRead isMarker isMarked
+pub judging : (b : List ℕ) (start len s t : ℕ) → Decided (JudgeReads b start len s t) (judgeRules b start len s t) (judge b start len s t)
+unfolding judge judgement placesDiffer neither isRead isMarker isMarked
 judging b start len s t =
     let ps = places b start len s t in
     stretch-then (JudgeReads b start len s t) b start len s t (row 7 (placesDiffer b start len s t) ∷ row 8 (neither b start len s t) ∷ []) (judgement b start len ps)

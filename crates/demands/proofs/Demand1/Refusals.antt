@@ -11,13 +11,13 @@ use Rattle.words.specs.Answer.{Outcome, gives, refuses, then, pick}
 use Rattle.words.specs.Why.{Why, why, unsaid, notCodeWord}
 use Rattle.words.specs.Plain.{isCode, figure}
 use Rattle.words.specs.Code.{exchanged, readWord, sent, writeWord}
-use Rattle.telegram.specs.Sync.{good, isGood, pairOf}
+use Rattle.telegram.specs.Sync.{good, isGood, goodPair}
 use Rattle.telegram.specs.Telegram.{Received, badWord, named, notFifteen, shortWord, longWord, telegram}
 use Rattle.telegram.specs.declared.Telegram.{Telegram}
 use Rattle.telegram.specs.declared.Word.{Word}
 use Rattle.telegram.specs.Stretch.{inside, taken, stretchOf}
-use Rattle.telegram.specs.Place.{at, firstOf, wordsAt, places, found}
-use Rattle.telegram.specs.Survey.{alike, allAs, together, surveyed}
+use Rattle.telegram.specs.Place.{at, firstOf, wordsAt, places, find}
+use Rattle.telegram.specs.Survey.{alike, allAs, together, survey}
 use Rattle.contact.specs.Judge.{allAlike, firstPlace}
 use Rattle.demands.specs.Rules.{Rule, rowOf, row, Decided, Given, Is}
 use Rattle.demands.specs.Table.{notCode, above, fifteen, notSeven, beyond, isEmpty, noPlace, placesDiffer, isNumber}
@@ -53,8 +53,8 @@ writing n largest x =
     (if-not (Is (sent n x)) [] (refuses 2) (gives (sent n x)) refl (leb x largest))
 
 -- A sync pair: 4.
-pub pairing : (s t : ℕ) → Decided (Is good) (row 4 (notSeven s t) ∷ []) (pairOf s t)
-unfolding notSeven pairOf isGood
+pub pairing : (s t : ℕ) → Decided (Is good) (row 4 (notSeven s t) ∷ []) (goodPair s t)
+unfolding notSeven goodPair isGood
 pairing s t = if-not (Is good) [] (refuses 4) (gives good) refl (isGood s t)
 
 -- A short word of a telegram, 1 and then 3, before what follows it.
@@ -152,8 +152,8 @@ stretch-then Reads b start len s t rules o rest =
     (if-not Reads rules (refuses 5) o rest (inside b start len))) (isGood s t)
 
 -- The search for single telegrams: 4, 5, 6.
-pub finding : (b : List ℕ) (start len s t : ℕ) → Decided (Is (findReads b start len s t)) (findRules b start len s t) (found b start len s t)
-unfolding found noPlace
+pub finding : (b : List ℕ) (start len s t : ℕ) → Decided (Is (findReads b start len s t)) (findRules b start len s t) (find b start len s t)
+unfolding find noPlace
 finding b start len s t =
     stretch-then (Is (findReads b start len s t)) b start len s t (row 6 (isEmpty (places b start len s t)) ∷ []) (firstOf b (places b start len s t)) (go (places b start len s t))
   where
@@ -162,8 +162,8 @@ finding b start len s t =
     go (p ∷ ps) = (λ q. absurd (true-not-false (sym q)), λ q. refl)
 
 -- All places of a stretch: 4, 5, 6, 7.
-pub surveying : (b : List ℕ) (start len s t : ℕ) → Decided (Is (surveyReads b start len s t)) (surveyRules b start len s t) (surveyed b start len s t)
-unfolding surveyed noPlace placesDiffer
+pub surveying : (b : List ℕ) (start len s t : ℕ) → Decided (Is (surveyReads b start len s t)) (surveyRules b start len s t) (survey b start len s t)
+unfolding survey noPlace placesDiffer
 surveying b start len s t =
     stretch-then (Is (surveyReads b start len s t)) b start len s t (row 6 (isEmpty (places b start len s t)) ∷ row 7 (not (allAlike b (places b start len s t))) ∷ [])
     (together b (places b start len s t)) (go (places b start len s t))

@@ -7,7 +7,7 @@ use mathlib.Core.List.{List, [], _∷_}
 use lib.Dec.{eqb, leb, ltb}
 use lib.ListN.{length, take}
 use Rattle.words.specs.Answer.{Outcome, gives, refuses, then, pick}
-use Rattle.telegram.specs.Sync.{Good, good, isGood, pairOf}
+use Rattle.telegram.specs.Sync.{Good, good, isGood, goodPair}
 use Rattle.settings.specs.declared.Version.{Version}
 use Rattle.settings.specs.declared.Store.{Store}
 use Rattle.settings.specs.Versions.{allowed, highest, Kept, kept, settingsOf, follows}
@@ -42,7 +42,7 @@ module _ {A : Type 0} (Reading : Outcome A → Type 0) (rules : List (Rule (Outc
 
   pub settings-so : (v : Version) (next : Kept → Outcome A) → Decided Reading rules (next kept)
       → Decided Reading (settingsRules v rules) (then (settingsOf (v .gap) (v .s) (v .t)) next)
-  unfolding settingsOf pairOf notSeven isGood
+  unfolding settingsOf goodPair notSeven isGood
   settings-so v next rest =
       subst (λ (b : Bool). Decided Reading (row 4 (notSeven (v .s) (v .t)) ∷ row 19 b ∷ rules) (then (settingsOf (v .gap) (v .s) (v .t)) next)) (sym (bad-gap (v .gap)))
       (pair-so next (v .gap) (isGood (v .s) (v .t)) (allowed (v .gap)) rest)

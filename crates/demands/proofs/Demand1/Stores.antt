@@ -11,10 +11,10 @@ use Rattle.settings.specs.declared.Version.{Version}
 use Rattle.settings.specs.declared.Store.{Store}
 use Rattle.settings.specs.declared.Held.{Held}
 use Rattle.settings.specs.Versions.{highest, Kept, kept, settingsOf, follows}
-use Rattle.settings.specs.Store.{noStore, firstOf, Change, openedIf, begun, judged, lastPlace, mayAdd, addedIf, added}
+use Rattle.settings.specs.Store.{noStore, firstOf, Change, openedIf, begin, judged, lastPlace, mayAdd, addedIf, add}
 use Rattle.settings.specs.At.{heldAt, gapAt, asked}
-use Rattle.contact.specs.Judge.{Contact, judged as judgedContact}
-use Rattle.contact.specs.Under.{judgedUnder}
+use Rattle.contact.specs.Judge.{Contact, judge as judgedContact}
+use Rattle.contact.specs.Under.{judgeUnder}
 use Rattle.ride.specs.declared.Ride.{Ride}
 use Rattle.ride.specs.Over.{records, rideOver, through, Run}
 use Rattle.ride.specs.Under.{judgedFirst, runUnder}
@@ -65,8 +65,8 @@ asked-then (refuses n) b h f = refl
 judge-so : (store : Store) (odometer : ℕ) (b : List ℕ) (start len : ℕ)
     → Decided (JudgeReads b start len (heldAt store odometer .s) (heldAt store odometer .t))
     (storeRules store (row 18 (tooHigh odometer) ∷ judgeRules b start len (heldAt store odometer .s) (heldAt store odometer .t)))
-    (judgedUnder store odometer b start len)
-unfolding judgedUnder asked tooHigh
+    (judgeUnder store odometer b start len)
+unfolding judgeUnder asked tooHigh
 judge-so store odometer b start len =
     let h : Held = heldAt store odometer in
     let read : Held → Outcome Contact = λ held. judgedContact b start len (held .s) (held .t) in
@@ -108,7 +108,7 @@ added-answer store v (gives k) = refl
 added-answer store v (refuses n) = refl
 
 pub stores-decided : StoresDecided
-unfolding begun added
+unfolding begin add
 stores-decided = record {
   begin = λ gap s t r c.
       let e = ap (λ (x : Change). x .answer) (c .1) ∙ opened-answer (firstOf gap s t) (settingsOf gap s t) in
@@ -118,7 +118,7 @@ stores-decided = record {
       rw e (add-so store v);
   at = λ store place r c. rw (c .1) (at-so store place);
   judge-under = λ store odometer b start len r c.
-      let e = c .4 ∙ ap (λ (x : List ℕ). judgedUnder store odometer x start len) (c .3) in
+      let e = c .4 ∙ ap (λ (x : List ℕ). judgeUnder store odometer x start len) (c .3) in
       rw e (judge-so store odometer b start len);
   run-under = λ ride store trace r c.
       let e = ap (λ (x : Run). x .answer) (c .4 ∙ ap (λ (x : List ℕ). runUnder ride store x) (c .3)) in
@@ -158,7 +158,7 @@ list-left ride store number trace out n e =
     listing-left (judged store) (eqb (length trace % 8) 0) ride number out (listTaken (gapAt store) ride number (records trace) out) n (_, refl) e
 
 pub stores-untouched : StoresUntouched
-unfolding begun added
+unfolding begin add
 stores-untouched = record {
   begin = λ gap s t r n c e.
       ap (λ (x : Change). x .store .count) (c .1) ∙ opened-none (firstOf gap s t) (settingsOf gap s t) n (sym (ap (λ (x : Change). x .answer) (c .1)) ∙ e);

@@ -11,7 +11,7 @@ use borrow.Author.Tests.{le-ltb, lt-ltb, leb-true, leb-false}
 use Rattle.words.specs.Answer.{Outcome, gives, refuses, pick}
 use Rattle.telegram.specs.Sync.{isGood}
 use Rattle.telegram.specs.declared.Telegram.{Telegram}
-use Rattle.writer.specs.Words.{asked, tooLarge, hasFifteen, wordsOf, spelt}
+use Rattle.writer.specs.Words.{asked, tooLarge, hasFifteen, wordsOf, spell}
 use Rattle.writer.specs.Write.{telegrams, inRange, bytesOf, onto, withWords, write}
 use Rattle.writer.proofs.Bytes.{telegrams-length}
 use Rattle.writer.proofs.Answers.{range}
@@ -61,7 +61,7 @@ module _ (x y z s t n : ℕ) (out : List ℕ) where
   -- The answer, test after test; a refusal leaves the buffer.
   answered : (write x y z s t n out .answer ≡ tests (tooLarge (asked x y z)) (hasFifteen (asked x y z)) (isGood s t) (inRange n) (leb (4 * n + 1) (length out)))
       × ((k : ℕ) → write x y z s t n out .answer ≡ refuses k → write x y z s t n out .buffer ≡ out)
-  unfolding write spelt bytesOf
+  unfolding write spell bytesOf
   answered = go (tooLarge (asked x y z)) (hasFifteen (asked x y z)) (isGood s t) (inRange n) (leb (4 * n + 1) (length out))
     where
       bytes : List ℕ

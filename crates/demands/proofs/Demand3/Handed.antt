@@ -11,7 +11,7 @@ use borrow.Author.Tests.{eqb-true, eq-eqb}
 use Rattle.words.specs.Answer.{gives, refuses}
 use Rattle.words.specs.Plain.{among}
 use Rattle.telegram.specs.Telegram.{Received}
-use Rattle.telegram.specs.Place.{wordsAt, places, Single, at, found}
+use Rattle.telegram.specs.Place.{wordsAt, places, Single, at, find}
 use Rattle.telegram.specs.Says.{saysFound}
 use Rattle.telegram.specs.declared.Telegram.{Telegram}
 use Rattle.telegram.specs.declared.Found.{Found}
@@ -28,8 +28,8 @@ use Rattle.line.proofs.Sent.{Sent, AllSent, read-as-sent}
 use Rattle.line.proofs.Unflipped.{unflipped-words, unflipped-among}
 
 -- A call answers as the specification says.
-pub specified : (b : List ℕ) (start len s t : ℕ) (r : Found) → Find b start len s t r → found b start len s t ≡ saysFound r
-specified b start len s t r c = sym (c .4 ∙ ap (λ (v : List ℕ). found v start len s t) (c .3))
+pub specified : (b : List ℕ) (start len s t : ℕ) (r : Found) → Find b start len s t r → find b start len s t ≡ saysFound r
+specified b start len s t r c = sym (c .4 ∙ ap (λ (v : List ℕ). find v start len s t) (c .3))
 
 -- What is handed out is a place of the stretch, with what is read there.
 pub handed-place : {b : List ℕ} {s t start len p : ℕ} {m : Telegram} → HandedOut b s t start len p m

@@ -11,9 +11,9 @@ use lib.ListN.{length}
 use borrow.Author.Tests.{le-leb}
 use Rattle.words.specs.Answer.{Outcome, gives, refuses, pick}
 use Rattle.telegram.specs.Telegram.{Received}
-use Rattle.telegram.specs.Survey.{Alike, surveyed}
+use Rattle.telegram.specs.Survey.{Alike, survey}
 use Rattle.telegram.specs.declared.Telegram.{Telegram}
-use Rattle.contact.specs.Judge.{Contact, read, marker, isMarker, judged}
+use Rattle.contact.specs.Judge.{Contact, read, marker, isMarker, judge}
 use Rattle.contact.specs.Says.{saysJudged}
 use Rattle.contact.specs.declared.Judged.{Judged}
 use Rattle.contact.proofs.Judging.{markerOr, fromSurvey, by-survey}
@@ -25,8 +25,8 @@ use Rattle.demands.proofs.Demand3.Together.{Known, Survey, the-survey, 
 
 module _ (o : OneBalise) (proper : Proper o) (every-place : AllSent o) where
   -- What a call of `judge` answers.
-  judge-says : (r : Judged) → JudgeContact (o .buffer) (o .start) (o .len) (o .s) (o .t) r → judged (o .buffer) (o .start) (o .len) (o .s) (o .t) ≡ saysJudged r
-  judge-says r c = sym (c .4 ∙ ap (λ (v : List ℕ). judged v (o .start) (o .len) (o .s) (o .t)) (c .3))
+  judge-says : (r : Judged) → JudgeContact (o .buffer) (o .start) (o .len) (o .s) (o .t) r → judge (o .buffer) (o .start) (o .len) (o .s) (o .t) ≡ saysJudged r
+  judge-says r c = sym (c .4 ∙ ap (λ (v : List ℕ). judge v (o .start) (o .len) (o .s) (o .t)) (c .3))
 
   pub judge-sent : TogetherTheSent o (JudgeContact (o .buffer) (o .start) (o .len) (o .s) (o .t)) 2 Judged.Differ Judged.Read
   judge-sent =
@@ -38,7 +38,7 @@ module _ (o : OneBalise) (proper : Proper o) (every-place : AllSent o) where
       }
     where
       by : (r : Judged) → JudgeContact (o .buffer) (o .start) (o .len) (o .s) (o .t) r
-          → fromSurvey (markerOr (o .buffer) (o .start) (o .len)) (surveyed (o .buffer) (o .start) (o .len) (o .s) (o .t)) ≡ saysJudged r
+          → fromSurvey (markerOr (o .buffer) (o .start) (o .len)) (survey (o .buffer) (o .start) (o .len) (o .s) (o .t)) ≡ saysJudged r
       by r k = sym (by-survey (o .buffer) (o .start) (o .len) (o .s) (o .t)) ∙ judge-says r k
 
       never-left : (t : Bool) → pick {A = Outcome Contact} t (gives marker) (refuses 8) ≡ refuses 7 → ⊥

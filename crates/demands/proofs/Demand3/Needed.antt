@@ -13,7 +13,7 @@ use Rattle.words.specs.Code.{other, exchanged, readWord}
 use Rattle.telegram.specs.Stretch.{bitsAt, inside}
 use Rattle.telegram.specs.Sync.{differing, isGood}
 use Rattle.telegram.specs.Telegram.{shortWord, longWord, telegram}
-use Rattle.telegram.specs.Place.{areSyncs, wordsAt, isPlace, from, those, places, at, found}
+use Rattle.telegram.specs.Place.{areSyncs, wordsAt, isPlace, from, those, places, at, find}
 use Rattle.telegram.specs.Says.{saysFound}
 use Rattle.telegram.specs.declared.Telegram.{Telegram}
 use Rattle.telegram.specs.declared.Found.{Found}
@@ -40,7 +40,7 @@ unfolding syncFlips dataFlips flips sum flip inStretch unequal receivedBit sentB
 apart-flips = (refl, refl, refl, refl)
 
 apart-found : (r : Found) → Find (apart .buffer) 0 40 (apart .s) (apart .t) r → saysFound r ≡ gives (at 0 (gives (Telegram.Figures 5 8 3)))
-unfolding found isGood differing inside places those from isPlace areSyncs wordsAt bitsAt telegram shortWord longWord readWord isCode even count covers exchanged other word figure onwards isCheck
+unfolding find isGood differing inside places those from isPlace areSyncs wordsAt bitsAt telegram shortWord longWord readWord isCode even count covers exchanged other word figure onwards isCheck
 apart-found r k = sym (specified (apart .buffer) (apart .start) (apart .len) (apart .s) (apart .t) r k)
 
 apart-false : sentAt apart 0 ≡ false
@@ -61,7 +61,7 @@ unfolding syncFlips dataFlips flips sum flip inStretch unequal receivedBit sentB
 sync-flip-flips = (refl, refl, refl, refl)
 
 sync-flip-found : (r : Found) → Find (sync-flip .buffer) 0 40 (sync-flip .s) (sync-flip .t) r → saysFound r ≡ gives (at 0 (gives (Telegram.Figures 0 0 0)))
-unfolding found isGood differing inside places those from isPlace areSyncs wordsAt bitsAt telegram shortWord longWord readWord isCode even count covers exchanged other word figure onwards isCheck
+unfolding find isGood differing inside places those from isPlace areSyncs wordsAt bitsAt telegram shortWord longWord readWord isCode even count covers exchanged other word figure onwards isCheck
 sync-flip-found r k = sym (specified (sync-flip .buffer) (sync-flip .start) (sync-flip .len) (sync-flip .s) (sync-flip .t) r k)
 
 sync-flip-false : sentAt sync-flip 0 ≡ false

@@ -14,7 +14,7 @@ use Rattle.words.specs.Plain.{among}
 use Rattle.telegram.specs.Stretch.{bitsAt}
 use Rattle.telegram.specs.Telegram.{Received}
 use Rattle.telegram.specs.Place.{wordsAt}
-use Rattle.telegram.specs.Survey.{sameWords, allAs, Alike, alike, together, surveyed}
+use Rattle.telegram.specs.Survey.{sameWords, allAs, Alike, alike, together, survey}
 use Rattle.telegram.specs.Says.{saysSurveyed}
 use Rattle.telegram.specs.declared.Telegram.{Telegram}
 use Rattle.telegram.specs.declared.Surveyed.{Surveyed}
@@ -85,16 +85,16 @@ module _ (o : OneBalise) (proper : Proper o) (every-place : AllSent o) where
       alike-all : allAs b p ps ≡ true
       alike-all = all-alike o p here ps (λ q there. sent q (or-right (eqb q p) there))
 
-  pub the-survey : Survey (surveyed b (o .start) (o .len) (o .s) (o .t))
-  unfolding surveyed
+  pub the-survey : Survey (survey b (o .start) (o .len) (o .s) (o .t))
+  unfolding survey
   the-survey =
       subst Survey
       (sym (ap₂ (λ (g i : Bool). pick g (pick i (together b (placesOf o)) (refuses 5)) (refuses 4)) (proper .pair) (proper .taken)))
       (survey-of (placesOf o) refl)
 
   -- What a call of `survey` answers.
-  survey-says : (r : Surveyed) → SurveyAllows b (o .start) (o .len) (o .s) (o .t) r → surveyed b (o .start) (o .len) (o .s) (o .t) ≡ saysSurveyed r
-  survey-says r c = sym (c .4 ∙ ap (λ (v : List ℕ). surveyed v (o .start) (o .len) (o .s) (o .t)) (c .3))
+  survey-says : (r : Surveyed) → SurveyAllows b (o .start) (o .len) (o .s) (o .t) r → survey b (o .start) (o .len) (o .s) (o .t) ≡ saysSurveyed r
+  survey-says r c = sym (c .4 ∙ ap (λ (v : List ℕ). survey v (o .start) (o .len) (o .s) (o .t)) (c .3))
 
   pub known-sent : (m : Telegram) (first count : ℕ) → Known (gives m) first count → TheSent o first m
   known-sent m first count known = the-sent o proper first m (known .first-is) (known .read-there)

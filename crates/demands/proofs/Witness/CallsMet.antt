@@ -11,7 +11,7 @@ use Rattle.words.specs.declared.ShortRead.{ShortRead}
 use Rattle.telegram.specs.Stretch.{bitsAt, inside}
 use Rattle.telegram.specs.Sync.{differing, isGood}
 use Rattle.telegram.specs.Telegram.{shortWord, longWord, telegram}
-use Rattle.telegram.specs.Place.{areSyncs, wordsAt, isPlace, from, those, places, found}
+use Rattle.telegram.specs.Place.{areSyncs, wordsAt, isPlace, from, those, places, find}
 use Rattle.telegram.specs.declared.Telegram.{Telegram}
 use Rattle.telegram.specs.declared.Found.{Found}
 use Rattle.demands.specs.Contracts.{ReadShort, Find}
@@ -30,15 +30,15 @@ lent bytes = record { ptr = (0, 0); name = 0; now = bytes }
 
 -- The line with three flips, asked until 6: from bit 0, from bit 49 and from bit 81.
 first-call : Find (line 0x10 .buffer) 0 128 0x72 0x0d (one 48)
-unfolding found isGood differing inside places those from isPlace areSyncs wordsAt bitsAt telegram shortWord longWord readWord isCode even count covers exchanged other word figure onwards isCheck
+unfolding find isGood differing inside places those from isPlace areSyncs wordsAt bitsAt telegram shortWord longWord readWord isCode even count covers exchanged other word figure onwards isCheck
 first-call = (([], tt), lent (line 0x10 .buffer), (lent (line 0x10 .buffer), (0, (128, (0x72, (0x0d, tt))))), refl, refl)
 
 second-call : Find (line 0x10 .buffer) 49 79 0x72 0x0d (one 80)
-unfolding found isGood differing inside places those from isPlace areSyncs wordsAt bitsAt telegram shortWord longWord readWord isCode even count covers exchanged other word figure onwards isCheck
+unfolding find isGood differing inside places those from isPlace areSyncs wordsAt bitsAt telegram shortWord longWord readWord isCode even count covers exchanged other word figure onwards isCheck
 second-call = (([], tt), lent (line 0x10 .buffer), (lent (line 0x10 .buffer), (49, (79, (0x72, (0x0d, tt))))), refl, refl)
 
 third-call : Find (line 0x10 .buffer) 81 47 0x72 0x0d Found.NoPlace
-unfolding found isGood differing inside places those from isPlace areSyncs wordsAt bitsAt telegram shortWord longWord readWord isCode even count covers exchanged other word figure onwards isCheck
+unfolding find isGood differing inside places those from isPlace areSyncs wordsAt bitsAt telegram shortWord longWord readWord isCode even count covers exchanged other word figure onwards isCheck
 third-call = (([], tt), lent (line 0x10 .buffer), (lent (line 0x10 .buffer), (81, (47, (0x72, (0x0d, tt))))), refl, refl)
 
 -- So this comes, and the second is handed out to one who asks twice.

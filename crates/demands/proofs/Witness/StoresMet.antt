@@ -10,13 +10,13 @@ use lib.Dec.{eqb}
 use lib.ListN.{length}
 use Rattle.words.specs.Answer.{gives}
 use Rattle.words.specs.Bits.{bit}
-use Rattle.telegram.specs.Sync.{differing, isGood, pairOf}
+use Rattle.telegram.specs.Sync.{differing, isGood, goodPair}
 use Rattle.settings.specs.declared.Begun.{Begun}
 use Rattle.settings.specs.declared.Store.{Store}
 use Rattle.settings.specs.declared.Verdict.{Verdict}
 use Rattle.settings.specs.declared.Version.{Version}
 use Rattle.settings.specs.Versions.{kept, settingsOf, follows}
-use Rattle.settings.specs.Store.{noStore, versionsOf, firstOf, opened, begun, withOne, allFollow, inOrder, judged}
+use Rattle.settings.specs.Store.{noStore, versionsOf, firstOf, opened, begin, withOne, allFollow, inOrder, judged}
 use Rattle.settings.specs.At.{heldFrom, heldAt, gapAt}
 use Rattle.ride.specs.declared.Ran.{Ran}
 use Rattle.ride.specs.declared.Ride.{Ride}
@@ -78,7 +78,7 @@ abbrev one : Begun
 one = record { store = opened (firstOf 40 0x01 0x7E); verdict = Verdict.Kept }
 
 opened-met : (notSeven 0x01 0x7E ≡ false) × BeginStore 40 0x01 0x7E one
-unfolding notSeven begun settingsOf pairOf isGood differing
+unfolding notSeven begin settingsOf goodPair isGood differing
 opened-met = (refl, ((40, (0x01, (0x7E, tt))), refl))
 
 -- the gap 40, and from the second balise of document 01's ride on 20
@@ -86,7 +86,7 @@ abbrev two : Store
 two = withOne (one .store) (record { place = 1030; gap = 20; s = 0x00; t = 0x7F })
 
 two-good : Good two
-unfolding judged versionsOf withOne opened noStore inOrder allFollow follows settingsOf pairOf isGood differing
+unfolding judged versionsOf withOne opened noStore inOrder allFollow follows settingsOf goodPair isGood differing
 two-good = refl
 
 two-gaps : (gapAt two 1029 ≡ 40) × (gapAt two 1030 ≡ 20)

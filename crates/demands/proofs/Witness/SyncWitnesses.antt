@@ -16,12 +16,12 @@ use Rattle.words.proofs.Told.{told}
 use Rattle.telegram.specs.Stretch.{bitsAt, inside}
 use Rattle.telegram.specs.Sync.{differing, isGood}
 use Rattle.telegram.specs.Telegram.{shortWord, longWord, telegram}
-use Rattle.telegram.specs.Place.{areSyncs, wordsAt, isPlace, from, those, places, found}
+use Rattle.telegram.specs.Place.{areSyncs, wordsAt, isPlace, from, those, places, find}
 use Rattle.telegram.specs.Says.{saysFound}
 use Rattle.telegram.specs.declared.Telegram.{Telegram}
 use Rattle.telegram.specs.declared.Found.{Found}
-use Rattle.telegram.specs.Survey.{sameWords, allAs, surveyed}
-use Rattle.contact.specs.Judge.{onesAtEnd, allZero, isMarker, judgement, judged}
+use Rattle.telegram.specs.Survey.{sameWords, allAs, survey}
+use Rattle.contact.specs.Judge.{onesAtEnd, allZero, isMarker, judgement, judge}
 use Rattle.contact.specs.Says.{saysJudged}
 use Rattle.contact.specs.declared.Judged.{Judged}
 use Rattle.contact.proofs.Determined.{judgedOf, judged-back}
@@ -88,15 +88,15 @@ noisy-comes w c = comes-is noisy noisy-proper w c
 
 -- asked for from bit 0, from bit 81 and from bit 113;
 first-call : Find (noisy .buffer) 0 160 0x35 0xda (one 80)
-unfolding found isGood differing inside places those from isPlace areSyncs wordsAt bitsAt telegram shortWord longWord readWord isCode even count covers exchanged other word figure onwards isCheck
+unfolding find isGood differing inside places those from isPlace areSyncs wordsAt bitsAt telegram shortWord longWord readWord isCode even count covers exchanged other word figure onwards isCheck
 first-call = (([], tt), lent (noisy .buffer), (lent (noisy .buffer), (0, (160, (0x35, (0xda, tt))))), refl, refl)
 
 second-call : Find (noisy .buffer) 81 79 0x35 0xda (one 112)
-unfolding found isGood differing inside places those from isPlace areSyncs wordsAt bitsAt telegram shortWord longWord readWord isCode even count covers exchanged other word figure onwards isCheck
+unfolding find isGood differing inside places those from isPlace areSyncs wordsAt bitsAt telegram shortWord longWord readWord isCode even count covers exchanged other word figure onwards isCheck
 second-call = (([], tt), lent (noisy .buffer), (lent (noisy .buffer), (81, (79, (0x35, (0xda, tt))))), refl, refl)
 
 third-call : Find (noisy .buffer) 113 47 0x35 0xda Found.NoPlace
-unfolding found isGood differing inside places those from isPlace areSyncs wordsAt bitsAt telegram shortWord longWord readWord isCode even count covers exchanged other word figure onwards isCheck
+unfolding find isGood differing inside places those from isPlace areSyncs wordsAt bitsAt telegram shortWord longWord readWord isCode even count covers exchanged other word figure onwards isCheck
 third-call = (([], tt), lent (noisy .buffer), (lent (noisy .buffer), (113, (47, (0x35, (0xda, tt))))), refl, refl)
 
 comes-met : ComesOf noisy (one 80 ∷ one 112 ∷ [])
@@ -104,9 +104,9 @@ comes-met = further first-call (further second-call (ends third-call))
 
 -- and `judge` reads them.
 noisy-judged : (r : Judged) → JudgeContact (noisy .buffer) 0 160 0x35 0xda r → r ≡ Judged.Read (Telegram.Figures 1 8 5) 80 2
-unfolding judged judgement isMarker onesAtEnd allZero surveyed allAs sameWords isGood differing inside places those from isPlace areSyncs wordsAt bitsAt telegram shortWord longWord readWord isCode even count covers exchanged other word figure onwards isCheck
+unfolding judge judgement isMarker onesAtEnd allZero survey allAs sameWords isGood differing inside places those from isPlace areSyncs wordsAt bitsAt telegram shortWord longWord readWord isCode even count covers exchanged other word figure onwards isCheck
 noisy-judged r c =
-    told saysJudged judgedOf judged-back r (Judged.Read (Telegram.Figures 1 8 5) 80 2) (c .4 ∙ ap (λ (v : List ℕ). judged v 0 160 0x35 0xda) (c .3)) refl
+    told saysJudged judgedOf judged-back r (Judged.Read (Telegram.Figures 1 8 5) 80 2) (c .4 ∙ ap (λ (v : List ℕ). judge v 0 160 0x35 0xda) (c .3)) refl
 
 -- ---- windows from the true places alone
 
@@ -139,6 +139,6 @@ true-windows p sent =
     leb→le (flipsAt between p) 2 (subst (λ (t : Bool). T (pick t (leb (flipsAt between p) 2) true)) sent (below trueAt 33 tt p (omega arith)))
 
 -- but the forty from bit 1 on hold three, and there, where none was sent, a telegram is found.
-between-false : (flipsAt between 1 ≡ 3) × (sentAt between 1 ≡ false) × (found (between .buffer) 0 72 0xc0 0x1f ≡ saysFound (Found.At 1 (Telegram.Figures 0 0 0)))
-unfolding sentAt flipsAt lineBit flips sum flip inStretch unequal receivedBit sentBit found isGood differing inside places those from isPlace areSyncs wordsAt bitsAt telegram shortWord longWord readWord isCode even count covers exchanged other word figure onwards isCheck
+between-false : (flipsAt between 1 ≡ 3) × (sentAt between 1 ≡ false) × (find (between .buffer) 0 72 0xc0 0x1f ≡ saysFound (Found.At 1 (Telegram.Figures 0 0 0)))
+unfolding sentAt flipsAt lineBit flips sum flip inStretch unequal receivedBit sentBit find isGood differing inside places those from isPlace areSyncs wordsAt bitsAt telegram shortWord longWord readWord isCode even count covers exchanged other word figure onwards isCheck
 between-false = (refl, refl, refl)

@@ -10,14 +10,14 @@ use Rattle.words.specs.Code.{other, exchanged, readWord}
 use Rattle.telegram.specs.Stretch.{bitsAt, inside}
 use Rattle.telegram.specs.Sync.{differing, isGood}
 use Rattle.telegram.specs.Telegram.{shortWord, longWord, telegram}
-use Rattle.telegram.specs.Place.{areSyncs, wordsAt, isPlace, from, those, places, found}
+use Rattle.telegram.specs.Place.{areSyncs, wordsAt, isPlace, from, those, places, find}
 use Rattle.telegram.specs.Says.{saysFound, saysSurveyed}
 use Rattle.telegram.specs.declared.Telegram.{Telegram}
 use Rattle.telegram.specs.declared.Found.{Found}
-use Rattle.telegram.specs.Survey.{sameWords, allAs, surveyed}
+use Rattle.telegram.specs.Survey.{sameWords, allAs, survey}
 use Rattle.telegram.specs.declared.Surveyed.{Surveyed}
 use Rattle.telegram.proofs.Determined.{foundOf, found-back, surveyedOf, surveyed-back}
-use Rattle.contact.specs.Judge.{onesAtEnd, allZero, isMarker, judgement, judged}
+use Rattle.contact.specs.Judge.{onesAtEnd, allZero, isMarker, judgement, judge}
 use Rattle.contact.specs.Says.{saysJudged}
 use Rattle.contact.specs.declared.Judged.{Judged}
 use Rattle.contact.proofs.Determined.{judgedOf, judged-back}
@@ -80,14 +80,14 @@ three-flips-comes w c = comes-is (line 0x10) (line-proper 0x10) w c
 
 -- and `judge` and `survey` read what was sent, with the first of these two places.
 three-flips-judged : (r : Judged) → JudgeContact (line 0x10 .buffer) 0 128 0x72 0x0d r → r ≡ Judged.Read (Telegram.Figures 1 8 5) 48 2
-unfolding judged judgement isMarker onesAtEnd allZero surveyed allAs sameWords isGood differing inside places those from isPlace areSyncs wordsAt bitsAt telegram shortWord longWord readWord isCode even count covers exchanged other word figure onwards isCheck
+unfolding judge judgement isMarker onesAtEnd allZero survey allAs sameWords isGood differing inside places those from isPlace areSyncs wordsAt bitsAt telegram shortWord longWord readWord isCode even count covers exchanged other word figure onwards isCheck
 three-flips-judged r c =
-    told saysJudged judgedOf judged-back r (Judged.Read (Telegram.Figures 1 8 5) 48 2) (c .4 ∙ ap (λ (v : List ℕ). judged v 0 128 0x72 0x0d) (c .3)) refl
+    told saysJudged judgedOf judged-back r (Judged.Read (Telegram.Figures 1 8 5) 48 2) (c .4 ∙ ap (λ (v : List ℕ). judge v 0 128 0x72 0x0d) (c .3)) refl
 
 three-flips-surveyed : (r : Surveyed) → Survey (line 0x10 .buffer) 0 128 0x72 0x0d r → r ≡ Surveyed.Alike (Telegram.Figures 1 8 5) 48 2
-unfolding surveyed allAs sameWords isGood differing inside places those from isPlace areSyncs wordsAt bitsAt telegram shortWord longWord readWord isCode even count covers exchanged other word figure onwards isCheck
+unfolding survey allAs sameWords isGood differing inside places those from isPlace areSyncs wordsAt bitsAt telegram shortWord longWord readWord isCode even count covers exchanged other word figure onwards isCheck
 three-flips-surveyed r c =
-    told saysSurveyed surveyedOf surveyed-back r (Surveyed.Alike (Telegram.Figures 1 8 5) 48 2) (c .4 ∙ ap (λ (v : List ℕ). surveyed v 0 128 0x72 0x0d) (c .3)) refl
+    told saysSurveyed surveyedOf surveyed-back r (Surveyed.Alike (Telegram.Figures 1 8 5) 48 2) (c .4 ∙ ap (λ (v : List ℕ). survey v 0 128 0x72 0x0d) (c .3)) refl
 
 -- ---- four flips in X, 99 for 17 hex, which make a nine of the one
 
@@ -98,5 +98,5 @@ four-flips-not-few h = let f : 4 ≤ 3 = h .few 1 in omega arith
 
 -- And what was not sent is handed out, at a true place.
 four-flips-found : (r : Found) → Find (line 0x99 .buffer) 0 128 0x72 0x0d r → r ≡ Found.At 16 (Telegram.Figures 9 8 5)
-unfolding found isGood differing inside places those from isPlace areSyncs wordsAt bitsAt telegram shortWord longWord readWord isCode even count covers exchanged other word figure onwards isCheck
+unfolding find isGood differing inside places those from isPlace areSyncs wordsAt bitsAt telegram shortWord longWord readWord isCode even count covers exchanged other word figure onwards isCheck
 four-flips-found r k = told saysFound foundOf found-back r (Found.At 16 (Telegram.Figures 9 8 5)) (sym (specified (line 0x99 .buffer) 0 128 0x72 0x0d r k)) refl

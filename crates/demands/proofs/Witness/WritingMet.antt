@@ -11,7 +11,7 @@ use Rattle.words.specs.Code.{other, exchanged, sent}
 use Rattle.telegram.specs.Sync.{differing, isGood}
 use Rattle.telegram.specs.declared.Telegram.{Telegram}
 use Rattle.contact.specs.declared.Judged.{Judged}
-use Rattle.writer.specs.Words.{asked, tooLarge, hasFifteen, wordsOf, spelt}
+use Rattle.writer.specs.Words.{asked, tooLarge, hasFifteen, wordsOf, spell}
 use Rattle.writer.specs.Write.{telegrams, inRange, bytesOf, write}
 use Rattle.demands.specs.Contracts.{JudgeContact}
 use Rattle.demands.specs.Writing.{OneWriting}
@@ -29,7 +29,7 @@ abbrev filled : List ℕ
 filled = 0x72 ∷ 0x17 ∷ 0x8e ∷ 0x5a ∷ 0x0d ∷ 0x17 ∷ 0x8e ∷ 0x5a ∷ 0x72 ∷ 10 ∷ []
 
 two-written : OneWriting
-unfolding write spelt asked tooLarge hasFifteen wordsOf bytesOf inRange telegrams isGood differing sent exchanged other word plainWord madeEven carried carriers count covers isCheck
+unfolding write spell asked tooLarge hasFifteen wordsOf bytesOf inRange telegrams isGood differing sent exchanged other word plainWord madeEven carried carriers count covers isCheck
 two-written =
     record {
       x = 1;

@@ -1,6 +1,6 @@
 -- `add` puts the version after the last where it may be added, and else leaves the store.
 use mathlib.Core.Path.{_≡_, sym, ap, _∙_}
-use Rattle.settings.specs.Store.{added}
+use Rattle.settings.specs.Store.{add}
 use Rattle.settings.specs.Says.{saysVerdict}
 use Rattle.settings.proofs.Counts.{room}
 use borrow.Author.Needs.{needs}
@@ -22,14 +22,14 @@ enum-known-verdict : tie.Need-enum-known-verdict
 enum-known-verdict c = search needs
 
 returns : tie.Need-returns
-unfolding added
+unfolding add
 returns c =
     let t = c .before in
     let may = sym (t .before .before .may-add .ensures) ∙ ap saysVerdict (t .enum-told .given .1) in
     rw (may, c .with-one .ensures)
 
 returns-2 : tie.Need-returns-2
-unfolding added
+unfolding add
 returns-2 c =
     let v = c .before in
     let may = sym (v .before .before .may-add .ensures) ∙ ap saysVerdict (v .verdict .given .1) in

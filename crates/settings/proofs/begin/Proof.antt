@@ -1,6 +1,6 @@
 -- `begin` opens a store with good settings.
 use mathlib.Core.Path.{sym, ap, _∙_}
-use Rattle.settings.specs.Store.{begun}
+use Rattle.settings.specs.Store.{begin}
 use Rattle.settings.specs.Says.{saysVerdict}
 use borrow.Author.Needs.{needs}
 use Rattle.settings.proofs.begin.Statement.{statement}
@@ -22,14 +22,14 @@ no-store-requires : tie.Need-no-store-requires
 no-store-requires c κs = search needs
 
 returns : tie.Need-returns
-unfolding begun
+unfolding begin
 returns c =
     let t = c .before in
     let settings = sym (t .before .before .settings-of .ensures) ∙ ap saysVerdict (t .enum-told .given .1) in
     rw (settings, c .opened .ensures)
 
 returns-2 : tie.Need-returns-2
-unfolding begun
+unfolding begin
 returns-2 c =
     let t = c .before .before in
     let settings = sym (t .before .before .settings-of .ensures) ∙ ap saysVerdict (t .verdict .given .1) in

@@ -1,6 +1,6 @@
 -- `hold` takes what asking gives, and else stays.
 use mathlib.Core.Path.{sym, ap, _∙_}
-use Rattle.settings.specs.At.{heldOn}
+use Rattle.settings.specs.At.{hold}
 use Rattle.settings.specs.Says.{saysAsked}
 use borrow.Author.Needs.{needs}
 use Rattle.settings.proofs.hold.Statement.{statement}
@@ -16,14 +16,14 @@ enum-told : tie.Need-enum-told
 enum-told c = search needs
 
 returns : tie.Need-returns
-unfolding heldOn
+unfolding hold
 returns c =
     let v = c .before in
     let answer = sym (v .before .before .at .ensures) ∙ ap saysAsked (v .answer .given .1) in
     rw answer
 
 returns-2 : tie.Need-returns-2
-unfolding heldOn
+unfolding hold
 returns-2 c =
     let answer = sym (c .before .before .at .ensures) ∙ ap saysAsked (c .enum-told .given .1) in
     rw answer

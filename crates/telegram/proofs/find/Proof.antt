@@ -5,7 +5,7 @@ use mathlib.Core.Path.{_≡_, sym, _∙_}
 use native.Mathlib.Omega.{arith}
 use borrow.Author.Needs.{needs}
 use borrow.Author.Tests.{not-true, not-false}
-use Rattle.telegram.specs.Place.{found}
+use Rattle.telegram.specs.Place.{find}
 use Rattle.telegram.proofs.Taken.{taken}
 use Rattle.telegram.proofs.Places.{too-short}
 use Rattle.telegram.proofs.find.Statement.{statement}
@@ -15,21 +15,21 @@ is-good-requires : tie.Need-is-good-requires
 is-good-requires c κs = search needs
 
 returns : tie.Need-returns
-unfolding found
+unfolding find
 returns c = simp (← c .before .is-good .ensures, not-true (c .before .is-good .result) (c .if1 .taken))
 
 is-inside-requires : tie.Need-is-inside-requires
 is-inside-requires c κs = search needs
 
 returns-2 : tie.Need-returns-2
-unfolding found
+unfolding find
 returns-2 c =
     let g = c .before .before .before .is-good in
     let i = c .before .is-inside in
     simp (← g .ensures, not-false (g .result) (c .before .before .if1 .left), ← i .ensures, not-true (i .result) (c .if2 .taken))
 
 returns-3 : tie.Need-returns-3
-unfolding found
+unfolding find
 returns-3 c =
     let g = c .before .before .before .before .is-good in
     let i = c .before .before .is-inside in
@@ -58,7 +58,7 @@ first-place-requires c κs =
     omega (arith, taken (a .buf .now) (a .start) (a .len) (sym (i .ensures) ∙ not-false (i .result) (c .before .if2 .left)))
 
 returns-4 : tie.Need-returns-4
-unfolding found
+unfolding find
 returns-4 c =
     let g = c .before .before .before .before .before .is-good in
     let i = c .before .before .before .is-inside in

@@ -3,7 +3,7 @@ use mathlib.Core.Path.{ap, sym, _∙_}
 use mathlib.Core.Bool.{Bool}
 use borrow.Author.Needs.{needs}
 use Rattle.words.specs.Answer.{gives, refuses, pick}
-use Rattle.telegram.specs.Sync.{good, pairOf}
+use Rattle.telegram.specs.Sync.{good, goodPair}
 use Rattle.telegram.proofs.good_pair.Statement.{statement}
 use Rattle.telegram.proofs.good_pair.Tie as tie
 
@@ -11,11 +11,11 @@ is-good-requires : tie.Need-is-good-requires
 is-good-requires c κs = search needs
 
 returns : tie.Need-returns
-unfolding pairOf
+unfolding goodPair
 returns c = ap (λ (t : Bool). pick t (gives good) (refuses 4)) (sym (c .if1 .taken) ∙ c .before .is-good .ensures)
 
 returns-2 : tie.Need-returns-2
-unfolding pairOf
+unfolding goodPair
 returns-2 c = ap (λ (t : Bool). pick t (gives good) (refuses 4)) (sym (c .if1 .left) ∙ c .before .is-good .ensures)
 
 pub good-pair-spec : {M : Type 1} → statement M

@@ -5,8 +5,8 @@ use mathlib.Core.Path.{_≡_, sym, ap, _∙_}
 use mathlib.Core.List.{List, _∷_}
 use native.Mathlib.Omega.{arith}
 use borrow.Author.Needs.{needs}
-use Rattle.telegram.specs.Place.{places, found}
-use Rattle.telegram.specs.Survey.{together, surveyed}
+use Rattle.telegram.specs.Place.{places, find}
+use Rattle.telegram.specs.Survey.{together, survey}
 use Rattle.telegram.specs.Says.{saysFound}
 use Rattle.telegram.specs.declared.Found.{Found}
 use Rattle.words.specs.Answer.{refuses, gives}
@@ -30,8 +30,8 @@ at-first c =
     (sym (c .before .before .before .find .ensures) ∙ ap saysFound (c .before .found .given .1))
 
 -- what the search refuses
-refused : (b : List ℕ) (start len s t : ℕ) (r : Found) → saysFound r ≡ found b start len s t → (n : ℕ) → saysFound r ≡ refuses n
-    → refuses n ≡ surveyed b start len s t
+refused : (b : List ℕ) (start len s t : ℕ) (r : Found) → saysFound r ≡ find b start len s t → (n : ℕ) → saysFound r ≡ refuses n
+    → refuses n ≡ survey b start len s t
 refused b start len s t r says n e = sym (as-refused b start len s t n (sym says ∙ e))
 
 sub-to-first : tie.Need-sub-to-first
@@ -61,7 +61,7 @@ enum-told-3 : tie.Need-enum-told-3
 enum-told-3 c = search needs
 
 returns : tie.Need-returns
-unfolding surveyed
+unfolding survey
 returns c =
     let a = c .before .before .before .before .before .before .args in
     let h = at-first (c .before) in

@@ -5,7 +5,7 @@ use borrow.Author.Needs.{needs}
 use borrow.Author.Tests.{eq-eqb, ne-eqb}
 use Rattle.words.specs.Answer.{pick}
 use Rattle.telegram.specs.declared.Telegram.{Telegram}
-use Rattle.writer.specs.Words.{asked, spelt}
+use Rattle.writer.specs.Words.{asked, spell}
 use Rattle.writer.proofs.spelling.spell.Statement.{statement}
 use Rattle.writer.proofs.spelling.spell.Tie as tie
 
@@ -20,14 +20,14 @@ unfolding asked
 returns c =
     let a = c .before .before .args in
     c .number .ensures
-    ∙ ap (λ (t : Bool). spelt (pick t (Telegram.Number (a .y)) (Telegram.Figures (a .x) (a .y) (a .z)))) (sym (eq-eqb (a .x) 12 (c .before .if1 .taken)))
+    ∙ ap (λ (t : Bool). spell (pick t (Telegram.Number (a .y)) (Telegram.Figures (a .x) (a .y) (a .z)))) (sym (eq-eqb (a .x) 12 (c .before .if1 .taken)))
 
 returns-2 : tie.Need-returns-2
 unfolding asked
 returns-2 c =
     let a = c .before .before .args in
     c .figures .ensures
-    ∙ ap (λ (t : Bool). spelt (pick t (Telegram.Number (a .y)) (Telegram.Figures (a .x) (a .y) (a .z)))) (sym (ne-eqb (a .x) 12 (c .before .if1 .left)))
+    ∙ ap (λ (t : Bool). spell (pick t (Telegram.Number (a .y)) (Telegram.Figures (a .x) (a .y) (a .z)))) (sym (ne-eqb (a .x) 12 (c .before .if1 .left)))
 
 pub spell-spec : {M : Type 1} → statement M
 spell-spec = tie.close (tie.spec number-requires figures-requires returns returns-2)
