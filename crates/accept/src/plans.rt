@@ -34,7 +34,7 @@ pub fn asked_for(number: usize) -> Tolerance {
                 Tolerance::Odd
             }
         }
-        Figure::Above => Tolerance::Dm(4294967295),
+        Figure::Above => Tolerance::Dm(u32::MAX),
         Figure::Odd => Tolerance::Odd,
     }
 }

@@ -30,8 +30,8 @@ pub fn together(met: usize, extra: u64) -> u64
     ensures { λ r. ⌜ r ≡ upToMost (met + extra) ⌝ }
 {
     let met = met as u64;
-    if extra > 18446744073709551615 - met {
-        return 18446744073709551615;
+    if extra > u64::MAX - met {
+        return u64::MAX;
     }
     met + extra
 }

@@ -121,7 +121,7 @@ fn after_wanted(run: Acceptance, i: usize, place: u64) -> Acceptance
 fn one_more(n: u64) -> u64
     ensures { λ r. ⌜ r ≡ oneMore n ⌝ }
 {
-    if n < 18446744073709551615 {
+    if n < u64::MAX {
         return n + 1;
     }
     n

@@ -49,7 +49,7 @@ fn counted(w: u64) -> Count
     ensures { λ r. ⌜ ((k : ℕ) → k + 16 ≤ 64 → bit (r .a) k + 2 * bit (r .b) k + 4 * bit (r .c) k + 8 * bit (r .d) k + 16 * bit (r .e) k ≡ zeroesOf (w / 2 ^ k) 16) ⌝ }
 {
     let one = Count {
-        a: w ^ 18446744073709551615,
+        a: w ^ u64::MAX,
         b: 0,
         c: 0,
         d: 0,
@@ -74,5 +74,5 @@ pub fn closing(w: u64) -> u64
     ensures { λ r. ⌜ ((k : ℕ) → k + 16 ≤ 64 → bit r k ≡ 0 → 4 < zeroesOf (w / 2 ^ k) 16) ⌝ }
 {
     let n = counted(w);
-    (n.d | n.e | (n.c & (n.a | n.b))) ^ 18446744073709551615
+    (n.d | n.e | (n.c & (n.a | n.b))) ^ u64::MAX
 }

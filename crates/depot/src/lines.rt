@@ -20,7 +20,7 @@ fn numbered(i: usize) -> u64
     ensures { λ r. ⌜ r ≡ oneMore i ⌝ }
 {
     let n = i as u64;
-    if n < 18446744073709551615 {
+    if n < u64::MAX {
         return n + 1;
     }
     n

@@ -1,6 +1,6 @@
 // Linking: the mark of a present signal, and when an expected one is missed.
 ghost use mathlib.Core.Path.{_≡_};
-ghost use Prim.Native.Nat.{_-_, _<_};
+ghost use Prim.Native.Nat.{_-_, _<_, _^_};
 ghost use Rattle.ride.specs.Linking.{markAt, markOf, isOverdue, missedPlace};
 ghost use Rattle.ride.specs.Closing.{markFrom};
 use crate::Linking;
@@ -19,7 +19,7 @@ fn beyond(place: u32, from: u32) -> u64
 
 // The mark at travelled distance t, where D was announced.
 fn mark_at(distance: u32, t: u64) -> Mark
-    requires { ⌜ t < 4294967296 ⌝ }
+    requires { ⌜ t < 2 ^ 32 ⌝ }
     ensures { λ r. ⌜ r ≡ markAt distance t ⌝ }
 {
     let d = distance as u64;

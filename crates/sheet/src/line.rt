@@ -44,7 +44,7 @@ fn figure_of(text: &[u8]) -> Figure
 {
     match arguments::decimal(text, LARGEST) {
         arguments::Figure::Number(n) => Figure::Is(n as u32),
-        arguments::Figure::Above => Figure::Is(4294967295),
+        arguments::Figure::Above => Figure::Is(u32::MAX),
         arguments::Figure::Odd => Figure::Odd,
     }
 }

@@ -13,11 +13,7 @@ pub fn marks(buf: &[u8], p: usize, s: u8, t: u8) -> u64
 {
     let i = p / 8;
     let differ = eight_bytes(buf, i + 4) ^ eight_bytes(buf, i);
-    where_stands(
-        s as u64 ^ t as u64,
-        differ,
-        18446744073709551615 >> (7 + p % 8),
-    )
+    where_stands(s as u64 ^ t as u64, differ, u64::MAX >> (7 + p % 8))
 }
 
 // How many offsets stand before the first mark.
@@ -46,7 +42,7 @@ fn where_stands(d: u64, x: u64, m: u64) -> u64
     let mut h = m;
     let mut j: u64 = 0;
     while j < 8 {
-        h = h & ((x >> j) ^ ((1 - (d >> j) % 2) * 18446744073709551615));
+        h = h & ((x >> j) ^ ((1 - (d >> j) % 2) * u64::MAX));
         j += 1;
     }
     h

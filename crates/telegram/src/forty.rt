@@ -7,6 +7,15 @@ ghost use Rattle.telegram.specs.Place.{areSyncs, accepted};
 ghost use Rattle.telegram.specs.Says.{saysTelegramRead};
 use crate::TelegramRead;
 
+// The bytes of forty bits, but for the last: what a one in the last bit of each is worth.
+const FIRST: u64 = 4294967296;
+
+const SECOND: u64 = 16777216;
+
+const THIRD: u64 = 65536;
+
+const FOURTH: u64 = 256;
+
 // Whether the forty bits v are a telegram between s and t, in either order: the sync words are looked at first.
 pub fn is_place(v: u64, s: u8, t: u8) -> bool
     requires { ⌜ v < 2 ^ 40 ⌝ }
@@ -23,7 +32,7 @@ pub fn outer_are_syncs(v: u64, s: u8, t: u8) -> bool
     requires { ⌜ v < 2 ^ 40 ⌝ }
     ensures { λ r. ⌜ r ≡ areSyncs s t (v / 2 ^ 32) (v % 256) ⌝ }
 {
-    let a = v / 4294967296;
+    let a = v / FIRST;
     let z = v % 256;
     let s = s as u64;
     let t = t as u64;
@@ -35,9 +44,9 @@ pub fn words_of(v: u64) -> TelegramRead
     ensures { λ r. ⌜ saysTelegramRead r ≡ telegram (v / 2 ^ 24 % 256) (v / 2 ^ 16 % 256) (v / 2 ^ 8 % 256) ⌝ }
 {
     crate::read(
-        (v / 16777216 % 256) as u8,
-        (v / 65536 % 256) as u8,
-        (v / 256 % 256) as u8,
+        (v / SECOND % 256) as u8,
+        (v / THIRD % 256) as u8,
+        (v / FOURTH % 256) as u8,
     )
 }
 

@@ -2,14 +2,17 @@
 ghost use mathlib.Core.Path.{_≡_};
 ghost use Rattle.telegram.specs.Stretch.{inside};
 
+// The most bits that a stretch may have.
+const MOST_BITS: usize = 16777216;
+
 // Whether the stretch is taken. No sum here leaves 64 bits: the end is counted in whole bytes.
 pub fn is_inside(buf: &[u8], start: usize, len: usize) -> bool
     ensures { λ r. ⌜ r ≡ inside (now (buf .entry)) start len ⌝ }
 {
-    if 16777216 < len {
+    if MOST_BITS < len {
         return false;
     }
-    if 18446744073709551615 - len < start {
+    if usize::MAX - len < start {
         return false;
     }
     let end = start + len;
