@@ -2,7 +2,6 @@
 -- Assumes nothing.
 use mathlib.Core.Path.{_≡_, sym, ap, _∙_}
 use Prim.Native.Nat.{ℕ, _+_, _*_, _/_, _%_, _^_, _<_}
-use native.Mathlib.Nat.{zero-add}
 use native.Mathlib.Omega.{arith}
 use lib.Dec.{lit<}
 use lib.Pow.{shr-shr, mod-pow-add, shr-mod}
@@ -33,15 +32,6 @@ three w small = ap (λ (k : ℕ). k * 2 + bit w 13) (more w 14 1) ∙ more w 13 
 module _ (w : ℕ) where
   at : (n i : ℕ) → i < n → bit (exchanged n w) i ≡ bit w (other i)
   at n i l = bit-exchanged n w i l
-
-  pub short-figure : w < 256 → parts w ≡ figure 8 (exchanged 8 w)
-  unfolding figure onwards isCheck other
-  short-figure small =
-      let none13 : w / 8192 ≡ 0 = omega arith in
-      let none12 : w / 4096 ≡ 0 = omega arith in
-      let none11 : w / 2048 ≡ 0 = omega arith in
-      let none9 : w / 512 ≡ 0 = omega arith in
-      simp (none13, none12, none11, none9, at 8 7 (lit< tt), at 8 6 (lit< tt), at 8 5 (lit< tt), at 8 3 (lit< tt)) (zero-add (w / 16 % 16) ∙ sym (four w) ∙ ap (λ (k : ℕ). ((k * 2 + bit w 6) * 2 + bit w 5) * 2 + bit w 4) (sym (zero-add (bit w 7))))
 
   pub long-figure : w < 65536 → parts w ≡ figure 16 (exchanged 16 w)
   unfolding figure onwards isCheck other

@@ -8,12 +8,8 @@ use Rattle.words.specs.Bits.{word, onesOf}
 use Rattle.words.specs.Why.{why, are, parity}
 use Rattle.words.specs.declared.Parity.{Parity}
 use Rattle.words.specs.Plain.{isCheck, covers, count, even, isCode, onwards, figure, carriers, carried, madeEven, plainWord}
+use Rattle.words.proofs.Short.{M8}
 use Rattle.words.specs.Code.{other, exchanged, sent, readWord, writeWord, readShort, writeShort, readLong, writeLong}
-
--- M(8,4) for 0 to 15, as document 01 prints it.
-M8 : List ℕ
-M8 =
-    0x00 ∷ 0x17 ∷ 0x2B ∷ 0x3C ∷ 0x4D ∷ 0x5A ∷ 0x66 ∷ 0x71 ∷ 0x8E ∷ 0x99 ∷ 0xA5 ∷ 0xB2 ∷ 0xC3 ∷ 0xD4 ∷ 0xE8 ∷ 0xFF ∷ []
 
 -- The numbers from k on, n of them.
 from : ℕ → ℕ → List ℕ
@@ -22,7 +18,7 @@ from k (suc n) = k ∷ from (suc k) n
 
 -- Each figure is written as the table has it, and 16 is refused with 2.
 m8-written : map writeShort (from 0 16) ≡ map gives M8
-unfolding M8 from writeWord sent plainWord carried carriers madeEven count covers isCheck exchanged other word
+unfolding from writeWord sent plainWord carried carriers madeEven count covers isCheck exchanged other word
 m8-written = refl
 
 sixteen : writeShort 16 ≡ refuses 2
@@ -31,7 +27,7 @@ sixteen = refl
 
 -- Each word of the table reads as its figure; 18 hex is refused with 1, and its two ones are even.
 m8-read : map readShort M8 ≡ map gives (from 0 16)
-unfolding M8 from readWord isCode even count covers figure onwards isCheck exchanged other word
+unfolding from readWord isCode even count covers figure onwards isCheck exchanged other word
 m8-read = refl
 
 eighteen : readShort 0x18 ≡ refuses (why 1 (are Parity.Even))

@@ -14,6 +14,7 @@ pub mod Weight
 pub mod Widths
 pub mod Masks
 pub mod Carrying
+pub mod Short
 pub mod Made
 pub mod Written
 pub mod Laws

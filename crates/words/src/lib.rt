@@ -42,12 +42,10 @@ pub enum LongWritten {
 pub fn read_short(word: u8) -> ShortRead
     ensures { λ r. ⌜ saysShortRead r ≡ readShort word ⌝ }
 {
-    let w = word as u32;
-    if reading::is_code(w) {
-        let x = reading::figure(w);
-        ShortRead::Figure((x % 256) as u8)
+    if reading::is_short(word) {
+        ShortRead::Figure(word / 16)
     } else {
-        ShortRead::NotCode(reading::parity(w))
+        ShortRead::NotCode(reading::parity(word as u32))
     }
 }
 

@@ -1,4 +1,4 @@
-// Reading a received word of either code: a short word is a long one whose high byte is 0.
+// Reading a received word: a short one by the code's sixteen words, a long one by its five checks.
 ghost use mathlib.Core.Path.{_≡_};
 ghost use Prim.Native.Nat.{_%_, _<_};
 ghost use lib.Dec.{eqb};
@@ -26,10 +26,37 @@ fn is_even(w: u32) -> bool
     u32::count_ones(w) % 2 == 0
 }
 
-// Whether the received word w is a code word of the long code, and of the short one if it is a byte: each check's count of ones is even.
+// The words of the short code, by figure, as document 01 prints them.
+const SHORT: [u8; 16] = [
+    0x00,
+    0x17,
+    0x2B,
+    0x3C,
+    0x4D,
+    0x5A,
+    0x66,
+    0x71,
+    0x8E,
+    0x99,
+    0xA5,
+    0xB2,
+    0xC3,
+    0xD4,
+    0xE8,
+    0xFF,
+];
+
+// Whether the received byte w is a code word of the short code: that of the figure in its high four bits.
+pub fn is_short(w: u8) -> bool
+    ensures { λ r. ⌜ r ≡ isCode 8 (exchanged 8 w) ⌝ }
+{
+    SHORT[(w / 16) as usize] == w
+}
+
+// Whether the received word w is a code word of the long code: each check's count of ones is even.
 pub fn is_code(w: u32) -> bool
     requires { ⌜ w < 65536 ⌝ }
-    ensures { λ r. ⌜ (r ≡ isCode 16 (exchanged 16 w)) × (w < 256 → r ≡ isCode 8 (exchanged 8 w)) ⌝ }
+    ensures { λ r. ⌜ r ≡ isCode 16 (exchanged 16 w) ⌝ }
 {
     is_even(w & CHECK_8)
         && is_even(w & CHECK_4)
@@ -50,10 +77,10 @@ pub fn parity(w: u32) -> Parity
     }
 }
 
-// The figure that the received word w carries, as a word of the long code, and of the short one if it is a byte: bits 15, 14, 13, 11, 12, 10, 9 and 7 to 4.
+// The figure that the received word w of the long code carries: bits 15, 14, 13, 11, 12, 10, 9 and 7 to 4.
 pub fn figure(w: u32) -> u32
     requires { ⌜ w < 65536 ⌝ }
-    ensures { λ r. ⌜ (r ≡ figure 16 (exchanged 16 w)) × (w < 256 → r ≡ figure 8 (exchanged 8 w)) ⌝ }
+    ensures { λ r. ⌜ r ≡ figure 16 (exchanged 16 w) ⌝ }
 {
     w / 8192 * 256 + w / 2048 % 2 * 128 + w / 4096 % 2 * 64 + w / 512 % 4 * 16 + w / 16 % 16
 }

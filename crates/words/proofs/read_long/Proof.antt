@@ -15,15 +15,15 @@ cast-t7 c = search needs
 
 returns : tie.Need-returns
 returns c =
-    accepted 16 (c .before .before .before .args .word) (c .before .before .is-code .result) (c .before .before .is-code .ensures .0)
-    (c .figure .result) (c .figure .ensures .0) (c .before .if1 .taken)
+    accepted 16 (c .before .before .before .args .word) (c .before .before .is-code .result) (c .before .before .is-code .ensures)
+    (c .figure .result) (c .figure .ensures) (c .before .if1 .taken)
 
 parity-requires : tie.Need-parity-requires
 parity-requires c κs = search needs
 
 returns-2 : tie.Need-returns-2
 returns-2 c =
-    refused 16 (c .before .before .before .args .word) (c .before .before .is-code .result) (c .before .before .is-code .ensures .0)
+    refused 16 (c .before .before .before .args .word) (c .before .before .is-code .result) (c .before .before .is-code .ensures)
     (c .parity .result) (c .parity .ensures .0) (c .before .if1 .left)
 
 pub read-long-spec : {M : Type 1} → statement M

@@ -1,6 +1,6 @@
--- `figure` is right because the bits of its parts are those that carry the figure, in a word of either code.
+-- `figure` is right because the bits of its parts are those that carry the figure.
 use borrow.Author.Needs.{needs}
-use Rattle.words.proofs.Carrying.{short-figure, long-figure}
+use Rattle.words.proofs.Carrying.{long-figure}
 use Rattle.words.proofs.reading.figure.Statement.{statement}
 use Rattle.words.proofs.reading.figure.Tie as tie
 
@@ -29,7 +29,7 @@ add-result-4 : tie.Need-add-result-4
 add-result-4 c = search needs
 
 returns : tie.Need-returns
-returns c = (long-figure (c .args .w) (c .pre), short-figure (c .args .w))
+returns c = long-figure (c .args .w) (c .pre)
 
 pub figure-spec : {M : Type 1} → statement M
 figure-spec =

@@ -7,7 +7,7 @@ use borrow.Author.Needs.{needs}
 use Rattle.words.specs.Bits.{word}
 use Rattle.words.specs.Plain.{covers, even, isCode}
 use Rattle.words.specs.Code.{other, exchanged}
-use Rattle.words.proofs.Widths.{Width, short, long}
+use Rattle.words.proofs.Widths.{Width, long}
 use Rattle.words.proofs.Masks.{mask, even-under}
 use Rattle.words.proofs.reading.is_code.Statement.{statement}
 use Rattle.words.proofs.reading.is_code.Tie as tie
@@ -90,10 +90,10 @@ not-four {n} wide c small =
     unasked _ (((e 8 && e 4) && e 2) && e 1) (e 0) (sym so ∙ c .if4 .left) so ∙ joined (e 8) (e 4) (e 2) (e 1) (e 0)
 
 returns : tie.Need-returns
-returns c = (all-five long c (c .before .before .before .before .before .before .pre), all-five short c)
+returns c = all-five long c (c .before .before .before .before .before .before .pre)
 
 returns-2 : tie.Need-returns-2
-returns-2 c = (not-four long c (c .before .before .before .before .before .pre), not-four short c)
+returns-2 c = not-four long c (c .before .before .before .before .before .pre)
 
 pub is-code-spec : {M : Type 1} → statement M
 is-code-spec =
