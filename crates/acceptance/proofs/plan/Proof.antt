@@ -27,21 +27,12 @@ neighbours c =
     let a = c .before .before .before .before .before .before .args in
     c .apart .ensures ∙ apart-is (a .bytes .now) (a .tolerance) (c .before .entries .result) (c .before .entries .ensures)
 
-refused-requires : tie.Need-refused-requires
-refused-requires c κs = search needs
-
 returns : tie.Need-returns
 unfolding plan
 returns c =
     let a = c .before .before .before .args in
     let is : leb (a .tolerance) 500 ≡ false = lt-leb (a .tolerance) 500 (c .before .if1 .taken) in
     ap saysPlanned (c .refused .ensures) ∙ simp is
-
-well-formed-requires : tie.Need-well-formed-requires
-well-formed-requires c κs = search needs
-
-refused-requires-2 : tie.Need-refused-requires-2
-refused-requires-2 c κs = search needs
 
 returns-2 : tie.Need-returns-2
 unfolding plan
@@ -56,9 +47,6 @@ entries-requires c κs = few (c .before .before .before .before .args .bytes .no
 apart-requires : tie.Need-apart-requires
 apart-requires c κs = few (c .before .before .before .before .before .args .bytes .now) (bytes-good (c .before))
 
-refused-requires-3 : tie.Need-refused-requires-3
-refused-requires-3 c κs = search needs
-
 returns-3 : tie.Need-returns-3
 unfolding plan
 returns-3 c =
@@ -67,9 +55,6 @@ returns-3 c =
     let a = g .before .before .before .before .args in
     let is : apart (a .tolerance) (entriesOf (a .bytes .now)) ≡ false = sym (neighbours n) ∙ not-true _ (c .before .if3 .taken) in
     ap saysPlanned (c .refused3 .ensures) ∙ simp (tolerance-good (g .before .before), bytes-good g, is)
-
-begun-requires : tie.Need-begun-requires
-begun-requires c κs = search needs
 
 returns-4 : tie.Need-returns-4
 unfolding plan
@@ -85,14 +70,9 @@ pub plan-spec : {M : Type 1} → statement M
 plan-spec =
     tie.close
     (tie.spec
-    refused-requires
-    returns
-    well-formed-requires
-    refused-requires-2
-    returns-2
+    (λ c κs. search needs) returns
+    (λ c κs. search needs) (λ c κs. search needs) returns-2
     entries-requires
     apart-requires
-    refused-requires-3
-    returns-3
-    begun-requires
-    returns-4)
+    (λ c κs. search needs) returns-3
+    (λ c κs. search needs) returns-4)

@@ -5,15 +5,6 @@ use borrow.Author.Needs.{needs}
 use Rattle.acceptance.proofs.report.Statement.{statement}
 use Rattle.acceptance.proofs.report.Tie as tie
 
-entries-in-requires : tie.Need-entries-in-requires
-entries-in-requires c κs = search needs
-
-mul-t7 : tie.Need-mul-t7
-mul-t7 c = search needs
-
-array-copy-out-t10 : tie.Need-array-copy-out-t10
-array-copy-out-t10 c = search needs
-
 returns : tie.Need-returns
 returns c =
     let n = c .before .before in
@@ -27,4 +18,8 @@ returns-2 c =
     none-reported (a .run) (n .entries-in .result) (n .entries-in .ensures .0) (n .entries-in .ensures .1 .0) (a .i) (c .if1 .left)
 
 pub report-spec : {M : Type 1} → statement M
-report-spec = tie.close (tie.spec entries-in-requires mul-t7 array-copy-out-t10 returns returns-2)
+report-spec =
+    tie.close
+    (tie.spec
+    (λ c κs. search needs) (λ c. search needs) (λ c. search needs) returns
+    returns-2)

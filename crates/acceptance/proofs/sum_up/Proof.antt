@@ -5,18 +5,6 @@ use borrow.Author.Needs.{needs}
 use Rattle.acceptance.proofs.sum_up.Statement.{statement}
 use Rattle.acceptance.proofs.sum_up.Tie as tie
 
-entries-in-requires : tie.Need-entries-in-requires
-entries-in-requires c κs = search needs
-
-met-requires : tie.Need-met-requires
-met-requires c κs = search needs
-
-sub-t5 : tie.Need-sub-t5
-sub-t5 c = search needs
-
-together-requires : tie.Need-together-requires
-together-requires c κs = search needs
-
 returns : tie.Need-returns
 returns c =
     let n = c .before .before in
@@ -26,4 +14,6 @@ returns c =
 
 pub sum-up-spec : {M : Type 1} → statement M
 sum-up-spec =
-    tie.close (tie.spec entries-in-requires met-requires sub-t5 together-requires returns)
+    tie.close
+    (tie.spec
+    (λ c κs. search needs) (λ c κs. search needs) (λ c. search needs) (λ c κs. search needs) returns)

@@ -7,42 +7,6 @@ use borrow.Author.Needs.{needs}
 use Rattle.acceptance.proofs.take.Statement.{statement}
 use Rattle.acceptance.proofs.take.Tie as tie
 
-enum-known-line : tie.Need-enum-known-line
-enum-known-line c = search needs
-
-is-present-requires : tie.Need-is-present-requires
-is-present-requires c κs = search needs
-
-group-requires : tie.Need-group-requires
-group-requires c κs = search needs
-
-no-part-requires : tie.Need-no-part-requires
-no-part-requires c κs = search needs
-
-enum-told : tie.Need-enum-told
-enum-told c = search needs
-
-no-part-requires-2 : tie.Need-no-part-requires-2
-no-part-requires-2 c κs = search needs
-
-enum-told-2 : tie.Need-enum-told-2
-enum-told-2 c = search needs
-
-no-part-requires-3 : tie.Need-no-part-requires-3
-no-part-requires-3 c κs = search needs
-
-enum-told-3 : tie.Need-enum-told-3
-enum-told-3 c = search needs
-
-no-part-requires-4 : tie.Need-no-part-requires-4
-no-part-requires-4 c κs = search needs
-
-enum-told-4 : tie.Need-enum-told-4
-enum-told-4 c = search needs
-
-no-part-requires-5 : tie.Need-no-part-requires-5
-no-part-requires-5 c κs = search needs
-
 returns : tie.Need-returns
 returns c =
     let p = c .before .before in
@@ -77,19 +41,8 @@ pub take-spec : {M : Type 1} → statement M
 take-spec =
     tie.close
     (tie.spec
-    enum-known-line
-    is-present-requires
-    group-requires
-    no-part-requires
-    enum-told
-    no-part-requires-2
-    enum-told-2
-    no-part-requires-3
-    enum-told-3
-    no-part-requires-4
-    enum-told-4
-    no-part-requires-5
-    returns
+    (λ c. search needs) (λ c κs. search needs) (λ c κs. search needs) (λ c κs. search needs) (λ c. search needs) (λ c κs. search needs)
+    (λ c. search needs) (λ c κs. search needs) (λ c. search needs) (λ c κs. search needs) (λ c. search needs) (λ c κs. search needs) returns
     returns-2
     returns-3
     returns-4

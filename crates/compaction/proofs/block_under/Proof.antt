@@ -10,15 +10,6 @@ use borrow.Author.Needs.{needs}
 use Rattle.compaction.proofs.block_under.Statement.{statement}
 use Rattle.compaction.proofs.block_under.Tie as tie
 
-at-requires : tie.Need-at-requires
-at-requires c κs = search needs
-
-enum-known-asked : tie.Need-enum-known-asked
-enum-known-asked c = search needs
-
-enum-known-asked-2 : tie.Need-enum-known-asked-2
-enum-known-asked-2 c = search needs
-
 returns : tie.Need-returns
 returns c =
     let h = c .before .before in
@@ -41,9 +32,6 @@ returns-2 c =
     let a = q .before .before .args in
     block-refused (a .waiting) (a .store) (a .block .now) _ (store-refused (a .store) _ (sym (q .at .ensures) ∙ ap saysAsked (v .asked .given .1)))
 
-same-length : tie.Need-same-length
-same-length c = search needs
-
 returns-3 : tie.Need-returns-3
 returns-3 c =
     let o = c .before .before .before in
@@ -59,11 +47,7 @@ pub block-under-spec : {M : Type 1} → statement M
 block-under-spec =
     tie.close
     (tie.spec
-    at-requires
-    enum-known-asked
-    enum-known-asked-2
-    returns
+    (λ c κs. search needs) (λ c. search needs) (λ c. search needs) returns
     over-requires
     returns-2
-    same-length
-    returns-3)
+    (λ c. search needs) returns-3)

@@ -7,15 +7,6 @@ use borrow.Author.Needs.{needs}
 use Rattle.compaction.proofs.compact.Statement.{statement}
 use Rattle.compaction.proofs.compact.Tie as tie
 
-begin-requires : tie.Need-begin-requires
-begin-requires c κs = search needs
-
-compact-under-requires : tie.Need-compact-under-requires
-compact-under-requires c κs = search needs
-
-same-length : tie.Need-same-length
-same-length c = search needs
-
 returns : tie.Need-returns
 returns c =
     let u = c .before .before in
@@ -25,4 +16,7 @@ returns c =
     ∙ plain-compact (a .ride) (a .gap) (a .trace .now)
 
 pub compact-spec : {M : Type 1} → statement M
-compact-spec = tie.close (tie.spec begin-requires compact-under-requires same-length returns)
+compact-spec =
+    tie.close
+    (tie.spec
+    (λ c κs. search needs) (λ c κs. search needs) (λ c. search needs) returns)

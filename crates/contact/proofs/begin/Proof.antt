@@ -6,15 +6,6 @@ use Rattle.contact.specs.Contacts.{begin, fromStart}
 use Rattle.contact.proofs.begin.Statement.{statement}
 use Rattle.contact.proofs.begin.Tie as tie
 
-inside-requires : tie.Need-inside-requires
-inside-requires c κs = search needs
-
-enum-told : tie.Need-enum-told
-enum-told c = search needs
-
-enum-told-2 : tie.Need-enum-told-2
-enum-told-2 c = search needs
-
 returns : tie.Need-returns
 unfolding begin fromStart
 returns c =
@@ -30,4 +21,8 @@ returns-2 c =
     simp (judged-beyond (a .buf .now) (a .start) (a .len) (i .result) (i .ensures) (c .enum-told2 .given .1))
 
 pub begin-spec : {M : Type 1} → statement M
-begin-spec = tie.close (tie.spec inside-requires enum-told enum-told-2 returns returns-2)
+begin-spec =
+    tie.close
+    (tie.spec
+    (λ c κs. search needs) (λ c. search needs) (λ c. search needs) returns
+    returns-2)

@@ -42,12 +42,6 @@ module _ (b : List ℕ) (start len s t : ℕ) (r : Surveyed) (says : saysSurveye
       is-taken b start len s t (refuses 6) (sym says ∙ e)
       (λ z. let q : _≡_ {A = ℕ} 6 4 = cc in omega arith) (λ z. let q : _≡_ {A = ℕ} 6 5 = cc in omega arith)
 
-survey-requires : tie.Need-survey-requires
-survey-requires c κs = search needs
-
-enum-known-surveyed : tie.Need-enum-known-surveyed
-enum-known-surveyed c = search needs
-
 returns : tie.Need-returns
 returns c =
     let a = c .before .before .before .before .before .before .args in
@@ -63,18 +57,6 @@ or-neither-requires c κs =
     let g = c .before .before .surveyed .given in
     let h = alike-taken (a .buf .now) (a .start) (a .len) (a .s) (a .t) (v .result) (v .ensures) (alike (gives (g .0 .0)) (g .0 .1 .0) (g .0 .1 .1 .0)) (ap saysSurveyed (g .1)) in
     omega (arith, taken (a .buf .now) (a .start) (a .len) h)
-
-enum-told : tie.Need-enum-told
-enum-told c = search needs
-
-enum-told-2 : tie.Need-enum-told-2
-enum-told-2 c = search needs
-
-enum-told-3 : tie.Need-enum-told-3
-enum-told-3 c = search needs
-
-enum-told-4 : tie.Need-enum-told-4
-enum-told-4 c = search needs
 
 or-neither-requires-2 : tie.Need-or-neither-requires-2
 or-neither-requires-2 c κs =
@@ -121,15 +103,9 @@ pub judge-spec : {M : Type 1} → statement M
 judge-spec =
     tie.close
     (tie.spec
-    survey-requires
-    enum-known-surveyed
-    returns
+    (λ c κs. search needs) (λ c. search needs) returns
     or-neither-requires
-    enum-told
-    enum-told-2
-    enum-told-3
-    enum-told-4
-    or-neither-requires-2
+    (λ c. search needs) (λ c. search needs) (λ c. search needs) (λ c. search needs) or-neither-requires-2
     returns-2
     returns-3
     returns-4

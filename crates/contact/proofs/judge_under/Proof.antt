@@ -6,21 +6,6 @@ use borrow.Author.Needs.{needs}
 use Rattle.contact.proofs.judge_under.Statement.{statement}
 use Rattle.contact.proofs.judge_under.Tie as tie
 
-at-requires : tie.Need-at-requires
-at-requires c κs = search needs
-
-enum-known-asked : tie.Need-enum-known-asked
-enum-known-asked c = search needs
-
-enum-known-asked-2 : tie.Need-enum-known-asked-2
-enum-known-asked-2 c = search needs
-
-judge-requires : tie.Need-judge-requires
-judge-requires c κs = search needs
-
-with-pair-requires : tie.Need-with-pair-requires
-with-pair-requires c κs = search needs
-
 returns : tie.Need-returns
 unfolding judgeUnder
 returns c =
@@ -39,4 +24,6 @@ returns-2 c =
 pub judge-under-spec : {M : Type 1} → statement M
 judge-under-spec =
     tie.close
-    (tie.spec at-requires enum-known-asked enum-known-asked-2 judge-requires with-pair-requires returns returns-2)
+    (tie.spec
+    (λ c κs. search needs) (λ c. search needs) (λ c. search needs) (λ c κs. search needs) (λ c κs. search needs) returns
+    returns-2)

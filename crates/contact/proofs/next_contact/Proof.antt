@@ -9,12 +9,6 @@ use Rattle.telegram.proofs.Taken.{taken, judged-inside, judged-beyond}
 use Rattle.contact.proofs.next_contact.Statement.{statement}
 use Rattle.contact.proofs.next_contact.Tie as tie
 
-inside-requires : tie.Need-inside-requires
-inside-requires c κs = search needs
-
-enum-told : tie.Need-enum-told
-enum-told c = search needs
-
 add-outside : tie.Need-add-outside
 add-outside c =
     let a = c .before .before .before .before .args in
@@ -22,18 +16,12 @@ add-outside c =
     let h = judged-inside (a .buf .now) (a .search .next) (a .search .left) (i .result) (i .ensures) (c .enum-told .given .1) in
     omega (arith, taken (a .buf .now) (a .search .next) (a .search .left) h)
 
-cast-outside : tie.Need-cast-outside
-cast-outside c = search needs
-
 outside-requires : tie.Need-outside-requires
 outside-requires c κs =
     let a = c .before .before .before .before .args in
     let i = c .before .before .inside in
     let h = judged-inside (a .buf .now) (a .search .next) (a .search .left) (i .result) (i .ensures) (c .enum-told .given .1) in
     omega (arith, taken (a .buf .now) (a .search .next) (a .search .left) h)
-
-enum-told-2 : tie.Need-enum-told-2
-enum-told-2 c = search needs
 
 returns : tie.Need-returns
 unfolding nextContact contactsFrom
@@ -55,11 +43,7 @@ pub next-contact-spec : {M : Type 1} → statement M
 next-contact-spec =
     tie.close
     (tie.spec
-    inside-requires
-    enum-told
-    add-outside
-    cast-outside
-    outside-requires
-    enum-told-2
-    returns
+    (λ c κs. search needs) (λ c. search needs) add-outside
+    (λ c. search needs) outside-requires
+    (λ c. search needs) returns
     returns-2)

@@ -8,12 +8,6 @@ use Rattle.fields.proofs.Signs.{found-within, field-from}
 use Rattle.fields.proofs.field.Statement.{statement}
 use Rattle.fields.proofs.field.Tie as tie
 
-start-of-requires : tie.Need-start-of-requires
-start-of-requires c κs = search needs
-
-place-of-requires : tie.Need-place-of-requires
-place-of-requires c κs = search needs
-
 sub-result : tie.Need-sub-result
 sub-result c =
     let s = c .before .start-of in
@@ -43,9 +37,7 @@ pub field-spec : {M : Type 1} → statement M
 field-spec =
     tie.close
     (tie.spec
-    start-of-requires
-    place-of-requires
-    sub-result
+    (λ c κs. search needs) (λ c κs. search needs) sub-result
     part-result-start
     part-result-end
     returns)

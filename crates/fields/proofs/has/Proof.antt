@@ -9,9 +9,6 @@ use Rattle.fields.proofs.Signs.{place-first}
 use Rattle.fields.proofs.has.Statement.{statement}
 use Rattle.fields.proofs.has.Tie as tie
 
-place-of-requires : tie.Need-place-of-requires
-place-of-requires c κs = search needs
-
 returns : tie.Need-returns
 unfolding has
 returns c =
@@ -19,4 +16,7 @@ returns c =
     ap (λ (n : ℕ). ltb n (length (a .text .now))) (c .place-of .ensures ∙ place-first (a .sign) (a .text .now))
 
 pub has-spec : {M : Type 1} → statement M
-has-spec = tie.close (tie.spec place-of-requires returns)
+has-spec =
+    tie.close
+    (tie.spec
+    (λ c κs. search needs) returns)

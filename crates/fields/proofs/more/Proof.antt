@@ -6,9 +6,6 @@ use Rattle.fields.specs.Fields.{more}
 use Rattle.fields.proofs.more.Statement.{statement}
 use Rattle.fields.proofs.more.Tie as tie
 
-add-result : tie.Need-add-result
-add-result c = search needs
-
 returns : tie.Need-returns
 unfolding more
 returns c = simp (lt-ltb _ _ (c .before .if1 .taken), c .if2 .taken)
@@ -22,4 +19,9 @@ unfolding more
 returns-3 c = simp (le-ltb _ _ (c .if1 .left))
 
 pub more-spec : {M : Type 1} → statement M
-more-spec = tie.close (tie.spec add-result returns returns-2 returns-3)
+more-spec =
+    tie.close
+    (tie.spec
+    (λ c. search needs) returns
+    returns-2
+    returns-3)

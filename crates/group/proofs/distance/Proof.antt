@@ -17,25 +17,10 @@ returns c =
     let h : 14 < c .before .args .by = omega arith in
     sym (no-column (c .before .args .by) (c .before .args .figure) h)
 
-mul-d : tie.Need-mul-d
-mul-d c = search needs
-
-array-read-d : tie.Need-array-read-d
-array-read-d c = search needs
-
 cast-d : tie.Need-cast-d
 cast-d c =
     let s = c .before .before .before in
     base-fits (s .args .by) (s .args .figure) (inside c .0) (inside c .1)
-
-mul-d-2 : tie.Need-mul-d-2
-mul-d-2 c = search needs
-
-array-copy-out-d : tie.Need-array-copy-out-d
-array-copy-out-d c = search needs
-
-cast-d-2 : tie.Need-cast-d-2
-cast-d-2 c = search needs
 
 mul-d-3 : tie.Need-mul-d-3
 mul-d-3 c =
@@ -79,13 +64,8 @@ distance-spec =
     tie.close
     (tie.spec
     returns
-    mul-d
-    array-read-d
-    cast-d
-    mul-d-2
-    array-copy-out-d
-    cast-d-2
-    mul-d-3
+    (λ c. search needs) (λ c. search needs) cast-d
+    (λ c. search needs) (λ c. search needs) (λ c. search needs) mul-d-3
     add-d
     cast-t12
     returns-2

@@ -24,12 +24,6 @@ returns-2 c =
     let many : 5 < n = omega arith in
     rw (ne-eqb n 1 (c .before .if1 .left), lt-ltb 5 n many)
 
-cast-n : tie.Need-cast-n
-cast-n c = search needs
-
-read-all-requires : tie.Need-read-all-requires
-read-all-requires c κs = search needs
-
 read-requires : tie.Need-read-requires
 read-requires c κs = let r = c .before .before in (search needs, r .read-all .ensures .1 (c .before .if3 .taken))
 
@@ -58,4 +52,9 @@ returns-4 c =
 pub judge-spec : {M : Type 1} → statement M
 judge-spec =
     tie.close
-    (tie.spec returns returns-2 cast-n read-all-requires read-requires returns-3 returns-4)
+    (tie.spec
+    returns
+    returns-2
+    (λ c. search needs) (λ c κs. search needs) read-requires
+    returns-3
+    returns-4)

@@ -8,12 +8,6 @@ use borrow.Author.Needs.{needs}
 use Rattle.group.proofs.speed.Statement.{statement}
 use Rattle.group.proofs.speed.Tie as tie
 
-mul-t6 : tie.Need-mul-t6
-mul-t6 c = search needs
-
-array-read-t9 : tie.Need-array-read-t9
-array-read-t9 c = search needs
-
 returns : tie.Need-returns
 returns c =
     let h : c .before .args .figure < 14 = omega arith in
@@ -25,4 +19,8 @@ returns-2 c =
     sym (speed-out (c .before .args .figure) h)
 
 pub speed-spec : {M : Type 1} → statement M
-speed-spec = tie.close (tie.spec mul-t6 array-read-t9 returns returns-2)
+speed-spec =
+    tie.close
+    (tie.spec
+    (λ c. search needs) (λ c. search needs) returns
+    returns-2)

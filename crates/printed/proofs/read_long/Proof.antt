@@ -21,21 +21,6 @@ Inv-loop word words figure₀ figure = (figure ≤ 2048) × ((k : ℕ) → k < f
 abbrev μ-loop : tie.MeasureT-loop
 μ-loop word words figure₀ figure = 2048 - figure
 
-list-requires : tie.Need-list-requires Inv-loop μ-loop
-list-requires c κs = search needs
-
-loop-holds : tie.Need-loop-holds Inv-loop μ-loop
-loop-holds c = search needs
-
-cast-if1 : tie.Need-cast-if1 Inv-loop μ-loop
-cast-if1 c = search needs
-
-mul-if1 : tie.Need-mul-if1 Inv-loop μ-loop
-mul-if1 c = search needs
-
-array-read-if1 : tie.Need-array-read-if1 Inv-loop μ-loop
-array-read-if1 c = search needs
-
 returns : tie.Need-returns Inv-loop μ-loop
 returns c =
     let at = c .before .before in
@@ -43,17 +28,8 @@ returns c =
     let here : getD list x 0 ≡ at .before .before .args .word = ap (λ (l : List ℕ). getD l x 0) (sym (at .before .list .ensures)) ∙ c .if1 .taken in
     sym (listed-reads x (at .before .before .args .word) (omega (arith, c .before .loop-test .taken)) here)
 
-add-figure : tie.Need-add-figure Inv-loop μ-loop
-add-figure c = search needs
-
-loop-less : tie.Need-loop-less Inv-loop μ-loop
-loop-less c = search needs
-
 loop-again : tie.Need-loop-again Inv-loop μ-loop
 loop-again c = (search needs, below-more _ _ (c .before .before .loop .inv .1) (c .if1 .left))
-
-parity-requires : tie.Need-parity-requires Inv-loop μ-loop
-parity-requires c κs = search needs
 
 returns-2 : tie.Need-returns-2 Inv-loop μ-loop
 returns-2 c =
@@ -68,14 +44,6 @@ read-long-spec =
     (tie.spec
     Inv-loop
     μ-loop
-    list-requires
-    loop-holds
-    cast-if1
-    mul-if1
-    array-read-if1
-    returns
-    add-figure
-    loop-less
-    loop-again
-    parity-requires
-    returns-2)
+    (λ c κs. search needs) (λ c. search needs) (λ c. search needs) (λ c. search needs) (λ c. search needs) returns
+    (λ c. search needs) (λ c. search needs) loop-again
+    (λ c κs. search needs) returns-2)

@@ -12,39 +12,6 @@ use Rattle.recorder.proofs.record_of.Tie as tie
 abbrev after : ℕ → Outcome Content → Recording
 after odometer k = recording (then k (atOdometer odometer))
 
-content-of-requires : tie.Need-content-of-requires
-content-of-requires c κs = search needs
-
-enum-known-kept : tie.Need-enum-known-kept
-enum-known-kept c = search needs
-
-made-at-requires : tie.Need-made-at-requires
-made-at-requires c κs = search needs
-
-enum-told : tie.Need-enum-told
-enum-told c = search needs
-
-refused-requires : tie.Need-refused-requires
-refused-requires c κs = search needs
-
-enum-told-2 : tie.Need-enum-told-2
-enum-told-2 c = search needs
-
-refused-requires-2 : tie.Need-refused-requires-2
-refused-requires-2 c κs = search needs
-
-enum-told-3 : tie.Need-enum-told-3
-enum-told-3 c = search needs
-
-refused-requires-3 : tie.Need-refused-requires-3
-refused-requires-3 c κs = search needs
-
-enum-told-4 : tie.Need-enum-told-4
-enum-told-4 c = search needs
-
-refused-requires-4 : tie.Need-refused-requires-4
-refused-requires-4 c κs = search needs
-
 returns : tie.Need-returns
 unfolding recordOf
 returns c =
@@ -79,18 +46,8 @@ pub record-of-spec : {M : Type 1} → statement M
 record-of-spec =
     tie.close
     (tie.spec
-    content-of-requires
-    enum-known-kept
-    made-at-requires
-    enum-told
-    refused-requires
-    enum-told-2
-    refused-requires-2
-    enum-told-3
-    refused-requires-3
-    enum-told-4
-    refused-requires-4
-    returns
+    (λ c κs. search needs) (λ c. search needs) (λ c κs. search needs) (λ c. search needs) (λ c κs. search needs) (λ c. search needs)
+    (λ c κs. search needs) (λ c. search needs) (λ c κs. search needs) (λ c. search needs) (λ c κs. search needs) returns
     returns-2
     returns-3
     returns-4

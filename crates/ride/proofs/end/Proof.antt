@@ -5,18 +5,6 @@ use borrow.Author.Needs.{needs}
 use Rattle.ride.proofs.end.Statement.{statement}
 use Rattle.ride.proofs.end.Tie as tie
 
-is-open-requires : tie.Need-is-open-requires
-is-open-requires c κs = search needs
-
-judge-requires : tie.Need-judge-requires
-judge-requires c κs = search needs
-
-close-requires : tie.Need-close-requires
-close-requires c κs = search needs
-
-at-end-requires : tie.Need-at-end-requires
-at-end-requires c κs = search needs
-
 returns : tie.Need-returns
 returns c =
     let j = c .before .before in
@@ -26,12 +14,6 @@ returns c =
     ∙ end-open (a .ride) _ (sym (o .is-open .ensures) ∙ j .before .if1 .taken)
     (closed-with (a .ride .group) (a .ride .known) _ _ (j .judge .ensures) (c .before .close .ensures))
 
-leave-requires : tie.Need-leave-requires
-leave-requires c κs = search needs
-
-at-end-requires-2 : tie.Need-at-end-requires-2
-at-end-requires-2 c κs = search needs
-
 returns-2 : tie.Need-returns-2
 returns-2 c = c .at-end2 .ensures ∙ end-none (c .before .before .before .before .before .before .args .ride) _ (sym (c .before .before .before .is-open .ensures) ∙ c .before .before .if1 .left) (c .before .leave .ensures)
 
@@ -39,11 +21,5 @@ pub end-spec : {M : Type 1} → statement M
 end-spec =
     tie.close
     (tie.spec
-    is-open-requires
-    judge-requires
-    close-requires
-    at-end-requires
-    returns
-    leave-requires
-    at-end-requires-2
-    returns-2)
+    (λ c κs. search needs) (λ c κs. search needs) (λ c κs. search needs) (λ c κs. search needs) returns
+    (λ c κs. search needs) (λ c κs. search needs) returns-2)

@@ -4,15 +4,12 @@ use borrow.Author.Needs.{needs}
 use Rattle.ride.proofs.fresh.Statement.{statement}
 use Rattle.ride.proofs.fresh.Tie as tie
 
-no-group-requires : tie.Need-no-group-requires
-no-group-requires c κs = search needs
-
-nothing-known-requires : tie.Need-nothing-known-requires
-nothing-known-requires c κs = search needs
-
 returns : tie.Need-returns
 unfolding freshRide
 returns c = rw (c .before .no-group .ensures, c .nothing-known .ensures)
 
 pub fresh-spec : {M : Type 1} → statement M
-fresh-spec = tie.close (tie.spec no-group-requires nothing-known-requires returns)
+fresh-spec =
+    tie.close
+    (tie.spec
+    (λ c κs. search needs) (λ c κs. search needs) returns)

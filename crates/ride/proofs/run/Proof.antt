@@ -8,12 +8,6 @@ use borrow.Author.Needs.{needs}
 use Rattle.ride.proofs.run.Statement.{statement}
 use Rattle.ride.proofs.run.Tie as tie
 
-begin-requires : tie.Need-begin-requires
-begin-requires c κs = search needs
-
-run-under-requires : tie.Need-run-under-requires
-run-under-requires c κs = search needs
-
 returns : tie.Need-returns
 returns c =
     let b = c .before .before in
@@ -21,4 +15,7 @@ returns c =
     c .run-under .ensures ∙ ap (λ (x : Change). runUnder (a .ride) (x .store) (a .trace .now)) (b .begin .ensures) ∙ plain-run (a .ride) (a .gap) (a .trace .now)
 
 pub run-spec : {M : Type 1} → statement M
-run-spec = tie.close (tie.spec begin-requires run-under-requires returns)
+run-spec =
+    tie.close
+    (tie.spec
+    (λ c κs. search needs) (λ c κs. search needs) returns)

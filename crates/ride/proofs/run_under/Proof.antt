@@ -11,21 +11,6 @@ use borrow.Author.Needs.{needs}
 use Rattle.ride.proofs.run_under.Statement.{statement}
 use Rattle.ride.proofs.run_under.Tie as tie
 
-at-requires : tie.Need-at-requires
-at-requires c κs = search needs
-
-enum-known-asked : tie.Need-enum-known-asked
-enum-known-asked c = search needs
-
-went-requires : tie.Need-went-requires
-went-requires c κs = search needs
-
-enum-known-asked-2 : tie.Need-enum-known-asked-2
-enum-known-asked-2 c = search needs
-
-went-requires-2 : tie.Need-went-requires-2
-went-requires-2 c κs = search needs
-
 returns : tie.Need-returns
 returns c =
     let h = c .before .before .before in
@@ -40,9 +25,6 @@ over-requires c κs =
     let q = h .before .before in
     let held = held-given (q .before .before .args .store) 0 _ (sym (q .at .ensures) ∙ ap saysAsked (h .asked2 .given .1)) in
     (held .0, held .2)
-
-went-requires-3 : tie.Need-went-requires-3
-went-requires-3 c κs = search needs
 
 returns-2 : tie.Need-returns-2
 returns-2 c =
@@ -66,13 +48,7 @@ pub run-under-spec : {M : Type 1} → statement M
 run-under-spec =
     tie.close
     (tie.spec
-    at-requires
-    enum-known-asked
-    went-requires
-    enum-known-asked-2
-    went-requires-2
-    returns
+    (λ c κs. search needs) (λ c. search needs) (λ c κs. search needs) (λ c. search needs) (λ c κs. search needs) returns
     over-requires
-    went-requires-3
-    returns-2
+    (λ c κs. search needs) returns-2
     returns-3)

@@ -9,24 +9,12 @@ use borrow.Author.Needs.{needs}
 use Rattle.ride.proofs.step.Statement.{statement}
 use Rattle.ride.proofs.step.Tie as tie
 
-allowed-requires : tie.Need-allowed-requires
-allowed-requires c κs = search needs
-
-no-group-requires : tie.Need-no-group-requires
-no-group-requires c κs = search needs
-
 returns : tie.Need-returns
 returns c =
     let g = c .before .before in
     let a = g .before .args in
     ap {B = Step} (λ (none : Group). record { lines = refuses 19; closed = none; ride = a .ride }) (c .no-group .ensures)
     ∙ step-gap (a .ride) (a .gap) (a .bytes) (sym (g .allowed .ensures) ∙ not-true (g .allowed .result) (c .before .if1 .taken))
-
-treat-requires : tie.Need-treat-requires
-treat-requires c κs = search needs
-
-reported-requires : tie.Need-reported-requires
-reported-requires c κs = search needs
 
 returns-2 : tie.Need-returns-2
 returns-2 c =
@@ -40,9 +28,5 @@ pub step-spec : {M : Type 1} → statement M
 step-spec =
     tie.close
     (tie.spec
-    allowed-requires
-    no-group-requires
-    returns
-    treat-requires
-    reported-requires
-    returns-2)
+    (λ c κs. search needs) (λ c κs. search needs) returns
+    (λ c κs. search needs) (λ c κs. search needs) returns-2)

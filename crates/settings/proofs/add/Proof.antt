@@ -7,19 +7,10 @@ use borrow.Author.Needs.{needs}
 use Rattle.settings.proofs.add.Statement.{statement}
 use Rattle.settings.proofs.add.Tie as tie
 
-may-add-requires : tie.Need-may-add-requires
-may-add-requires c κs = search needs
-
-enum-told : tie.Need-enum-told
-enum-told c = search needs
-
 with-one-requires : tie.Need-with-one-requires
 with-one-requires c κs =
     let m = c .before .before in
     room (m .before .args .store) _ (sym (m .may-add .ensures) ∙ ap saysVerdict (c .enum-told .given .1))
-
-enum-known-verdict : tie.Need-enum-known-verdict
-enum-known-verdict c = search needs
 
 returns : tie.Need-returns
 unfolding add
@@ -38,4 +29,7 @@ returns-2 c =
 pub add-spec : {M : Type 1} → statement M
 add-spec =
     tie.close
-    (tie.spec may-add-requires enum-told with-one-requires enum-known-verdict returns returns-2)
+    (tie.spec
+    (λ c κs. search needs) (λ c. search needs) with-one-requires
+    (λ c. search needs) returns
+    returns-2)

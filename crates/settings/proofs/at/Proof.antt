@@ -8,15 +8,6 @@ use borrow.Author.Needs.{needs}
 use Rattle.settings.proofs.at.Statement.{statement}
 use Rattle.settings.proofs.at.Tie as tie
 
-judge-requires : tie.Need-judge-requires
-judge-requires c κs = search needs
-
-enum-known-own : tie.Need-enum-known-own
-enum-known-own c = search needs
-
-enum-told : tie.Need-enum-told
-enum-told c = search needs
-
 returns : tie.Need-returns
 unfolding asked
 returns c =
@@ -49,10 +40,7 @@ pub at-spec : {M : Type 1} → statement M
 at-spec =
     tie.close
     (tie.spec
-    judge-requires
-    enum-known-own
-    enum-told
-    returns
+    (λ c κs. search needs) (λ c. search needs) (λ c. search needs) returns
     in-force-requires
     returns-2
     returns-3)

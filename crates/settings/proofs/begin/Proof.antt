@@ -6,21 +6,6 @@ use borrow.Author.Needs.{needs}
 use Rattle.settings.proofs.begin.Statement.{statement}
 use Rattle.settings.proofs.begin.Tie as tie
 
-settings-of-requires : tie.Need-settings-of-requires
-settings-of-requires c κs = search needs
-
-enum-told : tie.Need-enum-told
-enum-told c = search needs
-
-opened-requires : tie.Need-opened-requires
-opened-requires c κs = search needs
-
-enum-known-verdict : tie.Need-enum-known-verdict
-enum-known-verdict c = search needs
-
-no-store-requires : tie.Need-no-store-requires
-no-store-requires c κs = search needs
-
 returns : tie.Need-returns
 unfolding begin
 returns c =
@@ -39,10 +24,5 @@ pub begin-spec : {M : Type 1} → statement M
 begin-spec =
     tie.close
     (tie.spec
-    settings-of-requires
-    enum-told
-    opened-requires
-    enum-known-verdict
-    no-store-requires
-    returns
+    (λ c κs. search needs) (λ c. search needs) (λ c κs. search needs) (λ c. search needs) (λ c κs. search needs) returns
     returns-2)

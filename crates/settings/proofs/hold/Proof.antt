@@ -6,15 +6,6 @@ use borrow.Author.Needs.{needs}
 use Rattle.settings.proofs.hold.Statement.{statement}
 use Rattle.settings.proofs.hold.Tie as tie
 
-at-requires : tie.Need-at-requires
-at-requires c κs = search needs
-
-enum-known-answer : tie.Need-enum-known-answer
-enum-known-answer c = search needs
-
-enum-told : tie.Need-enum-told
-enum-told c = search needs
-
 returns : tie.Need-returns
 unfolding hold
 returns c =
@@ -29,4 +20,8 @@ returns-2 c =
     rw answer
 
 pub hold-spec : {M : Type 1} → statement M
-hold-spec = tie.close (tie.spec at-requires enum-known-answer enum-told returns returns-2)
+hold-spec =
+    tie.close
+    (tie.spec
+    (λ c κs. search needs) (λ c. search needs) (λ c. search needs) returns
+    returns-2)

@@ -13,9 +13,6 @@ use borrow.Author.Needs.{needs}
 use Rattle.shown.proofs.put_state.Statement.{statement}
 use Rattle.shown.proofs.put_state.Tie as tie
 
-slice-aggregate-put-all : tie.Need-slice-aggregate-put-all
-slice-aggregate-put-all c = search needs
-
 put-all-requires : tie.Need-put-all-requires
 put-all-requires c κs =
     let a = c .before .before .args in
@@ -37,12 +34,6 @@ slice-aggregate-put c =
     let p = c .before .before in
     sym (length-take-le (p .put-all .result) (p .put-all .last .1 .1 .1 .1 .0) (begins p .1))
 
-put-requires : tie.Need-put-requires
-put-requires c κs = search needs
-
-same-length : tie.Need-same-length
-same-length c = search needs
-
 returns : tie.Need-returns
 returns c =
     let p = c .before .before in
@@ -54,10 +45,7 @@ pub put-state-spec : {M : Type 1} → statement M
 put-state-spec =
     tie.close
     (tie.spec
-    slice-aggregate-put-all
-    put-all-requires
+    (λ c. search needs) put-all-requires
     array-share-prefix-space
     slice-aggregate-put
-    put-requires
-    same-length
-    returns)
+    (λ c κs. search needs) (λ c. search needs) returns)

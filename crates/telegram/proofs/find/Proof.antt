@@ -11,15 +11,9 @@ use Rattle.telegram.proofs.Places.{too-short}
 use Rattle.telegram.proofs.find.Statement.{statement}
 use Rattle.telegram.proofs.find.Tie as tie
 
-is-good-requires : tie.Need-is-good-requires
-is-good-requires c κs = search needs
-
 returns : tie.Need-returns
 unfolding find
 returns c = simp (← c .before .is-good .ensures, not-true (c .before .is-good .result) (c .if1 .taken))
-
-is-inside-requires : tie.Need-is-inside-requires
-is-inside-requires c κs = search needs
 
 returns-2 : tie.Need-returns-2
 unfolding find
@@ -41,9 +35,6 @@ returns-3 c =
       not-false (i .result) (c .before .if2 .left),
       too-short (a .buf .now) (a .s) (a .t) (a .start) (a .len) (c .if3 .taken),
     )
-
-sub-first-place : tie.Need-sub-first-place
-sub-first-place c = search needs
 
 add-first-place : tie.Need-add-first-place
 add-first-place c =
@@ -71,12 +62,9 @@ pub find-spec : {M : Type 1} → statement M
 find-spec =
     tie.close
     (tie.spec
-    is-good-requires
-    returns
-    is-inside-requires
-    returns-2
+    (λ c κs. search needs) returns
+    (λ c κs. search needs) returns-2
     returns-3
-    sub-first-place
-    add-first-place
+    (λ c. search needs) add-first-place
     first-place-requires
     returns-4)

@@ -7,9 +7,6 @@ use Rattle.telegram.specs.Sync.{good, goodPair}
 use Rattle.telegram.proofs.good_pair.Statement.{statement}
 use Rattle.telegram.proofs.good_pair.Tie as tie
 
-is-good-requires : tie.Need-is-good-requires
-is-good-requires c κs = search needs
-
 returns : tie.Need-returns
 unfolding goodPair
 returns c = ap (λ (t : Bool). pick t (gives good) (refuses 4)) (sym (c .if1 .taken) ∙ c .before .is-good .ensures)
@@ -19,4 +16,8 @@ unfolding goodPair
 returns-2 c = ap (λ (t : Bool). pick t (gives good) (refuses 4)) (sym (c .if1 .left) ∙ c .before .is-good .ensures)
 
 pub good-pair-spec : {M : Type 1} → statement M
-good-pair-spec = tie.close (tie.spec is-good-requires returns returns-2)
+good-pair-spec =
+    tie.close
+    (tie.spec
+    (λ c κs. search needs) returns
+    returns-2)

@@ -7,9 +7,6 @@ use Rattle.telegram.specs.Stretch.{taken, stretchOf}
 use Rattle.telegram.proofs.inside.Statement.{statement}
 use Rattle.telegram.proofs.inside.Tie as tie
 
-is-inside-requires : tie.Need-is-inside-requires
-is-inside-requires c κs = search needs
-
 returns : tie.Need-returns
 unfolding stretchOf
 returns c = ap (λ (t : Bool). pick t (gives taken) (refuses 5)) (sym (c .if1 .taken) ∙ c .before .is-inside .ensures)
@@ -19,4 +16,8 @@ unfolding stretchOf
 returns-2 c = ap (λ (t : Bool). pick t (gives taken) (refuses 5)) (sym (c .if1 .left) ∙ c .before .is-inside .ensures)
 
 pub inside-spec : {M : Type 1} → statement M
-inside-spec = tie.close (tie.spec is-inside-requires returns returns-2)
+inside-spec =
+    tie.close
+    (tie.spec
+    (λ c κs. search needs) returns
+    returns-2)

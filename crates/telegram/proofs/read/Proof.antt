@@ -35,21 +35,6 @@ module _ (t : tie.After-a) where
       let a = s .before .args in
       a-figure Word.X (a .x) (after (a .y) (a .z)) (s .read-short .result) (s .read-short .ensures) (t .a .given .0 .0) (t .a .given .1) other
 
-read-short-requires : tie.Need-read-short-requires
-read-short-requires c κs = search needs
-
-enum-known-p : tie.Need-enum-known-p
-enum-known-p c = search needs
-
-enum-known-a : tie.Need-enum-known-a
-enum-known-a c = search needs
-
-number-requires : tie.Need-number-requires
-number-requires c κs = search needs
-
-figures-requires : tie.Need-figures-requires
-figures-requires c κs = search needs
-
 returns : tie.Need-returns
 unfolding telegram
 returns c =
@@ -79,12 +64,7 @@ pub read-spec : {M : Type 1} → statement M
 read-spec =
     tie.close
     (tie.spec
-    read-short-requires
-    enum-known-p
-    enum-known-a
-    number-requires
-    figures-requires
-    returns
+    (λ c κs. search needs) (λ c. search needs) (λ c. search needs) (λ c κs. search needs) (λ c κs. search needs) returns
     returns-2
     returns-3
     returns-4)

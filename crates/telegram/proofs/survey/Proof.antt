@@ -15,12 +15,6 @@ use Rattle.telegram.proofs.Handed.{Handed, handed, as-refused}
 use Rattle.telegram.proofs.survey.Statement.{statement}
 use Rattle.telegram.proofs.survey.Tie as tie
 
-find-requires : tie.Need-find-requires
-find-requires c κs = search needs
-
-enum-known-found : tie.Need-enum-known-found
-enum-known-found c = search needs
-
 -- the place that the search handed out
 at-first : (c : tie.After-known-told) → let a = c .before .before .before .before .before .args in
     Handed (a .buf .now) (a .start) (a .len) (a .s) (a .t) (c .before .found .given .0 .0) (gives (c .before .found .given .0 .1 .0))
@@ -51,15 +45,6 @@ to-first-requires c κs =
     let i = taken (a .buf .now) (a .start) (a .len) (h .taken) in
     (omega arith, h .says)
 
-enum-told : tie.Need-enum-told
-enum-told c = search needs
-
-enum-told-2 : tie.Need-enum-told-2
-enum-told-2 c = search needs
-
-enum-told-3 : tie.Need-enum-told-3
-enum-told-3 c = search needs
-
 returns : tie.Need-returns
 unfolding survey
 returns c =
@@ -86,15 +71,10 @@ pub survey-spec : {M : Type 1} → statement M
 survey-spec =
     tie.close
     (tie.spec
-    find-requires
-    enum-known-found
-    sub-to-first
+    (λ c κs. search needs) (λ c. search needs) sub-to-first
     add-to-first
     to-first-requires
-    enum-told
-    enum-told-2
-    enum-told-3
-    returns
+    (λ c. search needs) (λ c. search needs) (λ c. search needs) returns
     returns-2
     returns-3
     returns-4)

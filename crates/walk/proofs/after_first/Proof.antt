@@ -9,21 +9,6 @@ use borrow.Author.Needs.{needs}
 use Rattle.walk.proofs.after_first.Statement.{statement}
 use Rattle.walk.proofs.after_first.Tie as tie
 
-array-copy-out-t5 : tie.Need-array-copy-out-t5
-array-copy-out-t5 c = search needs
-
-array-copy-out-t8 : tie.Need-array-copy-out-t8
-array-copy-out-t8 c = search needs
-
-array-copy-out-t11 : tie.Need-array-copy-out-t11
-array-copy-out-t11 c = search needs
-
-array-copy-out-t14 : tie.Need-array-copy-out-t14
-array-copy-out-t14 c = search needs
-
-array-copy-out-t17 : tie.Need-array-copy-out-t17
-array-copy-out-t17 c = search needs
-
 returns : tie.Need-returns
 returns c =
     let s = c .before .before .before .before .before in
@@ -34,9 +19,4 @@ pub after-first-spec : {M : Type 1} → statement M
 after-first-spec =
     tie.close
     (tie.spec
-    array-copy-out-t5
-    array-copy-out-t8
-    array-copy-out-t11
-    array-copy-out-t14
-    array-copy-out-t17
-    returns)
+    (λ c. search needs) (λ c. search needs) (λ c. search needs) (λ c. search needs) (λ c. search needs) returns)

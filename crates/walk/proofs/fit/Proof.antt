@@ -13,9 +13,6 @@ use Rattle.walk.proofs.fit.Tie as tie
 long : (s : tie.Start) → length (s .args .p) ≡ 5
 long s = omega (arith, s .good .0 .1 .0 .1)
 
-at-most-five-requires : tie.Need-at-most-five-requires
-at-most-five-requires c κs = search needs
-
 follow-requires : tie.Need-follow-requires
 follow-requires c κs =
     most (c .before .args .p) (c .before .args .n) (c .at-most-five .result) (long (c .before)) (c .at-most-five .ensures)
@@ -27,9 +24,6 @@ returns c =
     stopped (m .before .args .p) (m .before .args .n) (m .at-most-five .result) (long (m .before)) (m .at-most-five .ensures)
     (f .follow .result) (f .follow .ensures) (c .if1 .taken)
 
-end-at-requires : tie.Need-end-at-requires
-end-at-requires c κs = search needs
-
 returns-2 : tie.Need-returns-2
 returns-2 c =
     let f = c .before .before .before in
@@ -40,4 +34,8 @@ returns-2 c =
 
 pub fit-spec : {M : Type 1} → statement M
 fit-spec =
-    tie.close (tie.spec at-most-five-requires follow-requires returns end-at-requires returns-2)
+    tie.close
+    (tie.spec
+    (λ c κs. search needs) follow-requires
+    returns
+    (λ c κs. search needs) returns-2)

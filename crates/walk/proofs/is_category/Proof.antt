@@ -4,24 +4,16 @@ use borrow.Author.Needs.{needs}
 use Rattle.walk.proofs.is_category.Statement.{statement}
 use Rattle.walk.proofs.is_category.Tie as tie
 
-enum-known-part : tie.Need-enum-known-part
-enum-known-part c = search needs
-
-enum-told : tie.Need-enum-told
-enum-told c = search needs
-
-enum-told-2 : tie.Need-enum-told-2
-enum-told-2 c = search needs
-
 returns : tie.Need-returns
 returns c = rw (c .before .part .given .1)
 
 returns-2 : tie.Need-returns-2
 returns-2 c = rw (c .enum-told .given .1)
 
-returns-3 : tie.Need-returns-3
-returns-3 c = search needs
-
 pub is-category-spec : {M : Type 1} → statement M
 is-category-spec =
-    tie.close (tie.spec enum-known-part enum-told enum-told-2 returns returns-2 returns-3)
+    tie.close
+    (tie.spec
+    (λ c. search needs) (λ c. search needs) (λ c. search needs) returns
+    returns-2
+    (λ c. search needs))

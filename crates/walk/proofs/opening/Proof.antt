@@ -11,9 +11,6 @@ use Rattle.walk.proofs.opening.Tie as tie
 long : (s : tie.Start) → length (s .args .p) ≡ 5
 long s = omega (arith, s .good .0 .1 .0 .1)
 
-at-most-five-requires : tie.Need-at-most-five-requires
-at-most-five-requires c κs = search needs
-
 follow-requires : tie.Need-follow-requires
 follow-requires c κs =
     most (c .before .args .p) (c .before .args .n) (c .at-most-five .result) (long (c .before)) (c .at-most-five .ensures)
@@ -25,4 +22,8 @@ returns c =
     (c .follow .result) (c .follow .ensures)
 
 pub opening-spec : {M : Type 1} → statement M
-opening-spec = tie.close (tie.spec at-most-five-requires follow-requires returns)
+opening-spec =
+    tie.close
+    (tie.spec
+    (λ c κs. search needs) follow-requires
+    returns)

@@ -4,22 +4,10 @@ use Rattle.words.proofs.Answers.{accepted, refused}
 use Rattle.words.proofs.read_long.Statement.{statement}
 use Rattle.words.proofs.read_long.Tie as tie
 
-is-code-requires : tie.Need-is-code-requires
-is-code-requires c κs = search needs
-
-figure-requires : tie.Need-figure-requires
-figure-requires c κs = search needs
-
-cast-t7 : tie.Need-cast-t7
-cast-t7 c = search needs
-
 returns : tie.Need-returns
 returns c =
     accepted 16 (c .before .before .before .args .word) (c .before .before .is-code .result) (c .before .before .is-code .ensures)
     (c .figure .result) (c .figure .ensures) (c .before .if1 .taken)
-
-parity-requires : tie.Need-parity-requires
-parity-requires c κs = search needs
 
 returns-2 : tie.Need-returns-2
 returns-2 c =
@@ -27,4 +15,8 @@ returns-2 c =
     (c .parity .result) (c .parity .ensures .0) (c .before .if1 .left)
 
 pub read-long-spec : {M : Type 1} → statement M
-read-long-spec = tie.close (tie.spec is-code-requires figure-requires cast-t7 parity-requires returns returns-2)
+read-long-spec =
+    tie.close
+    (tie.spec
+    (λ c κs. search needs) (λ c κs. search needs) (λ c. search needs) (λ c κs. search needs) returns
+    returns-2)

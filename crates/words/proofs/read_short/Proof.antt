@@ -11,12 +11,6 @@ use Rattle.words.proofs.Short.{high-four}
 use Rattle.words.proofs.read_short.Statement.{statement}
 use Rattle.words.proofs.read_short.Tie as tie
 
-is-short-requires : tie.Need-is-short-requires
-is-short-requires c κs = search needs
-
-parity-requires : tie.Need-parity-requires
-parity-requires c κs = search needs
-
 returns : tie.Need-returns
 returns c =
     let s = c .before .before in
@@ -34,4 +28,8 @@ returns-2 c =
     refused 8 w (c .before .before .is-short .result) (c .before .before .is-short .ensures) (c .parity .result) (c .parity .ensures .1 byte) (c .before .if1 .left)
 
 pub read-short-spec : {M : Type 1} → statement M
-read-short-spec = tie.close (tie.spec is-short-requires parity-requires returns returns-2)
+read-short-spec =
+    tie.close
+    (tie.spec
+    (λ c κs. search needs) (λ c κs. search needs) returns
+    returns-2)

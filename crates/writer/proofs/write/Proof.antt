@@ -15,24 +15,6 @@ use Rattle.writer.proofs.write.Tie as tie
 abbrev after : ℕ → ℕ → ℕ → List ℕ → Outcome Words → Writing
 after s t n out o = onto out (withWords o (bytesOf s t n (length out)))
 
-spell-requires : tie.Need-spell-requires
-spell-requires c κs = search needs
-
-enum-known-spelt : tie.Need-enum-known-spelt
-enum-known-spelt c = search needs
-
-write-words-requires : tie.Need-write-words-requires
-write-words-requires c κs = search needs
-
-enum-told : tie.Need-enum-told
-enum-told c = search needs
-
-enum-told-2 : tie.Need-enum-told-2
-enum-told-2 c = search needs
-
-same-length : tie.Need-same-length
-same-length c = search needs
-
 returns : tie.Need-returns
 unfolding write
 returns c =
@@ -61,12 +43,6 @@ pub write-spec : {M : Type 1} → statement M
 write-spec =
     tie.close
     (tie.spec
-    spell-requires
-    enum-known-spelt
-    write-words-requires
-    enum-told
-    enum-told-2
-    same-length
-    returns
+    (λ c κs. search needs) (λ c. search needs) (λ c κs. search needs) (λ c. search needs) (λ c. search needs) (λ c. search needs) returns
     returns-2
     returns-3)

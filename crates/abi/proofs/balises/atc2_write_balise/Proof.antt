@@ -27,12 +27,6 @@ left-there : (w : tie.After-write) → w .write .last .1 .1 .1 .1 .1 .1 .0 ≡ c
 unfolding came
 left-there w = ap (λ (v : Writing). v .buffer) (w .write .ensures)
 
-write-requires : tie.Need-write-requires
-write-requires c κs = search needs
-
-enum-known-bytes : tie.Need-enum-known-bytes
-enum-known-bytes c = search needs
-
 -- at most 4,001
 few : (c : tie.After-bytes) → c .bytes .given .0 .0 ≤ 4001
 unfolding came
@@ -44,24 +38,6 @@ few c =
 cast-result : tie.Need-cast-result
 cast-result c = let small : c .before .bytes .given .0 .0 ≤ 4001 = few (c .before) in search needs
 
-enum-told : tie.Need-enum-told
-enum-told c = search needs
-
-enum-told-2 : tie.Need-enum-told-2
-enum-told-2 c = search needs
-
-enum-told-3 : tie.Need-enum-told-3
-enum-told-3 c = search needs
-
-enum-told-4 : tie.Need-enum-told-4
-enum-told-4 c = search needs
-
-enum-told-5 : tie.Need-enum-told-5
-enum-told-5 c = search needs
-
-same-length : tie.Need-same-length
-same-length c = search needs
-
 returns : tie.Need-returns
 unfolding came
 returns c =
@@ -69,17 +45,11 @@ returns c =
     let small : c .before .bytes .given .0 .0 ≤ 4001 = few (c .before) in
     (as-i32 (omega arith) ∙ carried (returned itself) saysAnswer (c .before .bytes .given .1) (answered w), left-there w)
 
-same-length-2 : tie.Need-same-length-2
-same-length-2 c = search needs
-
 returns-2 : tie.Need-returns-2
 unfolding came
 returns-2 c =
     let w = c .before .before .before .before in
     (carried (returned itself) saysAnswer (c .enum-told .given .1) (answered w), left-there w)
-
-same-length-3 : tie.Need-same-length-3
-same-length-3 c = search needs
 
 returns-3 : tie.Need-returns-3
 unfolding came
@@ -87,26 +57,17 @@ returns-3 c =
     let w = c .before .before .before .before in
     (carried (returned itself) saysAnswer (c .enum-told2 .given .1) (answered w), left-there w)
 
-same-length-4 : tie.Need-same-length-4
-same-length-4 c = search needs
-
 returns-4 : tie.Need-returns-4
 unfolding came
 returns-4 c =
     let w = c .before .before .before .before in
     (carried (returned itself) saysAnswer (c .enum-told3 .given .1) (answered w), left-there w)
 
-same-length-5 : tie.Need-same-length-5
-same-length-5 c = search needs
-
 returns-5 : tie.Need-returns-5
 unfolding came
 returns-5 c =
     let w = c .before .before .before .before in
     (carried (returned itself) saysAnswer (c .enum-told4 .given .1) (answered w), left-there w)
-
-same-length-6 : tie.Need-same-length-6
-same-length-6 c = search needs
 
 returns-6 : tie.Need-returns-6
 unfolding came
@@ -118,23 +79,10 @@ pub atc2-write-balise-spec : {M : Type 1} → statement M
 atc2-write-balise-spec =
     tie.close
     (tie.spec
-    write-requires
-    enum-known-bytes
-    cast-result
-    enum-told
-    enum-told-2
-    enum-told-3
-    enum-told-4
-    enum-told-5
-    same-length
-    returns
-    same-length-2
-    returns-2
-    same-length-3
-    returns-3
-    same-length-4
-    returns-4
-    same-length-5
-    returns-5
-    same-length-6
-    returns-6)
+    (λ c κs. search needs) (λ c. search needs) cast-result
+    (λ c. search needs) (λ c. search needs) (λ c. search needs) (λ c. search needs) (λ c. search needs) (λ c. search needs) returns
+    (λ c. search needs) returns-2
+    (λ c. search needs) returns-3
+    (λ c. search needs) returns-4
+    (λ c. search needs) returns-5
+    (λ c. search needs) returns-6)

@@ -8,18 +8,6 @@ use Rattle.abi.proofs.Carried.{carried, as-i32}
 use Rattle.abi.proofs.codes.atc2_write_short.Statement.{statement}
 use Rattle.abi.proofs.codes.atc2_write_short.Tie as tie
 
-write-short-requires : tie.Need-write-short-requires
-write-short-requires c κs = search needs
-
-enum-known-w : tie.Need-enum-known-w
-enum-known-w c = search needs
-
-cast-result : tie.Need-cast-result
-cast-result c = search needs
-
-enum-told : tie.Need-enum-told
-enum-told c = search needs
-
 returns : tie.Need-returns
 returns c = as-i32 (search needs) ∙ carried (returned itself) saysShortWritten (c .before .w .given .1) (c .before .before .before .write-short .ensures)
 
@@ -27,4 +15,8 @@ returns-2 : tie.Need-returns-2
 returns-2 c = carried (returned itself) saysShortWritten (c .enum-told .given .1) (c .before .before .write-short .ensures)
 
 pub atc2-write-short-spec : {M : Type 1} → statement M
-atc2-write-short-spec = tie.close (tie.spec write-short-requires enum-known-w cast-result enum-told returns returns-2)
+atc2-write-short-spec =
+    tie.close
+    (tie.spec
+    (λ c κs. search needs) (λ c. search needs) (λ c. search needs) (λ c. search needs) returns
+    returns-2)

@@ -7,18 +7,6 @@ use borrow.Author.Needs.{needs}
 use Rattle.abi.proofs.contacts.atc2_begin.Statement.{statement}
 use Rattle.abi.proofs.contacts.atc2_begin.Tie as tie
 
-begin-requires : tie.Need-begin-requires
-begin-requires c κs = search needs
-
-enum-known-begun : tie.Need-enum-known-begun
-enum-known-begun c = search needs
-
-cast-t10 : tie.Need-cast-t10
-cast-t10 c = search needs
-
-enum-told : tie.Need-enum-told
-enum-told c = search needs
-
 returns : tie.Need-returns
 returns c =
     let at-begun = c .before .before .before in
@@ -32,4 +20,7 @@ returns-2 c =
 
 pub atc2-begin-spec : {M : Type 1} → statement M
 atc2-begin-spec =
-    tie.close (tie.spec begin-requires enum-known-begun cast-t10 enum-told returns returns-2)
+    tie.close
+    (tie.spec
+    (λ c κs. search needs) (λ c. search needs) (λ c. search needs) (λ c. search needs) returns
+    returns-2)

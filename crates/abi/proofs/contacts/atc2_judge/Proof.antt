@@ -10,33 +10,6 @@ use borrow.Author.Needs.{needs}
 use Rattle.abi.proofs.contacts.atc2_judge.Statement.{statement}
 use Rattle.abi.proofs.contacts.atc2_judge.Tie as tie
 
-judge-requires : tie.Need-judge-requires
-judge-requires c κs = search needs
-
-enum-known-telegram : tie.Need-enum-known-telegram
-enum-known-telegram c = search needs
-
-as-one-requires : tie.Need-as-one-requires
-as-one-requires c κs = search needs
-
-cast-t13 : tie.Need-cast-t13
-cast-t13 c = search needs
-
-enum-told : tie.Need-enum-told
-enum-told c = search needs
-
-enum-told-2 : tie.Need-enum-told-2
-enum-told-2 c = search needs
-
-enum-told-3 : tie.Need-enum-told-3
-enum-told-3 c = search needs
-
-enum-told-4 : tie.Need-enum-told-4
-enum-told-4 c = search needs
-
-enum-told-5 : tie.Need-enum-told-5
-enum-told-5 c = search needs
-
 returns : tie.Need-returns
 returns c =
     let at-telegram = c .before .before .before in
@@ -76,16 +49,8 @@ pub atc2-judge-spec : {M : Type 1} → statement M
 atc2-judge-spec =
     tie.close
     (tie.spec
-    judge-requires
-    enum-known-telegram
-    as-one-requires
-    cast-t13
-    enum-told
-    enum-told-2
-    enum-told-3
-    enum-told-4
-    enum-told-5
-    returns
+    (λ c κs. search needs) (λ c. search needs) (λ c κs. search needs) (λ c. search needs) (λ c. search needs) (λ c. search needs)
+    (λ c. search needs) (λ c. search needs) (λ c. search needs) returns
     returns-2
     returns-3
     returns-4

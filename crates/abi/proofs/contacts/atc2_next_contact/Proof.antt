@@ -14,36 +14,6 @@ use borrow.Author.Needs.{needs}
 use Rattle.abi.proofs.contacts.atc2_next_contact.Statement.{statement}
 use Rattle.abi.proofs.contacts.atc2_next_contact.Tie as tie
 
-array-read-t12 : tie.Need-array-read-t12
-array-read-t12 c = search needs
-
-array-read-t16 : tie.Need-array-read-t16
-array-read-t16 c = search needs
-
-array-read-t20 : tie.Need-array-read-t20
-array-read-t20 c = search needs
-
-cast-t22 : tie.Need-cast-t22
-cast-t22 c = search needs
-
-next-contact-requires : tie.Need-next-contact-requires
-next-contact-requires c κs = search needs
-
-enum-known-start : tie.Need-enum-known-start
-enum-known-start c = search needs
-
-cast-t27 : tie.Need-cast-t27
-cast-t27 c = search needs
-
-enum-told : tie.Need-enum-told
-enum-told c = search needs
-
-enum-told-2 : tie.Need-enum-told-2
-enum-told-2 c = search needs
-
-enum-told-3 : tie.Need-enum-told-3
-enum-told-3 c = search needs
-
 -- The number and both arrays of an answer, for the case that it is.
 all : (search out : List ℕ) {n n′ : Next} {o : Outcome Handed} → n ≡ n′ → saysNext n ≡ o
     → (returned nextNumber (saysNext n′) ≡ returned nextNumber o)
@@ -81,17 +51,8 @@ pub atc2-next-contact-spec : {M : Type 1} → statement M
 atc2-next-contact-spec =
     tie.close
     (tie.spec
-    array-read-t12
-    array-read-t16
-    array-read-t20
-    cast-t22
-    next-contact-requires
-    enum-known-start
-    cast-t27
-    enum-told
-    enum-told-2
-    enum-told-3
-    returns
+    (λ c. search needs) (λ c. search needs) (λ c. search needs) (λ c. search needs) (λ c κs. search needs) (λ c. search needs)
+    (λ c. search needs) (λ c. search needs) (λ c. search needs) (λ c. search needs) returns
     returns-2
     returns-3
     returns-4)

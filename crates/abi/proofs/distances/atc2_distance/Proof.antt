@@ -10,12 +10,6 @@ use Rattle.abi.proofs.TableDF.{small}
 use Rattle.abi.proofs.distances.atc2_distance.Statement.{statement}
 use Rattle.abi.proofs.distances.atc2_distance.Tie as tie
 
-distance-requires : tie.Need-distance-requires
-distance-requires c κs = search needs
-
-enum-known-d : tie.Need-enum-known-d
-enum-known-d c = search needs
-
 -- The distance found is one of the table's.
 in-table : (c : tie.After-known-told) → c .before .d .given .0 .0 < 2 ^ 31
 in-table c =
@@ -27,9 +21,6 @@ in-table c =
 cast-result : tie.Need-cast-result
 cast-result c = record { sfits = in-table c }
 
-enum-told : tie.Need-enum-told
-enum-told c = search needs
-
 returns : tie.Need-returns
 returns c =
     as-i32 (in-table c)
@@ -39,4 +30,9 @@ returns-2 : tie.Need-returns-2
 returns-2 c = carried (returned itself) saysMeasured (c .enum-told .given .1) (c .before .before .distance .ensures)
 
 pub atc2-distance-spec : {M : Type 1} → statement M
-atc2-distance-spec = tie.close (tie.spec distance-requires enum-known-d cast-result enum-told returns returns-2)
+atc2-distance-spec =
+    tie.close
+    (tie.spec
+    (λ c κs. search needs) (λ c. search needs) cast-result
+    (λ c. search needs) returns
+    returns-2)

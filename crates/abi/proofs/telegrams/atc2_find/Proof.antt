@@ -10,27 +10,6 @@ use borrow.Author.Needs.{needs}
 use Rattle.abi.proofs.telegrams.atc2_find.Statement.{statement}
 use Rattle.abi.proofs.telegrams.atc2_find.Tie as tie
 
-find-requires : tie.Need-find-requires
-find-requires c κs = search needs
-
-enum-known-place : tie.Need-enum-known-place
-enum-known-place c = search needs
-
-as-one-requires : tie.Need-as-one-requires
-as-one-requires c κs = search needs
-
-cast-t13 : tie.Need-cast-t13
-cast-t13 c = search needs
-
-enum-told : tie.Need-enum-told
-enum-told c = search needs
-
-enum-told-2 : tie.Need-enum-told-2
-enum-told-2 c = search needs
-
-enum-told-3 : tie.Need-enum-told-3
-enum-told-3 c = search needs
-
 returns : tie.Need-returns
 returns c =
     let at-place = c .before .before .before in
@@ -58,14 +37,8 @@ pub atc2-find-spec : {M : Type 1} → statement M
 atc2-find-spec =
     tie.close
     (tie.spec
-    find-requires
-    enum-known-place
-    as-one-requires
-    cast-t13
-    enum-told
-    enum-told-2
-    enum-told-3
-    returns
+    (λ c κs. search needs) (λ c. search needs) (λ c κs. search needs) (λ c. search needs) (λ c. search needs) (λ c. search needs)
+    (λ c. search needs) returns
     returns-2
     returns-3
     returns-4)

@@ -12,24 +12,6 @@ use borrow.Author.Needs.{needs}
 use Rattle.abi.proofs.telegrams.atc2_read_telegram.Statement.{statement}
 use Rattle.abi.proofs.telegrams.atc2_read_telegram.Tie as tie
 
-read-requires : tie.Need-read-requires
-read-requires c κs = search needs
-
-enum-known-t : tie.Need-enum-known-t
-enum-known-t c = search needs
-
-as-one-requires : tie.Need-as-one-requires
-as-one-requires c κs = search needs
-
-cast-result : tie.Need-cast-result
-cast-result c = search needs
-
-enum-told : tie.Need-enum-told
-enum-told c = search needs
-
-enum-told-2 : tie.Need-enum-told-2
-enum-told-2 c = search needs
-
 -- What is returned of a reading.
 abbrev face : Received → ℤ
 face reading = returned asOne (told reading)
@@ -51,12 +33,6 @@ pub atc2-read-telegram-spec : {M : Type 1} → statement M
 atc2-read-telegram-spec =
     tie.close
     (tie.spec
-    read-requires
-    enum-known-t
-    as-one-requires
-    cast-result
-    enum-told
-    enum-told-2
-    returns
+    (λ c κs. search needs) (λ c. search needs) (λ c κs. search needs) (λ c. search needs) (λ c. search needs) (λ c. search needs) returns
     returns-2
     returns-3)

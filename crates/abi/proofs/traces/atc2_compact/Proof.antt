@@ -38,15 +38,6 @@ left-there w =
     let a = f .before .before .args in
     ap (λ (v : Compaction). v .buffer) (w .compact .ensures ∙ ap (λ (r : Ride). compact r (a .gap) (a .trace .now)) (f .fresh .ensures))
 
-fresh-requires : tie.Need-fresh-requires
-fresh-requires c κs = search needs
-
-compact-requires : tie.Need-compact-requires
-compact-requires c κs = search needs
-
-enum-known-size : tie.Need-enum-known-size
-enum-known-size c = search needs
-
 -- not above the trace's own length, which is below 2 ^ 63
 small : (c : tie.After-known-told) → c .before .size .given .0 .0 < 2 ^ 63
 unfolding came
@@ -61,23 +52,11 @@ small c =
 cast-result : tie.Need-cast-result
 cast-result c = let below : c .before .size .given .0 .0 < 2 ^ 63 = small c in search needs
 
-enum-told : tie.Need-enum-told
-enum-told c = search needs
-
-enum-told-2 : tie.Need-enum-told-2
-enum-told-2 c = search needs
-
-same-length : tie.Need-same-length
-same-length c = search needs
-
 returns : tie.Need-returns
 unfolding came
 returns c =
     let w = c .before .before .before .before .before in
     (as-i64 (small c) ∙ carried (returned itself) saysSize (c .before .size .given .1) (answered w), left-there w)
-
-same-length-2 : tie.Need-same-length-2
-same-length-2 c = search needs
 
 returns-2 : tie.Need-returns-2
 unfolding came
@@ -87,9 +66,6 @@ returns-2 c =
     let bad = c .enum-told .given .0 .0 in
     let is-19 = only-19 freshRide (a .gap) (a .trace .now) bad (ap saysSize (sym (c .enum-told .given .1)) ∙ answered w) in
     (ap (λ (n : ℕ). returned itself (refuses n)) (sym is-19) ∙ carried (returned itself) saysSize (c .enum-told .given .1) (answered w), left-there w)
-
-same-length-3 : tie.Need-same-length-3
-same-length-3 c = search needs
 
 returns-3 : tie.Need-returns-3
 unfolding came
@@ -101,15 +77,7 @@ pub atc2-compact-spec : {M : Type 1} → statement M
 atc2-compact-spec =
     tie.close
     (tie.spec
-    fresh-requires
-    compact-requires
-    enum-known-size
-    cast-result
-    enum-told
-    enum-told-2
-    same-length
-    returns
-    same-length-2
-    returns-2
-    same-length-3
-    returns-3)
+    (λ c κs. search needs) (λ c κs. search needs) (λ c. search needs) cast-result
+    (λ c. search needs) (λ c. search needs) (λ c. search needs) returns
+    (λ c. search needs) returns-2
+    (λ c. search needs) returns-3)

@@ -8,17 +8,11 @@ use borrow.Author.Needs.{needs}
 use Rattle.abi.proofs.why.atc2_why_telegram.Statement.{statement}
 use Rattle.abi.proofs.why.atc2_why_telegram.Tie as tie
 
-read-requires : tie.Need-read-requires
-read-requires c κs = search needs
-
-number-requires : tie.Need-number-requires
-number-requires c κs = search needs
-
-cast-result : tie.Need-cast-result
-cast-result c = search needs
-
 returns : tie.Need-returns
 returns c = as-i32 (search needs) ∙ ap pos (c .number .ensures .0 ∙ ap whyNumber (c .before .read .ensures))
 
 pub atc2-why-telegram-spec : {M : Type 1} → statement M
-atc2-why-telegram-spec = tie.close (tie.spec read-requires number-requires cast-result returns)
+atc2-why-telegram-spec =
+    tie.close
+    (tie.spec
+    (λ c κs. search needs) (λ c κs. search needs) (λ c. search needs) returns)

@@ -16,18 +16,6 @@ abbrev μ-loop : tie.MeasureT-loop
 loop-holds : tie.Need-loop-holds Inv-loop μ-loop
 loop-holds c = (omega arith, refl, refl)
 
-odometer-at-requires : tie.Need-odometer-at-requires Inv-loop μ-loop
-odometer-at-requires c κs = search needs
-
-leaves-requires : tie.Need-leaves-requires Inv-loop μ-loop
-leaves-requires c κs = search needs
-
-hold-requires : tie.Need-hold-requires Inv-loop μ-loop
-hold-requires c κs = search needs
-
-accept-at-requires : tie.Need-accept-at-requires Inv-loop μ-loop
-accept-at-requires c κs = search needs
-
 add-i : tie.Need-add-i Inv-loop μ-loop
 add-i c =
     let t = c .before .before .before .before .before .before .before .before .before in
@@ -36,23 +24,14 @@ add-i c =
     let below = t .loop-test .taken in
     omega arith
 
-loop-less : tie.Need-loop-less Inv-loop μ-loop
-loop-less c = omega arith
-
 loop-again : tie.Need-loop-again Inv-loop μ-loop
 loop-again c =
     let w = c .before .before .before .before in
     let l = w .before .before .before .before .before .before in
     (omega arith, w .accept-at .kept .1 .1 .1 .1 .1 .0 ∙ l .loop .inv .1, refl)
 
-write-requires : tie.Need-write-requires Inv-loop μ-loop
-write-requires c κs = search needs
-
 same-length : tie.Need-same-length Inv-loop μ-loop
 same-length c = c .before .before .before .loop .inv .1
-
-returns : tie.Need-returns Inv-loop μ-loop
-returns c = search needs
 
 pub write-records-spec : {M : Type 1} → statement M
 write-records-spec =
@@ -61,13 +40,7 @@ write-records-spec =
     Inv-loop
     μ-loop
     loop-holds
-    odometer-at-requires
-    leaves-requires
-    hold-requires
-    accept-at-requires
-    add-i
-    loop-less
-    loop-again
-    write-requires
-    same-length
-    returns)
+    (λ c κs. search needs) (λ c κs. search needs) (λ c κs. search needs) (λ c κs. search needs) add-i
+    (λ c. omega arith) loop-again
+    (λ c κs. search needs) same-length
+    (λ c. search needs))

@@ -23,24 +23,12 @@ loop-holds c =
     let all : length b / 8 ≡ length b / 8 - 0 = omega arith in
     (omega arith, refl, ap (λ (n : ℕ). allGood (firstRecords n b)) all)
 
-mul-is-good : tie.Need-mul-is-good Inv-loop μ-loop
-mul-is-good c = omega arith
-
-is-good-requires : tie.Need-is-good-requires Inv-loop μ-loop
-is-good-requires c κs = omega arith
-
 returns : tie.Need-returns Inv-loop μ-loop
 returns c =
     let t = c .before .before .before in
     let b = t .before .before .args .bytes .now in
     let e = t .loop .inv .2 ∙ good-not b _ (t .loop .i) (c .before .before .loop-test .taken) (sym (c .before .is-good .ensures) ∙ not-true _ (c .if1 .taken)) in
     sym e
-
-add-i : tie.Need-add-i Inv-loop μ-loop
-add-i c = omega arith
-
-loop-less : tie.Need-loop-less Inv-loop μ-loop
-loop-less c = omega arith
 
 loop-again : tie.Need-loop-again Inv-loop μ-loop
 loop-again c =
@@ -64,10 +52,6 @@ all-good-spec =
     Inv-loop
     μ-loop
     loop-holds
-    mul-is-good
-    is-good-requires
-    returns
-    add-i
-    loop-less
-    loop-again
+    (λ c. omega arith) (λ c κs. omega arith) returns
+    (λ c. omega arith) (λ c. omega arith) loop-again
     returns-2)

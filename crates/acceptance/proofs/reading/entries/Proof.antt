@@ -18,30 +18,9 @@ Inv-loop bytes count entries₀ i₀ entries i = (i ≤ count) × (count ≡ len
 abbrev μ-loop : tie.MeasureT-loop
 μ-loop bytes count entries₀ i₀ entries i = count - i
 
-no-entries-requires : tie.Need-no-entries-requires Inv-loop μ-loop
-no-entries-requires c κs = search needs
-
 loop-holds : tie.Need-loop-holds Inv-loop μ-loop
 unfolding firstRecords
 loop-holds c = (omega arith, refl, ap length (c .no-entries .ensures), c .no-entries .ensures)
-
-mul-entry-at : tie.Need-mul-entry-at Inv-loop μ-loop
-mul-entry-at c = omega arith
-
-entry-at-requires : tie.Need-entry-at-requires Inv-loop μ-loop
-entry-at-requires c κs = omega arith
-
-mul-entries : tie.Need-mul-entries Inv-loop μ-loop
-mul-entries c = omega arith
-
-array-set-from-entries : tie.Need-array-set-from-entries Inv-loop μ-loop
-array-set-from-entries c = omega arith
-
-add-i : tie.Need-add-i Inv-loop μ-loop
-add-i c = omega arith
-
-loop-less : tie.Need-loop-less Inv-loop μ-loop
-loop-less c = omega arith
 
 loop-again : tie.Need-loop-again Inv-loop μ-loop
 loop-again c =
@@ -68,13 +47,6 @@ entries-spec =
     (tie.spec
     Inv-loop
     μ-loop
-    no-entries-requires
-    loop-holds
-    mul-entry-at
-    entry-at-requires
-    mul-entries
-    array-set-from-entries
-    add-i
-    loop-less
-    loop-again
+    (λ c κs. search needs) loop-holds
+    (λ c. omega arith) (λ c κs. omega arith) (λ c. omega arith) (λ c. omega arith) (λ c. omega arith) (λ c. omega arith) loop-again
     returns)

@@ -7,20 +7,11 @@ use borrow.Author.Needs.{needs}
 use Rattle.acceptance.proofs.reading.entry_at.Statement.{statement}
 use Rattle.acceptance.proofs.reading.entry_at.Tie as tie
 
-shared-slice-read-high : tie.Need-shared-slice-read-high
-shared-slice-read-high c = search needs
-
 cast-high : tie.Need-cast-high
 cast-high c = omega (arith, c .shared-slice-known2 .given (c .before .before .args .at))
 
 mul-high : tie.Need-mul-high
 mul-high c = omega (arith, c .shared-slice-known2 .given (c .before .before .args .at))
-
-add-high : tie.Need-add-high
-add-high c = search needs
-
-shared-slice-read-high-2 : tie.Need-shared-slice-read-high-2
-shared-slice-read-high-2 c = search needs
 
 cast-high-2 : tie.Need-cast-high-2
 cast-high-2 c = omega (arith, c .shared-slice-known3 .given (c .before .before .before .args .at + 1))
@@ -28,23 +19,11 @@ cast-high-2 c = omega (arith, c .shared-slice-known3 .given (c .before .before .
 add-high-2 : tie.Need-add-high-2
 add-high-2 c = omega (arith, c .shared-slice-known3 .given (c .before .before .before .args .at), c .shared-slice-known3 .given (c .before .before .before .args .at + 1))
 
-add-low : tie.Need-add-low
-add-low c = search needs
-
-shared-slice-read-low : tie.Need-shared-slice-read-low
-shared-slice-read-low c = search needs
-
 cast-low : tie.Need-cast-low
 cast-low c = omega (arith, c .shared-slice-known4 .given (c .before .before .before .before .args .at + 2))
 
 mul-low : tie.Need-mul-low
 mul-low c = omega (arith, c .shared-slice-known4 .given (c .before .before .before .before .args .at + 2))
-
-add-low-2 : tie.Need-add-low-2
-add-low-2 c = search needs
-
-shared-slice-read-low-2 : tie.Need-shared-slice-read-low-2
-shared-slice-read-low-2 c = search needs
 
 cast-low-2 : tie.Need-cast-low-2
 cast-low-2 c = omega (arith, c .shared-slice-known5 .given (c .before .before .before .before .before .args .at + 3))
@@ -58,15 +37,6 @@ mul-t7 c = omega (arith, c .shared-slice-known5 .given (c .before .before .befor
 add-t8 : tie.Need-add-t8
 add-t8 c = omega (arith, c .shared-slice-known5 .given (c .before .before .before .before .before .args .at), c .shared-slice-known5 .given (c .before .before .before .before .before .args .at + 1), c .shared-slice-known5 .given (c .before .before .before .before .before .args .at + 2), c .shared-slice-known5 .given (c .before .before .before .before .before .args .at + 3))
 
-add-kind-of : tie.Need-add-kind-of
-add-kind-of c = search needs
-
-shared-slice-read-kind-of : tie.Need-shared-slice-read-kind-of
-shared-slice-read-kind-of c = search needs
-
-kind-of-requires : tie.Need-kind-of-requires
-kind-of-requires c κs = search needs
-
 returns : tie.Need-returns
 returns c =
     let a = c .before .before .before .before .before .before .before .args in
@@ -76,24 +46,14 @@ pub entry-at-spec : {M : Type 1} → statement M
 entry-at-spec =
     tie.close
     (tie.spec
-    shared-slice-read-high
-    cast-high
+    (λ c. search needs) cast-high
     mul-high
-    add-high
-    shared-slice-read-high-2
-    cast-high-2
+    (λ c. search needs) (λ c. search needs) cast-high-2
     add-high-2
-    add-low
-    shared-slice-read-low
-    cast-low
+    (λ c. search needs) (λ c. search needs) cast-low
     mul-low
-    add-low-2
-    shared-slice-read-low-2
-    cast-low-2
+    (λ c. search needs) (λ c. search needs) cast-low-2
     add-low-3
     mul-t7
     add-t8
-    add-kind-of
-    shared-slice-read-kind-of
-    kind-of-requires
-    returns)
+    (λ c. search needs) (λ c. search needs) (λ c κs. search needs) returns)

@@ -9,12 +9,6 @@ use borrow.Author.Needs.{needs}
 use Rattle.acceptance.proofs.reading.refused.Statement.{statement}
 use Rattle.acceptance.proofs.reading.refused.Tie as tie
 
-no-entries-requires : tie.Need-no-entries-requires
-no-entries-requires c κs = search needs
-
-begun-requires : tie.Need-begun-requires
-begun-requires c κs = search needs
-
 returns : tie.Need-returns
 unfolding planWith
 returns c =
@@ -22,4 +16,7 @@ returns c =
     ap (λ (p : Acceptance). record { plan = p; judged = a .judged }) (c .begun .ensures ∙ ap (λ (es : List Entry). record { entries = es; count = 0; tolerance = 0; extra = 0 }) (c .before .no-entries .ensures))
 
 pub refused-spec : {M : Type 1} → statement M
-refused-spec = tie.close (tie.spec no-entries-requires begun-requires returns)
+refused-spec =
+    tie.close
+    (tie.spec
+    (λ c κs. search needs) (λ c κs. search needs) returns)

@@ -26,9 +26,6 @@ returns-2 c =
     let many : leb (n / 8) 64 ≡ false = lt-leb (n / 8) 64 (c .if2 .taken) in
     simp (even, many)
 
-all-good-requires : tie.Need-all-good-requires
-all-good-requires c κs = search needs
-
 returns-3 : tie.Need-returns-3
 unfolding wellFormed
 returns-3 c =
@@ -38,4 +35,9 @@ returns-3 c =
     c .all-good .ensures ∙ simp (even, few)
 
 pub well-formed-spec : {M : Type 1} → statement M
-well-formed-spec = tie.close (tie.spec returns returns-2 all-good-requires returns-3)
+well-formed-spec =
+    tie.close
+    (tie.spec
+    returns
+    returns-2
+    (λ c κs. search needs) returns-3)

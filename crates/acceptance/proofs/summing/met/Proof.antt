@@ -30,24 +30,6 @@ loop-holds c =
     let k : a .n ≤ length (a .t1) = omega arith in
     (omega arith, sym (met-none (a .t1) (a .n) k), omega arith)
 
-sub-i : tie.Need-sub-i Inv-loop μ-loop
-sub-i c = omega arith
-
-mul-entry : tie.Need-mul-entry Inv-loop μ-loop
-mul-entry c = omega arith
-
-array-copy-out-entry : tie.Need-array-copy-out-entry Inv-loop μ-loop
-array-copy-out-entry c = omega arith
-
-is-absent-requires : tie.Need-is-absent-requires Inv-loop μ-loop
-is-absent-requires c κs = search needs
-
-add-count : tie.Need-add-count Inv-loop μ-loop
-add-count c = omega arith
-
-loop-less : tie.Need-loop-less Inv-loop μ-loop
-loop-less c = omega arith
-
 loop-again : tie.Need-loop-again Inv-loop μ-loop
 loop-again c =
     let t = c .before .before .before .before in
@@ -58,9 +40,6 @@ loop-again c =
     let same : metIn (drop (t .loop .i - 1 + 1) (take (a .n) (a .t1))) ≡ metIn (drop (t .loop .i) (take (a .n) (a .t1))) =
     ap (λ (m : ℕ). metIn (drop m (take (a .n) (a .t1)))) (back (t .loop .i) (c .before .before .before .loop-test .taken)) in
     (omega arith, omega (arith, t .loop .inv .1, met-one (a .t1) (a .n) (t .loop .i - 1) j k is), omega arith)
-
-loop-less-2 : tie.Need-loop-less-2 Inv-loop μ-loop
-loop-less-2 c = omega arith
 
 loop-again-2 : tie.Need-loop-again-2 Inv-loop μ-loop
 loop-again-2 c =
@@ -87,13 +66,6 @@ met-spec =
     Inv-loop
     μ-loop
     loop-holds
-    sub-i
-    mul-entry
-    array-copy-out-entry
-    is-absent-requires
-    add-count
-    loop-less
-    loop-again
-    loop-less-2
-    loop-again-2
+    (λ c. omega arith) (λ c. omega arith) (λ c. omega arith) (λ c κs. search needs) (λ c. omega arith) (λ c. omega arith) loop-again
+    (λ c. omega arith) loop-again-2
     returns)

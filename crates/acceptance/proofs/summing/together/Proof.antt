@@ -7,17 +7,11 @@ use borrow.Author.Needs.{needs}
 use Rattle.acceptance.proofs.summing.together.Statement.{statement}
 use Rattle.acceptance.proofs.summing.together.Tie as tie
 
-sub-if1 : tie.Need-sub-if1
-sub-if1 c = search needs
-
 returns : tie.Need-returns
 returns c =
     let a = c .before .args in
     let over : 18446744073709551615 < a .met + a .extra = omega arith in
     simp (lt-leb _ _ over)
-
-add-result : tie.Need-add-result
-add-result c = search needs
 
 returns-2 : tie.Need-returns-2
 returns-2 c =
@@ -26,4 +20,8 @@ returns-2 c =
     simp (le-leb _ _ fits)
 
 pub together-spec : {M : Type 1} → statement M
-together-spec = tie.close (tie.spec sub-if1 returns add-result returns-2)
+together-spec =
+    tie.close
+    (tie.spec
+    (λ c. search needs) returns
+    (λ c. search needs) returns-2)

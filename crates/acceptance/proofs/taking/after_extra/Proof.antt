@@ -5,12 +5,12 @@ use borrow.Author.Needs.{needs}
 use Rattle.acceptance.proofs.taking.after_extra.Statement.{statement}
 use Rattle.acceptance.proofs.taking.after_extra.Tie as tie
 
-one-more-requires : tie.Need-one-more-requires
-one-more-requires c κs = search needs
-
 returns : tie.Need-returns
 unfolding afterExtra
 returns c = rw (c .one-more .ensures)
 
 pub after-extra-spec : {M : Type 1} → statement M
-after-extra-spec = tie.close (tie.spec one-more-requires returns)
+after-extra-spec =
+    tie.close
+    (tie.spec
+    (λ c κs. search needs) returns)

@@ -8,15 +8,6 @@ use borrow.Author.Needs.{needs}
 use Rattle.acceptance.proofs.taking.group.Statement.{statement}
 use Rattle.acceptance.proofs.taking.group.Tie as tie
 
-entries-in-requires : tie.Need-entries-in-requires
-entries-in-requires c κs = search needs
-
-waiting-requires : tie.Need-waiting-requires
-waiting-requires c κs = search needs
-
-after-wanted-requires : tie.Need-after-wanted-requires
-after-wanted-requires c κs = search needs
-
 returns : tie.Need-returns
 returns c =
     let w = c .before .before in
@@ -24,9 +15,6 @@ returns c =
     let a = n .before .before .args in
     ap (λ (s : Acceptance). record { state = s; answer = Role.Wanted (w .waiting .result) }) (c .after-wanted .ensures)
     ∙ wanted-is (a .run) (n .entries-in .result) (n .entries-in .ensures .0) (n .entries-in .ensures .1 .0) (a .place) (a .kind) (w .waiting .result) (w .waiting .ensures) (c .before .if1 .taken)
-
-after-extra-requires : tie.Need-after-extra-requires
-after-extra-requires c κs = search needs
 
 returns-2 : tie.Need-returns-2
 returns-2 c =
@@ -40,9 +28,5 @@ pub group-spec : {M : Type 1} → statement M
 group-spec =
     tie.close
     (tie.spec
-    entries-in-requires
-    waiting-requires
-    after-wanted-requires
-    returns
-    after-extra-requires
-    returns-2)
+    (λ c κs. search needs) (λ c κs. search needs) (λ c κs. search needs) returns
+    (λ c κs. search needs) returns-2)

@@ -22,27 +22,12 @@ loop-holds c =
     let none : waiting (a .tolerance) (a .place) (a .kind) (take (a .n) (a .t4)) ≡ 0 + waiting (a .tolerance) (a .place) (a .kind) (take (a .n) (a .t4)) = omega arith in
     (omega arith, none)
 
-mul-entry : tie.Need-mul-entry Inv-loop μ-loop
-mul-entry c = omega arith
-
-array-copy-out-entry : tie.Need-array-copy-out-entry Inv-loop μ-loop
-array-copy-out-entry c = omega arith
-
-waits-requires : tie.Need-waits-requires Inv-loop μ-loop
-waits-requires c κs = search needs
-
 returns : tie.Need-returns Inv-loop μ-loop
 returns c =
     let t = c .before .before .before .before in
     let a = t .before .args in
     let k : a .n ≤ length (a .t4) = omega arith in
     omega (arith, t .loop .inv .1, wait-here (a .tolerance) (a .place) (a .kind) (a .t4) (a .n) (t .loop .i) (c .before .before .before .loop-test .taken) k (sym (c .before .waits .ensures) ∙ c .if1 .taken))
-
-add-i : tie.Need-add-i Inv-loop μ-loop
-add-i c = omega arith
-
-loop-less : tie.Need-loop-less Inv-loop μ-loop
-loop-less c = omega arith
 
 loop-again : tie.Need-loop-again Inv-loop μ-loop
 loop-again c =
@@ -68,11 +53,6 @@ waiting-spec =
     Inv-loop
     μ-loop
     loop-holds
-    mul-entry
-    array-copy-out-entry
-    waits-requires
-    returns
-    add-i
-    loop-less
-    loop-again
+    (λ c. omega arith) (λ c. omega arith) (λ c κs. search needs) returns
+    (λ c. omega arith) (λ c. omega arith) loop-again
     returns-2)

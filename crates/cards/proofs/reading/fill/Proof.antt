@@ -18,18 +18,6 @@ abbrev μ-loop : tie.MeasureT-loop
 loop-holds : tie.Need-loop-holds Inv-loop μ-loop
 loop-holds c = (omega arith, refl)
 
-sub-read-some : tie.Need-sub-read-some Inv-loop μ-loop
-sub-read-some c = omega arith
-
-part-read-some-start : tie.Need-part-read-some-start Inv-loop μ-loop
-part-read-some-start c = search needs
-
-part-read-some-end : tie.Need-part-read-some-end Inv-loop μ-loop
-part-read-some-end c = search needs
-
-read-some-requires : tie.Need-read-some-requires Inv-loop μ-loop
-read-some-requires c κs = tt
-
 -- what is read next lies within the buffer too
 within : (c : tie.After-read-some Inv-loop μ-loop) →
     let l = c .before .before .before in
@@ -64,15 +52,9 @@ loop-again c =
 same-length : tie.Need-same-length Inv-loop μ-loop
 same-length c = c .before .loop .inv .1
 
-returns : tie.Need-returns Inv-loop μ-loop
-returns c = omega arith
-
 same-length-2 : tie.Need-same-length-2 Inv-loop μ-loop
 same-length-2 c =
     keeps (c .before .before .before) ∙ c .before .before .before .before .before .before .loop .inv .1
-
-returns-2 : tie.Need-returns-2 Inv-loop μ-loop
-returns-2 c = omega arith
 
 pub fill-spec : {M : Type 1} → statement M
 fill-spec =
@@ -81,14 +63,9 @@ fill-spec =
     Inv-loop
     μ-loop
     loop-holds
-    sub-read-some
-    part-read-some-start
-    part-read-some-end
-    read-some-requires
-    add-have
+    (λ c. omega arith) (λ c. search needs) (λ c. search needs) (λ c κs. tt) add-have
     loop-less
     loop-again
     same-length
-    returns
-    same-length-2
-    returns-2)
+    (λ c. omega arith) same-length-2
+    (λ c. omega arith))

@@ -19,17 +19,8 @@ Inv-loop store first lengths block₀ out₀ stand₀ pass₀ turns₀ block out
 abbrev μ-loop : tie.MeasureT-loop
 μ-loop store first lengths block₀ out₀ stand₀ pass₀ turns₀ block out stand pass turns = turns
 
-fresh-requires : tie.Need-fresh-requires Inv-loop μ-loop
-fresh-requires c κs = tt
-
-begin-requires : tie.Need-begin-requires Inv-loop μ-loop
-begin-requires c κs = tt
-
 loop-holds : tie.Need-loop-holds Inv-loop μ-loop
 loop-holds c = (refl, refl)
-
-next-block-requires : tie.Need-next-block-requires Inv-loop μ-loop
-next-block-requires c κs = tt
 
 -- what was read lies within the block
 within : (c : tie.After-next-block Inv-loop μ-loop) → c .next-block .result .read ≤ length (c .next-block .last .1 .1 .0)
@@ -40,9 +31,6 @@ slice-reshare-prefix-write-records c = within (c .before .before)
 
 slice-aggregate-write-records : tie.Need-slice-aggregate-write-records Inv-loop μ-loop
 slice-aggregate-write-records c = sym (length-take-le _ _ (within (c .before .before .before)))
-
-write-records-requires : tie.Need-write-records-requires Inv-loop μ-loop
-write-records-requires c κs = tt
 
 -- the buffers after a block
 kept : (c : tie.After-write-records Inv-loop μ-loop) →
@@ -60,29 +48,11 @@ same-length c = kept (c .before .before .before .before) .0
 same-length-2 : tie.Need-same-length-2 Inv-loop μ-loop
 same-length-2 c = kept (c .before .before .before .before) .1
 
-returns : tie.Need-returns Inv-loop μ-loop
-returns c = tt
-
-enum-told : tie.Need-enum-told Inv-loop μ-loop
-enum-told c = search needs
-
-finish-requires : tie.Need-finish-requires Inv-loop μ-loop
-finish-requires c κs = tt
-
 same-length-3 : tie.Need-same-length-3 Inv-loop μ-loop
 same-length-3 c = kept (c .before .before .before .before .before .before) .0
 
 same-length-4 : tie.Need-same-length-4 Inv-loop μ-loop
 same-length-4 c = kept (c .before .before .before .before .before .before) .1
-
-returns-2 : tie.Need-returns-2 Inv-loop μ-loop
-returns-2 c = tt
-
-sub-turns : tie.Need-sub-turns Inv-loop μ-loop
-sub-turns c = omega arith
-
-loop-less : tie.Need-loop-less Inv-loop μ-loop
-loop-less c = omega arith
 
 loop-again : tie.Need-loop-again Inv-loop μ-loop
 loop-again c = kept (c .before .before .before .before .before .before .before)
@@ -93,33 +63,20 @@ same-length-5 c = c .before .loop .inv .0
 same-length-6 : tie.Need-same-length-6 Inv-loop μ-loop
 same-length-6 c = c .before .loop .inv .1
 
-returns-3 : tie.Need-returns-3 Inv-loop μ-loop
-returns-3 c = tt
-
 pub list-cards-spec : {M : Type 1} → statement M
 list-cards-spec =
     tie.close
     (tie.spec
     Inv-loop
     μ-loop
-    fresh-requires
-    begin-requires
-    loop-holds
-    next-block-requires
-    slice-reshare-prefix-write-records
+    (λ c κs. tt) (λ c κs. tt) loop-holds
+    (λ c κs. tt) slice-reshare-prefix-write-records
     slice-aggregate-write-records
-    write-records-requires
-    same-length
+    (λ c κs. tt) same-length
     same-length-2
-    returns
-    enum-told
-    finish-requires
-    same-length-3
+    (λ c. tt) (λ c. search needs) (λ c κs. tt) same-length-3
     same-length-4
-    returns-2
-    sub-turns
-    loop-less
-    loop-again
+    (λ c. tt) (λ c. omega arith) (λ c. omega arith) loop-again
     same-length-5
     same-length-6
-    returns-3)
+    (λ c. tt))

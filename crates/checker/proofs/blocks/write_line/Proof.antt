@@ -10,21 +10,6 @@ use borrow.Author.Needs.{needs}
 use Rattle.checker.proofs.blocks.write_line.Statement.{statement}
 use Rattle.checker.proofs.blocks.write_line.Tie as tie
 
-slice-aggregate-put-line : tie.Need-slice-aggregate-put-line
-slice-aggregate-put-line c = search needs
-
-put-line-requires : tie.Need-put-line-requires
-put-line-requires c κs = search needs
-
-enum-known-n : tie.Need-enum-known-n
-enum-known-n c = search needs
-
-enum-told : tie.Need-enum-told
-enum-told c = search needs
-
-returns : tie.Need-returns
-returns c = search needs
-
 within : (c : tie.After-n) → c .n .given .0 .0 ≤ length (c .before .before .before .put-line .last .1 .0)
 within c =
     let p = c .before .before .before in
@@ -40,22 +25,10 @@ array-share-prefix-out c = within (c .before)
 slice-aggregate-write-all : tie.Need-slice-aggregate-write-all
 slice-aggregate-write-all c = sym (length-take-le _ _ (within (c .before .before)))
 
-write-all-requires : tie.Need-write-all-requires
-write-all-requires c κs = search needs
-
-returns-2 : tie.Need-returns-2
-returns-2 c = search needs
-
 pub write-line-spec : {M : Type 1} → statement M
 write-line-spec =
     tie.close
     (tie.spec
-    slice-aggregate-put-line
-    put-line-requires
-    enum-known-n
-    enum-told
-    returns
-    array-share-prefix-out
+    (λ c. search needs) (λ c κs. search needs) (λ c. search needs) (λ c. search needs) (λ c. search needs) array-share-prefix-out
     slice-aggregate-write-all
-    write-all-requires
-    returns-2)
+    (λ c κs. search needs) (λ c. search needs))

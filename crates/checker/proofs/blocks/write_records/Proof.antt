@@ -9,18 +9,6 @@ use borrow.Author.Needs.{needs}
 use Rattle.checker.proofs.blocks.write_records.Statement.{statement}
 use Rattle.checker.proofs.blocks.write_records.Tie as tie
 
-list-under-requires : tie.Need-list-under-requires
-list-under-requires c κs = search needs
-
-enum-known-done : tie.Need-enum-known-done
-enum-known-done c = search needs
-
-same-length : tie.Need-same-length
-same-length c = search needs
-
-returns : tie.Need-returns
-returns c = search needs
-
 -- what was taken and what was written
 within : (c : tie.After-done) →
     let l = c .before .before .before .before .before in
@@ -41,29 +29,14 @@ slice-reshare-prefix-write-all c = within (c .before) .1
 slice-aggregate-write-all : tie.Need-slice-aggregate-write-all
 slice-aggregate-write-all c = sym (length-take-le _ _ (within (c .before .before) .1))
 
-write-all-requires : tie.Need-write-all-requires
-write-all-requires c κs = search needs
-
 mul-listed : tie.Need-mul-listed
 mul-listed c = omega (arith, within (c .before .before .before) .0)
-
-same-length-2 : tie.Need-same-length-2
-same-length-2 c = search needs
-
-returns-2 : tie.Need-returns-2
-returns-2 c = search needs
 
 pub write-records-spec : {M : Type 1} → statement M
 write-records-spec =
     tie.close
     (tie.spec
-    list-under-requires
-    enum-known-done
-    same-length
-    returns
-    slice-reshare-prefix-write-all
+    (λ c κs. search needs) (λ c. search needs) (λ c. search needs) (λ c. search needs) slice-reshare-prefix-write-all
     slice-aggregate-write-all
-    write-all-requires
-    mul-listed
-    same-length-2
-    returns-2)
+    (λ c κs. search needs) mul-listed
+    (λ c. search needs) (λ c. search needs))

@@ -7,18 +7,12 @@ use Rattle.compact.specs.Counting.{added}
 use Rattle.compact.proofs.counts.more.Statement.{statement}
 use Rattle.compact.proofs.counts.more.Tie as tie
 
-sub-if1 : tie.Need-sub-if1
-sub-if1 c = search needs
-
 returns : tie.Need-returns
 unfolding added
 returns c =
     let a = c .before .args in
     let over : 18446744073709551615 < a .count + a .by = omega arith in
     simp (lt-leb _ _ over)
-
-add-result : tie.Need-add-result
-add-result c = search needs
 
 returns-2 : tie.Need-returns-2
 unfolding added
@@ -28,4 +22,8 @@ returns-2 c =
     simp (le-leb _ _ fits)
 
 pub more-spec : {M : Type 1} → statement M
-more-spec = tie.close (tie.spec sub-if1 returns add-result returns-2)
+more-spec =
+    tie.close
+    (tie.spec
+    (λ c. search needs) returns
+    (λ c. search needs) returns-2)

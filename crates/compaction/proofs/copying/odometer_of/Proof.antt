@@ -5,16 +5,13 @@ use Rattle.compaction.proofs.Turns.{odometer-whole}
 use Rattle.compaction.proofs.copying.odometer_of.Statement.{statement}
 use Rattle.compaction.proofs.copying.odometer_of.Tie as tie
 
-slice-aggregate-odometer-at : tie.Need-slice-aggregate-odometer-at
-slice-aggregate-odometer-at c = search needs
-
-odometer-at-requires : tie.Need-odometer-at-requires
-odometer-at-requires c κs = search needs
-
 returns : tie.Need-returns
 returns c =
     let s = c .before .before in
     c .odometer-at .ensures ∙ odometer-whole (s .args .t1) (s .good .0 .1 .0 .1)
 
 pub odometer-of-spec : {M : Type 1} → statement M
-odometer-of-spec = tie.close (tie.spec slice-aggregate-odometer-at odometer-at-requires returns)
+odometer-of-spec =
+    tie.close
+    (tie.spec
+    (λ c. search needs) (λ c κs. search needs) returns)

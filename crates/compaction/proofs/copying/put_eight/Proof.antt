@@ -21,21 +21,6 @@ abbrev μ-loop : tie.MeasureT-loop
 loop-holds : tie.Need-loop-holds Inv-loop μ-loop
 loop-holds c = (omega arith, c .good .0 .1 .0 .1, refl, ap (placed (c .args .t1) (c .args .trace .now)) (add-zero (c .args .at)))
 
-array-read-trace : tie.Need-array-read-trace Inv-loop μ-loop
-array-read-trace c = omega arith
-
-add-trace : tie.Need-add-trace Inv-loop μ-loop
-add-trace c = omega arith
-
-slice-write-trace : tie.Need-slice-write-trace Inv-loop μ-loop
-slice-write-trace c = omega arith
-
-add-i : tie.Need-add-i Inv-loop μ-loop
-add-i c = omega arith
-
-loop-less : tie.Need-loop-less Inv-loop μ-loop
-loop-less c = omega arith
-
 loop-again : tie.Need-loop-again Inv-loop μ-loop
 loop-again c =
     let l = c .before in
@@ -71,11 +56,6 @@ put-eight-spec =
     Inv-loop
     μ-loop
     loop-holds
-    array-read-trace
-    add-trace
-    slice-write-trace
-    add-i
-    loop-less
-    loop-again
+    (λ c. omega arith) (λ c. omega arith) (λ c. omega arith) (λ c. omega arith) (λ c. omega arith) loop-again
     same-length
     returns)

@@ -10,21 +10,6 @@ use Rattle.compaction.proofs.deciding.is_quiet.Reads as is-quiet-reads
 use Rattle.ride.proofs.check_record.Reads as check-record-reads
 use Rattle.ride.proofs.step.Reads as step-reads
 
-step-requires : tie.Need-step-requires
-step-requires c κs = search needs
-
-array-read-dropped : tie.Need-array-read-dropped
-array-read-dropped c = search needs
-
-is-quiet-requires : tie.Need-is-quiet-requires
-is-quiet-requires c κs = search needs
-
-check-record-requires : tie.Need-check-record-requires
-check-record-requires c κs = search needs
-
-is-accepted-requires : tie.Need-is-accepted-requires
-is-accepted-requires c κs = search needs
-
 returns : tie.Need-returns
 returns c =
     let k = c .before in
@@ -38,9 +23,4 @@ pub decide-spec : {M : Type 1} → statement M
 decide-spec =
     tie.close
     (tie.spec
-    step-requires
-    array-read-dropped
-    is-quiet-requires
-    check-record-requires
-    is-accepted-requires
-    returns)
+    (λ c κs. search needs) (λ c. search needs) (λ c κs. search needs) (λ c κs. search needs) (λ c κs. search needs) returns)

@@ -23,18 +23,12 @@ put-eight-requires c κs =
     let s = e .before .before .before .before in
     s .pre .1 (not-false (s .args .waiting .waits) (e .if1 .left))
 
-step-requires : tie.Need-step-requires
-step-requires c κs = search needs
-
 add-t14 : tie.Need-add-t14
 add-t14 c =
     let e = c .before .before .before .before .before .before .before in
     let s = e .before .before .before .before in
     let h : s .args .at + 8 ≤ length (s .args .trace .now) = s .pre .1 (not-false (s .args .waiting .waits) (e .if1 .left)) in
     omega arith
-
-same-length : tie.Need-same-length
-same-length c = search needs
 
 returns-2 : tie.Need-returns-2
 returns-2 c =
@@ -51,4 +45,9 @@ returns-2 c =
 
 pub finish-spec : {M : Type 1} → statement M
 finish-spec =
-    tie.close (tie.spec returns put-eight-requires step-requires add-t14 same-length returns-2)
+    tie.close
+    (tie.spec
+    returns
+    put-eight-requires
+    (λ c κs. search needs) add-t14
+    (λ c. search needs) returns-2)

@@ -24,9 +24,6 @@ finish-requires c κs =
           omega arith,
     )
 
-same-length : tie.Need-same-length
-same-length c = search needs
-
 returns : tie.Need-returns
 returns c =
     let f = c .before .before in
@@ -40,4 +37,9 @@ returns c =
     (record { ride-is = f .finish .ensures .0; size-is = f .finish .ensures .1 .0; buffer-is = f .finish .ensures .1 .1 }))
 
 pub whole-spec : {M : Type 1} → statement M
-whole-spec = tie.close (tie.spec over-requires finish-requires same-length returns)
+whole-spec =
+    tie.close
+    (tie.spec
+    over-requires
+    finish-requires
+    (λ c. search needs) returns)

@@ -5,12 +5,6 @@ use Rattle.settings.proofs.Holding.{asked-for, stays-for}
 use Rattle.compaction.proofs.walking.held_for.Statement.{statement}
 use Rattle.compaction.proofs.walking.held_for.Tie as tie
 
-leaves-requires : tie.Need-leaves-requires
-leaves-requires c κs = search needs
-
-hold-requires : tie.Need-hold-requires
-hold-requires c κs = search needs
-
 returns : tie.Need-returns
 returns c =
     let t = c .before in
@@ -25,4 +19,8 @@ returns-2 c =
     stays-for (a .store) (a .held) (a .held) (a .odometer) (sym (v .leaves .ensures) ∙ c .if1 .left) refl
 
 pub held-for-spec : {M : Type 1} → statement M
-held-for-spec = tie.close (tie.spec leaves-requires hold-requires returns returns-2)
+held-for-spec =
+    tie.close
+    (tie.spec
+    (λ c κs. search needs) (λ c κs. search needs) returns
+    returns-2)

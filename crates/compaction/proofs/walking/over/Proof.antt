@@ -29,12 +29,6 @@ Inv-loop store block₀ count w₀ held₀ i₀ at₀ block w held i at =
 abbrev μ-loop : tie.MeasureT-loop
 μ-loop store block₀ count w₀ held₀ i₀ at₀ block w held i at = count - i
 
-odometer-of-requires : tie.Need-odometer-of-requires Inv-loop μ-loop
-odometer-of-requires c κs = tt
-
-held-for-requires : tie.Need-held-for-requires Inv-loop μ-loop
-held-for-requires c κs = tt
-
 loop-holds : tie.Need-loop-holds Inv-loop μ-loop
 loop-holds c =
     let o = c .before in
@@ -45,17 +39,8 @@ loop-holds c =
     (c .held-for .ensures ∙ ap (heldFor (a .store) (a .first)) (o .odometer-of .ensures)) in
     (refl, omega arith, refl, walk-first (gapAt (a .store)) (a .waiting) (a .block .now), held .0, held .1)
 
-mul-eight : tie.Need-mul-eight Inv-loop μ-loop
-mul-eight c = omega arith
-
-eight-requires : tie.Need-eight-requires Inv-loop μ-loop
-eight-requires c κs = omega arith
-
 settle-requires : tie.Need-settle-requires Inv-loop μ-loop
 settle-requires c κs = c .before .before .before .loop .inv .5 .good
-
-put-eight-requires : tie.Need-put-eight-requires Inv-loop μ-loop
-put-eight-requires c κs = omega arith
 
 -- the block's length fits, and so does every place in it
 fits : (c : tie.In-loop Inv-loop μ-loop) → (c .before .loop .i * 8 + 8 ≤ 18446744073709551615) × (c .before .loop .at ≤ c .before .loop .i * 8)
@@ -64,20 +49,8 @@ fits c = (omega arith, c .before .loop .inv .3 .below)
 add-at : tie.Need-add-at Inv-loop μ-loop
 add-at c = omega (arith, fits (c .before .before .before .before .before .before .before .before .before))
 
-odometer-of-requires-2 : tie.Need-odometer-of-requires-2 Inv-loop μ-loop
-odometer-of-requires-2 c κs = tt
-
-leaves-requires : tie.Need-leaves-requires Inv-loop μ-loop
-leaves-requires c κs = tt
-
-hold-requires : tie.Need-hold-requires Inv-loop μ-loop
-hold-requires c κs = tt
-
 add-i : tie.Need-add-i Inv-loop μ-loop
 add-i c = omega (arith, fits (c .before .before .before .before .before .before .before .before))
-
-loop-less : tie.Need-loop-less Inv-loop μ-loop
-loop-less c = omega arith
 
 loop-again : tie.Need-loop-again Inv-loop μ-loop
 loop-again c =
@@ -146,19 +119,10 @@ over-spec =
     (tie.spec
     Inv-loop
     μ-loop
-    odometer-of-requires
-    held-for-requires
-    loop-holds
-    mul-eight
-    eight-requires
-    settle-requires
-    put-eight-requires
-    add-at
-    odometer-of-requires-2
-    leaves-requires
-    hold-requires
-    add-i
-    loop-less
-    loop-again
+    (λ c κs. tt) (λ c κs. tt) loop-holds
+    (λ c. omega arith) (λ c κs. omega arith) settle-requires
+    (λ c κs. omega arith) add-at
+    (λ c κs. tt) (λ c κs. tt) (λ c κs. tt) add-i
+    (λ c. omega arith) loop-again
     same-length
     returns)

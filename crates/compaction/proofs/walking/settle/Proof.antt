@@ -13,9 +13,6 @@ returns c =
     let a = c .before .before .before .args in
     none-waits (λ o. a .gap) (a .waiting) (a .next) (not-true (a .waiting .waits) (c .if1 .taken))
 
-decide-requires : tie.Need-decide-requires
-decide-requires c κs = search needs
-
 returns-2 : tie.Need-returns-2
 returns-2 c =
     let d = c .before .before in
@@ -24,4 +21,8 @@ returns-2 c =
     one-waits (λ o. a .gap) (a .waiting) (a .next) (d .decide .result) (not-false (a .waiting .waits) (e .if1 .left)) (d .decide .ensures)
 
 pub settle-spec : {M : Type 1} → statement M
-settle-spec = tie.close (tie.spec returns decide-requires returns-2)
+settle-spec =
+    tie.close
+    (tie.spec
+    returns
+    (λ c κs. search needs) returns-2)

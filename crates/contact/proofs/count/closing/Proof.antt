@@ -8,9 +8,6 @@ use borrow.Author.Needs.{needs}
 use Rattle.contact.proofs.count.closing.Statement.{statement}
 use Rattle.contact.proofs.count.closing.Tie as tie
 
-counted-requires : tie.Need-counted-requires
-counted-requires c κs = search needs
-
 returns : tie.Need-returns
 returns c k room none =
     let n = c .before .before .before .counted in
@@ -18,4 +15,7 @@ returns c k room none =
     four (r .a) (r .b) (r .c) (r .d) (r .e) k (zeroesOf (c .before .before .before .before .args .w / 2 ^ k) 16) (n .ensures k room) (omega arith) none
 
 pub closing-spec : {M : Type 1} → statement M
-closing-spec = tie.close (tie.spec counted-requires returns)
+closing-spec =
+    tie.close
+    (tie.spec
+    (λ c κs. search needs) returns)

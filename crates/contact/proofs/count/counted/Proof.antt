@@ -7,18 +7,6 @@ use borrow.Author.Needs.{needs}
 use Rattle.contact.proofs.count.counted.Statement.{statement}
 use Rattle.contact.proofs.count.counted.Tie as tie
 
-doubled-requires : tie.Need-doubled-requires
-doubled-requires c κs = search needs
-
-doubled-requires-2 : tie.Need-doubled-requires-2
-doubled-requires-2 c κs = search needs
-
-doubled-requires-3 : tie.Need-doubled-requires-3
-doubled-requires-3 c κs = search needs
-
-doubled-requires-4 : tie.Need-doubled-requires-4
-doubled-requires-4 c κs = search needs
-
 returns : tie.Need-returns
 returns c =
     let w = c .before .before .before .before .args .w in
@@ -41,4 +29,5 @@ returns c =
 pub counted-spec : {M : Type 1} → statement M
 counted-spec =
     tie.close
-    (tie.spec doubled-requires doubled-requires-2 doubled-requires-3 doubled-requires-4 returns)
+    (tie.spec
+    (λ c κs. search needs) (λ c κs. search needs) (λ c κs. search needs) (λ c κs. search needs) returns)

@@ -7,54 +7,6 @@ use borrow.Author.Needs.{needs}
 use Rattle.contact.proofs.count.doubled.Statement.{statement}
 use Rattle.contact.proofs.count.doubled.Tie as tie
 
-shr-sum : tie.Need-shr-sum
-shr-sum c = search needs
-
-sum-requires : tie.Need-sum-requires
-sum-requires c κs = search needs
-
-shr-carry : tie.Need-shr-carry
-shr-carry c = search needs
-
-carry-requires : tie.Need-carry-requires
-carry-requires c κs = search needs
-
-shr-sum-2 : tie.Need-shr-sum-2
-shr-sum-2 c = search needs
-
-sum-requires-2 : tie.Need-sum-requires-2
-sum-requires-2 c κs = search needs
-
-shr-carry-2 : tie.Need-shr-carry-2
-shr-carry-2 c = search needs
-
-carry-requires-2 : tie.Need-carry-requires-2
-carry-requires-2 c κs = search needs
-
-shr-sum-3 : tie.Need-shr-sum-3
-shr-sum-3 c = search needs
-
-sum-requires-3 : tie.Need-sum-requires-3
-sum-requires-3 c κs = search needs
-
-shr-carry-3 : tie.Need-shr-carry-3
-shr-carry-3 c = search needs
-
-carry-requires-3 : tie.Need-carry-requires-3
-carry-requires-3 c κs = search needs
-
-shr-sum-4 : tie.Need-shr-sum-4
-shr-sum-4 c = search needs
-
-sum-requires-4 : tie.Need-sum-requires-4
-sum-requires-4 c κs = search needs
-
-shr-carry-4 : tie.Need-shr-carry-4
-shr-carry-4 c = search needs
-
-carry-requires-4 : tie.Need-carry-requires-4
-carry-requires-4 c κs = search needs
-
 returns : tie.Need-returns
 returns c k =
     let arg = c .before .before .before .before .before .before .before .before .before .before .before .before .before .before .before .before .args in
@@ -79,20 +31,6 @@ pub doubled-spec : {M : Type 1} → statement M
 doubled-spec =
     tie.close
     (tie.spec
-    shr-sum
-    sum-requires
-    shr-carry
-    carry-requires
-    shr-sum-2
-    sum-requires-2
-    shr-carry-2
-    carry-requires-2
-    shr-sum-3
-    sum-requires-3
-    shr-carry-3
-    carry-requires-3
-    shr-sum-4
-    sum-requires-4
-    shr-carry-4
-    carry-requires-4
-    returns)
+    (λ c. search needs) (λ c κs. search needs) (λ c. search needs) (λ c κs. search needs) (λ c. search needs) (λ c κs. search needs)
+    (λ c. search needs) (λ c κs. search needs) (λ c. search needs) (λ c κs. search needs) (λ c. search needs) (λ c κs. search needs)
+    (λ c. search needs) (λ c κs. search needs) (λ c. search needs) (λ c κs. search needs) returns)

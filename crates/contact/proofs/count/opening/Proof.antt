@@ -7,9 +7,6 @@ use borrow.Author.Needs.{needs}
 use Rattle.contact.proofs.count.opening.Statement.{statement}
 use Rattle.contact.proofs.count.opening.Tie as tie
 
-counted-requires : tie.Need-counted-requires
-counted-requires c κs = search needs
-
 returns : tie.Need-returns
 returns c k room none =
     let n = c .before .counted in
@@ -17,4 +14,7 @@ returns c k room none =
     eight (r .a) (r .b) (r .c) (r .d) (r .e) k (zeroesOf (c .before .before .args .w / 2 ^ k) 16) (n .ensures k room) none
 
 pub opening-spec : {M : Type 1} → statement M
-opening-spec = tie.close (tie.spec counted-requires returns)
+opening-spec =
+    tie.close
+    (tie.spec
+    (λ c κs. search needs) returns)

@@ -9,21 +9,6 @@ use borrow.Author.Needs.{needs}
 use Rattle.contact.proofs.detector.line.Statement.{statement}
 use Rattle.contact.proofs.detector.line.Tie as tie
 
-mul-result : tie.Need-mul-result
-mul-result c = search needs
-
-eight-bytes-requires : tie.Need-eight-bytes-requires
-eight-bytes-requires c κs = search needs
-
-sub-result : tie.Need-sub-result
-sub-result c = search needs
-
-shr-result : tie.Need-shr-result
-shr-result c = search needs
-
-add-result : tie.Need-add-result
-add-result c = search needs
-
 returns : tie.Need-returns
 returns c =
     let a = c .before .before .args in
@@ -39,4 +24,6 @@ returns c =
 
 pub line-spec : {M : Type 1} → statement M
 line-spec =
-    tie.close (tie.spec mul-result eight-bytes-requires sub-result shr-result add-result returns)
+    tie.close
+    (tie.spec
+    (λ c. search needs) (λ c κs. search needs) (λ c. search needs) (λ c. search needs) (λ c. search needs) returns)

@@ -25,18 +25,6 @@ abbrev μ-loop : tie.MeasureT-loop
 loop-holds : tie.Need-loop-holds Inv-loop μ-loop
 loop-holds c = (omega arith, omega arith, refl)
 
-line-requires : tie.Need-line-requires Inv-loop μ-loop
-line-requires c κs = omega arith
-
-opening-requires : tie.Need-opening-requires Inv-loop μ-loop
-opening-requires c κs = search needs
-
-before-first-requires : tie.Need-before-first-requires Inv-loop μ-loop
-before-first-requires c κs = search needs
-
-sub-if1 : tie.Need-sub-if1 Inv-loop μ-loop
-sub-if1 c = omega arith
-
 -- the bits before the first that is marked
 before : (c : tie.After-before-first Inv-loop μ-loop) (j : ℕ) → j < c .before-first .result
     → zeroes (on (c .before .before .before .before .before .before .args .buf .now) (c .before .before .before .before .loop .h) (c .before .before .before .before .loop .i) (suc j)) < 8
@@ -57,15 +45,6 @@ returns c =
     let n = a .end - l .i in
     let none = none-opens b (l .h) (l .i) (l .inv .1) (a .end) n (omega arith) (λ j less. before u j (omega arith)) in
     sym (ap first (l .inv .2 ∙ none ∙ ends-outside b (on b (l .h) (l .i) n) (l .i + n) (a .end) (omega arith)))
-
-add-latest : tie.Need-add-latest Inv-loop μ-loop
-add-latest c = omega arith
-
-latest-requires : tie.Need-latest-requires Inv-loop μ-loop
-latest-requires c κs = omega arith
-
-add-i : tie.Need-add-i Inv-loop μ-loop
-add-i c = omega arith
 
 zeroes-requires : tie.Need-zeroes-requires Inv-loop μ-loop
 zeroes-requires c κs = omega (arith, c .latest .ensures)
@@ -97,12 +76,6 @@ returns-2 c =
     let in-it = goes-in b (on b (l .h) (l .i) k) (l .i + k) (a .end) (z .before .latest .result) (z .zeroes .result) (omega arith) (now-is (z .before)) (z .zeroes .ensures) (c .before .if3 .taken) in
     c .within .ensures ∙ sym (ap first (l .inv .2 ∙ none ∙ in-it))
 
-add-i-2 : tie.Need-add-i-2 Inv-loop μ-loop
-add-i-2 c = omega arith
-
-loop-less : tie.Need-loop-less Inv-loop μ-loop
-loop-less c = omega arith
-
 loop-again : tie.Need-loop-again Inv-loop μ-loop
 loop-again c =
     let z = c .before in
@@ -114,15 +87,6 @@ loop-again c =
     let none = none-opens b (l .h) (l .i) (l .inv .1) (a .end) k (omega arith) (before u) in
     let stays = stays-out b (on b (l .h) (l .i) k) (l .i + k) (a .end) (z .before .latest .result) (z .zeroes .result) (omega arith) (now-is (z .before)) (z .zeroes .ensures) (c .if3 .left) in
     (omega arith, omega (arith, z .before .latest .ensures), l .inv .2 ∙ none ∙ stays)
-
-latest-requires-2 : tie.Need-latest-requires-2 Inv-loop μ-loop
-latest-requires-2 c κs = omega arith
-
-add-i-3 : tie.Need-add-i-3 Inv-loop μ-loop
-add-i-3 c = omega arith
-
-loop-less-2 : tie.Need-loop-less-2 Inv-loop μ-loop
-loop-less-2 c = omega arith
 
 loop-again-2 : tie.Need-loop-again-2 Inv-loop μ-loop
 loop-again-2 c =
@@ -154,22 +118,10 @@ outside-spec =
     Inv-loop
     μ-loop
     loop-holds
-    line-requires
-    opening-requires
-    before-first-requires
-    sub-if1
-    returns
-    add-latest
-    latest-requires
-    add-i
-    zeroes-requires
+    (λ c κs. omega arith) (λ c κs. search needs) (λ c κs. search needs) (λ c. omega arith) returns
+    (λ c. omega arith) (λ c κs. omega arith) (λ c. omega arith) zeroes-requires
     within-requires
     returns-2
-    add-i-2
-    loop-less
-    loop-again
-    latest-requires-2
-    add-i-3
-    loop-less-2
-    loop-again-2
+    (λ c. omega arith) (λ c. omega arith) loop-again
+    (λ c κs. omega arith) (λ c. omega arith) (λ c. omega arith) loop-again-2
     returns-3)

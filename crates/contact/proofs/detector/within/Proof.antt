@@ -23,23 +23,8 @@ Inv-loop buf opened end history h₀ i₀ h i =
 abbrev μ-loop : tie.MeasureT-loop
 μ-loop buf opened end history h₀ i₀ h i = end - i
 
-add-i : tie.Need-add-i Inv-loop μ-loop
-add-i c = omega arith
-
 loop-holds : tie.Need-loop-holds Inv-loop μ-loop
 loop-holds c = (omega arith, omega arith, omega arith, refl)
-
-line-requires : tie.Need-line-requires Inv-loop μ-loop
-line-requires c κs = omega arith
-
-closing-requires : tie.Need-closing-requires Inv-loop μ-loop
-closing-requires c κs = search needs
-
-before-first-requires : tie.Need-before-first-requires Inv-loop μ-loop
-before-first-requires c κs = search needs
-
-sub-if1 : tie.Need-sub-if1 Inv-loop μ-loop
-sub-if1 c = omega arith
 
 -- the bits before the first that is marked
 before : (c : tie.After-before-first Inv-loop μ-loop) (j : ℕ) → j < c .before-first .result
@@ -62,26 +47,8 @@ returns c =
     let none = none-closes b (l .h) (l .i) (l .inv .2) (a .end) n (omega arith) (a .opened) (λ j less. before u j (omega arith)) in
     sym (ap first (l .inv .3 ∙ none ∙ ends-inside b (on b (l .h) (l .i) n) (l .i + n) (a .end) (omega arith) (a .opened)))
 
-add-latest : tie.Need-add-latest Inv-loop μ-loop
-add-latest c = omega arith
-
-latest-requires : tie.Need-latest-requires Inv-loop μ-loop
-latest-requires c κs = omega arith
-
-add-i-2 : tie.Need-add-i-2 Inv-loop μ-loop
-add-i-2 c = omega arith
-
-add-behind : tie.Need-add-behind Inv-loop μ-loop
-add-behind c = omega arith
-
 zeroes-requires : tie.Need-zeroes-requires Inv-loop μ-loop
 zeroes-requires c κs = omega (arith, c .latest .ensures)
-
-sub-t16 : tie.Need-sub-t16 Inv-loop μ-loop
-sub-t16 c = omega arith
-
-sub-t17 : tie.Need-sub-t17 Inv-loop μ-loop
-sub-t17 c = omega arith
 
 cast-t18 : tie.Need-cast-t18 Inv-loop μ-loop
 cast-t18 c = omega (arith, c .before .before .latest .ensures)
@@ -110,9 +77,6 @@ returns-2 c =
     let out = goes-out b (on b (l .h) (l .i) k) (l .i + k) (a .end) (z .before .latest .result) (z .zeroes .result) (omega arith) (now-is (z .before)) (z .zeroes .ensures) (a .opened) (c .if3 .taken) in
     sym (ap first (l .inv .3 ∙ none ∙ out))
 
-loop-less : tie.Need-loop-less Inv-loop μ-loop
-loop-less c = omega arith
-
 loop-again : tie.Need-loop-again Inv-loop μ-loop
 loop-again c =
     let z = c .before in
@@ -124,15 +88,6 @@ loop-again c =
     let none = none-closes b (l .h) (l .i) (l .inv .2) (a .end) k (omega arith) (a .opened) (before u) in
     let stays = stays-in b (on b (l .h) (l .i) k) (l .i + k) (a .end) (z .before .latest .result) (z .zeroes .result) (omega arith) (now-is (z .before)) (z .zeroes .ensures) (a .opened) (c .if3 .left) in
     (omega arith, omega arith, omega (arith, z .before .latest .ensures), l .inv .3 ∙ none ∙ stays)
-
-latest-requires-2 : tie.Need-latest-requires-2 Inv-loop μ-loop
-latest-requires-2 c κs = omega arith
-
-add-i-3 : tie.Need-add-i-3 Inv-loop μ-loop
-add-i-3 c = omega arith
-
-loop-less-2 : tie.Need-loop-less-2 Inv-loop μ-loop
-loop-less-2 c = omega arith
 
 loop-again-2 : tie.Need-loop-again-2 Inv-loop μ-loop
 loop-again-2 c =
@@ -164,26 +119,11 @@ within-spec =
     (tie.spec
     Inv-loop
     μ-loop
-    add-i
-    loop-holds
-    line-requires
-    closing-requires
-    before-first-requires
-    sub-if1
-    returns
-    add-latest
-    latest-requires
-    add-i-2
-    add-behind
-    zeroes-requires
-    sub-t16
-    sub-t17
-    cast-t18
+    (λ c. omega arith) loop-holds
+    (λ c κs. omega arith) (λ c κs. search needs) (λ c κs. search needs) (λ c. omega arith) returns
+    (λ c. omega arith) (λ c κs. omega arith) (λ c. omega arith) (λ c. omega arith) zeroes-requires
+    (λ c. omega arith) (λ c. omega arith) cast-t18
     returns-2
-    loop-less
-    loop-again
-    latest-requires-2
-    add-i-3
-    loop-less-2
-    loop-again-2
+    (λ c. omega arith) loop-again
+    (λ c κs. omega arith) (λ c. omega arith) (λ c. omega arith) loop-again-2
     returns-3)

@@ -17,24 +17,12 @@ abbrev μ-loop : tie.MeasureT-loop
 loop-holds : tie.Need-loop-holds Inv-loop μ-loop
 loop-holds c = (omega arith, refl)
 
-sub-last : tie.Need-sub-last Inv-loop μ-loop
-sub-last c = omega arith
-
-add-bit : tie.Need-add-bit Inv-loop μ-loop
-add-bit c = omega arith
-
-bit-requires : tie.Need-bit-requires Inv-loop μ-loop
-bit-requires c κs = omega arith
-
 returns : tie.Need-returns Inv-loop μ-loop
 returns c =
     let a = c .before .before .before .before .before .args in
     let l = c .before .before .before .loop in
     let e : l .n ≡ suc (l .n - 1) = omega arith in
     sym (l .inv .1 ∙ a-one (a .buf .now) (a .start) (l .n) (l .n - 1) e (sym (c .before .bit .ensures) ∙ c .if1 .taken))
-
-loop-less : tie.Need-loop-less Inv-loop μ-loop
-loop-less c = omega arith
 
 loop-again : tie.Need-loop-again Inv-loop μ-loop
 loop-again c =
@@ -57,10 +45,6 @@ all-zero-spec =
     Inv-loop
     μ-loop
     loop-holds
-    sub-last
-    add-bit
-    bit-requires
-    returns
-    loop-less
-    loop-again
+    (λ c. omega arith) (λ c. omega arith) (λ c κs. omega arith) returns
+    (λ c. omega arith) loop-again
     returns-2)

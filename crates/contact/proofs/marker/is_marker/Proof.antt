@@ -14,9 +14,6 @@ returns c =
     let short : c .before .before .args .len < 64 = omega arith in
     simp (lt-leb _ _ short)
 
-ones-at-end-requires : tie.Need-ones-at-end-requires
-ones-at-end-requires c κs = search needs
-
 returns-2 : tie.Need-returns-2
 unfolding isMarker
 returns-2 c =
@@ -24,12 +21,6 @@ returns-2 c =
     let long : 64 ≤ c .before .before .before .before .args .len = omega arith in
     let many : 11 < o .result = omega arith in
     simp (le-leb _ _ long, ← o .ensures .0, lt-leb _ _ many)
-
-sub-all-zero : tie.Need-sub-all-zero
-sub-all-zero c = search needs
-
-all-zero-requires : tie.Need-all-zero-requires
-all-zero-requires c κs = search needs
 
 returns-3 : tie.Need-returns-3
 unfolding isMarker
@@ -42,4 +33,7 @@ returns-3 c =
 pub is-marker-spec : {M : Type 1} → statement M
 is-marker-spec =
     tie.close
-    (tie.spec returns ones-at-end-requires returns-2 sub-all-zero all-zero-requires returns-3)
+    (tie.spec
+    returns
+    (λ c κs. search needs) returns-2
+    (λ c. search needs) (λ c κs. search needs) returns-3)

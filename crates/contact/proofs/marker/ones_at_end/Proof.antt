@@ -17,15 +17,6 @@ abbrev μ-loop : tie.MeasureT-loop
 loop-holds : tie.Need-loop-holds Inv-loop μ-loop
 loop-holds c = (omega arith, omega arith)
 
-sub-last : tie.Need-sub-last Inv-loop μ-loop
-sub-last c = omega arith
-
-add-bit : tie.Need-add-bit Inv-loop μ-loop
-add-bit c = omega arith
-
-bit-requires : tie.Need-bit-requires Inv-loop μ-loop
-bit-requires c κs = omega arith
-
 returns : tie.Need-returns Inv-loop μ-loop
 returns c =
     let a = c .before .before .before .before .before .args in
@@ -33,12 +24,6 @@ returns c =
     let e : l .n ≡ suc (l .n - 1) = omega arith in
     let z = no-ones (a .buf .now) (a .start) (l .n) (l .n - 1) e (sym (c .before .bit .ensures) ∙ c .if1 .taken) in
     (omega arith, omega arith)
-
-add-ones : tie.Need-add-ones Inv-loop μ-loop
-add-ones c = omega arith
-
-loop-less : tie.Need-loop-less Inv-loop μ-loop
-loop-less c = omega arith
 
 loop-again : tie.Need-loop-again Inv-loop μ-loop
 loop-again c =
@@ -63,11 +48,6 @@ ones-at-end-spec =
     Inv-loop
     μ-loop
     loop-holds
-    sub-last
-    add-bit
-    bit-requires
-    returns
-    add-ones
-    loop-less
-    loop-again
+    (λ c. omega arith) (λ c. omega arith) (λ c κs. omega arith) returns
+    (λ c. omega arith) (λ c. omega arith) loop-again
     returns-2)

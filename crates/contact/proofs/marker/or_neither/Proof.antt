@@ -8,9 +8,6 @@ use Rattle.contact.specs.Judge.{marker}
 use Rattle.contact.proofs.marker.or_neither.Statement.{statement}
 use Rattle.contact.proofs.marker.or_neither.Tie as tie
 
-is-marker-requires : tie.Need-is-marker-requires
-is-marker-requires c κs = search needs
-
 returns : tie.Need-returns
 returns c = ap (λ (x : Bool). pick x (gives marker) (refuses 8)) (sym (c .if1 .taken) ∙ c .before .is-marker .ensures)
 
@@ -18,4 +15,8 @@ returns-2 : tie.Need-returns-2
 returns-2 c = ap (λ (x : Bool). pick x (gives marker) (refuses 8)) (sym (c .if1 .left) ∙ c .before .is-marker .ensures)
 
 pub or-neither-spec : {M : Type 1} → statement M
-or-neither-spec = tie.close (tie.spec is-marker-requires returns returns-2)
+or-neither-spec =
+    tie.close
+    (tie.spec
+    (λ c κs. search needs) returns
+    returns-2)

@@ -21,9 +21,6 @@ loop-holds c =
     let e : a .k - 0 ≡ a .k = omega arith in
     (omega arith, omega arith, ap (field (a .text .now) (a .sign)) e)
 
-place-of-requires : tie.Need-place-of-requires Inv-loop μ-loop
-place-of-requires c κs = search needs
-
 returns : tie.Need-returns Inv-loop μ-loop
 returns c =
     let l = c .before .before .before in
@@ -34,15 +31,6 @@ returns c =
     let one : a .k - l .loop .i ≡ suc m = omega arith in
     let none : length t ≤ placeOf t at (a .sign) = subst (λ (n : ℕ). length t ≤ n) (c .before .place-of .ensures) (c .if1 .taken) in
     (omega arith, field-end (a .sign) t ∙ sym (no-next (a .sign) t at m (l .loop .inv .0) none) ∙ ap (field (drop at t) (a .sign)) (sym one) ∙ l .loop .inv .2)
-
-add-at : tie.Need-add-at Inv-loop μ-loop
-add-at c = omega arith
-
-add-i : tie.Need-add-i Inv-loop μ-loop
-add-i c = omega arith
-
-loop-less : tie.Need-loop-less Inv-loop μ-loop
-loop-less c = omega arith
 
 loop-again : tie.Need-loop-again Inv-loop μ-loop
 loop-again c =
@@ -69,10 +57,6 @@ start-of-spec =
     Inv-loop
     μ-loop
     loop-holds
-    place-of-requires
-    returns
-    add-at
-    add-i
-    loop-less
-    loop-again
+    (λ c κs. search needs) returns
+    (λ c. omega arith) (λ c. omega arith) (λ c. omega arith) loop-again
     returns-2)

@@ -7,21 +7,6 @@ use borrow.Author.Needs.{needs}
 use Rattle.group.proofs.contents.link_distance.Statement.{statement}
 use Rattle.group.proofs.contents.link_distance.Tie as tie
 
-enum-known-c : tie.Need-enum-known-c
-enum-known-c c = search needs
-
-y-of-requires : tie.Need-y-of-requires
-y-of-requires c κs = search needs
-
-distance-requires : tie.Need-distance-requires
-distance-requires c κs = search needs
-
-enum-told : tie.Need-enum-told
-enum-told c = search needs
-
-distance-requires-2 : tie.Need-distance-requires-2
-distance-requires-2 c κs = search needs
-
 returns : tie.Need-returns
 returns c =
     let s = c .before .before .before .before .before .before in
@@ -39,11 +24,6 @@ pub link-distance-spec : {M : Type 1} → statement M
 link-distance-spec =
     tie.close
     (tie.spec
-    enum-known-c
-    y-of-requires
-    distance-requires
-    enum-told
-    distance-requires-2
-    returns
+    (λ c. search needs) (λ c κs. search needs) (λ c κs. search needs) (λ c. search needs) (λ c κs. search needs) returns
     returns-2
     returns-3)

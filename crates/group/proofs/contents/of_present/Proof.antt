@@ -5,27 +5,6 @@ use borrow.Author.Needs.{needs}
 use Rattle.group.proofs.contents.of_present.Statement.{statement}
 use Rattle.group.proofs.contents.of_present.Tie as tie
 
-enum-told : tie.Need-enum-told
-enum-told c = search needs
-
-of-signal-requires : tie.Need-of-signal-requires
-of-signal-requires c κs = search needs
-
-enum-told-2 : tie.Need-enum-told-2
-enum-told-2 c = search needs
-
-of-warning-requires : tie.Need-of-warning-requires
-of-warning-requires c κs = search needs
-
-enum-told-3 : tie.Need-enum-told-3
-enum-told-3 c = search needs
-
-enum-told-4 : tie.Need-enum-told-4
-enum-told-4 c = search needs
-
-enum-told-5 : tie.Need-enum-told-5
-enum-told-5 c = search needs
-
 returns : tie.Need-returns
 returns c = c .of-signal .ensures ∙ rw (c .before .enum-told .given .1)
 
@@ -45,14 +24,8 @@ pub of-present-spec : {M : Type 1} → statement M
 of-present-spec =
     tie.close
     (tie.spec
-    enum-told
-    of-signal-requires
-    enum-told-2
-    of-warning-requires
-    enum-told-3
-    enum-told-4
-    enum-told-5
-    returns
+    (λ c. search needs) (λ c κs. search needs) (λ c. search needs) (λ c κs. search needs) (λ c. search needs) (λ c. search needs)
+    (λ c. search needs) returns
     returns-2
     returns-3
     returns-4

@@ -6,15 +6,6 @@ use borrow.Author.Needs.{needs}
 use Rattle.group.proofs.contents.of_warning.Statement.{statement}
 use Rattle.group.proofs.contents.of_warning.Tie as tie
 
-distance-of-requires : tie.Need-distance-of-requires
-distance-of-requires c κs = search needs
-
-enum-known-distance : tie.Need-enum-known-distance
-enum-known-distance c = search needs
-
-enum-told : tie.Need-enum-told
-enum-told c = search needs
-
 returns : tie.Need-returns
 returns c =
     let d = sym (c .before .before .before .distance-of .ensures) ∙ ap saysMeasured (c .before .distance .given .1) in
@@ -29,8 +20,5 @@ pub of-warning-spec : {M : Type 1} → statement M
 of-warning-spec =
     tie.close
     (tie.spec
-    distance-of-requires
-    enum-known-distance
-    enum-told
-    returns
+    (λ c κs. search needs) (λ c. search needs) (λ c. search needs) returns
     returns-2)

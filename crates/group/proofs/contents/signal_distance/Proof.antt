@@ -9,15 +9,6 @@ use borrow.Author.Needs.{needs}
 use Rattle.group.proofs.contents.signal_distance.Statement.{statement}
 use Rattle.group.proofs.contents.signal_distance.Tie as tie
 
-y-sought-requires : tie.Need-y-sought-requires
-y-sought-requires c κs = search needs
-
-z-sought-requires : tie.Need-z-sought-requires
-z-sought-requires c κs = search needs
-
-no-increase-requires : tie.Need-no-increase-requires
-no-increase-requires c κs = search needs
-
 returns : tie.Need-returns
 unfolding signalDistance
 returns c =
@@ -27,12 +18,6 @@ returns c =
     let by = y .y-sought .ensures ∙ ap yOf (s .pre .1) in
     let test : isPreset (yOf (B (take (s .args .n) (s .args .p)))) && noIncrease (s .args .az) ≡ true = rw (← by, ← i .no-increase .ensures) (c .if1 .taken) in
     rw test
-
-first-of-requires : tie.Need-first-of-requires
-first-of-requires c κs = search needs
-
-link-distance-requires : tie.Need-link-distance-requires
-link-distance-requires c κs = search needs
 
 returns-2 : tie.Need-returns-2
 unfolding signalDistance distanceOf
@@ -51,10 +36,5 @@ pub signal-distance-spec : {M : Type 1} → statement M
 signal-distance-spec =
     tie.close
     (tie.spec
-    y-sought-requires
-    z-sought-requires
-    no-increase-requires
-    returns
-    first-of-requires
-    link-distance-requires
-    returns-2)
+    (λ c κs. search needs) (λ c κs. search needs) (λ c κs. search needs) returns
+    (λ c κs. search needs) (λ c κs. search needs) returns-2)

@@ -11,24 +11,6 @@ use borrow.Author.Needs.{needs}
 use Rattle.group.proofs.judging.as_present.Statement.{statement}
 use Rattle.group.proofs.judging.as_present.Tie as tie
 
-y-of-requires : tie.Need-y-of-requires
-y-of-requires c κs = search needs
-
-z-of-requires : tie.Need-z-of-requires
-z-of-requires c κs = search needs
-
-of-present-requires : tie.Need-of-present-requires
-of-present-requires c κs = search needs
-
-enum-known-more : tie.Need-enum-known-more
-enum-known-more c = search needs
-
-message-requires : tie.Need-message-requires
-message-requires c κs = search needs
-
-enum-told : tie.Need-enum-told
-enum-told c = search needs
-
 returns : tie.Need-returns
 returns c =
     let m = c .before .before in
@@ -52,11 +34,5 @@ pub as-present-spec : {M : Type 1} → statement M
 as-present-spec =
     tie.close
     (tie.spec
-    y-of-requires
-    z-of-requires
-    of-present-requires
-    enum-known-more
-    message-requires
-    enum-told
-    returns
+    (λ c κs. search needs) (λ c κs. search needs) (λ c κs. search needs) (λ c. search needs) (λ c κs. search needs) (λ c. search needs) returns
     returns-2)

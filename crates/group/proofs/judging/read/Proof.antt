@@ -26,27 +26,6 @@ by-fit bs e q = ap (λ (o : Outcome Picked). then o (λ row. judgeAs (row .direc
 abbrev bs : tie.Start → List Placed
 bs s = take (s .args .n) (s .args .p)
 
-fit-requires : tie.Need-fit-requires
-fit-requires c κs = search needs
-
-enum-known-row : tie.Need-enum-known-row
-enum-known-row c = search needs
-
-enum-told : tie.Need-enum-told
-enum-told c = search needs
-
-as-present-requires : tie.Need-as-present-requires
-as-present-requires c κs = search needs
-
-enum-told-2 : tie.Need-enum-told-2
-enum-told-2 c = search needs
-
-message-requires : tie.Need-message-requires
-message-requires c κs = search needs
-
-enum-told-3 : tie.Need-enum-told-3
-enum-told-3 c = search needs
-
 -- The direction of the row that was found, and the judgement by it.
 in-direction : (k : tie.After-row) {d : Direction} → k .row .given .0 .0 .direction ≡ d
     → judgeAs d (k .row .given .0 .0) (bs (k .before .before .before)) ≡ judgeRead (bs (k .before .before .before))
@@ -73,13 +52,7 @@ pub read-spec : {M : Type 1} → statement M
 read-spec =
     tie.close
     (tie.spec
-    fit-requires
-    enum-known-row
-    enum-told
-    as-present-requires
-    enum-told-2
-    message-requires
-    enum-told-3
-    returns
+    (λ c κs. search needs) (λ c. search needs) (λ c. search needs) (λ c κs. search needs) (λ c. search needs) (λ c κs. search needs)
+    (λ c. search needs) returns
     returns-2
     returns-3)

@@ -23,12 +23,6 @@ abbrev μ-loop : tie.MeasureT-loop
 loop-holds : tie.Need-loop-holds Inv-loop μ-loop
 loop-holds c = (search needs, omega (arith, c .good .0 .1 .0 .1), refl)
 
-array-copy-out-b : tie.Need-array-copy-out-b Inv-loop μ-loop
-array-copy-out-b c = search needs
-
-is-category-requires : tie.Need-is-category-requires Inv-loop μ-loop
-is-category-requires c κs = search needs
-
 returns : tie.Need-returns Inv-loop μ-loop
 returns c =
     let u = c .before .before .before in
@@ -36,15 +30,6 @@ returns c =
     let is = sym (c .before .is-category .ensures) ∙ c .if1 .taken in
     sym (first-yes (t .before .args .c) (t .loop .ahead) (t .loop .left) (t .loop .inv .1) (t .loop .inv .0) (u .loop-test .taken) is)
     ∙ t .loop .inv .2
-
-after-first-requires : tie.Need-after-first-requires Inv-loop μ-loop
-after-first-requires c κs = search needs
-
-sub-left : tie.Need-sub-left Inv-loop μ-loop
-sub-left c = search needs
-
-loop-less : tie.Need-loop-less Inv-loop μ-loop
-loop-less c = omega arith
 
 loop-again : tie.Need-loop-again Inv-loop μ-loop
 loop-again c =
@@ -71,11 +56,6 @@ first-of-spec =
     Inv-loop
     μ-loop
     loop-holds
-    array-copy-out-b
-    is-category-requires
-    returns
-    after-first-requires
-    sub-left
-    loop-less
-    loop-again
+    (λ c. search needs) (λ c κs. search needs) returns
+    (λ c κs. search needs) (λ c. search needs) (λ c. omega arith) loop-again
     returns-2)

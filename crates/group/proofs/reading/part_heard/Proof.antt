@@ -6,30 +6,6 @@ use borrow.Author.Needs.{needs}
 use Rattle.group.proofs.reading.part_heard.Statement.{statement}
 use Rattle.group.proofs.reading.part_heard.Tie as tie
 
-enum-known-heard : tie.Need-enum-known-heard
-enum-known-heard c = search needs
-
-read-requires : tie.Need-read-requires
-read-requires c κs = search needs
-
-enum-known-t : tie.Need-enum-known-t
-enum-known-t c = search needs
-
-part-of-requires : tie.Need-part-of-requires
-part-of-requires c κs = search needs
-
-enum-told : tie.Need-enum-told
-enum-told c = search needs
-
-enum-told-2 : tie.Need-enum-told-2
-enum-told-2 c = search needs
-
-enum-told-3 : tie.Need-enum-told-3
-enum-told-3 c = search needs
-
-enum-told-4 : tie.Need-enum-told-4
-enum-told-4 c = search needs
-
 returns : tie.Need-returns
 returns c =
     let t = c .before .before in
@@ -52,23 +28,13 @@ returns-3 c =
 returns-4 : tie.Need-returns-4
 returns-4 c = rw (c .enum-told3 .given .1)
 
-returns-5 : tie.Need-returns-5
-returns-5 c = search needs
-
 pub part-heard-spec : {M : Type 1} → statement M
 part-heard-spec =
     tie.close
     (tie.spec
-    enum-known-heard
-    read-requires
-    enum-known-t
-    part-of-requires
-    enum-told
-    enum-told-2
-    enum-told-3
-    enum-told-4
-    returns
+    (λ c. search needs) (λ c κs. search needs) (λ c. search needs) (λ c κs. search needs) (λ c. search needs) (λ c. search needs)
+    (λ c. search needs) (λ c. search needs) returns
     returns-2
     returns-3
     returns-4
-    returns-5)
+    (λ c. search needs))

@@ -4,12 +4,6 @@ use borrow.Author.Needs.{needs}
 use Rattle.group.proofs.reading.part_of.Statement.{statement}
 use Rattle.group.proofs.reading.part_of.Tie as tie
 
-enum-known-t : tie.Need-enum-known-t
-enum-known-t c = search needs
-
-enum-known-t-2 : tie.Need-enum-known-t-2
-enum-known-t-2 c = search needs
-
 returns : tie.Need-returns
 returns c = rw (c .before .t .given .1)
 
@@ -17,4 +11,8 @@ returns-2 : tie.Need-returns-2
 returns-2 c = rw (c .before .t2 .given .1)
 
 pub part-of-spec : {M : Type 1} → statement M
-part-of-spec = tie.close (tie.spec enum-known-t enum-known-t-2 returns returns-2)
+part-of-spec =
+    tie.close
+    (tie.spec
+    (λ c. search needs) (λ c. search needs) returns
+    returns-2)

@@ -32,21 +32,6 @@ loop-holds : tie.Need-loop-holds Inv-loop μ-loop
 unfolding numberOf
 loop-holds c = (search needs, refl, after-none (readAll (take (c .args .n) (c .args .t1))), refl)
 
-mul-b : tie.Need-mul-b Inv-loop μ-loop
-mul-b c = omega arith
-
-array-copy-out-b : tie.Need-array-copy-out-b Inv-loop μ-loop
-array-copy-out-b c = omega arith
-
-part-heard-requires : tie.Need-part-heard-requires Inv-loop μ-loop
-part-heard-requires c κs = search needs
-
-enum-known-part : tie.Need-enum-known-part Inv-loop μ-loop
-enum-known-part c = search needs
-
-enum-told : tie.Need-enum-told Inv-loop μ-loop
-enum-told c = search needs
-
 returns : tie.Need-returns Inv-loop μ-loop
 returns c =
     let h = c .before .before in
@@ -56,21 +41,6 @@ returns c =
       read-bad (s .args .t1) (s .args .n) (t .loop .i) (s .good .0 .1 .0 .1) (s .pre) (h .before .before .loop-test .taken) e (take (t .loop .i) (t .loop .parts)) ∙ sym (t .loop .inv .2),
       never-good,
     )
-
-mul-parts : tie.Need-mul-parts Inv-loop μ-loop
-mul-parts c = omega arith
-
-array-set-from-parts : tie.Need-array-set-from-parts Inv-loop μ-loop
-array-set-from-parts c = omega arith
-
-else-number-requires : tie.Need-else-number-requires Inv-loop μ-loop
-else-number-requires c κs = search needs
-
-add-i : tie.Need-add-i Inv-loop μ-loop
-add-i c = omega arith
-
-loop-less : tie.Need-loop-less Inv-loop μ-loop
-loop-less c = omega arith
 
 loop-again : tie.Need-loop-again Inv-loop μ-loop
 loop-again c =
@@ -108,16 +78,6 @@ read-all-spec =
     Inv-loop
     μ-loop
     loop-holds
-    mul-b
-    array-copy-out-b
-    part-heard-requires
-    enum-known-part
-    enum-told
-    returns
-    mul-parts
-    array-set-from-parts
-    else-number-requires
-    add-i
-    loop-less
-    loop-again
+    (λ c. omega arith) (λ c. omega arith) (λ c κs. search needs) (λ c. search needs) (λ c. search needs) returns
+    (λ c. omega arith) (λ c. omega arith) (λ c κs. search needs) (λ c. omega arith) (λ c. omega arith) loop-again
     returns-2)

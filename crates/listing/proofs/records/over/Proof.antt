@@ -43,9 +43,6 @@ loop-holds c =
     let s = c .before .before .before in
     (omega arith, refl, omega arith, omega arith, turning-first (s .args .store) _ (s .pre .0) (s .pre .1), refl)
 
-sub-loop : tie.Need-sub-loop Inv-loop μ-loop
-sub-loop c = omega arith
-
 -- what the loop's test says: a record is left, there is room, and there is a next number
 test : (c : tie.In-loop Inv-loop μ-loop) →
     let l = c .before .loop in
@@ -63,18 +60,6 @@ room c =
     let l = c .before .loop in
     let parts = both (leb 128 (length (l .out) - l .at)) (ltb (l .next) 18446744073709551615) (test c .1) in
     (omega (arith, leb-true 128 (length (l .out) - l .at) (parts .0)), ltb-true _ _ (parts .1))
-
-odometer-at-requires : tie.Need-odometer-at-requires Inv-loop μ-loop
-odometer-at-requires c κs = tt
-
-leaves-requires : tie.Need-leaves-requires Inv-loop μ-loop
-leaves-requires c κs = tt
-
-hold-requires : tie.Need-hold-requires Inv-loop μ-loop
-hold-requires c κs = tt
-
-treat-at-requires : tie.Need-treat-at-requires Inv-loop μ-loop
-treat-at-requires c κs = tt
 
 -- what is held for a record treats it as the gap in force at its odometer does
 turned : (j : tie.Joined1 Inv-loop μ-loop) →
@@ -222,12 +207,7 @@ over-spec =
     Inv-loop
     μ-loop
     loop-holds
-    sub-loop
-    odometer-at-requires
-    leaves-requires
-    hold-requires
-    treat-at-requires
-    enum-known-reply
+    (λ c. omega arith) (λ c κs. tt) (λ c κs. tt) (λ c κs. tt) (λ c κs. tt) enum-known-reply
     put-given-requires
     add-next
     add-i

@@ -18,25 +18,10 @@ use Rattle.listing.proofs.records.put_given.Tie as tie
 abbrev textFor : ℕ → Given → List ℕ
 textFor number given = textOf (linesFor number (saysGiven given))
 
-enum-known-given : tie.Need-enum-known-given
-enum-known-given c = search needs
-
-refusal-requires : tie.Need-refusal-requires
-refusal-requires c κs = search needs
-
 put-text-requires : tie.Need-put-text-requires
 put-text-requires c κs =
     let s = c .before .before .before .before .before .before in
     one-fits (s .args .out .now) (s .args .at) (s .pre) (Line.Record (s .args .number) (c .before .refusal .result))
-
-enum-known-given-2 : tie.Need-enum-known-given-2
-enum-known-given-2 c = search needs
-
-put-lines-requires : tie.Need-put-lines-requires
-put-lines-requires c κs = search needs
-
-same-length : tie.Need-same-length
-same-length c = search needs
 
 returns : tie.Need-returns
 returns c =
@@ -48,9 +33,6 @@ returns c =
     (p .put-text .result)
     (reads-as (record { put = p .put-text .ensures; fits = one-fits (s .args .out .now) (s .args .at) (s .pre) (line (r .refusal .result)) })
     (text-one (line (r .refusal .result)) ∙ ap (λ (n : ℕ). textOf (line n ∷ [])) (r .refusal .ensures)))
-
-same-length-2 : tie.Need-same-length-2
-same-length-2 c = search needs
 
 returns-2 : tie.Need-returns-2
 returns-2 c =
@@ -64,12 +46,6 @@ pub put-given-spec : {M : Type 1} → statement M
 put-given-spec =
     tie.close
     (tie.spec
-    enum-known-given
-    refusal-requires
-    put-text-requires
-    enum-known-given-2
-    put-lines-requires
-    same-length
-    returns
-    same-length-2
-    returns-2)
+    (λ c. search needs) (λ c κs. search needs) put-text-requires
+    (λ c. search needs) (λ c κs. search needs) (λ c. search needs) returns
+    (λ c. search needs) returns-2)

@@ -18,19 +18,10 @@ use Rattle.listing.proofs.records.put_lines.Tie as tie
 abbrev textFor : Lines → List ℕ
 textFor lines = textOf (saysLines lines)
 
-enum-told : tie.Need-enum-told
-enum-told c = search needs
-
-enum-known-lines : tie.Need-enum-known-lines
-enum-known-lines c = search needs
-
 put-text-requires : tie.Need-put-text-requires
 put-text-requires c κs =
     let s = c .before .before .before .before .before in
     one-fits (s .args .out .now) (s .args .at) (s .pre) (c .before .before .lines .given .0 .0)
-
-enum-known-lines-2 : tie.Need-enum-known-lines-2
-enum-known-lines-2 c = search needs
 
 put-text-requires-2 : tie.Need-put-text-requires-2
 put-text-requires-2 c κs =
@@ -60,9 +51,6 @@ returns c =
     word-put textFor (s .args .out .now) (s .args .at) (c .enum-told .given .1) (s .args .out .now) (s .args .at)
     (put-none (s .args .out .now) (s .args .at))
 
-same-length : tie.Need-same-length
-same-length c = search needs
-
 returns-2 : tie.Need-returns-2
 returns-2 c =
     let p = c .before .before in
@@ -70,9 +58,6 @@ returns-2 c =
     let l = p .before .before .before .lines .given in
     word-put textFor (s .args .out .now) (s .args .at) (l .1) (p .put-text .last .1 .0) (p .put-text .result)
     (reads-as (record { put = p .put-text .ensures; fits = one-fits (s .args .out .now) (s .args .at) (s .pre) (l .0 .0) }) (text-one (l .0 .0)))
-
-same-length-2 : tie.Need-same-length-2
-same-length-2 c = search needs
 
 returns-3 : tie.Need-returns-3
 returns-3 c =
@@ -89,14 +74,9 @@ pub put-lines-spec : {M : Type 1} → statement M
 put-lines-spec =
     tie.close
     (tie.spec
-    enum-told
-    enum-known-lines
-    put-text-requires
-    enum-known-lines-2
-    put-text-requires-2
+    (λ c. search needs) (λ c. search needs) put-text-requires
+    (λ c. search needs) put-text-requires-2
     put-text-requires-3
     returns
-    same-length
-    returns-2
-    same-length-2
-    returns-3)
+    (λ c. search needs) returns-2
+    (λ c. search needs) returns-3)

@@ -5,36 +5,6 @@ use borrow.Author.Needs.{needs}
 use Rattle.recorder.proofs.keeping.content_of.Statement.{statement}
 use Rattle.recorder.proofs.keeping.content_of.Tie as tie
 
-enum-known-judged : tie.Need-enum-known-judged
-enum-known-judged c = search needs
-
-as-information-requires : tie.Need-as-information-requires
-as-information-requires c κs = search needs
-
-enum-told : tie.Need-enum-told
-enum-told c = search needs
-
-without-words-requires : tie.Need-without-words-requires
-without-words-requires c κs = search needs
-
-enum-told-2 : tie.Need-enum-told-2
-enum-told-2 c = search needs
-
-enum-told-3 : tie.Need-enum-told-3
-enum-told-3 c = search needs
-
-enum-told-4 : tie.Need-enum-told-4
-enum-told-4 c = search needs
-
-without-words-requires-2 : tie.Need-without-words-requires-2
-without-words-requires-2 c κs = search needs
-
-enum-told-5 : tie.Need-enum-told-5
-enum-told-5 c = search needs
-
-without-words-requires-3 : tie.Need-without-words-requires-3
-without-words-requires-3 c κs = search needs
-
 returns : tie.Need-returns
 unfolding contentOf
 returns c = c .as-information .ensures ∙ ap contentOf (sym (c .before .before .judged .given .1))
@@ -63,17 +33,8 @@ pub content-of-spec : {M : Type 1} → statement M
 content-of-spec =
     tie.close
     (tie.spec
-    enum-known-judged
-    as-information-requires
-    enum-told
-    without-words-requires
-    enum-told-2
-    enum-told-3
-    enum-told-4
-    without-words-requires-2
-    enum-told-5
-    without-words-requires-3
-    returns
+    (λ c. search needs) (λ c κs. search needs) (λ c. search needs) (λ c κs. search needs) (λ c. search needs) (λ c. search needs)
+    (λ c. search needs) (λ c κs. search needs) (λ c. search needs) (λ c κs. search needs) returns
     returns-2
     returns-3
     returns-4

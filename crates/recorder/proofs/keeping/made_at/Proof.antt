@@ -9,27 +9,12 @@ use borrow.Author.Needs.{needs}
 use Rattle.recorder.proofs.keeping.made_at.Statement.{statement}
 use Rattle.recorder.proofs.keeping.made_at.Tie as tie
 
-refused-requires : tie.Need-refused-requires
-refused-requires c κs = search needs
-
 returns : tie.Need-returns
 unfolding atOdometer
 returns c =
     let a = c .before .before .args in
     let k : Content = record { kind = a .kind; x = a .x; y = a .y; z = a .z } in
     c .refused .ensures ∙ ap (λ (t : Bool). recording (pick t (refuses 18) (gives (bytesOf (a .odometer) k)))) (sym (lt-ltb 4000000000 (a .odometer) (c .before .if1 .taken)))
-
-cast-a : tie.Need-cast-a
-cast-a c = search needs
-
-cast-b : tie.Need-cast-b
-cast-b c = search needs
-
-cast-c : tie.Need-cast-c
-cast-c c = search needs
-
-cast-d : tie.Need-cast-d
-cast-d c = search needs
 
 returns-2 : tie.Need-returns-2
 unfolding atOdometer
@@ -39,4 +24,8 @@ returns-2 c =
     ap (λ (t : Bool). recording (pick t (refuses 18) (gives (bytesOf (a .odometer) k)))) (sym (le-ltb 4000000000 (a .odometer) (c .if1 .left)))
 
 pub made-at-spec : {M : Type 1} → statement M
-made-at-spec = tie.close (tie.spec refused-requires returns cast-a cast-b cast-c cast-d returns-2)
+made-at-spec =
+    tie.close
+    (tie.spec
+    (λ c κs. search needs) returns
+    (λ c. search needs) (λ c. search needs) (λ c. search needs) (λ c. search needs) returns-2)

@@ -7,21 +7,6 @@ use borrow.Author.Needs.{needs}
 use Rattle.recorder.proofs.keeping.words_of.Statement.{statement}
 use Rattle.recorder.proofs.keeping.words_of.Tie as tie
 
-enum-known-telegram : tie.Need-enum-known-telegram
-enum-known-telegram c = search needs
-
-cast-spell : tie.Need-cast-spell
-cast-spell c = search needs
-
-spell-requires : tie.Need-spell-requires
-spell-requires c κs = search needs
-
-enum-known-telegram-2 : tie.Need-enum-known-telegram-2
-enum-known-telegram-2 c = search needs
-
-spell-requires-2 : tie.Need-spell-requires-2
-spell-requires-2 c κs = search needs
-
 returns : tie.Need-returns
 returns c = c .spell .ensures ∙ ap (λ (t : Telegram). spell (telegramOf t)) (sym (c .before .before .telegram .given .1))
 
@@ -33,10 +18,5 @@ pub words-of-spec : {M : Type 1} → statement M
 words-of-spec =
     tie.close
     (tie.spec
-    enum-known-telegram
-    cast-spell
-    spell-requires
-    enum-known-telegram-2
-    spell-requires-2
-    returns
+    (λ c. search needs) (λ c. search needs) (λ c κs. search needs) (λ c. search needs) (λ c κs. search needs) returns
     returns-2)

@@ -3,11 +3,11 @@ use borrow.Author.Needs.{needs}
 use Rattle.ride.proofs.anew.known_anew.Statement.{statement}
 use Rattle.ride.proofs.anew.known_anew.Tie as tie
 
-linking-anew-requires : tie.Need-linking-anew-requires
-linking-anew-requires c κs = search needs
-
 returns : tie.Need-returns
 returns c = rw (c .linking-anew .ensures)
 
 pub known-anew-spec : {M : Type 1} → statement M
-known-anew-spec = tie.close (tie.spec linking-anew-requires returns)
+known-anew-spec =
+    tie.close
+    (tie.spec
+    (λ c κs. search needs) returns)

@@ -4,17 +4,11 @@ use borrow.Author.Needs.{needs}
 use Rattle.ride.proofs.anew.linking_anew.Statement.{statement}
 use Rattle.ride.proofs.anew.linking_anew.Tie as tie
 
-enum-told : tie.Need-enum-told
-enum-told c = search needs
-
-enum-known-linking : tie.Need-enum-known-linking
-enum-known-linking c = search needs
-
-returns : tie.Need-returns
-returns c = search needs
-
 returns-2 : tie.Need-returns-2
 returns-2 c = sym (c .before .linking .given .1)
 
 pub linking-anew-spec : {M : Type 1} → statement M
-linking-anew-spec = tie.close (tie.spec enum-told enum-known-linking returns returns-2)
+linking-anew-spec =
+    tie.close
+    (tie.spec
+    (λ c. search needs) (λ c. search needs) (λ c. search needs) returns-2)

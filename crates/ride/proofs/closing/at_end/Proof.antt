@@ -3,8 +3,8 @@ use mathlib.Core.Path.{refl}
 use Rattle.ride.proofs.closing.at_end.Statement.{statement}
 use Rattle.ride.proofs.closing.at_end.Tie as tie
 
-returns : tie.Need-returns
-returns c = refl
-
 pub at-end-spec : {M : Type 1} → statement M
-at-end-spec = tie.close (tie.spec returns)
+at-end-spec =
+    tie.close
+    (tie.spec
+    (λ c. refl))

@@ -3,11 +3,11 @@ use borrow.Author.Needs.{needs}
 use Rattle.ride.proofs.closing.close.Statement.{statement}
 use Rattle.ride.proofs.closing.close.Tie as tie
 
-no-group-requires : tie.Need-no-group-requires
-no-group-requires c κs = search needs
-
 returns : tie.Need-returns
 returns c = rw (c .no-group .ensures)
 
 pub close-spec : {M : Type 1} → statement M
-close-spec = tie.close (tie.spec no-group-requires returns)
+close-spec =
+    tie.close
+    (tie.spec
+    (λ c κs. search needs) returns)

@@ -6,15 +6,6 @@ use borrow.Author.Needs.{needs}
 use Rattle.ride.proofs.closing.faulty.Statement.{statement}
 use Rattle.ride.proofs.closing.faulty.Tie as tie
 
-element-copy-out-first : tie.Need-element-copy-out-first
-element-copy-out-first c = search needs
-
-nothing-known-requires : tie.Need-nothing-known-requires
-nothing-known-requires c κs = search needs
-
-cast-t10 : tie.Need-cast-t10
-cast-t10 c = search needs
-
 returns : tie.Need-returns
 returns c =
     let a = c .before .before .before .args in
@@ -24,4 +15,5 @@ returns c =
 pub faulty-spec : {M : Type 1} → statement M
 faulty-spec =
     tie.close
-    (tie.spec element-copy-out-first nothing-known-requires cast-t10 returns)
+    (tie.spec
+    (λ c. search needs) (λ c κs. search needs) (λ c. search needs) returns)

@@ -6,45 +6,6 @@ use borrow.Author.Needs.{needs}
 use Rattle.ride.proofs.closing.judge.Statement.{statement}
 use Rattle.ride.proofs.closing.judge.Tie as tie
 
-judge-requires : tie.Need-judge-requires
-judge-requires c κs = search needs
-
-enum-known-message : tie.Need-enum-known-message
-enum-known-message c = search needs
-
-accepted-requires : tie.Need-accepted-requires
-accepted-requires c κs = search needs
-
-enum-told : tie.Need-enum-told
-enum-told c = search needs
-
-faulty-requires : tie.Need-faulty-requires
-faulty-requires c κs = search needs
-
-enum-told-2 : tie.Need-enum-told-2
-enum-told-2 c = search needs
-
-faulty-requires-2 : tie.Need-faulty-requires-2
-faulty-requires-2 c κs = search needs
-
-enum-told-3 : tie.Need-enum-told-3
-enum-told-3 c = search needs
-
-faulty-requires-3 : tie.Need-faulty-requires-3
-faulty-requires-3 c κs = search needs
-
-enum-told-4 : tie.Need-enum-told-4
-enum-told-4 c = search needs
-
-faulty-requires-4 : tie.Need-faulty-requires-4
-faulty-requires-4 c κs = search needs
-
-enum-told-5 : tie.Need-enum-told-5
-enum-told-5 c = search needs
-
-faulty-requires-5 : tie.Need-faulty-requires-5
-faulty-requires-5 c κs = search needs
-
 returns : tie.Need-returns
 returns c =
     let s = c .before .before .before .before in
@@ -85,20 +46,9 @@ pub judge-spec : {M : Type 1} → statement M
 judge-spec =
     tie.close
     (tie.spec
-    judge-requires
-    enum-known-message
-    accepted-requires
-    enum-told
-    faulty-requires
-    enum-told-2
-    faulty-requires-2
-    enum-told-3
-    faulty-requires-3
-    enum-told-4
-    faulty-requires-4
-    enum-told-5
-    faulty-requires-5
-    returns
+    (λ c κs. search needs) (λ c. search needs) (λ c κs. search needs) (λ c. search needs) (λ c κs. search needs) (λ c. search needs)
+    (λ c κs. search needs) (λ c. search needs) (λ c κs. search needs) (λ c. search needs) (λ c κs. search needs) (λ c. search needs)
+    (λ c κs. search needs) returns
     returns-2
     returns-3
     returns-4

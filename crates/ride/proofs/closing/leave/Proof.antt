@@ -4,12 +4,12 @@ use borrow.Author.Needs.{needs}
 use Rattle.ride.proofs.closing.leave.Statement.{statement}
 use Rattle.ride.proofs.closing.leave.Tie as tie
 
-no-group-requires : tie.Need-no-group-requires
-no-group-requires c κs = search needs
-
 returns : tie.Need-returns
 unfolding leave
 returns c = rw (c .no-group .ensures)
 
 pub leave-spec : {M : Type 1} → statement M
-leave-spec = tie.close (tie.spec no-group-requires returns)
+leave-spec =
+    tie.close
+    (tie.spec
+    (λ c κs. search needs) returns)

@@ -3,11 +3,11 @@ use borrow.Author.Needs.{needs}
 use Rattle.ride.proofs.closing.linking_from.Statement.{statement}
 use Rattle.ride.proofs.closing.linking_from.Tie as tie
 
-returns : tie.Need-returns
-returns c = search needs
-
 returns-2 : tie.Need-returns-2
 returns-2 c = rw (c .if1 .left)
 
 pub linking-from-spec : {M : Type 1} → statement M
-linking-from-spec = tie.close (tie.spec returns returns-2)
+linking-from-spec =
+    tie.close
+    (tie.spec
+    (λ c. search needs) returns-2)

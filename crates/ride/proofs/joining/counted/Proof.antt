@@ -4,9 +4,6 @@ use borrow.Author.Needs.{needs}
 use Rattle.ride.proofs.joining.counted.Statement.{statement}
 use Rattle.ride.proofs.joining.counted.Tie as tie
 
-add-result : tie.Need-add-result
-add-result c = search needs
-
 returns : tie.Need-returns
 returns c = simp (lt-ltb _ _ (c .if1 .taken))
 
@@ -14,4 +11,8 @@ returns-2 : tie.Need-returns-2
 returns-2 c = simp (le-ltb _ _ (c .if1 .left))
 
 pub counted-spec : {M : Type 1} → statement M
-counted-spec = tie.close (tie.spec add-result returns returns-2)
+counted-spec =
+    tie.close
+    (tie.spec
+    (λ c. search needs) returns
+    returns-2)

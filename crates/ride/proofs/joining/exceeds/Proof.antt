@@ -4,11 +4,8 @@ use native.Mathlib.Omega.{arith}
 use Rattle.ride.proofs.joining.exceeds.Statement.{statement}
 use Rattle.ride.proofs.joining.exceeds.Tie as tie
 
-add-result : tie.Need-add-result
-add-result c = omega arith
-
-returns : tie.Need-returns
-returns c = refl
-
 pub exceeds-spec : {M : Type 1} → statement M
-exceeds-spec = tie.close (tie.spec add-result returns)
+exceeds-spec =
+    tie.close
+    (tie.spec
+    (λ c. omega arith) (λ c. refl))

@@ -5,18 +5,6 @@ use borrow.Author.Needs.{needs}
 use Rattle.ride.proofs.joining.join.Statement.{statement}
 use Rattle.ride.proofs.joining.join.Tie as tie
 
-cast-kept : tie.Need-cast-kept
-cast-kept c = search needs
-
-mul-kept : tie.Need-mul-kept
-mul-kept c = search needs
-
-array-set-from-kept : tie.Need-array-set-from-kept
-array-set-from-kept c = search needs
-
-counted-requires : tie.Need-counted-requires
-counted-requires c κs = search needs
-
 returns : tie.Need-returns
 returns c =
     let a = c .before .before .before .args in
@@ -25,4 +13,7 @@ returns c =
     (c .counted .ensures)
 
 pub join-spec : {M : Type 1} → statement M
-join-spec = tie.close (tie.spec cast-kept mul-kept array-set-from-kept counted-requires returns)
+join-spec =
+    tie.close
+    (tie.spec
+    (λ c. search needs) (λ c. search needs) (λ c. search needs) (λ c κs. search needs) returns)

@@ -6,24 +6,6 @@ use borrow.Author.Needs.{needs}
 use Rattle.ride.proofs.joining.take_up.Statement.{statement}
 use Rattle.ride.proofs.joining.take_up.Tie as tie
 
-enum-told : tie.Need-enum-told
-enum-told c = search needs
-
-enum-known-passed : tie.Need-enum-known-passed
-enum-known-passed c = search needs
-
-is-open-requires : tie.Need-is-open-requires
-is-open-requires c κs = search needs
-
-join-requires : tie.Need-join-requires
-join-requires c κs = search needs
-
-no-group-requires : tie.Need-no-group-requires
-no-group-requires c κs = search needs
-
-join-requires-2 : tie.Need-join-requires-2
-join-requires-2 c κs = search needs
-
 returns : tie.Need-returns
 returns c =
     let a = c .before .before .args in
@@ -48,12 +30,6 @@ pub take-up-spec : {M : Type 1} → statement M
 take-up-spec =
     tie.close
     (tie.spec
-    enum-told
-    enum-known-passed
-    is-open-requires
-    join-requires
-    no-group-requires
-    join-requires-2
-    returns
+    (λ c. search needs) (λ c. search needs) (λ c κs. search needs) (λ c κs. search needs) (λ c κs. search needs) (λ c κs. search needs) returns
     returns-2
     returns-3)

@@ -5,21 +5,9 @@ use borrow.Author.Needs.{needs}
 use Rattle.ride.proofs.marks.mark_at.Statement.{statement}
 use Rattle.ride.proofs.marks.mark_at.Tie as tie
 
-mul-if1 : tie.Need-mul-if1
-mul-if1 c = search needs
-
-mul-if1-2 : tie.Need-mul-if1-2
-mul-if1-2 c = search needs
-
 returns : tie.Need-returns
 unfolding markAt
 returns c = simp (lt-ltb _ _ (c .if1 .taken))
-
-mul-if2 : tie.Need-mul-if2
-mul-if2 c = search needs
-
-mul-if2-2 : tie.Need-mul-if2-2
-mul-if2-2 c = search needs
 
 returns-2 : tie.Need-returns-2
 unfolding markAt
@@ -30,4 +18,9 @@ unfolding markAt
 returns-3 c = simp (le-ltb _ _ (c .before .if1 .left), lt-leb _ _ (c .if2 .left))
 
 pub mark-at-spec : {M : Type 1} → statement M
-mark-at-spec = tie.close (tie.spec mul-if1 mul-if1-2 returns mul-if2 mul-if2-2 returns-2 returns-3)
+mark-at-spec =
+    tie.close
+    (tie.spec
+    (λ c. search needs) (λ c. search needs) returns
+    (λ c. search needs) (λ c. search needs) returns-2
+    returns-3)

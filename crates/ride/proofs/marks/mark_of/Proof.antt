@@ -6,21 +6,6 @@ use borrow.Author.Needs.{needs}
 use Rattle.ride.proofs.marks.mark_of.Statement.{statement}
 use Rattle.ride.proofs.marks.mark_of.Tie as tie
 
-enum-told : tie.Need-enum-told
-enum-told c = search needs
-
-enum-known-linking : tie.Need-enum-known-linking
-enum-known-linking c = search needs
-
-beyond-requires : tie.Need-beyond-requires
-beyond-requires c κs = search needs
-
-mark-at-requires : tie.Need-mark-at-requires
-mark-at-requires c κs = search needs
-
-returns : tie.Need-returns
-returns c = search needs
-
 returns-2 : tie.Need-returns-2
 returns-2 c =
     let l = c .before .before .before .linking in
@@ -31,4 +16,5 @@ returns-2 c =
 pub mark-of-spec : {M : Type 1} → statement M
 mark-of-spec =
     tie.close
-    (tie.spec enum-told enum-known-linking beyond-requires mark-at-requires returns returns-2)
+    (tie.spec
+    (λ c. search needs) (λ c. search needs) (λ c κs. search needs) (λ c κs. search needs) (λ c. search needs) returns-2)

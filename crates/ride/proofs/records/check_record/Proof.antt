@@ -5,18 +5,9 @@ use borrow.Author.Needs.{needs}
 use Rattle.ride.proofs.records.check_record.Statement.{statement}
 use Rattle.ride.proofs.records.check_record.Tie as tie
 
-what-passed-requires : tie.Need-what-passed-requires
-what-passed-requires c κs = search needs
-
-in-order-requires : tie.Need-in-order-requires
-in-order-requires c κs = search needs
-
 returns : tie.Need-returns
 unfolding checkRecord
 returns c = simp (← c .before .in-order .ensures, not-true (c .before .in-order .result) (c .if1 .taken))
-
-odometer-of-requires : tie.Need-odometer-of-requires
-odometer-of-requires c κs = search needs
 
 returns-2 : tie.Need-returns-2
 unfolding checkRecord
@@ -37,10 +28,7 @@ pub check-record-spec : {M : Type 1} → statement M
 check-record-spec =
     tie.close
     (tie.spec
-    what-passed-requires
-    in-order-requires
-    returns
-    odometer-of-requires
-    returns-2
+    (λ c κs. search needs) (λ c κs. search needs) returns
+    (λ c κs. search needs) returns-2
     returns-3
     returns-4)

@@ -5,25 +5,17 @@ use borrow.Author.Needs.{needs}
 use Rattle.ride.proofs.records.in_order.Statement.{statement}
 use Rattle.ride.proofs.records.in_order.Tie as tie
 
-array-read-kind : tie.Need-array-read-kind
-array-read-kind c = search needs
-
 returns : tie.Need-returns
 unfolding inOrder
 returns c = rw (c .if1 .taken)
-
-array-read-x : tie.Need-array-read-x
-array-read-x c = search needs
-
-array-read-y : tie.Need-array-read-y
-array-read-y c = search needs
-
-array-read-z : tie.Need-array-read-z
-array-read-z c = search needs
 
 returns-2 : tie.Need-returns-2
 unfolding inOrder
 returns-2 c = rw (ne-eqb _ _ (c .if1 .left))
 
 pub in-order-spec : {M : Type 1} → statement M
-in-order-spec = tie.close (tie.spec array-read-kind returns array-read-x array-read-y array-read-z returns-2)
+in-order-spec =
+    tie.close
+    (tie.spec
+    (λ c. search needs) returns
+    (λ c. search needs) (λ c. search needs) (λ c. search needs) returns-2)

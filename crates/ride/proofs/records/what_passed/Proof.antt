@@ -5,18 +5,6 @@ use borrow.Author.Needs.{needs}
 use Rattle.ride.proofs.records.what_passed.Statement.{statement}
 use Rattle.ride.proofs.records.what_passed.Tie as tie
 
-array-read-kind : tie.Need-array-read-kind
-array-read-kind c = search needs
-
-array-read-t10 : tie.Need-array-read-t10
-array-read-t10 c = search needs
-
-array-read-t13 : tie.Need-array-read-t13
-array-read-t13 c = search needs
-
-array-read-t16 : tie.Need-array-read-t16
-array-read-t16 c = search needs
-
 returns : tie.Need-returns
 unfolding passedOf
 returns c = simp (eq-eqb _ _ (c .if1 .taken))
@@ -37,11 +25,7 @@ pub what-passed-spec : {M : Type 1} → statement M
 what-passed-spec =
     tie.close
     (tie.spec
-    array-read-kind
-    array-read-t10
-    array-read-t13
-    array-read-t16
-    returns
+    (λ c. search needs) (λ c. search needs) (λ c. search needs) (λ c. search needs) returns
     returns-2
     returns-3
     returns-4)

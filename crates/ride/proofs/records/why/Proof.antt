@@ -3,12 +3,6 @@ use borrow.Author.Needs.{needs}
 use Rattle.ride.proofs.records.why.Statement.{statement}
 use Rattle.ride.proofs.records.why.Tie as tie
 
-enum-known-checked : tie.Need-enum-known-checked
-enum-known-checked c = search needs
-
-enum-told : tie.Need-enum-told
-enum-told c = search needs
-
 returns : tie.Need-returns
 returns c = λ w e. cc (c .before .checked .given .1)
 
@@ -16,4 +10,8 @@ returns-2 : tie.Need-returns-2
 returns-2 c = λ w e. cc (c .enum-told .given .1)
 
 pub why-spec : {M : Type 1} → statement M
-why-spec = tie.close (tie.spec enum-known-checked enum-told returns returns-2)
+why-spec =
+    tie.close
+    (tie.spec
+    (λ c. search needs) (λ c. search needs) returns
+    returns-2)

@@ -9,21 +9,6 @@ use borrow.Author.Needs.{needs}
 use Rattle.ride.proofs.stepping.all_steps.Statement.{statement}
 use Rattle.ride.proofs.stepping.all_steps.Tie as tie
 
-close-behind-requires : tie.Need-close-behind-requires
-close-behind-requires c κs = search needs
-
-take-up-requires : tie.Need-take-up-requires
-take-up-requires c κs = search needs
-
-is-missed-requires : tie.Need-is-missed-requires
-is-missed-requires c κs = search needs
-
-unlinked-requires : tie.Need-unlinked-requires
-unlinked-requires c κs = search needs
-
-missed-place-requires : tie.Need-missed-place-requires
-missed-place-requires c κs = search needs
-
 and-missed-requires : tie.Need-and-missed-requires
 and-missed-requires c κs =
     let b = c .before .before .before .before .before .before .before .before in
@@ -55,11 +40,6 @@ pub all-steps-spec : {M : Type 1} → statement M
 all-steps-spec =
     tie.close
     (tie.spec
-    close-behind-requires
-    take-up-requires
-    is-missed-requires
-    unlinked-requires
-    missed-place-requires
-    and-missed-requires
+    (λ c κs. search needs) (λ c κs. search needs) (λ c κs. search needs) (λ c κs. search needs) (λ c κs. search needs) and-missed-requires
     returns
     returns-2)

@@ -4,15 +4,6 @@ use borrow.Author.Needs.{needs}
 use Rattle.ride.proofs.stepping.and_missed.Statement.{statement}
 use Rattle.ride.proofs.stepping.and_missed.Tie as tie
 
-enum-told : tie.Need-enum-told
-enum-told c = search needs
-
-enum-known-lines : tie.Need-enum-known-lines
-enum-known-lines c = search needs
-
-enum-known-lines-2 : tie.Need-enum-known-lines-2
-enum-known-lines-2 c = search needs
-
 returns : tie.Need-returns
 returns c = missed-after-none (c .before .before .args .lines) _ (c .enum-told .given .1)
 
@@ -24,4 +15,8 @@ returns-3 c = never-two (c .before .before .before .args .lines) _ _ _ (c .befor
 
 pub and-missed-spec : {M : Type 1} → statement M
 and-missed-spec =
-    tie.close (tie.spec enum-told enum-known-lines enum-known-lines-2 returns returns-2 returns-3)
+    tie.close
+    (tie.spec
+    (λ c. search needs) (λ c. search needs) (λ c. search needs) returns
+    returns-2
+    returns-3)

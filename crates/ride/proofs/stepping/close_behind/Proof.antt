@@ -6,18 +6,6 @@ use borrow.Author.Needs.{needs}
 use Rattle.ride.proofs.stepping.close_behind.Statement.{statement}
 use Rattle.ride.proofs.stepping.close_behind.Tie as tie
 
-is-behind-requires : tie.Need-is-behind-requires
-is-behind-requires c κs = search needs
-
-group-anew-requires : tie.Need-group-anew-requires
-group-anew-requires c κs = search needs
-
-judge-requires : tie.Need-judge-requires
-judge-requires c κs = search needs
-
-close-requires : tie.Need-close-requires
-close-requires c κs = search needs
-
 returns : tie.Need-returns
 returns c =
     let j = c .before in
@@ -26,9 +14,6 @@ returns c =
     let a = s .before .before .before .args in
     behind (a .gap) (a .odometer) (a .ride .group) (a .ride .known) _ (sym (s .is-behind .ensures) ∙ n .before .if1 .taken)
     (closed-with (a .ride .group) (a .ride .known) _ _ (verdict-same _ _ (a .ride .known) _ (j .judge .ensures) (n .group-anew .ensures)) (c .close .ensures))
-
-leave-requires : tie.Need-leave-requires
-leave-requires c κs = search needs
 
 returns-2 : tie.Need-returns-2
 returns-2 c =
@@ -39,4 +24,6 @@ returns-2 c =
 pub close-behind-spec : {M : Type 1} → statement M
 close-behind-spec =
     tie.close
-    (tie.spec is-behind-requires group-anew-requires judge-requires close-requires returns leave-requires returns-2)
+    (tie.spec
+    (λ c κs. search needs) (λ c κs. search needs) (λ c κs. search needs) (λ c κs. search needs) returns
+    (λ c κs. search needs) returns-2)

@@ -10,15 +10,6 @@ use borrow.Author.Needs.{needs}
 use Rattle.ride.proofs.stepping.go_on.Statement.{statement}
 use Rattle.ride.proofs.stepping.go_on.Tie as tie
 
-is-quiet-requires : tie.Need-is-quiet-requires
-is-quiet-requires c κs = search needs
-
-take-up-requires : tie.Need-take-up-requires
-take-up-requires c κs = search needs
-
-nothing-closed-requires : tie.Need-nothing-closed-requires
-nothing-closed-requires c κs = search needs
-
 returns : tie.Need-returns
 returns c =
     let t = c .before in
@@ -32,19 +23,9 @@ returns c =
     (t .take-up .ensures)
     ∙ quiet (a .ride) (a .gap) (record { odometer = a .odometer; passed = a .passed }) (none .0) (none .1)
 
-all-steps-requires : tie.Need-all-steps-requires
-all-steps-requires c κs = search needs
-
-returns-2 : tie.Need-returns-2
-returns-2 c = search needs
-
 pub go-on-spec : {M : Type 1} → statement M
 go-on-spec =
     tie.close
     (tie.spec
-    is-quiet-requires
-    take-up-requires
-    nothing-closed-requires
-    returns
-    all-steps-requires
-    returns-2)
+    (λ c κs. search needs) (λ c κs. search needs) (λ c κs. search needs) returns
+    (λ c κs. search needs) (λ c. search needs))

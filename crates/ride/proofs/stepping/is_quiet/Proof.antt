@@ -5,21 +5,12 @@ use borrow.Author.Needs.{needs}
 use Rattle.ride.proofs.stepping.is_quiet.Statement.{statement}
 use Rattle.ride.proofs.stepping.is_quiet.Tie as tie
 
-is-open-requires : tie.Need-is-open-requires
-is-open-requires c κs = search needs
-
-is-behind-requires : tie.Need-is-behind-requires
-is-behind-requires c κs = search needs
-
 returns : tie.Need-returns
 returns c =
     let o = c .before .before in
     let a = o .before .before .args in
     rw (c .is-behind .ensures)
     (quiet-open (a .gap) (a .odometer) (a .ride .group) (a .ride .known) (sym (o .is-open .ensures) ∙ c .before .if1 .taken))
-
-is-overdue-requires : tie.Need-is-overdue-requires
-is-overdue-requires c κs = search needs
 
 returns-2 : tie.Need-returns-2
 returns-2 c =
@@ -30,4 +21,7 @@ returns-2 c =
 
 pub is-quiet-spec : {M : Type 1} → statement M
 is-quiet-spec =
-    tie.close (tie.spec is-open-requires is-behind-requires returns is-overdue-requires returns-2)
+    tie.close
+    (tie.spec
+    (λ c κs. search needs) (λ c κs. search needs) returns
+    (λ c κs. search needs) returns-2)

@@ -9,21 +9,6 @@ use borrow.Author.Needs.{needs}
 use Rattle.ride.proofs.stepping.treat.Statement.{statement}
 use Rattle.ride.proofs.stepping.treat.Tie as tie
 
-check-record-requires : tie.Need-check-record-requires
-check-record-requires c κs = search needs
-
-enum-known-checked : tie.Need-enum-known-checked
-enum-known-checked c = search needs
-
-enum-told : tie.Need-enum-told
-enum-told c = search needs
-
-why-requires : tie.Need-why-requires
-why-requires c κs = search needs
-
-nothing-closed-requires : tie.Need-nothing-closed-requires
-nothing-closed-requires c κs = search needs
-
 returns : tie.Need-returns
 returns c =
     let s = c .before .before .before .before in
@@ -32,9 +17,6 @@ returns c =
     c .nothing-closed .ensures
     ∙ treat-not (a .ride) (a .gap) (a .bytes) _
     (ap {B = Outcome Entry} (λ (w : Wrong). refuses (saysWrong w)) (c .before .why .ensures _ e) ∙ sym (ap saysChecked e) ∙ s .check-record .ensures)
-
-go-on-requires : tie.Need-go-on-requires
-go-on-requires c κs = search needs
 
 returns-2 : tie.Need-returns-2
 returns-2 c =
@@ -47,11 +29,5 @@ pub treat-spec : {M : Type 1} → statement M
 treat-spec =
     tie.close
     (tie.spec
-    check-record-requires
-    enum-known-checked
-    enum-told
-    why-requires
-    nothing-closed-requires
-    returns
-    go-on-requires
-    returns-2)
+    (λ c κs. search needs) (λ c. search needs) (λ c. search needs) (λ c κs. search needs) (λ c κs. search needs) returns
+    (λ c κs. search needs) returns-2)

@@ -3,8 +3,8 @@ use mathlib.Core.Path.{refl}
 use Rattle.ride.proofs.stepping.unlinked.Statement.{statement}
 use Rattle.ride.proofs.stepping.unlinked.Tie as tie
 
-returns : tie.Need-returns
-returns c = refl
-
 pub unlinked-spec : {M : Type 1} → statement M
-unlinked-spec = tie.close (tie.spec returns)
+unlinked-spec =
+    tie.close
+    (tie.spec
+    (λ c. refl))

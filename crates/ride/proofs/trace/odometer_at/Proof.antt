@@ -15,33 +15,6 @@ returns c =
     let a = c .before .before .args in
     odometer-none (a .trace .now) (a .i) (c .if1 .taken)
 
-mul-at : tie.Need-mul-at
-mul-at c = search needs
-
-shared-slice-read-high-first : tie.Need-shared-slice-read-high-first
-shared-slice-read-high-first c = search needs
-
-add-high-first : tie.Need-add-high-first
-add-high-first c = search needs
-
-shared-slice-read-high-first-2 : tie.Need-shared-slice-read-high-first-2
-shared-slice-read-high-first-2 c = search needs
-
-add-high-first-2 : tie.Need-add-high-first-2
-add-high-first-2 c = search needs
-
-shared-slice-read-high-first-3 : tie.Need-shared-slice-read-high-first-3
-shared-slice-read-high-first-3 c = search needs
-
-add-high-first-3 : tie.Need-add-high-first-3
-add-high-first-3 c = search needs
-
-shared-slice-read-high-first-4 : tie.Need-shared-slice-read-high-first-4
-shared-slice-read-high-first-4 c = search needs
-
-high-first-requires : tie.Need-high-first-requires
-high-first-requires c κs = search needs
-
 returns-2 : tie.Need-returns-2
 unfolding odometerOf
 returns-2 c =
@@ -55,13 +28,5 @@ odometer-at-spec =
     tie.close
     (tie.spec
     returns
-    mul-at
-    shared-slice-read-high-first
-    add-high-first
-    shared-slice-read-high-first-2
-    add-high-first-2
-    shared-slice-read-high-first-3
-    add-high-first-3
-    shared-slice-read-high-first-4
-    high-first-requires
-    returns-2)
+    (λ c. search needs) (λ c. search needs) (λ c. search needs) (λ c. search needs) (λ c. search needs) (λ c. search needs)
+    (λ c. search needs) (λ c. search needs) (λ c κs. search needs) returns-2)

@@ -37,24 +37,6 @@ loop-holds c =
       from-first (gapAt (a .store)) (a .trace .now) _ (a .ride),
     )
 
-odometer-at-requires : tie.Need-odometer-at-requires Inv-loop μ-loop
-odometer-at-requires c κs = tt
-
-leaves-requires : tie.Need-leaves-requires Inv-loop μ-loop
-leaves-requires c κs = tt
-
-hold-requires : tie.Need-hold-requires Inv-loop μ-loop
-hold-requires c κs = tt
-
-treat-at-requires : tie.Need-treat-at-requires Inv-loop μ-loop
-treat-at-requires c κs = tt
-
-add-i : tie.Need-add-i Inv-loop μ-loop
-add-i c = omega arith
-
-loop-less : tie.Need-loop-less Inv-loop μ-loop
-loop-less c = omega arith
-
 -- what is held for a record treats it as the gap in force at its odometer does
 turned : (j : tie.Joined1 Inv-loop μ-loop) →
     let l = j .before .before in
@@ -107,11 +89,5 @@ over-spec =
     Inv-loop
     μ-loop
     loop-holds
-    odometer-at-requires
-    leaves-requires
-    hold-requires
-    treat-at-requires
-    add-i
-    loop-less
-    loop-again
+    (λ c κs. tt) (λ c κs. tt) (λ c κs. tt) (λ c κs. tt) (λ c. omega arith) (λ c. omega arith) loop-again
     returns)

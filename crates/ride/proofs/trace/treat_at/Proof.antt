@@ -10,21 +10,12 @@ use borrow.Author.Needs.{needs}
 use Rattle.ride.proofs.trace.treat_at.Statement.{statement}
 use Rattle.ride.proofs.trace.treat_at.Tie as tie
 
-allowed-requires : tie.Need-allowed-requires
-allowed-requires c κs = search needs
-
-untreated-requires : tie.Need-untreated-requires
-untreated-requires c κs = search needs
-
 returns : tie.Need-returns
 returns c =
     let g = c .before .before in
     let a = g .before .before .args in
     c .untreated .ensures
     ∙ at-gap (a .ride) (a .gap) (a .trace .now) (a .i) (sym (g .allowed .ensures) ∙ not-true (g .allowed .result) (c .before .if1 .taken))
-
-untreated-requires-2 : tie.Need-untreated-requires-2
-untreated-requires-2 c κs = search needs
 
 returns-2 : tie.Need-returns-2
 returns-2 c =
@@ -33,18 +24,6 @@ returns-2 c =
     c .untreated2 .ensures
     ∙ at-none (a .ride) (a .gap) (a .trace .now) (a .i) (sym (g .allowed .ensures) ∙ not-false (g .allowed .result) (c .before .before .if1 .left))
     (c .before .if2 .taken)
-
-mul-eight : tie.Need-mul-eight
-mul-eight c = search needs
-
-eight-requires : tie.Need-eight-requires
-eight-requires c κs = search needs
-
-treat-requires : tie.Need-treat-requires
-treat-requires c κs = search needs
-
-ride-anew-requires : tie.Need-ride-anew-requires
-ride-anew-requires c κs = search needs
 
 returns-3 : tie.Need-returns-3
 returns-3 c =
@@ -61,13 +40,6 @@ pub treat-at-spec : {M : Type 1} → statement M
 treat-at-spec =
     tie.close
     (tie.spec
-    allowed-requires
-    untreated-requires
-    returns
-    untreated-requires-2
-    returns-2
-    mul-eight
-    eight-requires
-    treat-requires
-    ride-anew-requires
-    returns-3)
+    (λ c κs. search needs) (λ c κs. search needs) returns
+    (λ c κs. search needs) returns-2
+    (λ c. search needs) (λ c κs. search needs) (λ c κs. search needs) (λ c κs. search needs) returns-3)

@@ -3,11 +3,11 @@ use borrow.Author.Needs.{needs}
 use Rattle.ride.proofs.trace.untreated.Statement.{statement}
 use Rattle.ride.proofs.trace.untreated.Tie as tie
 
-no-group-requires : tie.Need-no-group-requires
-no-group-requires c κs = search needs
-
 returns : tie.Need-returns
 returns c = rw (c .no-group .ensures)
 
 pub untreated-spec : {M : Type 1} → statement M
-untreated-spec = tie.close (tie.spec no-group-requires returns)
+untreated-spec =
+    tie.close
+    (tie.spec
+    (λ c κs. search needs) returns)

@@ -3,11 +3,11 @@ use borrow.Author.Needs.{needs}
 use Rattle.ride.proofs.treating.nothing_closed.Statement.{statement}
 use Rattle.ride.proofs.treating.nothing_closed.Tie as tie
 
-no-group-requires : tie.Need-no-group-requires
-no-group-requires c κs = search needs
-
 returns : tie.Need-returns
 returns c = rw (c .no-group .ensures)
 
 pub nothing-closed-spec : {M : Type 1} → statement M
-nothing-closed-spec = tie.close (tie.spec no-group-requires returns)
+nothing-closed-spec =
+    tie.close
+    (tie.spec
+    (λ c κs. search needs) returns)

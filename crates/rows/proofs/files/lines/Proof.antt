@@ -22,15 +22,6 @@ found p =
     let l = p .before .before in
     found-within 10 (l .before .before .before .args .text .now) (l .loop .at) (p .place-of .result) (p .place-of .ensures)
 
-none-requires : tie.Need-none-requires Inv-loop μ-loop
-none-requires c κs = search needs
-
-loop-holds : tie.Need-loop-holds Inv-loop μ-loop
-loop-holds c = search needs
-
-place-of-requires : tie.Need-place-of-requires Inv-loop μ-loop
-place-of-requires c κs = search needs
-
 sub-line : tie.Need-sub-line Inv-loop μ-loop
 sub-line c = omega (arith, found c)
 
@@ -40,20 +31,11 @@ part-line-start c = omega (arith, found c)
 part-line-end : tie.Need-part-line-end Inv-loop μ-loop
 part-line-end c = omega (arith, found c)
 
-line-requires : tie.Need-line-requires Inv-loop μ-loop
-line-requires c κs = search needs
-
 add-at : tie.Need-add-at Inv-loop μ-loop
 add-at c = omega (arith, found (c .before .before))
 
 loop-less : tie.Need-loop-less Inv-loop μ-loop
 loop-less c = omega (arith, found (c .before .before))
-
-loop-again : tie.Need-loop-again Inv-loop μ-loop
-loop-again c = search needs
-
-returns : tie.Need-returns Inv-loop μ-loop
-returns c = search needs
 
 pub lines-spec : {M : Type 1} → statement M
 lines-spec =
@@ -61,14 +43,9 @@ lines-spec =
     (tie.spec
     Inv-loop
     μ-loop
-    none-requires
-    loop-holds
-    place-of-requires
-    sub-line
+    (λ c κs. search needs) (λ c. search needs) (λ c κs. search needs) sub-line
     part-line-start
     part-line-end
-    line-requires
-    add-at
+    (λ c κs. search needs) add-at
     loop-less
-    loop-again
-    returns)
+    (λ c. search needs) (λ c. search needs))

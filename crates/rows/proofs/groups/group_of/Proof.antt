@@ -22,15 +22,6 @@ found p =
     let l = p .before .before in
     found-within 32 (l .before .before .before .args .text .now) (l .loop .at) (p .place-of .result) (p .place-of .ensures)
 
-empty-requires : tie.Need-empty-requires Inv-loop μ-loop
-empty-requires c κs = search needs
-
-loop-holds : tie.Need-loop-holds Inv-loop μ-loop
-loop-holds c = search needs
-
-place-of-requires : tie.Need-place-of-requires Inv-loop μ-loop
-place-of-requires c κs = search needs
-
 sub-heard-of : tie.Need-sub-heard-of Inv-loop μ-loop
 sub-heard-of c = omega (arith, found c)
 
@@ -40,32 +31,11 @@ part-heard-of-start c = omega (arith, found c)
 part-heard-of-end : tie.Need-part-heard-of-end Inv-loop μ-loop
 part-heard-of-end c = omega (arith, found c)
 
-heard-of-requires : tie.Need-heard-of-requires Inv-loop μ-loop
-heard-of-requires c κs = search needs
-
-enum-known-heard : tie.Need-enum-known-heard Inv-loop μ-loop
-enum-known-heard c = search needs
-
-enum-told : tie.Need-enum-told Inv-loop μ-loop
-enum-told c = search needs
-
-returns : tie.Need-returns Inv-loop μ-loop
-returns c = search needs
-
-joined-requires : tie.Need-joined-requires Inv-loop μ-loop
-joined-requires c κs = search needs
-
 add-at : tie.Need-add-at Inv-loop μ-loop
 add-at c = omega (arith, found (c .before .before .before .before .before .before))
 
 loop-less : tie.Need-loop-less Inv-loop μ-loop
 loop-less c = omega (arith, found (c .before .before .before .before .before .before))
-
-loop-again : tie.Need-loop-again Inv-loop μ-loop
-loop-again c = search needs
-
-returns-2 : tie.Need-returns-2 Inv-loop μ-loop
-returns-2 c = search needs
 
 pub group-of-spec : {M : Type 1} → statement M
 group-of-spec =
@@ -73,18 +43,9 @@ group-of-spec =
     (tie.spec
     Inv-loop
     μ-loop
-    empty-requires
-    loop-holds
-    place-of-requires
-    sub-heard-of
+    (λ c κs. search needs) (λ c. search needs) (λ c κs. search needs) sub-heard-of
     part-heard-of-start
     part-heard-of-end
-    heard-of-requires
-    enum-known-heard
-    enum-told
-    returns
-    joined-requires
-    add-at
+    (λ c κs. search needs) (λ c. search needs) (λ c. search needs) (λ c. search needs) (λ c κs. search needs) add-at
     loop-less
-    loop-again
-    returns-2)
+    (λ c. search needs) (λ c. search needs))

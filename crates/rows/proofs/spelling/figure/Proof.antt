@@ -10,12 +10,6 @@ use Rattle.rows.specs.Spelling.{orNone, figureOf}
 use Rattle.rows.proofs.spelling.figure.Statement.{statement}
 use Rattle.rows.proofs.spelling.figure.Tie as tie
 
-decimal-requires : tie.Need-decimal-requires
-decimal-requires c κs = search needs
-
-enum-known-m : tie.Need-enum-known-m
-enum-known-m c = search needs
-
 cast-result : tie.Need-cast-result
 cast-result c =
     let d = c .before .before .before in
@@ -23,12 +17,6 @@ cast-result c =
     let m = c .before .m .given .0 .0 in
     let e : Figure.Number m ≡ decimal (a .text .now) 15 = sym (c .before .m .given .1) ∙ d .decimal .ensures in
     omega (arith, no-larger (a .text .now) 15 m e)
-
-enum-told : tie.Need-enum-told
-enum-told c = search needs
-
-enum-told-2 : tie.Need-enum-told-2
-enum-told-2 c = search needs
 
 returns : tie.Need-returns
 unfolding figureOf
@@ -52,11 +40,7 @@ pub figure-spec : {M : Type 1} → statement M
 figure-spec =
     tie.close
     (tie.spec
-    decimal-requires
-    enum-known-m
-    cast-result
-    enum-told
-    enum-told-2
-    returns
+    (λ c κs. search needs) (λ c. search needs) cast-result
+    (λ c. search needs) (λ c. search needs) returns
     returns-2
     returns-3)

@@ -7,18 +7,6 @@ use Rattle.rows.specs.Spelling.{is, spells}
 use Rattle.rows.proofs.spelling.spells.Statement.{statement}
 use Rattle.rows.proofs.spelling.spells.Tie as tie
 
-decimal-requires : tie.Need-decimal-requires
-decimal-requires c κs = search needs
-
-enum-known-m : tie.Need-enum-known-m
-enum-known-m c = search needs
-
-enum-told : tie.Need-enum-told
-enum-told c = search needs
-
-enum-told-2 : tie.Need-enum-told-2
-enum-told-2 c = search needs
-
 returns : tie.Need-returns
 unfolding spells
 returns c =
@@ -43,4 +31,7 @@ returns-3 c =
 pub spells-spec : {M : Type 1} → statement M
 spells-spec =
     tie.close
-    (tie.spec decimal-requires enum-known-m enum-told enum-told-2 returns returns-2 returns-3)
+    (tie.spec
+    (λ c κs. search needs) (λ c. search needs) (λ c. search needs) (λ c. search needs) returns
+    returns-2
+    returns-3)

@@ -4,18 +4,12 @@ use Rattle.rows.specs.Counting.{oneEntry}
 use Rattle.rows.proofs.tally.entry.Statement.{statement}
 use Rattle.rows.proofs.tally.entry.Tie as tie
 
-more-requires : tie.Need-more-requires
-more-requires c κs = search needs
-
-more-requires-2 : tie.Need-more-requires-2
-more-requires-2 c κs = search needs
-
-more-requires-3 : tie.Need-more-requires-3
-more-requires-3 c κs = search needs
-
 returns : tie.Need-returns
 unfolding oneEntry
 returns c = simp (← c .before .before .more .ensures, ← c .before .more2 .ensures, ← c .more3 .ensures)
 
 pub entry-spec : {M : Type 1} → statement M
-entry-spec = tie.close (tie.spec more-requires more-requires-2 more-requires-3 returns)
+entry-spec =
+    tie.close
+    (tie.spec
+    (λ c κs. search needs) (λ c κs. search needs) (λ c κs. search needs) returns)

@@ -20,18 +20,6 @@ abbrev μ-loop : tie.MeasureT-loop
 loop-holds : tie.Need-loop-holds Inv-loop μ-loop
 loop-holds c = (search needs, search needs, refl)
 
-mul-version : tie.Need-mul-version Inv-loop μ-loop
-mul-version c = omega arith
-
-array-copy-out-version : tie.Need-array-copy-out-version Inv-loop μ-loop
-array-copy-out-version c = omega arith
-
-follows-requires : tie.Need-follows-requires Inv-loop μ-loop
-follows-requires c κs = search needs
-
-enum-known-verdict : tie.Need-enum-known-verdict Inv-loop μ-loop
-enum-known-verdict c = search needs
-
 returns : tie.Need-returns Inv-loop μ-loop
 returns c =
     let v = c .before in
@@ -41,15 +29,6 @@ returns c =
     follow-bad (s .args .t1) (s .args .count) (s .good .0 .1 .0 .1) (s .pre .1) (l .loop .last) (l .loop .i) (saysBad (v .verdict .given .0 .0))
     (f .before .before .loop-test .taken) (sym (f .follows .ensures) ∙ ap saysVerdict (v .verdict .given .1))
     ∙ l .loop .inv .2
-
-enum-told : tie.Need-enum-told Inv-loop μ-loop
-enum-told c = search needs
-
-add-i : tie.Need-add-i Inv-loop μ-loop
-add-i c = omega arith
-
-loop-less : tie.Need-loop-less Inv-loop μ-loop
-loop-less c = omega arith
 
 loop-again : tie.Need-loop-again Inv-loop μ-loop
 loop-again c =
@@ -76,13 +55,6 @@ all-follow-spec =
     Inv-loop
     μ-loop
     loop-holds
-    mul-version
-    array-copy-out-version
-    follows-requires
-    enum-known-verdict
-    returns
-    enum-told
-    add-i
-    loop-less
-    loop-again
+    (λ c. omega arith) (λ c. omega arith) (λ c κs. search needs) (λ c. search needs) returns
+    (λ c. search needs) (λ c. omega arith) (λ c. omega arith) loop-again
     returns-2)

@@ -17,9 +17,6 @@ returns c = too-many (c .before .args .store) (c .if1 .taken)
 returns-2 : tie.Need-returns-2
 returns-2 c = empty (c .before .before .args .store) (c .before .if1 .left) (c .if2 .taken)
 
-array-copy-out-first : tie.Need-array-copy-out-first
-array-copy-out-first c = search needs
-
 returns-3 : tie.Need-returns-3
 returns-3 c =
     let two = c .before .before .before .before in
@@ -27,18 +24,6 @@ returns-3 c =
     let some : 1 ≤ s .args .store .count = omega (arith, two .if2 .left) in
     first-place (s .args .store) (two .before .if1 .left) (unmapped _ (s .args .store .versions) (s .good .0 .1 .1 .0 .1 .0 .1)) some
     (ne-eqb _ _ (c .if3 .taken))
-
-settings-of-requires : tie.Need-settings-of-requires
-settings-of-requires c κs = search needs
-
-enum-known-verdict : tie.Need-enum-known-verdict
-enum-known-verdict c = search needs
-
-enum-told : tie.Need-enum-told
-enum-told c = search needs
-
-all-follow-requires : tie.Need-all-follow-requires
-all-follow-requires c κs = search needs
 
 returns-4 : tie.Need-returns-4
 returns-4 c =
@@ -69,11 +54,6 @@ judge-spec =
     (tie.spec
     returns
     returns-2
-    array-copy-out-first
-    returns-3
-    settings-of-requires
-    enum-known-verdict
-    enum-told
-    all-follow-requires
-    returns-4
+    (λ c. search needs) returns-3
+    (λ c κs. search needs) (λ c. search needs) (λ c. search needs) (λ c κs. search needs) returns-4
     returns-5)

@@ -10,12 +10,6 @@ use borrow.Author.Needs.{needs}
 use Rattle.settings.proofs.judging.may_add.Statement.{statement}
 use Rattle.settings.proofs.judging.may_add.Tie as tie
 
-judge-requires : tie.Need-judge-requires
-judge-requires c κs = search needs
-
-enum-known-own : tie.Need-enum-known-own
-enum-known-own c = search needs
-
 returns : tie.Need-returns
 unfolding mayAdd
 returns c =
@@ -23,23 +17,11 @@ returns c =
     let own = sym (v .before .before .judge .ensures) ∙ ap saysVerdict (v .own .given .1) in
     rw own
 
-enum-told : tie.Need-enum-told
-enum-told c = search needs
-
 last-place-requires : tie.Need-last-place-requires
 last-place-requires c κs =
     let j = c .before .before in
     let own = sym (j .judge .ensures) ∙ ap saysVerdict (c .enum-told .given .1) in
     (at-least (j .before .args .store) own, at-most (j .before .args .store) own)
-
-follows-requires : tie.Need-follows-requires
-follows-requires c κs = search needs
-
-enum-known-verdict : tie.Need-enum-known-verdict
-enum-known-verdict c = search needs
-
-enum-told-2 : tie.Need-enum-told-2
-enum-told-2 c = search needs
 
 returns-2 : tie.Need-returns-2
 unfolding mayAdd
@@ -81,14 +63,8 @@ pub may-add-spec : {M : Type 1} → statement M
 may-add-spec =
     tie.close
     (tie.spec
-    judge-requires
-    enum-known-own
-    returns
-    enum-told
-    last-place-requires
-    follows-requires
-    enum-known-verdict
-    enum-told-2
-    returns-2
+    (λ c κs. search needs) (λ c. search needs) returns
+    (λ c. search needs) last-place-requires
+    (λ c κs. search needs) (λ c. search needs) (λ c. search needs) returns-2
     returns-3
     returns-4)

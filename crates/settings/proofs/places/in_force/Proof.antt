@@ -18,9 +18,6 @@ Inv-loop place versions count now₀ i₀ now i =
 abbrev μ-loop : tie.MeasureT-loop
 μ-loop place versions count now₀ i₀ now i = count - i
 
-array-copy-out-now : tie.Need-array-copy-out-now Inv-loop μ-loop
-array-copy-out-now c = search needs
-
 loop-holds : tie.Need-loop-holds Inv-loop μ-loop
 loop-holds c =
     let s = c .before .before in
@@ -29,15 +26,6 @@ loop-holds c =
       search needs,
       held-first (a .store .versions) (a .store .count) (unmapped _ (a .store .versions) (s .good .0 .1 .1 .0 .1 .0 .1)) (s .pre .1) (a .place) (s .pre .0),
     )
-
-mul-next : tie.Need-mul-next Inv-loop μ-loop
-mul-next c = omega arith
-
-array-copy-out-next : tie.Need-array-copy-out-next Inv-loop μ-loop
-array-copy-out-next c = omega arith
-
-holds-requires : tie.Need-holds-requires Inv-loop μ-loop
-holds-requires c κs = search needs
 
 returns : tie.Need-returns Inv-loop μ-loop
 unfolding heldAt versionsOf
@@ -51,12 +39,6 @@ returns c =
     (t .loop-test .taken) (lt-leb _ _ (c .before .if1 .taken))
     ∙ l .loop .inv .2
 
-add-i : tie.Need-add-i Inv-loop μ-loop
-add-i c = omega arith
-
-loop-less : tie.Need-loop-less Inv-loop μ-loop
-loop-less c = omega arith
-
 loop-again : tie.Need-loop-again Inv-loop μ-loop
 loop-again c =
     let t = c .before .before .before in
@@ -69,9 +51,6 @@ loop-again c =
           (t .loop-test .taken) (le-leb _ _ (c .if1 .left)))
           ∙ l .loop .inv .2,
     )
-
-holds-requires-2 : tie.Need-holds-requires-2 Inv-loop μ-loop
-holds-requires-2 c κs = search needs
 
 returns-2 : tie.Need-returns-2 Inv-loop μ-loop
 unfolding heldAt versionsOf
@@ -91,14 +70,7 @@ in-force-spec =
     (tie.spec
     Inv-loop
     μ-loop
-    array-copy-out-now
-    loop-holds
-    mul-next
-    array-copy-out-next
-    holds-requires
-    returns
-    add-i
-    loop-less
-    loop-again
-    holds-requires-2
-    returns-2)
+    (λ c. search needs) loop-holds
+    (λ c. omega arith) (λ c. omega arith) (λ c κs. search needs) returns
+    (λ c. omega arith) (λ c. omega arith) loop-again
+    (λ c κs. search needs) returns-2)

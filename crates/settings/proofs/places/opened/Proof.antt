@@ -5,12 +5,12 @@ use Rattle.settings.specs.Store.{noStore, opened}
 use Rattle.settings.proofs.places.opened.Statement.{statement}
 use Rattle.settings.proofs.places.opened.Tie as tie
 
-array-set-from-versions : tie.Need-array-set-from-versions
-array-set-from-versions c = search needs
-
 returns : tie.Need-returns
 unfolding noStore opened
 returns c = refl
 
 pub opened-spec : {M : Type 1} → statement M
-opened-spec = tie.close (tie.spec array-set-from-versions returns)
+opened-spec =
+    tie.close
+    (tie.spec
+    (λ c. search needs) returns)

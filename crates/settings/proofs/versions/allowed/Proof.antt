@@ -3,8 +3,8 @@ use mathlib.Core.Path.{refl}
 use Rattle.settings.proofs.versions.allowed.Statement.{statement}
 use Rattle.settings.proofs.versions.allowed.Tie as tie
 
-returns : tie.Need-returns
-returns c = refl
-
 pub allowed-spec : {M : Type 1} → statement M
-allowed-spec = tie.close (tie.spec returns)
+allowed-spec =
+    tie.close
+    (tie.spec
+    (λ c. refl))

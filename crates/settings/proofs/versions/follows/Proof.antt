@@ -7,15 +7,6 @@ use borrow.Author.Needs.{needs}
 use Rattle.settings.proofs.versions.follows.Statement.{statement}
 use Rattle.settings.proofs.versions.follows.Tie as tie
 
-settings-of-requires : tie.Need-settings-of-requires
-settings-of-requires c κs = search needs
-
-enum-known-verdict : tie.Need-enum-known-verdict
-enum-known-verdict c = search needs
-
-enum-told : tie.Need-enum-told
-enum-told c = search needs
-
 returns : tie.Need-returns
 unfolding follows
 returns c =
@@ -50,10 +41,7 @@ pub follows-spec : {M : Type 1} → statement M
 follows-spec =
     tie.close
     (tie.spec
-    settings-of-requires
-    enum-known-verdict
-    enum-told
-    returns
+    (λ c κs. search needs) (λ c. search needs) (λ c. search needs) returns
     returns-2
     returns-3
     returns-4)

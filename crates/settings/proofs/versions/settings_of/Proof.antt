@@ -6,18 +6,6 @@ use borrow.Author.Needs.{needs}
 use Rattle.settings.proofs.versions.settings_of.Statement.{statement}
 use Rattle.settings.proofs.versions.settings_of.Tie as tie
 
-good-pair-requires : tie.Need-good-pair-requires
-good-pair-requires c κs = search needs
-
-enum-told : tie.Need-enum-told
-enum-told c = search needs
-
-enum-told-2 : tie.Need-enum-told-2
-enum-told-2 c = search needs
-
-allowed-requires : tie.Need-allowed-requires
-allowed-requires c κs = search needs
-
 returns : tie.Need-returns
 unfolding settingsOf
 returns c =
@@ -42,10 +30,6 @@ pub settings-of-spec : {M : Type 1} → statement M
 settings-of-spec =
     tie.close
     (tie.spec
-    good-pair-requires
-    enum-told
-    enum-told-2
-    allowed-requires
-    returns
+    (λ c κs. search needs) (λ c. search needs) (λ c. search needs) (λ c κs. search needs) returns
     returns-2
     returns-3)

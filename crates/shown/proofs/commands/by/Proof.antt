@@ -17,9 +17,6 @@ returns-3 : tie.Need-returns-3
 unfolding by
 returns-3 c = simp (ne-eqb _ _ (c .before .before .before .if1 .left), ne-eqb _ _ (c .before .before .if2 .left), eq-eqb _ _ (c .before .if3 .taken), eq-eqb _ _ (c .if4 .taken))
 
-sub-t5 : tie.Need-sub-t5
-sub-t5 c = search needs
-
 returns-4 : tie.Need-returns-4
 unfolding by
 returns-4 c = simp (ne-eqb _ _ (c .before .before .before .if1 .left), ne-eqb _ _ (c .before .before .if2 .left), eq-eqb _ _ (c .before .if3 .taken), ne-eqb _ _ (c .if4 .left))
@@ -33,4 +30,12 @@ unfolding by
 returns-6 c = simp (ne-eqb _ _ (c .before .before .before .if1 .left), ne-eqb _ _ (c .before .before .if2 .left), ne-eqb _ _ (c .before .if3 .left), ne-eqb _ _ (c .if5 .left))
 
 pub by-spec : {M : Type 1} → statement M
-by-spec = tie.close (tie.spec returns returns-2 returns-3 sub-t5 returns-4 returns-5 returns-6)
+by-spec =
+    tie.close
+    (tie.spec
+    returns
+    returns-2
+    returns-3
+    (λ c. search needs) returns-4
+    returns-5
+    returns-6)

@@ -21,19 +21,10 @@ use Rattle.shown.proofs.commands.read.Tie as tie
 returns : tie.Need-returns
 returns c = no-letter (c .before .before .args .line .now) (c .if1 .taken)
 
-shared-slice-read-letter : tie.Need-shared-slice-read-letter
-shared-slice-read-letter c = search needs
-
-alone-requires : tie.Need-alone-requires
-alone-requires c κs = search needs
-
 returns-2 : tie.Need-returns-2
 returns-2 c =
     let i = c .before in
     c .alone .ensures ∙ one-letter (i .before .before .before .before .args .line .now) (i .if2 .taken)
-
-shared-slice-read-if3 : tie.Need-shared-slice-read-if3
-shared-slice-read-if3 c = search needs
 
 -- a letter and more
 long : (c : tie.Else2) → 2 ≤ length (c .before .before .before .before .args .line .now)
@@ -56,33 +47,6 @@ returns-3 c =
     let e = c .before .before in
     let l = e .before .before .before .before .args .line .now in
     sym (ap (λ (b : Bool). pick b (numbered (getD l 0 0) (decimal (drop 2 l) largest)) Command.Unknown) (ne-eqb _ _ (c .if3 .taken))) ∙ more-letters l (long e)
-
-sub-decimal : tie.Need-sub-decimal
-sub-decimal c = search needs
-
-part-decimal-start : tie.Need-part-decimal-start
-part-decimal-start c = search needs
-
-part-decimal-end : tie.Need-part-decimal-end
-part-decimal-end c = search needs
-
-decimal-requires : tie.Need-decimal-requires
-decimal-requires c κs = search needs
-
-enum-known-n : tie.Need-enum-known-n
-enum-known-n c = search needs
-
-by-requires : tie.Need-by-requires
-by-requires c κs = search needs
-
-enum-told : tie.Need-enum-told
-enum-told c = search needs
-
-by-requires-2 : tie.Need-by-requires-2
-by-requires-2 c κs = search needs
-
-enum-told-2 : tie.Need-enum-told-2
-enum-told-2 c = search needs
 
 returns-4 : tie.Need-returns-4
 returns-4 c =
@@ -115,20 +79,9 @@ read-spec =
     tie.close
     (tie.spec
     returns
-    shared-slice-read-letter
-    alone-requires
-    returns-2
-    shared-slice-read-if3
-    returns-3
-    sub-decimal
-    part-decimal-start
-    part-decimal-end
-    decimal-requires
-    enum-known-n
-    by-requires
-    enum-told
-    by-requires-2
-    enum-told-2
-    returns-4
+    (λ c. search needs) (λ c κs. search needs) returns-2
+    (λ c. search needs) returns-3
+    (λ c. search needs) (λ c. search needs) (λ c. search needs) (λ c κs. search needs) (λ c. search needs) (λ c κs. search needs)
+    (λ c. search needs) (λ c κs. search needs) (λ c. search needs) returns-4
     returns-5
     returns-6)

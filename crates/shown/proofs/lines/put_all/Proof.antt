@@ -67,15 +67,6 @@ put-speeds-requires c κs =
     room-after (s .args .buf .now) (s .args .at) (one s ++ two s ++ three s) (four s) (to-four s)
     (join-3 (s .args .buf .now) (s .args .at) (one s) (two s) (three s) (to-three s) (p1 .put-place .ensures) (p2 .put-group .ensures) (p3 .put-linking .ensures))
 
-slice-aggregate-put : tie.Need-slice-aggregate-put
-slice-aggregate-put c = search needs
-
-put-requires : tie.Need-put-requires
-put-requires c κs = search needs
-
-same-length : tie.Need-same-length
-same-length c = search needs
-
 returns : tie.Need-returns
 returns c =
     let p5 = c .before .before in
@@ -98,7 +89,4 @@ put-all-spec =
     put-group-requires
     put-linking-requires
     put-speeds-requires
-    slice-aggregate-put
-    put-requires
-    same-length
-    returns)
+    (λ c. search needs) (λ c κs. search needs) (λ c. search needs) returns)

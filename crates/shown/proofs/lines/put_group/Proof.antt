@@ -21,15 +21,6 @@ use borrow.Author.Needs.{needs}
 use Rattle.shown.proofs.lines.put_group.Statement.{statement}
 use Rattle.shown.proofs.lines.put_group.Tie as tie
 
-slice-aggregate-put : tie.Need-slice-aggregate-put
-slice-aggregate-put c = search needs
-
-put-requires : tie.Need-put-requires
-put-requires c κs = search needs
-
-same-length : tie.Need-same-length
-same-length c = search needs
-
 none-open : (g : Group) → g .count ≡ 0 → codes "\n  no group" ≡ onGroup g
 unfolding onGroup
 none-open g e = rw e
@@ -56,39 +47,6 @@ returns c =
     let a = i .before .before .args in
     p .put .ensures ∙ ap (λ (t : List ℕ). put t (a .buf .now) (a .at)) (none-open (a .t1) (i .if1 .taken))
 
-element-copy-out-first : tie.Need-element-copy-out-first
-element-copy-out-first c = search needs
-
-slice-aggregate-put-number : tie.Need-slice-aggregate-put-number
-slice-aggregate-put-number c = search needs
-
-cast-put-number : tie.Need-cast-put-number
-cast-put-number c = search needs
-
-put-number-requires : tie.Need-put-number-requires
-put-number-requires c κs = search needs
-
-slice-aggregate-put-number-2 : tie.Need-slice-aggregate-put-number-2
-slice-aggregate-put-number-2 c = search needs
-
-cast-put-number-2 : tie.Need-cast-put-number-2
-cast-put-number-2 c = search needs
-
-put-number-requires-2 : tie.Need-put-number-requires-2
-put-number-requires-2 c κs = search needs
-
-slice-aggregate-put-number-3 : tie.Need-slice-aggregate-put-number-3
-slice-aggregate-put-number-3 c = search needs
-
-cast-put-number-3 : tie.Need-cast-put-number-3
-cast-put-number-3 c = search needs
-
-put-number-requires-3 : tie.Need-put-number-requires-3
-put-number-requires-3 c κs = search needs
-
-same-length-2 : tie.Need-same-length-2
-same-length-2 c = search needs
-
 returns-2 : tie.Need-returns-2
 returns-2 c =
     let p3 = c .before .before in
@@ -110,19 +68,6 @@ pub put-group-spec : {M : Type 1} → statement M
 put-group-spec =
     tie.close
     (tie.spec
-    slice-aggregate-put
-    put-requires
-    same-length
-    returns
-    element-copy-out-first
-    slice-aggregate-put-number
-    cast-put-number
-    put-number-requires
-    slice-aggregate-put-number-2
-    cast-put-number-2
-    put-number-requires-2
-    slice-aggregate-put-number-3
-    cast-put-number-3
-    put-number-requires-3
-    same-length-2
-    returns-2)
+    (λ c. search needs) (λ c κs. search needs) (λ c. search needs) returns
+    (λ c. search needs) (λ c. search needs) (λ c. search needs) (λ c κs. search needs) (λ c. search needs) (λ c. search needs)
+    (λ c κs. search needs) (λ c. search needs) (λ c. search needs) (λ c κs. search needs) (λ c. search needs) returns-2)

@@ -12,30 +12,6 @@ use borrow.Author.Needs.{needs}
 use Rattle.shown.proofs.lines.put_speed.Statement.{statement}
 use Rattle.shown.proofs.lines.put_speed.Tie as tie
 
-enum-told : tie.Need-enum-told
-enum-told c = search needs
-
-put-requires : tie.Need-put-requires
-put-requires c κs = search needs
-
-slice-aggregate-put : tie.Need-slice-aggregate-put
-slice-aggregate-put c = search needs
-
-put-requires-2 : tie.Need-put-requires-2
-put-requires-2 c κs = search needs
-
-enum-known-of : tie.Need-enum-known-of
-enum-known-of c = search needs
-
-cast-put-number : tie.Need-cast-put-number
-cast-put-number c = search needs
-
-put-number-requires : tie.Need-put-number-requires
-put-number-requires c κs = search needs
-
-same-length : tie.Need-same-length
-same-length c = search needs
-
 returns : tie.Need-returns
 unfolding speed
 returns c =
@@ -47,9 +23,6 @@ returns c =
     join (a .buf .now) (a .at) (a .words .now) (codes "none")
     (subst (λ (t : Told). a .at + length (a .words .now ++ speed t) ≤ length (a .buf .now)) (k .enum-told .given .1) (s .pre)) (p1 .put .ensures) (p2 .put2 .ensures)
     ∙ ap (λ (t : Told). put (a .words .now ++ speed t) (a .buf .now) (a .at)) (sym (k .enum-told .given .1))
-
-same-length-2 : tie.Need-same-length-2
-same-length-2 c = search needs
 
 returns-2 : tie.Need-returns-2
 unfolding speed
@@ -63,14 +36,6 @@ pub put-speed-spec : {M : Type 1} → statement M
 put-speed-spec =
     tie.close
     (tie.spec
-    enum-told
-    put-requires
-    slice-aggregate-put
-    put-requires-2
-    enum-known-of
-    cast-put-number
-    put-number-requires
-    same-length
-    returns
-    same-length-2
-    returns-2)
+    (λ c. search needs) (λ c κs. search needs) (λ c. search needs) (λ c κs. search needs) (λ c. search needs) (λ c. search needs)
+    (λ c κs. search needs) (λ c. search needs) returns
+    (λ c. search needs) returns-2)

@@ -12,9 +12,6 @@ use borrow.Author.Needs.{needs}
 use Rattle.shown.proofs.lines.put_speeds.Statement.{statement}
 use Rattle.shown.proofs.lines.put_speeds.Tie as tie
 
-slice-aggregate-put-speed : tie.Need-slice-aggregate-put-speed
-slice-aggregate-put-speed c = search needs
-
 -- the whole has room
 whole : (s : tie.Start) → let a = s .args in
     a .at + length ((codes "\n  main " ++ speed (a .of .main)) ++ (codes ", target " ++ speed (a .of .target)) ++ onFigure (a .of .number)) ≤ length (a .buf .now)
@@ -34,9 +31,6 @@ put-speed-requires c κs =
     let a = s .args in
     less (a .buf .now) (a .at) (codes "\n  main " ++ speed (a .of .main)) (codes ", target " ++ speed (a .of .target)) (both s)
 
-slice-aggregate-put-speed-2 : tie.Need-slice-aggregate-put-speed-2
-slice-aggregate-put-speed-2 c = search needs
-
 put-speed-requires-2 : tie.Need-put-speed-requires-2
 put-speed-requires-2 c κs =
     let p1 = c .before .before .before .before in
@@ -53,9 +47,6 @@ put-figure-requires c κs =
     room-after (a .buf .now) (a .at) ((codes "\n  main " ++ speed (a .of .main)) ++ (codes ", target " ++ speed (a .of .target))) (onFigure (a .of .number)) (whole s)
     (join (a .buf .now) (a .at) (codes "\n  main " ++ speed (a .of .main)) (codes ", target " ++ speed (a .of .target)) (both s) (p1 .put-speed .ensures) (p2 .put-speed2 .ensures))
 
-same-length : tie.Need-same-length
-same-length c = search needs
-
 returns : tie.Need-returns
 unfolding onSpeeds
 returns c =
@@ -71,10 +62,7 @@ pub put-speeds-spec : {M : Type 1} → statement M
 put-speeds-spec =
     tie.close
     (tie.spec
-    slice-aggregate-put-speed
-    put-speed-requires
-    slice-aggregate-put-speed-2
-    put-speed-requires-2
+    (λ c. search needs) put-speed-requires
+    (λ c. search needs) put-speed-requires-2
     put-figure-requires
-    same-length
-    returns)
+    (λ c. search needs) returns)

@@ -14,18 +14,6 @@ use Rattle.telegram.proofs.after_x.figures.Tie as tie
 abbrev after : ℕ → ℕ → ℕ → Received
 after a z b = then (named Word.Z (shortWord z)) (λ c. gives (Telegram.Figures a b c))
 
-read-short-requires : tie.Need-read-short-requires
-read-short-requires c κs = search needs
-
-enum-known-p : tie.Need-enum-known-p
-enum-known-p c = search needs
-
-enum-known-b : tie.Need-enum-known-b
-enum-known-b c = search needs
-
-last-requires : tie.Need-last-requires
-last-requires c κs = search needs
-
 returns : tie.Need-returns
 returns c =
     let s = c .before .before .before in
@@ -51,10 +39,6 @@ pub figures-spec : {M : Type 1} → statement M
 figures-spec =
     tie.close
     (tie.spec
-    read-short-requires
-    enum-known-p
-    enum-known-b
-    last-requires
-    returns
+    (λ c κs. search needs) (λ c. search needs) (λ c. search needs) (λ c κs. search needs) returns
     returns-2
     returns-3)

@@ -13,15 +13,6 @@ use Rattle.telegram.proofs.after_x.last.Tie as tie
 abbrev after : ℕ → ℕ → ℕ → Received
 after a b c = gives (Telegram.Figures a b c)
 
-read-short-requires : tie.Need-read-short-requires
-read-short-requires c κs = search needs
-
-enum-known-p : tie.Need-enum-known-p
-enum-known-p c = search needs
-
-enum-known-c : tie.Need-enum-known-c
-enum-known-c c = search needs
-
 returns : tie.Need-returns
 returns c =
     let s = c .before .before .before in
@@ -44,4 +35,8 @@ returns-3 c =
 
 pub last-spec : {M : Type 1} → statement M
 last-spec =
-    tie.close (tie.spec read-short-requires enum-known-p enum-known-c returns returns-2 returns-3)
+    tie.close
+    (tie.spec
+    (λ c κs. search needs) (λ c. search needs) (λ c. search needs) returns
+    returns-2
+    returns-3)

@@ -7,21 +7,6 @@ use borrow.Author.Needs.{needs}
 use Rattle.telegram.proofs.after_x.number.Statement.{statement}
 use Rattle.telegram.proofs.after_x.number.Tie as tie
 
-mul-read-long : tie.Need-mul-read-long
-mul-read-long c = search needs
-
-add-read-long : tie.Need-add-read-long
-add-read-long c = search needs
-
-read-long-requires : tie.Need-read-long-requires
-read-long-requires c κs = search needs
-
-enum-known-p : tie.Need-enum-known-p
-enum-known-p c = search needs
-
-enum-known-m : tie.Need-enum-known-m
-enum-known-m c = search needs
-
 returns : tie.Need-returns
 returns c =
     let s = c .before .before .before in
@@ -38,10 +23,5 @@ pub number-spec : {M : Type 1} → statement M
 number-spec =
     tie.close
     (tie.spec
-    mul-read-long
-    add-read-long
-    read-long-requires
-    enum-known-p
-    enum-known-m
-    returns
+    (λ c. search needs) (λ c. search needs) (λ c κs. search needs) (λ c. search needs) (λ c. search needs) returns
     returns-2)

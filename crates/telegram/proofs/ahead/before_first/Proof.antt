@@ -11,9 +11,6 @@ use Rattle.telegram.proofs.ahead.before_first.Tie as tie
 cast-result : tie.Need-cast-result
 cast-result c = omega (arith, leading-le 64 (c .args .h))
 
-add-result : tie.Need-add-result
-add-result c = search needs
-
 sub-result : tie.Need-sub-result
 sub-result c = room (c .args .h) (7 + c .args .o) (omega arith) (c .pre .1)
 
@@ -21,4 +18,9 @@ returns : tie.Need-returns
 returns c = (omega (arith, leading-le 64 (c .args .h)), λ j less. none-before (c .args .h) (c .args .o) j (c .pre .0) (c .pre .1) less)
 
 pub before-first-spec : {M : Type 1} → statement M
-before-first-spec = tie.close (tie.spec cast-result add-result sub-result returns)
+before-first-spec =
+    tie.close
+    (tie.spec
+    cast-result
+    (λ c. search needs) sub-result
+    returns)

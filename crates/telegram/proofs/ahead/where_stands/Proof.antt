@@ -42,24 +42,6 @@ still x d h k j less is same =
 loop-holds : tie.Need-loop-holds Inv-loop μ-loop
 loop-holds c = (omega arith, le-refl _, λ k h is same. is)
 
-shr-h : tie.Need-shr-h Inv-loop μ-loop
-shr-h c = omega arith
-
-shr-h-2 : tie.Need-shr-h-2 Inv-loop μ-loop
-shr-h-2 c = omega arith
-
-sub-h : tie.Need-sub-h Inv-loop μ-loop
-sub-h c = omega arith
-
-mul-h : tie.Need-mul-h Inv-loop μ-loop
-mul-h c = omega arith
-
-add-j : tie.Need-add-j Inv-loop μ-loop
-add-j c = omega arith
-
-loop-less : tie.Need-loop-less Inv-loop μ-loop
-loop-less c = omega arith
-
 loop-again : tie.Need-loop-again Inv-loop μ-loop
 loop-again c =
     let a = c .before .before .args in
@@ -89,11 +71,5 @@ where-stands-spec =
     Inv-loop
     μ-loop
     loop-holds
-    shr-h
-    shr-h-2
-    sub-h
-    mul-h
-    add-j
-    loop-less
-    loop-again
+    (λ c. omega arith) (λ c. omega arith) (λ c. omega arith) (λ c. omega arith) (λ c. omega arith) (λ c. omega arith) loop-again
     returns)

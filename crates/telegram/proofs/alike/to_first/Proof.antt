@@ -30,25 +30,10 @@ Inv-scan buf first stop s t telegram kept p₀ count₀ p count =
 abbrev μ-scan : tie.MeasureT-scan
 μ-scan buf first stop s t telegram kept p₀ count₀ p count = stop - p
 
-forty-requires : tie.Need-forty-requires Inv-loop μ-loop Inv-scan μ-scan
-forty-requires c κs = search needs
-
-add-p : tie.Need-add-p Inv-loop μ-loop Inv-scan μ-scan
-add-p c = omega arith
-
 scan-holds : tie.Need-scan-holds Inv-loop μ-loop Inv-scan μ-scan
 scan-holds c =
     let a = c .before .before .args in
     (omega arith, omega arith, begins (a .buf .now) (a .first) (ahead (a .buf .now) (a .s) (a .t) (a .stop) (a .first + 1)))
-
-marks-requires : tie.Need-marks-requires Inv-loop μ-loop Inv-scan μ-scan
-marks-requires c κs = search needs
-
-sub-up-to : tie.Need-sub-up-to Inv-loop μ-loop Inv-scan μ-scan
-sub-up-to c = omega arith
-
-up-to-requires : tie.Need-up-to-requires Inv-loop μ-loop Inv-scan μ-scan
-up-to-requires c κs = omega arith
 
 scan-less : tie.Need-scan-less Inv-loop μ-loop Inv-scan μ-scan
 scan-less c = omega (arith, c .up-to .ensures)
@@ -65,9 +50,6 @@ scan-again c =
 before-first-requires : tie.Need-before-first-requires Inv-loop μ-loop Inv-scan μ-scan
 before-first-requires c κs = (omega arith, c .before .marks .ensures .0)
 
-up-to-requires-2 : tie.Need-up-to-requires-2 Inv-loop μ-loop Inv-scan μ-scan
-up-to-requires-2 c κs = omega arith
-
 -- on to the first mark
 to-p : (c : tie.After-up-to2 Inv-loop μ-loop Inv-scan μ-scan) → let m = c .before .before .before in
     let a = m .before .before .before .before .before .args in
@@ -80,9 +62,6 @@ to-p c =
     let n = c .before .before-first in
     ap (soFar (a .buf .now) (a .first) (l .count)) (to-mark (a .buf .now) (a .s) (a .t) (a .stop) (l .p) (c .up-to2 .result) (m .marks .result) (n .result) (omega arith) (c .up-to2 .ensures) (m .marks .ensures .1) (n .ensures .0) (n .ensures .1))
 
-forty-requires-2 : tie.Need-forty-requires-2 Inv-loop μ-loop Inv-scan μ-scan
-forty-requires-2 c κs = search needs
-
 is-place-requires : tie.Need-is-place-requires Inv-loop μ-loop Inv-scan μ-scan
 is-place-requires c κs =
     let u = c .before .before in
@@ -91,28 +70,10 @@ is-place-requires c κs =
 loop-holds : tie.Need-loop-holds Inv-loop μ-loop Inv-scan μ-scan
 loop-holds c = (omega arith, below-none _)
 
-word-requires : tie.Need-word-requires Inv-loop μ-loop Inv-scan μ-scan
-word-requires c κs = omega arith
-
-word-requires-2 : tie.Need-word-requires-2 Inv-loop μ-loop Inv-scan μ-scan
-word-requires-2 c κs = omega arith
-
-add-k : tie.Need-add-k Inv-loop μ-loop Inv-scan μ-scan
-add-k c = omega arith
-
-loop-less : tie.Need-loop-less Inv-loop μ-loop Inv-scan μ-scan
-loop-less c = omega arith
-
 loop-again : tie.Need-loop-again Inv-loop μ-loop Inv-scan μ-scan
 loop-again c =
     let u = c .before .before .before .before in
     (omega arith, below-more _ _ (u .loop .inv .1) (sym (c .before .before .word .ensures) ∙ c .if4 .left ∙ c .before .word2 .ensures))
-
-add-count : tie.Need-add-count Inv-loop μ-loop Inv-scan μ-scan
-add-count c = omega arith
-
-add-p-2 : tie.Need-add-p-2 Inv-loop μ-loop Inv-scan μ-scan
-add-p-2 c = omega arith
 
 scan-less-2 : tie.Need-scan-less-2 Inv-loop μ-loop Inv-scan μ-scan
 scan-less-2 c = omega (arith, c .before .before .before .before .up-to2 .ensures)
@@ -189,27 +150,14 @@ to-first-spec =
     μ-loop
     Inv-scan
     μ-scan
-    forty-requires
-    add-p
-    scan-holds
-    marks-requires
-    sub-up-to
-    up-to-requires
-    scan-less
+    (λ c κs. search needs) (λ c. omega arith) scan-holds
+    (λ c κs. search needs) (λ c. omega arith) (λ c κs. omega arith) scan-less
     scan-again
     before-first-requires
-    up-to-requires-2
-    forty-requires-2
-    is-place-requires
+    (λ c κs. omega arith) (λ c κs. search needs) is-place-requires
     loop-holds
-    word-requires
-    word-requires-2
-    add-k
-    loop-less
-    loop-again
-    add-count
-    add-p-2
-    scan-less-2
+    (λ c κs. omega arith) (λ c κs. omega arith) (λ c. omega arith) (λ c. omega arith) loop-again
+    (λ c. omega arith) (λ c. omega arith) scan-less-2
     scan-again-2
     scan-less-3
     scan-again-3

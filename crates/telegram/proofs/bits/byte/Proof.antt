@@ -9,12 +9,6 @@ use lib.ListN.{length, List·getD-eq-default}
 use Rattle.telegram.proofs.bits.byte.Statement.{statement}
 use Rattle.telegram.proofs.bits.byte.Tie as tie
 
-add-has : tie.Need-add-has
-add-has c = search needs
-
-has-requires : tie.Need-has-requires
-has-requires c κs = search needs
-
 lies-in : (c : tie.Then1) → let a = c .before .before .before .args in a .i + (a .k + 1) ≤ length (a .buf .now)
 lies-in c = leb-true _ _ (sym (c .before .has .ensures) ∙ c .if1 .taken)
 
@@ -44,9 +38,7 @@ pub byte-spec : {M : Type 1} → statement M
 byte-spec =
     tie.close
     (tie.spec
-    add-has
-    has-requires
-    add-result
+    (λ c. search needs) (λ c κs. search needs) add-result
     shared-slice-read-result
     cast-result
     returns

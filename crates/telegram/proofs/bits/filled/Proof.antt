@@ -25,19 +25,10 @@ mul-w c =
     let a = c .before .before .before .args in
     omega (arith, seven-bytes (a .buf .now) (a .i) (c .before .loop .k) (omega arith))
 
-byte-requires : tie.Need-byte-requires Inv-loop μ-loop
-byte-requires c κs = omega arith
-
 add-w : tie.Need-add-w Inv-loop μ-loop
 add-w c =
     let a = c .before .before .before .before .args in
     omega (arith, seven-bytes (a .buf .now) (a .i) (c .before .before .loop .k) (omega arith), c .byte .ensures)
-
-add-k : tie.Need-add-k Inv-loop μ-loop
-add-k c = omega arith
-
-loop-less : tie.Need-loop-less Inv-loop μ-loop
-loop-less c = omega arith
 
 loop-again : tie.Need-loop-again Inv-loop μ-loop
 loop-again c =
@@ -62,9 +53,6 @@ filled-spec =
     μ-loop
     loop-holds
     mul-w
-    byte-requires
-    add-w
-    add-k
-    loop-less
-    loop-again
+    (λ c κs. omega arith) add-w
+    (λ c. omega arith) (λ c. omega arith) loop-again
     returns)

@@ -9,15 +9,6 @@ use borrow.Author.Needs.{needs}
 use Rattle.telegram.proofs.bits.forty.Statement.{statement}
 use Rattle.telegram.proofs.bits.forty.Tie as tie
 
-eight-bytes-requires : tie.Need-eight-bytes-requires
-eight-bytes-requires c κs = search needs
-
-sub-result : tie.Need-sub-result
-sub-result c = search needs
-
-shr-result : tie.Need-shr-result
-shr-result c = search needs
-
 returns : tie.Need-returns
 returns c =
     let a = c .before .before .args in
@@ -31,4 +22,7 @@ returns c =
     ∙ run-of b (8 * (a .p / 8)) o 40 l ∙ ap (λ (m : ℕ). bitsAt b m 40) at
 
 pub forty-spec : {M : Type 1} → statement M
-forty-spec = tie.close (tie.spec eight-bytes-requires sub-result shr-result returns)
+forty-spec =
+    tie.close
+    (tie.spec
+    (λ c κs. search needs) (λ c. search needs) (λ c. search needs) returns)

@@ -15,9 +15,6 @@ returns c =
     let over : length (a .buf .now) < a .i + a .n = omega arith in
     sym (lt-leb _ _ over)
 
-sub-if2 : tie.Need-sub-if2
-sub-if2 c = search needs
-
 returns-2 : tie.Need-returns-2
 returns-2 c =
     let a = c .before .before .args in
@@ -31,4 +28,9 @@ returns-3 c =
     sym (le-leb _ _ fits)
 
 pub has-spec : {M : Type 1} → statement M
-has-spec = tie.close (tie.spec returns sub-if2 returns-2 returns-3)
+has-spec =
+    tie.close
+    (tie.spec
+    returns
+    (λ c. search needs) returns-2
+    returns-3)

@@ -24,12 +24,6 @@ mul-w c =
     let a = c .before .before .args in
     omega (arith, seven-bytes (a .buf .now) (a .i) (c .before .loop .k) (omega arith))
 
-add-w : tie.Need-add-w Inv-loop μ-loop
-add-w c = omega arith
-
-shared-slice-read-w : tie.Need-shared-slice-read-w Inv-loop μ-loop
-shared-slice-read-w c = omega arith
-
 cast-w : tie.Need-cast-w Inv-loop μ-loop
 cast-w c = omega (arith, c .shared-slice-known .given (c .before .before .before .args .i + c .before .before .loop .k))
 
@@ -38,12 +32,6 @@ add-w-2 c =
     let a = c .before .before .before .args in
     let k = c .before .before .loop .k in
     omega (arith, seven-bytes (a .buf .now) (a .i) k (omega arith), c .shared-slice-known .given (a .i + k))
-
-add-k : tie.Need-add-k Inv-loop μ-loop
-add-k c = omega arith
-
-loop-less : tie.Need-loop-less Inv-loop μ-loop
-loop-less c = omega arith
 
 loop-again : tie.Need-loop-again Inv-loop μ-loop
 loop-again c =
@@ -67,11 +55,7 @@ whole-spec =
     μ-loop
     loop-holds
     mul-w
-    add-w
-    shared-slice-read-w
-    cast-w
+    (λ c. omega arith) (λ c. omega arith) cast-w
     add-w-2
-    add-k
-    loop-less
-    loop-again
+    (λ c. omega arith) (λ c. omega arith) loop-again
     returns)

@@ -9,19 +9,10 @@ use Rattle.telegram.proofs.Window.{inner}
 use Rattle.telegram.proofs.forty.is_place.Statement.{statement}
 use Rattle.telegram.proofs.forty.is_place.Tie as tie
 
-outer-are-syncs-requires : tie.Need-outer-are-syncs-requires
-outer-are-syncs-requires c κs = search needs
-
 returns : tie.Need-returns
 returns c =
     let o = c .before .outer-are-syncs in
     ap (λ (x : Bool). x && accepted (inner (c .before .before .args .v))) (sym (not-true (o .result) (c .if1 .taken)) ∙ o .ensures)
-
-words-of-requires : tie.Need-words-of-requires
-words-of-requires c κs = search needs
-
-is-telegram-requires : tie.Need-is-telegram-requires
-is-telegram-requires c κs = search needs
 
 returns-2 : tie.Need-returns-2
 returns-2 c =
@@ -33,4 +24,6 @@ returns-2 c =
 pub is-place-spec : {M : Type 1} → statement M
 is-place-spec =
     tie.close
-    (tie.spec outer-are-syncs-requires returns words-of-requires is-telegram-requires returns-2)
+    (tie.spec
+    (λ c κs. search needs) returns
+    (λ c κs. search needs) (λ c κs. search needs) returns-2)

@@ -26,15 +26,6 @@ abbrev μ-loop : tie.MeasureT-loop
 loop-holds : tie.Need-loop-holds Inv-loop μ-loop
 loop-holds c = (omega arith, refl)
 
-marks-requires : tie.Need-marks-requires Inv-loop μ-loop
-marks-requires c κs = search needs
-
-sub-up-to : tie.Need-sub-up-to Inv-loop μ-loop
-sub-up-to c = omega arith
-
-up-to-requires : tie.Need-up-to-requires Inv-loop μ-loop
-up-to-requires c κs = omega arith
-
 loop-less : tie.Need-loop-less Inv-loop μ-loop
 loop-less c = omega (arith, c .up-to .ensures)
 
@@ -50,9 +41,6 @@ loop-again c =
 before-first-requires : tie.Need-before-first-requires Inv-loop μ-loop
 before-first-requires c κs = (omega arith, c .before .marks .ensures .0)
 
-up-to-requires-2 : tie.Need-up-to-requires-2 Inv-loop μ-loop
-up-to-requires-2 c κs = omega arith
-
 -- on to the first mark
 to-p : (c : tie.After-up-to2 Inv-loop μ-loop) → let m = c .before .before .before in
     let a = m .before .before .before .before .args in
@@ -65,19 +53,10 @@ to-p c =
     l .inv .1
     ∙ ap (firstOf (a .buf .now)) (to-mark (a .buf .now) (a .s) (a .t) (a .stop) (l .p) (c .up-to2 .result) (m .marks .result) (n .result) (omega arith) (c .up-to2 .ensures) (m .marks .ensures .1) (n .ensures .0) (n .ensures .1))
 
-forty-requires : tie.Need-forty-requires Inv-loop μ-loop
-forty-requires c κs = search needs
-
 outer-are-syncs-requires : tie.Need-outer-are-syncs-requires Inv-loop μ-loop
 outer-are-syncs-requires c κs =
     let u = c .before .before in
     omega (arith, c .forty .ensures, bits-lt (u .before .before .before .before .before .before .before .args .buf .now) (u .up-to2 .result) 40)
-
-words-of-requires : tie.Need-words-of-requires Inv-loop μ-loop
-words-of-requires c κs = search needs
-
-enum-known-read : tie.Need-enum-known-read Inv-loop μ-loop
-enum-known-read c = search needs
 
 returns : tie.Need-returns Inv-loop μ-loop
 returns c =
@@ -93,15 +72,6 @@ returns c =
     ∙ ap₂ (λ (x y : Bool). x && y) (sym (o .outer-are-syncs .ensures) ∙ w .before .if3 .taken) (ap accepted reads) in
     ap (λ (m : Received). gives (at p m)) (sym reads ∙ ap inner (v .ensures) ∙ inner-is b p)
     ∙ sym (to-p u ∙ ap (firstOf b) (ahead-here b (a .s) (a .t) (a .stop) p (o .before .before .if2 .taken) fit))
-
-enum-told : tie.Need-enum-told Inv-loop μ-loop
-enum-told c = search needs
-
-enum-told-2 : tie.Need-enum-told-2 Inv-loop μ-loop
-enum-told-2 c = search needs
-
-add-p : tie.Need-add-p Inv-loop μ-loop
-add-p c = omega arith
 
 loop-less-2 : tie.Need-loop-less-2 Inv-loop μ-loop
 loop-less-2 c = omega (arith, c .before .before .before .before .up-to2 .ensures)
@@ -145,22 +115,12 @@ first-place-spec =
     Inv-loop
     μ-loop
     loop-holds
-    marks-requires
-    sub-up-to
-    up-to-requires
-    loop-less
+    (λ c κs. search needs) (λ c. omega arith) (λ c κs. omega arith) loop-less
     loop-again
     before-first-requires
-    up-to-requires-2
-    forty-requires
-    outer-are-syncs-requires
-    words-of-requires
-    enum-known-read
-    returns
-    enum-told
-    enum-told-2
-    add-p
-    loop-less-2
+    (λ c κs. omega arith) (λ c κs. search needs) outer-are-syncs-requires
+    (λ c κs. search needs) (λ c. search needs) returns
+    (λ c. search needs) (λ c. search needs) (λ c. omega arith) loop-less-2
     loop-again-2
     loop-less-3
     loop-again-3

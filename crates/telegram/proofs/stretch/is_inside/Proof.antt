@@ -16,24 +16,12 @@ returns c =
     let long : 16777216 < c .before .args .len = omega arith in
     simp (lt-leb _ _ long, and-false)
 
-sub-if2 : tie.Need-sub-if2
-sub-if2 c = search needs
-
 returns-2 : tie.Need-returns-2
 unfolding inside
 returns-2 c =
     let a = c .before .before .args in
     let over : 2 ^ 64 ≤ a .start + a .len = omega arith in
     simp (le-ltb _ _ over, and-false)
-
-add-end : tie.Need-add-end
-add-end c = search needs
-
-add-if3 : tie.Need-add-if3
-add-if3 c = search needs
-
-add-if3-2 : tie.Need-add-if3-2
-add-if3-2 c = search needs
 
 returns-3 : tie.Need-returns-3
 unfolding inside
@@ -53,4 +41,9 @@ returns-4 c =
 
 pub is-inside-spec : {M : Type 1} → statement M
 is-inside-spec =
-    tie.close (tie.spec returns sub-if2 returns-2 add-end add-if3 add-if3-2 returns-3 returns-4)
+    tie.close
+    (tie.spec
+    returns
+    (λ c. search needs) returns-2
+    (λ c. search needs) (λ c. search needs) (λ c. search needs) returns-3
+    returns-4)

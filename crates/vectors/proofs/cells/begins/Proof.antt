@@ -5,9 +5,6 @@ use borrow.Author.Needs.{needs}
 use Rattle.vectors.proofs.cells.begins.Statement.{statement}
 use Rattle.vectors.proofs.cells.begins.Tie as tie
 
-shared-slice-read-result : tie.Need-shared-slice-read-result
-shared-slice-read-result c = search needs
-
 returns : tie.Need-returns
 unfolding begins
 returns c = simp (lt-ltb _ _ (c .before .if1 .taken))
@@ -17,4 +14,8 @@ unfolding begins
 returns-2 c = simp (le-ltb _ _ (c .if1 .left))
 
 pub begins-spec : {M : Type 1} → statement M
-begins-spec = tie.close (tie.spec shared-slice-read-result returns returns-2)
+begins-spec =
+    tie.close
+    (tie.spec
+    (λ c. search needs) returns
+    returns-2)

@@ -8,21 +8,6 @@ use Rattle.vectors.specs.Lines.{shownBy, wordBy, heldBy, putRight, colum
 use Rattle.vectors.proofs.cells.columns.Statement.{statement}
 use Rattle.vectors.proofs.cells.columns.Tie as tie
 
-field-requires : tie.Need-field-requires
-field-requires c κs = search needs
-
-read-off-requires : tie.Need-read-off-requires
-read-off-requires c κs = search needs
-
-field-requires-2 : tie.Need-field-requires-2
-field-requires-2 c κs = search needs
-
-field-requires-3 : tie.Need-field-requires-3
-field-requires-3 c κs = search needs
-
-held-requires : tie.Need-held-requires
-held-requires c κs = search needs
-
 returns : tie.Need-returns
 unfolding columnsOf
 returns c =
@@ -43,12 +28,6 @@ returns-2 c =
     let four : length (column (a .line .now) 4) ≡ 0 = ap length (sym (f .field3 .ensures)) ∙ c .if2 .taken in
     simp (ne-eqb _ _ three, eq-eqb _ _ four)
 
-word-requires : tie.Need-word-requires
-word-requires c κs = search needs
-
-put-right-requires : tie.Need-put-right-requires
-put-right-requires c κs = search needs
-
 returns-3 : tie.Need-returns-3
 unfolding columnsOf
 returns-3 c =
@@ -67,13 +46,6 @@ pub columns-spec : {M : Type 1} → statement M
 columns-spec =
     tie.close
     (tie.spec
-    field-requires
-    read-off-requires
-    field-requires-2
-    field-requires-3
-    held-requires
-    returns
+    (λ c κs. search needs) (λ c κs. search needs) (λ c κs. search needs) (λ c κs. search needs) (λ c κs. search needs) returns
     returns-2
-    word-requires
-    put-right-requires
-    returns-3)
+    (λ c κs. search needs) (λ c κs. search needs) returns-3)

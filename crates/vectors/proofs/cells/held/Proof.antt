@@ -5,15 +5,6 @@ use borrow.Author.Needs.{needs}
 use Rattle.vectors.proofs.cells.held.Statement.{statement}
 use Rattle.vectors.proofs.cells.held.Tie as tie
 
-enum-known-off : tie.Need-enum-known-off
-enum-known-off c = search needs
-
-enum-told : tie.Need-enum-told
-enum-told c = search needs
-
-enum-told-2 : tie.Need-enum-told-2
-enum-told-2 c = search needs
-
 returns : tie.Need-returns
 returns c = ap (heldBy (c .before .before .before .args .figure)) (sym (c .before .off .given .1))
 
@@ -24,4 +15,9 @@ returns-3 : tie.Need-returns-3
 returns-3 c = ap (heldBy (c .before .before .args .figure)) (sym (c .enum-told2 .given .1))
 
 pub held-spec : {M : Type 1} → statement M
-held-spec = tie.close (tie.spec enum-known-off enum-told enum-told-2 returns returns-2 returns-3)
+held-spec =
+    tie.close
+    (tie.spec
+    (λ c. search needs) (λ c. search needs) (λ c. search needs) returns
+    returns-2
+    returns-3)

@@ -5,18 +5,6 @@ use borrow.Author.Needs.{needs}
 use Rattle.vectors.proofs.cells.put_right.Statement.{statement}
 use Rattle.vectors.proofs.cells.put_right.Tie as tie
 
-enum-known-right : tie.Need-enum-known-right
-enum-known-right c = search needs
-
-righted-requires : tie.Need-righted-requires
-righted-requires c κs = search needs
-
-enum-told : tie.Need-enum-told
-enum-told c = search needs
-
-enum-told-2 : tie.Need-enum-told-2
-enum-told-2 c = search needs
-
 returns : tie.Need-returns
 returns c =
     let a = c .before .before .before .before .args in
@@ -33,4 +21,9 @@ returns-3 c =
     ap (putRight (a .figure) (a .off)) (sym (c .enum-told2 .given .1))
 
 pub put-right-spec : {M : Type 1} → statement M
-put-right-spec = tie.close (tie.spec enum-known-right righted-requires enum-told enum-told-2 returns returns-2 returns-3)
+put-right-spec =
+    tie.close
+    (tie.spec
+    (λ c. search needs) (λ c κs. search needs) (λ c. search needs) (λ c. search needs) returns
+    returns-2
+    returns-3)

@@ -15,21 +15,9 @@ use Rattle.vectors.proofs.cells.read.Tie as tie
 figured : (d : tie.After-decimal) → d .decimal .result ≡ decimal (column (d .before .before .before .before .before .args .line .now) 0) 2047
 figured d = d .decimal .ensures ∙ ap (λ (t : List ℕ). decimal t 2047) (d .before .field .ensures)
 
-begins-requires : tie.Need-begins-requires
-begins-requires c κs = search needs
-
 returns : tie.Need-returns
 unfolding cellOf
 returns c = simp (← c .before .begins .ensures, c .if1 .taken)
-
-field-requires : tie.Need-field-requires
-field-requires c κs = search needs
-
-decimal-requires : tie.Need-decimal-requires
-decimal-requires c κs = search needs
-
-enum-known-n : tie.Need-enum-known-n
-enum-known-n c = search needs
 
 cast-columns : tie.Need-cast-columns
 cast-columns c =
@@ -38,15 +26,6 @@ cast-columns c =
     let n = c .before .n .given .0 .0 in
     let e : Figure.Number n ≡ decimal (column line 0) 2047 = sym (c .before .n .given .1) ∙ figured d in
     omega (arith, no-larger (column line 0) 2047 n e)
-
-columns-requires : tie.Need-columns-requires
-columns-requires c κs = search needs
-
-enum-told : tie.Need-enum-told
-enum-told c = search needs
-
-enum-told-2 : tie.Need-enum-told-2
-enum-told-2 c = search needs
 
 returns-2 : tie.Need-returns-2
 unfolding cellOf
@@ -76,15 +55,8 @@ pub read-spec : {M : Type 1} → statement M
 read-spec =
     tie.close
     (tie.spec
-    begins-requires
-    returns
-    field-requires
-    decimal-requires
-    enum-known-n
-    cast-columns
-    columns-requires
-    enum-told
-    enum-told-2
-    returns-2
+    (λ c κs. search needs) returns
+    (λ c κs. search needs) (λ c κs. search needs) (λ c. search needs) cast-columns
+    (λ c κs. search needs) (λ c. search needs) (λ c. search needs) returns-2
     returns-3
     returns-4)

@@ -4,19 +4,17 @@ use borrow.Author.Needs.{needs}
 use Rattle.vectors.proofs.cells.read_off.Statement.{statement}
 use Rattle.vectors.proofs.cells.read_off.Tie as tie
 
-begins-requires : tie.Need-begins-requires
-begins-requires c κs = search needs
-
 returns : tie.Need-returns
 unfolding shownBy
 returns c = simp (← c .before .begins .ensures, c .if1 .taken)
-
-word-requires : tie.Need-word-requires
-word-requires c κs = search needs
 
 returns-2 : tie.Need-returns-2
 unfolding shownBy
 returns-2 c = simp (← c .before .before .begins .ensures, c .before .if1 .left) (c .word .ensures)
 
 pub read-off-spec : {M : Type 1} → statement M
-read-off-spec = tie.close (tie.spec begins-requires returns word-requires returns-2)
+read-off-spec =
+    tie.close
+    (tie.spec
+    (λ c κs. search needs) returns
+    (λ c κs. search needs) returns-2)

@@ -6,15 +6,6 @@ use borrow.Author.Needs.{needs}
 use Rattle.vectors.proofs.cells.righted.Statement.{statement}
 use Rattle.vectors.proofs.cells.righted.Tie as tie
 
-enum-known-off : tie.Need-enum-known-off
-enum-known-off c = search needs
-
-enum-told : tie.Need-enum-told
-enum-told c = search needs
-
-enum-told-2 : tie.Need-enum-told-2
-enum-told-2 c = search needs
-
 returns : tie.Need-returns
 returns c =
     let a = c .before .before .before .args in
@@ -31,4 +22,9 @@ returns-3 c =
     ap (λ (o : Shown). righted (a .figure) o (a .word)) (sym (c .enum-told2 .given .1))
 
 pub righted-spec : {M : Type 1} → statement M
-righted-spec = tie.close (tie.spec enum-known-off enum-told enum-told-2 returns returns-2 returns-3)
+righted-spec =
+    tie.close
+    (tie.spec
+    (λ c. search needs) (λ c. search needs) (λ c. search needs) returns
+    returns-2
+    returns-3)

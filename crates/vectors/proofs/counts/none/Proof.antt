@@ -10,14 +10,11 @@ use Rattle.vectors.proofs.counts.none.Tie as tie
 abbrev only : Cells → Cells → Counts
 only x y = record { cells = 0; readable = x; right = y; misread = 0; refused = 0; absent = 0; unreadable = 0; differences = 0; next = 0 }
 
-no-cells-requires : tie.Need-no-cells-requires
-no-cells-requires c κs = search needs
-
-no-cells-requires-2 : tie.Need-no-cells-requires-2
-no-cells-requires-2 c κs = search needs
-
 returns : tie.Need-returns
 returns c = ap₂ only (c .before .no-cells .ensures) (c .no-cells2 .ensures)
 
 pub none-spec : {M : Type 1} → statement M
-none-spec = tie.close (tie.spec no-cells-requires no-cells-requires-2 returns)
+none-spec =
+    tie.close
+    (tie.spec
+    (λ c κs. search needs) (λ c κs. search needs) returns)

@@ -4,21 +4,12 @@ use borrow.Author.Needs.{needs}
 use Rattle.vectors.proofs.counts.one_more.Statement.{statement}
 use Rattle.vectors.proofs.counts.one_more.Tie as tie
 
-more-requires : tie.Need-more-requires
-more-requires c κs = search needs
-
-more-requires-2 : tie.Need-more-requires-2
-more-requires-2 c κs = search needs
-
-more-requires-3 : tie.Need-more-requires-3
-more-requires-3 c κs = search needs
-
-more-requires-4 : tie.Need-more-requires-4
-more-requires-4 c κs = search needs
-
 returns : tie.Need-returns
 unfolding oneMore
 returns c = simp (← c .before .before .before .more .ensures, ← c .before .before .more2 .ensures, ← c .before .more3 .ensures, ← c .more4 .ensures)
 
 pub one-more-spec : {M : Type 1} → statement M
-one-more-spec = tie.close (tie.spec more-requires more-requires-2 more-requires-3 more-requires-4 returns)
+one-more-spec =
+    tie.close
+    (tie.spec
+    (λ c κs. search needs) (λ c κs. search needs) (λ c κs. search needs) (λ c κs. search needs) returns)

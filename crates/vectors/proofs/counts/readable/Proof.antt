@@ -4,15 +4,12 @@ use borrow.Author.Needs.{needs}
 use Rattle.vectors.proofs.counts.readable.Statement.{statement}
 use Rattle.vectors.proofs.counts.readable.Tie as tie
 
-one-more-requires : tie.Need-one-more-requires
-one-more-requires c κs = search needs
-
-missed-requires : tie.Need-missed-requires
-missed-requires c κs = search needs
-
 returns : tie.Need-returns
 unfolding readableCell
 returns c = simp (← c .before .one-more .ensures, ← c .missed .ensures)
 
 pub readable-spec : {M : Type 1} → statement M
-readable-spec = tie.close (tie.spec one-more-requires missed-requires returns)
+readable-spec =
+    tie.close
+    (tie.spec
+    (λ c κs. search needs) (λ c κs. search needs) returns)

@@ -4,12 +4,12 @@ use borrow.Author.Needs.{needs}
 use Rattle.vectors.proofs.counts.unknown.Statement.{statement}
 use Rattle.vectors.proofs.counts.unknown.Tie as tie
 
-more-requires : tie.Need-more-requires
-more-requires c κs = search needs
-
 returns : tie.Need-returns
 unfolding unknownLine
 returns c = simp (← c .more .ensures)
 
 pub unknown-spec : {M : Type 1} → statement M
-unknown-spec = tie.close (tie.spec more-requires returns)
+unknown-spec =
+    tie.close
+    (tie.spec
+    (λ c κs. search needs) returns)

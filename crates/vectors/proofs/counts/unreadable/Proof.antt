@@ -4,12 +4,12 @@ use borrow.Author.Needs.{needs}
 use Rattle.vectors.proofs.counts.unreadable.Statement.{statement}
 use Rattle.vectors.proofs.counts.unreadable.Tie as tie
 
-more-requires : tie.Need-more-requires
-more-requires c κs = search needs
-
 returns : tie.Need-returns
 unfolding unreadableCell
 returns c = simp (← c .more .ensures)
 
 pub unreadable-spec : {M : Type 1} → statement M
-unreadable-spec = tie.close (tie.spec more-requires returns)
+unreadable-spec =
+    tie.close
+    (tie.spec
+    (λ c κs. search needs) returns)

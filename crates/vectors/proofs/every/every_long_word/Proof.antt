@@ -10,37 +10,11 @@ Inv-loop t₀ word₀ t word = Unit {0}
 abbrev μ-loop : tie.MeasureT-loop
 μ-loop t₀ word₀ t word = 65536 - word
 
-loop-holds : tie.Need-loop-holds Inv-loop μ-loop
-loop-holds c = search needs
-
-cast-long-word : tie.Need-cast-long-word Inv-loop μ-loop
-cast-long-word c = search needs
-
-long-word-requires : tie.Need-long-word-requires Inv-loop μ-loop
-long-word-requires c κs = search needs
-
-add-word : tie.Need-add-word Inv-loop μ-loop
-add-word c = search needs
-
-loop-less : tie.Need-loop-less Inv-loop μ-loop
-loop-less c = search needs
-
-loop-again : tie.Need-loop-again Inv-loop μ-loop
-loop-again c = search needs
-
-returns : tie.Need-returns Inv-loop μ-loop
-returns c = search needs
-
 pub every-long-word-spec : {M : Type 1} → statement M
 every-long-word-spec =
     tie.close
     (tie.spec
     Inv-loop
     μ-loop
-    loop-holds
-    cast-long-word
-    long-word-requires
-    add-word
-    loop-less
-    loop-again
-    returns)
+    (λ c. search needs) (λ c. search needs) (λ c κs. search needs) (λ c. search needs) (λ c. search needs) (λ c. search needs)
+    (λ c. search needs))

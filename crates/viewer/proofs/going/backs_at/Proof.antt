@@ -15,27 +15,12 @@ use borrow.Author.Needs.{needs}
 use Rattle.viewer.proofs.going.backs_at.Statement.{statement}
 use Rattle.viewer.proofs.going.backs_at.Tie as tie
 
-kept-for-requires : tie.Need-kept-for-requires
-kept-for-requires c κs = search needs
-
-smaller-requires : tie.Need-smaller-requires
-smaller-requires c κs = search needs
-
 returns : tie.Need-returns
 returns c =
     let m = c .before in
     let a = m .before .before .args in
     ap {B = Back} (λ (o : Outcome Done). record { answer = o; stand = a .stand }) (m .before .kept-for .ensures)
     ∙ backs-stay (a .times) (a .stand) (sym (m .smaller .ensures) ∙ c .if1 .taken)
-
-less-requires : tie.Need-less-requires
-less-requires c κs = search needs
-
-mul-ride : tie.Need-mul-ride
-mul-ride c = search needs
-
-array-copy-out-ride : tie.Need-array-copy-out-ride
-array-copy-out-ride c = search needs
 
 -- no farther than what is kept
 within : (b : Bool) (times kept : ℕ) → leb times kept ≡ b → pick b times kept ≤ kept
@@ -68,11 +53,6 @@ pub backs-at-spec : {M : Type 1} → statement M
 backs-at-spec =
     tie.close
     (tie.spec
-    kept-for-requires
-    smaller-requires
-    returns
-    less-requires
-    mul-ride
-    array-copy-out-ride
-    sub-t11
+    (λ c κs. search needs) (λ c κs. search needs) returns
+    (λ c κs. search needs) (λ c. search needs) (λ c. search needs) sub-t11
     returns-2)

@@ -12,18 +12,6 @@ returns c =
     let a = c .before .before .args in
     forwards-none (a .times) (a .trace .now) (a .stand) (c .if1 .taken)
 
-at-requires : tie.Need-at-requires
-at-requires c κs = search needs
-
-enum-told : tie.Need-enum-told
-enum-told c = search needs
-
-forward-at-requires : tie.Need-forward-at-requires
-forward-at-requires c κs = search needs
-
-enum-known-asked : tie.Need-enum-known-asked
-enum-known-asked c = search needs
-
 over-requires : tie.Need-over-requires
 over-requires c κs =
     let k = c .before in
@@ -50,10 +38,6 @@ forwards-at-spec =
     tie.close
     (tie.spec
     returns
-    at-requires
-    enum-told
-    forward-at-requires
-    enum-known-asked
-    over-requires
+    (λ c κs. search needs) (λ c. search needs) (λ c κs. search needs) (λ c. search needs) over-requires
     returns-2
     returns-3)

@@ -42,27 +42,6 @@ loop-holds c =
     let s = c .before .before .before .before in
     (rw (s .pre .1) (holding-at (s .args .from .settings) 0 (s .pre .0)), refl)
 
-odometer-at-requires : tie.Need-odometer-at-requires Inv-loop μ-loop
-odometer-at-requires c κs = tt
-
-leaves-requires : tie.Need-leaves-requires Inv-loop μ-loop
-leaves-requires c κs = tt
-
-hold-requires : tie.Need-hold-requires Inv-loop μ-loop
-hold-requires c κs = tt
-
-treat-at-requires : tie.Need-treat-at-requires Inv-loop μ-loop
-treat-at-requires c κs = tt
-
-mul-last : tie.Need-mul-last Inv-loop μ-loop
-mul-last c = search needs
-
-array-set-from-last : tie.Need-array-set-from-last Inv-loop μ-loop
-array-set-from-last c = search needs
-
-one-more-requires : tie.Need-one-more-requires Inv-loop μ-loop
-one-more-requires c κs = tt
-
 -- what the loop's test says: a time is left, and a record
 both : (a b : Bool) → (a && b) ≡ true → (a ≡ true) × (b ≡ true)
 both true true e = (refl, refl)
@@ -115,9 +94,6 @@ loop-again c =
           ∙ l .loop .inv .1,
     )
 
-ended-requires : tie.Need-ended-requires Inv-loop μ-loop
-ended-requires c κs = tt
-
 returns : tie.Need-returns Inv-loop μ-loop
 returns c =
     let l = c .before .before in
@@ -134,16 +110,9 @@ over-spec =
     Inv-loop
     μ-loop
     loop-holds
-    odometer-at-requires
-    leaves-requires
-    hold-requires
-    treat-at-requires
-    mul-last
-    array-set-from-last
-    one-more-requires
-    add-number
+    (λ c κs. tt) (λ c κs. tt) (λ c κs. tt) (λ c κs. tt) (λ c. search needs) (λ c. search needs)
+    (λ c κs. tt) add-number
     sub-left
     loop-less
     loop-again
-    ended-requires
-    returns)
+    (λ c κs. tt) returns)

@@ -22,12 +22,6 @@ abbrev μ-loop : tie.MeasureT-loop
 loop-holds : tie.Need-loop-holds Inv-loop μ-loop
 loop-holds c = (omega arith, omega arith, omega arith)
 
-odometer-at-requires : tie.Need-odometer-at-requires Inv-loop μ-loop
-odometer-at-requires c κs = tt
-
-cast-if1 : tie.Need-cast-if1 Inv-loop μ-loop
-cast-if1 c = search needs
-
 returns : tie.Need-returns Inv-loop μ-loop
 returns c =
     let o = c .before in
@@ -37,15 +31,6 @@ returns c =
     let none = times-there (a .place) (a .trace .now) (l .loop .i) (o .odometer-at .result) (o .before .loop-test .taken) (o .odometer-at .ensures) there in
     omega (arith, l .loop .inv .2)
 
-add-i : tie.Need-add-i Inv-loop μ-loop
-add-i c = search needs
-
-add-times : tie.Need-add-times Inv-loop μ-loop
-add-times c = search needs
-
-loop-less : tie.Need-loop-less Inv-loop μ-loop
-loop-less c = omega arith
-
 loop-again : tie.Need-loop-again Inv-loop μ-loop
 loop-again c =
     let o = c .before in
@@ -54,9 +39,6 @@ loop-again c =
     let short : o .odometer-at .result < a .place = omega (arith, c .if1 .left) in
     let more = times-next (a .place) (a .trace .now) (l .loop .i) (o .odometer-at .result) (o .before .loop-test .taken) (o .odometer-at .ensures) short in
     (omega (arith, l .loop .inv .0), omega (arith, l .loop .inv .0), omega (arith, l .loop .inv .2))
-
-add-result : tie.Need-add-result Inv-loop μ-loop
-add-result c = search needs
 
 returns-2 : tie.Need-returns-2 Inv-loop μ-loop
 returns-2 c =
@@ -72,12 +54,6 @@ times-to-spec =
     Inv-loop
     μ-loop
     loop-holds
-    odometer-at-requires
-    cast-if1
-    returns
-    add-i
-    add-times
-    loop-less
-    loop-again
-    add-result
-    returns-2)
+    (λ c κs. tt) (λ c. search needs) returns
+    (λ c. search needs) (λ c. search needs) (λ c. omega arith) loop-again
+    (λ c. search needs) returns-2)

@@ -14,18 +14,6 @@ use Rattle.viewer.proofs.moving.back_at.Tie as tie
 returns : tie.Need-returns
 returns c = back-none _ (eq-eqb _ _ (c .if1 .taken))
 
-one-less-requires : tie.Need-one-less-requires
-one-less-requires c κs = search needs
-
-mul-ride : tie.Need-mul-ride
-mul-ride c = search needs
-
-array-copy-out-ride : tie.Need-array-copy-out-ride
-array-copy-out-ride c = search needs
-
-sub-t9 : tie.Need-sub-t9
-sub-t9 c = search needs
-
 returns-2 : tie.Need-returns-2
 unfolding returned
 returns-2 c =
@@ -37,4 +25,7 @@ returns-2 c =
 
 pub back-at-spec : {M : Type 1} → statement M
 back-at-spec =
-    tie.close (tie.spec returns one-less-requires mul-ride array-copy-out-ride sub-t9 returns-2)
+    tie.close
+    (tie.spec
+    returns
+    (λ c κs. search needs) (λ c. search needs) (λ c. search needs) (λ c. search needs) returns-2)

@@ -11,31 +11,10 @@ use borrow.Author.Needs.{needs}
 use Rattle.viewer.proofs.moving.forward_at.Statement.{statement}
 use Rattle.viewer.proofs.moving.forward_at.Tie as tie
 
-unmoved-requires : tie.Need-unmoved-requires
-unmoved-requires c κs = search needs
-
 returns : tie.Need-returns
 returns c =
     let a = c .before .before .before .args in
     c .unmoved .ensures ∙ forward-end (a .trace .now) (a .stand) (c .before .if1 .taken)
-
-at-requires : tie.Need-at-requires
-at-requires c κs = search needs
-
-enum-known-asked : tie.Need-enum-known-asked
-enum-known-asked c = search needs
-
-unmoved-requires-2 : tie.Need-unmoved-requires-2
-unmoved-requires-2 c κs = search needs
-
-enum-known-asked-2 : tie.Need-enum-known-asked-2
-enum-known-asked-2 c = search needs
-
-odometer-at-requires : tie.Need-odometer-at-requires
-odometer-at-requires c κs = search needs
-
-held-for-requires : tie.Need-held-for-requires
-held-for-requires c κs = search needs
 
 -- what is held for the record
 for-record : (c : tie.After-held-for) →
@@ -78,14 +57,7 @@ pub forward-at-spec : {M : Type 1} → statement M
 forward-at-spec =
     tie.close
     (tie.spec
-    unmoved-requires
-    returns
-    at-requires
-    enum-known-asked
-    unmoved-requires-2
-    enum-known-asked-2
-    odometer-at-requires
-    held-for-requires
-    step-at-requires
+    (λ c κs. search needs) returns
+    (λ c κs. search needs) (λ c. search needs) (λ c κs. search needs) (λ c. search needs) (λ c κs. search needs) (λ c κs. search needs) step-at-requires
     returns-2
     returns-3)

@@ -5,12 +5,6 @@ use borrow.Author.Needs.{needs}
 use Rattle.viewer.proofs.moving.held_for.Statement.{statement}
 use Rattle.viewer.proofs.moving.held_for.Tie as tie
 
-leaves-requires : tie.Need-leaves-requires
-leaves-requires c κs = search needs
-
-hold-requires : tie.Need-hold-requires
-hold-requires c κs = search needs
-
 returns : tie.Need-returns
 returns c =
     let i = c .before in
@@ -23,4 +17,8 @@ returns-2 c =
     stays-for (a .store) (a .first) (a .first) (a .odometer) (sym (c .before .leaves .ensures) ∙ c .if1 .left) refl
 
 pub held-for-spec : {M : Type 1} → statement M
-held-for-spec = tie.close (tie.spec leaves-requires hold-requires returns returns-2)
+held-for-spec =
+    tie.close
+    (tie.spec
+    (λ c κs. search needs) (λ c κs. search needs) returns
+    returns-2)

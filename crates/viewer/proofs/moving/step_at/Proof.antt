@@ -15,15 +15,6 @@ use borrow.Author.Needs.{needs}
 use Rattle.viewer.proofs.moving.step_at.Statement.{statement}
 use Rattle.viewer.proofs.moving.step_at.Tie as tie
 
-treat-at-requires : tie.Need-treat-at-requires
-treat-at-requires c κs = search needs
-
-enum-known-reply : tie.Need-enum-known-reply
-enum-known-reply c = search needs
-
-unmoved-requires : tie.Need-unmoved-requires
-unmoved-requires c κs = search needs
-
 returns : tie.Need-returns
 returns c =
     let t = c .before .before in
@@ -33,15 +24,6 @@ returns c =
     (let none = past (a .stand .ride) (a .held .gap) (a .trace .now) (a .stand .number) (t .treat-at .result) (s .pre .1) (t .treat-at .ensures) (c .before .match .keys2) in
     let some = s .pre .0 in
     omega arith)
-
-add-lines-of : tie.Need-add-lines-of
-add-lines-of c = search needs
-
-lines-of-requires : tie.Need-lines-of-requires
-lines-of-requires c κs = search needs
-
-pass-requires : tie.Need-pass-requires
-pass-requires c κs = search needs
 
 returns-2 : tie.Need-returns-2
 returns-2 c =
@@ -56,4 +38,8 @@ returns-2 c =
     ∙ ap (byStep (a .stand)) (one .step)
 
 pub step-at-spec : {M : Type 1} → statement M
-step-at-spec = tie.close (tie.spec treat-at-requires enum-known-reply unmoved-requires returns add-lines-of lines-of-requires pass-requires returns-2)
+step-at-spec =
+    tie.close
+    (tie.spec
+    (λ c κs. search needs) (λ c. search needs) (λ c κs. search needs) returns
+    (λ c. search needs) (λ c κs. search needs) (λ c κs. search needs) returns-2)

@@ -4,12 +4,12 @@ use borrow.Author.Needs.{needs}
 use Rattle.viewer.proofs.moving.unmoved.Statement.{statement}
 use Rattle.viewer.proofs.moving.unmoved.Tie as tie
 
-fresh-requires : tie.Need-fresh-requires
-fresh-requires c κs = search needs
-
 returns : tie.Need-returns
 unfolding freshRide
 returns c = simp (c .before .fresh .ensures)
 
 pub unmoved-spec : {M : Type 1} → statement M
-unmoved-spec = tie.close (tie.spec fresh-requires returns)
+unmoved-spec =
+    tie.close
+    (tie.spec
+    (λ c κs. search needs) returns)

@@ -9,15 +9,6 @@ use borrow.Author.Needs.{needs}
 use Rattle.viewer.proofs.opening.begins.Statement.{statement}
 use Rattle.viewer.proofs.opening.begins.Tie as tie
 
-at-requires : tie.Need-at-requires
-at-requires c κs = search needs
-
-enum-known-asked : tie.Need-enum-known-asked
-enum-known-asked c = search needs
-
-enum-told : tie.Need-enum-told
-enum-told c = search needs
-
 returns : tie.Need-returns
 returns c =
     let e = c .before in
@@ -43,4 +34,8 @@ returns-3 c =
 
 pub begins-spec : {M : Type 1} → statement M
 begins-spec =
-    tie.close (tie.spec at-requires enum-known-asked enum-told returns returns-2 returns-3)
+    tie.close
+    (tie.spec
+    (λ c κs. search needs) (λ c. search needs) (λ c. search needs) returns
+    returns-2
+    returns-3)

@@ -4,12 +4,12 @@ use borrow.Author.Needs.{needs}
 use Rattle.viewer.proofs.opening.fresh.Statement.{statement}
 use Rattle.viewer.proofs.opening.fresh.Tie as tie
 
-fresh-requires : tie.Need-fresh-requires
-fresh-requires c κs = search needs
-
 returns : tie.Need-returns
 unfolding opened
 returns c = simp (c .fresh .ensures)
 
 pub fresh-spec : {M : Type 1} → statement M
-fresh-spec = tie.close (tie.spec fresh-requires returns)
+fresh-spec =
+    tie.close
+    (tie.spec
+    (λ c κs. search needs) returns)

@@ -7,12 +7,6 @@ use borrow.Author.Needs.{needs}
 use Rattle.viewer.proofs.opening.seen.Statement.{statement}
 use Rattle.viewer.proofs.opening.seen.Tie as tie
 
-begin-requires : tie.Need-begin-requires
-begin-requires c κs = search needs
-
-seen-under-requires : tie.Need-seen-under-requires
-seen-under-requires c κs = search needs
-
 returns : tie.Need-returns
 returns c =
     let b = c .before .before in
@@ -20,4 +14,7 @@ returns c =
     c .seen-under .ensures ∙ ap (λ (s : Store). startUnder s (a .trace .now) .trace) (ap (λ (x : Change). x .store) (b .begin .ensures))
 
 pub seen-spec : {M : Type 1} → statement M
-seen-spec = tie.close (tie.spec begin-requires seen-under-requires returns)
+seen-spec =
+    tie.close
+    (tie.spec
+    (λ c κs. search needs) (λ c κs. search needs) returns)

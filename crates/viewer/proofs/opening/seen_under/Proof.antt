@@ -9,39 +9,12 @@ use borrow.Author.Needs.{needs}
 use Rattle.viewer.proofs.opening.seen_under.Statement.{statement}
 use Rattle.viewer.proofs.opening.seen_under.Tie as tie
 
-at-requires : tie.Need-at-requires
-at-requires c κs = search needs
-
-enum-told : tie.Need-enum-told
-enum-told c = search needs
-
-enum-told-2 : tie.Need-enum-told-2
-enum-told-2 c = search needs
-
-sub-result : tie.Need-sub-result
-sub-result c = search needs
-
-part-result-start : tie.Need-part-result-start
-part-result-start c = search needs
-
-part-result-end : tie.Need-part-result-end
-part-result-end c = search needs
-
 returns : tie.Need-returns
 returns c =
     let k = c .before in
     let q = k .before .before in
     let a = q .before .before .args in
     ap (λ (s : Start). s .trace) (open-refused (a .store) (a .trace .now) _ (store-refused (a .store) _ (sym (q .at .ensures) ∙ ap saysAsked (k .enum-told2 .given .1))))
-
-sub-result-2 : tie.Need-sub-result-2
-sub-result-2 c = search needs
-
-part-result-start-2 : tie.Need-part-result-start-2
-part-result-start-2 c = search needs
-
-part-result-end-2 : tie.Need-part-result-end-2
-part-result-end-2 c = search needs
 
 returns-2 : tie.Need-returns-2
 returns-2 c =
@@ -64,15 +37,6 @@ pub seen-under-spec : {M : Type 1} → statement M
 seen-under-spec =
     tie.close
     (tie.spec
-    at-requires
-    enum-told
-    enum-told-2
-    sub-result
-    part-result-start
-    part-result-end
-    returns
-    sub-result-2
-    part-result-start-2
-    part-result-end-2
-    returns-2
+    (λ c κs. search needs) (λ c. search needs) (λ c. search needs) (λ c. search needs) (λ c. search needs) (λ c. search needs) returns
+    (λ c. search needs) (λ c. search needs) (λ c. search needs) returns-2
     returns-3)

@@ -7,12 +7,6 @@ use borrow.Author.Needs.{needs}
 use Rattle.viewer.proofs.opening.start_at.Statement.{statement}
 use Rattle.viewer.proofs.opening.start_at.Tie as tie
 
-begin-requires : tie.Need-begin-requires
-begin-requires c κs = search needs
-
-start-under-at-requires : tie.Need-start-under-at-requires
-start-under-at-requires c κs = search needs
-
 returns : tie.Need-returns
 returns c =
     let b = c .before .before in
@@ -20,4 +14,7 @@ returns c =
     c .start-under-at .ensures ∙ ap (λ (s : Store). startUnder s (a .trace .now)) (ap (λ (x : Change). x .store) (b .begin .ensures))
 
 pub start-at-spec : {M : Type 1} → statement M
-start-at-spec = tie.close (tie.spec begin-requires start-under-at-requires returns)
+start-at-spec =
+    tie.close
+    (tie.spec
+    (λ c κs. search needs) (λ c κs. search needs) returns)

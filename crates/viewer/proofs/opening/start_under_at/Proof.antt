@@ -17,12 +17,6 @@ use borrow.Author.Needs.{needs}
 use Rattle.viewer.proofs.opening.start_under_at.Statement.{statement}
 use Rattle.viewer.proofs.opening.start_under_at.Tie as tie
 
-begins-requires : tie.Need-begins-requires
-begins-requires c κs = search needs
-
-fresh-requires : tie.Need-fresh-requires
-fresh-requires c κs = search needs
-
 -- what is answered tells what of the trace is held
 held-by : (o : Outcome Kept) (d : Bool) (store : Store) (trace : List ℕ) → judged store ≡ o → eqb (length trace % 8) 0 ≡ d
     → _≡_ {A = Start} (record { answer = startUnder store trace .answer; trace = traceOf (startUnder store trace .answer) trace; stand = opened store }) (startUnder store trace)
@@ -41,4 +35,7 @@ returns c =
     ∙ held-by (judged (a .store)) (eqb (length trace % 8) 0) (a .store) trace refl refl
 
 pub start-under-at-spec : {M : Type 1} → statement M
-start-under-at-spec = tie.close (tie.spec begins-requires fresh-requires returns)
+start-under-at-spec =
+    tie.close
+    (tie.spec
+    (λ c κs. search needs) (λ c κs. search needs) returns)

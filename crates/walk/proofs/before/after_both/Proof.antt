@@ -7,21 +7,6 @@ use borrow.Author.Needs.{needs}
 use Rattle.walk.proofs.before.after_both.Statement.{statement}
 use Rattle.walk.proofs.before.after_both.Tie as tie
 
-enum-known-part : tie.Need-enum-known-part
-enum-known-part c = search needs
-
-present-requires : tie.Need-present-requires
-present-requires c κs = search needs
-
-present-requires-2 : tie.Need-present-requires-2
-present-requires-2 c κs = search needs
-
-enum-told : tie.Need-enum-told
-enum-told c = search needs
-
-enum-told-2 : tie.Need-enum-told-2
-enum-told-2 c = search needs
-
 returns : tie.Need-returns
 returns c =
     let k = c .before in
@@ -39,23 +24,11 @@ returns-3 c =
     let r = c .match2 .rest in
     simp (g .1, ne-eqb x 10 (r .1), ne-eqb x 1 (λ e. (r .0 .1) (inl e)), ne-eqb x 4 (λ e. (r .0 .1) (inr e)))
 
-returns-4 : tie.Need-returns-4
-returns-4 c = search needs
-
-returns-5 : tie.Need-returns-5
-returns-5 c = search needs
-
 pub after-both-spec : {M : Type 1} → statement M
 after-both-spec =
     tie.close
     (tie.spec
-    enum-known-part
-    present-requires
-    present-requires-2
-    enum-told
-    enum-told-2
-    returns
+    (λ c. search needs) (λ c κs. search needs) (λ c κs. search needs) (λ c. search needs) (λ c. search needs) returns
     returns-2
     returns-3
-    returns-4
-    returns-5)
+    (λ c. search needs) (λ c. search needs))

@@ -9,21 +9,6 @@ use borrow.Author.Needs.{needs}
 use Rattle.walk.proofs.before.after_eight.Statement.{statement}
 use Rattle.walk.proofs.before.after_eight.Tie as tie
 
-enum-known-part : tie.Need-enum-known-part
-enum-known-part c = search needs
-
-present-requires : tie.Need-present-requires
-present-requires c κs = search needs
-
-after-both-requires : tie.Need-after-both-requires
-after-both-requires c κs = search needs
-
-enum-told : tie.Need-enum-told
-enum-told c = search needs
-
-enum-told-2 : tie.Need-enum-told-2
-enum-told-2 c = search needs
-
 returns : tie.Need-returns
 returns c =
     let k = c .before .before in
@@ -46,23 +31,11 @@ returns-3 c =
     let g = k .before .before .part .given in
     simp (g .1, ne-eqb (g .0 .0) 2 (k .match2 .rest .1)) (simp (g .1) at (c .after-both .ensures))
 
-returns-4 : tie.Need-returns-4
-returns-4 c = search needs
-
-returns-5 : tie.Need-returns-5
-returns-5 c = search needs
-
 pub after-eight-spec : {M : Type 1} → statement M
 after-eight-spec =
     tie.close
     (tie.spec
-    enum-known-part
-    present-requires
-    after-both-requires
-    enum-told
-    enum-told-2
-    returns
+    (λ c. search needs) (λ c κs. search needs) (λ c κs. search needs) (λ c. search needs) (λ c. search needs) returns
     returns-2
     returns-3
-    returns-4
-    returns-5)
+    (λ c. search needs) (λ c. search needs))

@@ -8,21 +8,6 @@ use borrow.Author.Needs.{needs}
 use Rattle.walk.proofs.before.after_marker.Statement.{statement}
 use Rattle.walk.proofs.before.after_marker.Tie as tie
 
-enum-known-part : tie.Need-enum-known-part
-enum-known-part c = search needs
-
-opposite-requires : tie.Need-opposite-requires
-opposite-requires c κs = search needs
-
-opposite-requires-2 : tie.Need-opposite-requires-2
-opposite-requires-2 c κs = search needs
-
-enum-told : tie.Need-enum-told
-enum-told c = search needs
-
-enum-told-2 : tie.Need-enum-told-2
-enum-told-2 c = search needs
-
 returns : tie.Need-returns
 returns c = c .opposite .ensures ∙ rw (c .before .before .before .part .given .1, c .before .match2 .keys1)
 
@@ -57,25 +42,13 @@ returns-5 c =
     let g = c .before .before .part .given in
     simp (g .1, ne-eqb (g .0 .0) 3 (c .match2 .rest .1), ne-eqb (g .0 .0) 2 (c .match2 .rest .0 .1))
 
-returns-6 : tie.Need-returns-6
-returns-6 c = search needs
-
-returns-7 : tie.Need-returns-7
-returns-7 c = search needs
-
 pub after-marker-spec : {M : Type 1} → statement M
 after-marker-spec =
     tie.close
     (tie.spec
-    enum-known-part
-    opposite-requires
-    opposite-requires-2
-    enum-told
-    enum-told-2
-    returns
+    (λ c. search needs) (λ c κs. search needs) (λ c κs. search needs) (λ c. search needs) (λ c. search needs) returns
     returns-2
     returns-3
     returns-4
     returns-5
-    returns-6
-    returns-7)
+    (λ c. search needs) (λ c. search needs))

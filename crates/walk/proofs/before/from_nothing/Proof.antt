@@ -6,42 +6,6 @@ use borrow.Author.Needs.{needs}
 use Rattle.walk.proofs.before.from_nothing.Statement.{statement}
 use Rattle.walk.proofs.before.from_nothing.Tie as tie
 
-enum-known-part : tie.Need-enum-known-part
-enum-known-part c = search needs
-
-to-requires : tie.Need-to-requires
-to-requires c κs = search needs
-
-to-requires-2 : tie.Need-to-requires-2
-to-requires-2 c κs = search needs
-
-line-requires : tie.Need-line-requires
-line-requires c κs = search needs
-
-route-requires : tie.Need-route-requires
-route-requires c κs = search needs
-
-to-requires-3 : tie.Need-to-requires-3
-to-requires-3 c κs = search needs
-
-to-requires-4 : tie.Need-to-requires-4
-to-requires-4 c κs = search needs
-
-after-eight-requires : tie.Need-after-eight-requires
-after-eight-requires c κs = search needs
-
-enum-told : tie.Need-enum-told
-enum-told c = search needs
-
-to-requires-5 : tie.Need-to-requires-5
-to-requires-5 c κs = search needs
-
-enum-told-2 : tie.Need-enum-told-2
-enum-told-2 c = search needs
-
-to-requires-6 : tie.Need-to-requires-6
-to-requires-6 c κs = search needs
-
 returns : tie.Need-returns
 returns c = c .to .ensures ∙ rw (c .before .before .before .part .given .1, c .before .match2 .keys1)
 
@@ -86,19 +50,8 @@ pub from-nothing-spec : {M : Type 1} → statement M
 from-nothing-spec =
     tie.close
     (tie.spec
-    enum-known-part
-    to-requires
-    to-requires-2
-    line-requires
-    route-requires
-    to-requires-3
-    to-requires-4
-    after-eight-requires
-    enum-told
-    to-requires-5
-    enum-told-2
-    to-requires-6
-    returns
+    (λ c. search needs) (λ c κs. search needs) (λ c κs. search needs) (λ c κs. search needs) (λ c κs. search needs) (λ c κs. search needs)
+    (λ c κs. search needs) (λ c κs. search needs) (λ c. search needs) (λ c κs. search needs) (λ c. search needs) (λ c κs. search needs) returns
     returns-2
     returns-3
     returns-4

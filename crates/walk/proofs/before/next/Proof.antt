@@ -5,60 +5,6 @@ use borrow.Author.Needs.{needs}
 use Rattle.walk.proofs.before.next.Statement.{statement}
 use Rattle.walk.proofs.before.next.Tie as tie
 
-enum-told : tie.Need-enum-told
-enum-told c = search needs
-
-from-nothing-requires : tie.Need-from-nothing-requires
-from-nothing-requires c κs = search needs
-
-enum-told-2 : tie.Need-enum-told-2
-enum-told-2 c = search needs
-
-after-number-requires : tie.Need-after-number-requires
-after-number-requires c κs = search needs
-
-enum-told-3 : tie.Need-enum-told-3
-enum-told-3 c = search needs
-
-after-eight-requires : tie.Need-after-eight-requires
-after-eight-requires c κs = search needs
-
-enum-told-4 : tie.Need-enum-told-4
-enum-told-4 c = search needs
-
-after-both-requires : tie.Need-after-both-requires
-after-both-requires c κs = search needs
-
-enum-told-5 : tie.Need-enum-told-5
-enum-told-5 c = search needs
-
-is-category-requires : tie.Need-is-category-requires
-is-category-requires c κs = search needs
-
-to-requires : tie.Need-to-requires
-to-requires c κs = search needs
-
-enum-told-6 : tie.Need-enum-told-6
-enum-told-6 c = search needs
-
-after-nine-requires : tie.Need-after-nine-requires
-after-nine-requires c κs = search needs
-
-enum-told-7 : tie.Need-enum-told-7
-enum-told-7 c = search needs
-
-after-marker-requires : tie.Need-after-marker-requires
-after-marker-requires c κs = search needs
-
-enum-told-8 : tie.Need-enum-told-8
-enum-told-8 c = search needs
-
-is-category-requires-2 : tie.Need-is-category-requires-2
-is-category-requires-2 c κs = search needs
-
-opposite-requires : tie.Need-opposite-requires
-opposite-requires c κs = search needs
-
 returns : tie.Need-returns
 returns c = rw (c .before .enum-told .given .1) (c .from-nothing .ensures)
 
@@ -93,25 +39,9 @@ pub next-spec : {M : Type 1} → statement M
 next-spec =
     tie.close
     (tie.spec
-    enum-told
-    from-nothing-requires
-    enum-told-2
-    after-number-requires
-    enum-told-3
-    after-eight-requires
-    enum-told-4
-    after-both-requires
-    enum-told-5
-    is-category-requires
-    to-requires
-    enum-told-6
-    after-nine-requires
-    enum-told-7
-    after-marker-requires
-    enum-told-8
-    is-category-requires-2
-    opposite-requires
-    returns
+    (λ c. search needs) (λ c κs. search needs) (λ c. search needs) (λ c κs. search needs) (λ c. search needs) (λ c κs. search needs)
+    (λ c. search needs) (λ c κs. search needs) (λ c. search needs) (λ c κs. search needs) (λ c κs. search needs) (λ c. search needs)
+    (λ c κs. search needs) (λ c. search needs) (λ c κs. search needs) (λ c. search needs) (λ c κs. search needs) (λ c κs. search needs) returns
     returns-2
     returns-3
     returns-4

@@ -9,12 +9,6 @@ use borrow.Author.Needs.{needs}
 use Rattle.walk.proofs.picks.line.Statement.{statement}
 use Rattle.walk.proofs.picks.line.Tie as tie
 
-present-requires : tie.Need-present-requires
-present-requires c κs = search needs
-
-present-requires-2 : tie.Need-present-requires-2
-present-requires-2 c κs = search needs
-
 returns : tie.Need-returns
 returns c e =
     let s = c .before .before .before in
@@ -68,4 +62,9 @@ returns-5 c e =
 pub line-spec : {M : Type 1} → statement M
 line-spec =
     tie.close
-    (tie.spec present-requires present-requires-2 returns returns-2 returns-3 returns-4 returns-5)
+    (tie.spec
+    (λ c κs. search needs) (λ c κs. search needs) returns
+    returns-2
+    returns-3
+    returns-4
+    returns-5)

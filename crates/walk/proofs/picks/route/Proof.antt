@@ -12,15 +12,6 @@ use borrow.Author.Needs.{needs}
 use Rattle.walk.proofs.picks.route.Statement.{statement}
 use Rattle.walk.proofs.picks.route.Tie as tie
 
-mul-present : tie.Need-mul-present
-mul-present c = search needs
-
-present-requires : tie.Need-present-requires
-present-requires c κs = search needs
-
-present-requires-2 : tie.Need-present-requires-2
-present-requires-2 c κs = search needs
-
 returns : tie.Need-returns
 unfolding routeSpeed
 returns c e =
@@ -54,10 +45,7 @@ pub route-spec : {M : Type 1} → statement M
 route-spec =
     tie.close
     (tie.spec
-    mul-present
-    present-requires
-    present-requires-2
-    returns
+    (λ c. search needs) (λ c κs. search needs) (λ c κs. search needs) returns
     returns-2
     returns-3
     returns-4

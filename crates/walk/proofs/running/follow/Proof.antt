@@ -69,12 +69,6 @@ loop-holds c =
     let five : length (c .args .p) ≤ 5 = omega (arith, long c) in
     (search needs, start, speeds.start, long c, take-all 5 (c .args .p) five)
 
-array-copy-out-b : tie.Need-array-copy-out-b Inv-loop μ-loop
-array-copy-out-b c = search needs
-
-is-category-requires : tie.Need-is-category-requires Inv-loop μ-loop
-is-category-requires c κs = search needs
-
 returns : tie.Need-returns Inv-loop μ-loop
 returns c =
     let u = c .before .before .before .before in
@@ -91,18 +85,6 @@ returns c =
           (subst (λ (m : ℕ). Leads (take (t .loop .i) p) m rs) (c .if2 .taken) (t .loop .inv .1));
     }
 
-sub-left : tie.Need-sub-left Inv-loop μ-loop
-sub-left c = search needs
-
-next-requires : tie.Need-next-requires Inv-loop μ-loop
-next-requires c κs = search needs
-
-enum-known-to : tie.Need-enum-known-to Inv-loop μ-loop
-enum-known-to c = search needs
-
-enum-told : tie.Need-enum-told Inv-loop μ-loop
-enum-told c = search needs
-
 returns-2 : tie.Need-returns-2 Inv-loop μ-loop
 returns-2 c =
     let g = c .before .before in
@@ -116,15 +98,6 @@ returns-2 c =
           nothing-left (take (t .loop .i + 1) (t .before .args .p)) (g .before .if1 .left)
           (subst (λ (rs : List Rest). Leads (take (t .loop .i + 1) (t .before .args .p)) (g .before .if1 .left) rs) (sym (g .next .ensures) ∙ ap openAfter (c .enum-told .given .1)) (led g));
     }
-
-after-first-requires : tie.Need-after-first-requires Inv-loop μ-loop
-after-first-requires c κs = search needs
-
-add-i : tie.Need-add-i Inv-loop μ-loop
-add-i c = omega arith
-
-loop-less : tie.Need-loop-less Inv-loop μ-loop
-loop-less c = omega arith
 
 loop-again : tie.Need-loop-again Inv-loop μ-loop
 loop-again c =
@@ -158,16 +131,7 @@ follow-spec =
     Inv-loop
     μ-loop
     loop-holds
-    array-copy-out-b
-    is-category-requires
-    returns
-    sub-left
-    next-requires
-    enum-known-to
-    enum-told
-    returns-2
-    after-first-requires
-    add-i
-    loop-less
-    loop-again
+    (λ c. search needs) (λ c κs. search needs) returns
+    (λ c. search needs) (λ c κs. search needs) (λ c. search needs) (λ c. search needs) returns-2
+    (λ c κs. search needs) (λ c. omega arith) (λ c. omega arith) loop-again
     returns-3)

@@ -4,27 +4,6 @@ use borrow.Author.Needs.{needs}
 use Rattle.walk.proofs.running.next.Statement.{statement}
 use Rattle.walk.proofs.running.next.Tie as tie
 
-enum-known-at : tie.Need-enum-known-at
-enum-known-at c = search needs
-
-next-requires : tie.Need-next-requires
-next-requires c κs = search needs
-
-enum-known-at-2 : tie.Need-enum-known-at-2
-enum-known-at-2 c = search needs
-
-enum-known-tail : tie.Need-enum-known-tail
-enum-known-tail c = search needs
-
-must-next-requires : tie.Need-must-next-requires
-must-next-requires c κs = search needs
-
-enum-known-tail-2 : tie.Need-enum-known-tail-2
-enum-known-tail-2 c = search needs
-
-may-next-requires : tie.Need-may-next-requires
-may-next-requires c κs = search needs
-
 returns : tie.Need-returns
 returns c = rw (c .before .before .at .given .1) (c .next .ensures)
 
@@ -42,13 +21,7 @@ pub next-spec : {M : Type 1} → statement M
 next-spec =
     tie.close
     (tie.spec
-    enum-known-at
-    next-requires
-    enum-known-at-2
-    enum-known-tail
-    must-next-requires
-    enum-known-tail-2
-    may-next-requires
-    returns
+    (λ c. search needs) (λ c κs. search needs) (λ c. search needs) (λ c. search needs) (λ c κs. search needs) (λ c. search needs)
+    (λ c κs. search needs) returns
     returns-2
     returns-3)

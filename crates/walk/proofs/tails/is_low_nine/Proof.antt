@@ -8,15 +8,6 @@ use borrow.Author.Needs.{needs}
 use Rattle.walk.proofs.tails.is_low_nine.Statement.{statement}
 use Rattle.walk.proofs.tails.is_low_nine.Tie as tie
 
-enum-known-part : tie.Need-enum-known-part
-enum-known-part c = search needs
-
-enum-told : tie.Need-enum-told
-enum-told c = search needs
-
-enum-told-2 : tie.Need-enum-told-2
-enum-told-2 c = search needs
-
 returns : tie.Need-returns
 returns c =
     let k = c .before in
@@ -38,13 +29,11 @@ returns-3 c =
     let g = c .before .before .part .given in
     simp (g .1, ne-eqb (g .0 .0) 9 (c .match2 .rest .1))
 
-returns-4 : tie.Need-returns-4
-returns-4 c = search needs
-
-returns-5 : tie.Need-returns-5
-returns-5 c = search needs
-
 pub is-low-nine-spec : {M : Type 1} → statement M
 is-low-nine-spec =
     tie.close
-    (tie.spec enum-known-part enum-told enum-told-2 returns returns-2 returns-3 returns-4 returns-5)
+    (tie.spec
+    (λ c. search needs) (λ c. search needs) (λ c. search needs) returns
+    returns-2
+    returns-3
+    (λ c. search needs) (λ c. search needs))

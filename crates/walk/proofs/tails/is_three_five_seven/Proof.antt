@@ -7,15 +7,6 @@ use borrow.Author.Needs.{needs}
 use Rattle.walk.proofs.tails.is_three_five_seven.Statement.{statement}
 use Rattle.walk.proofs.tails.is_three_five_seven.Tie as tie
 
-enum-known-part : tie.Need-enum-known-part
-enum-known-part c = search needs
-
-enum-told : tie.Need-enum-told
-enum-told c = search needs
-
-enum-told-2 : tie.Need-enum-told-2
-enum-told-2 c = search needs
-
 returns : tie.Need-returns
 returns c =
     let g = c .before .before .part .given in
@@ -30,13 +21,10 @@ returns-2 c =
     let r = c .match2 .rest .1 in
     simp (g .1, ne-eqb x 3 (λ e. r (inl e)), ne-eqb x 5 (λ e. r (inr (inl e))), ne-eqb x 7 (λ e. r (inr (inr e))))
 
-returns-3 : tie.Need-returns-3
-returns-3 c = search needs
-
-returns-4 : tie.Need-returns-4
-returns-4 c = search needs
-
 pub is-three-five-seven-spec : {M : Type 1} → statement M
 is-three-five-seven-spec =
     tie.close
-    (tie.spec enum-known-part enum-told enum-told-2 returns returns-2 returns-3 returns-4)
+    (tie.spec
+    (λ c. search needs) (λ c. search needs) (λ c. search needs) returns
+    returns-2
+    (λ c. search needs) (λ c. search needs))

@@ -10,30 +10,6 @@ use borrow.Author.Needs.{needs}
 use Rattle.walk.proofs.tails.may_next.Statement.{statement}
 use Rattle.walk.proofs.tails.may_next.Tie as tie
 
-enum-told : tie.Need-enum-told
-enum-told c = search needs
-
-optional-requires : tie.Need-optional-requires
-optional-requires c κs = search needs
-
-enum-told-2 : tie.Need-enum-told-2
-enum-told-2 c = search needs
-
-optional-requires-2 : tie.Need-optional-requires-2
-optional-requires-2 c κs = search needs
-
-enum-told-3 : tie.Need-enum-told-3
-enum-told-3 c = search needs
-
-is-category-requires : tie.Need-is-category-requires
-is-category-requires c κs = search needs
-
-to-if-requires : tie.Need-to-if-requires
-to-if-requires c κs = search needs
-
-enum-told-4 : tie.Need-enum-told-4
-enum-told-4 c = search needs
-
 returns : tie.Need-returns
 returns c = rw (c .before .enum-told .given .1) (c .optional .ensures)
 
@@ -46,22 +22,12 @@ returns-3 c =
     rw (c .before .before .enum-told3 .given .1)
     (c .to-if .ensures ∙ left-if (c .before .is-category .result) (meets (any 12) (s .b .part)) (withRest (s .picked) (mayBe May.Nothing)) (c .before .is-category .ensures ∙ sym (meets-any 12 (s .b .part))))
 
-returns-4 : tie.Need-returns-4
-returns-4 c = search needs
-
 pub may-next-spec : {M : Type 1} → statement M
 may-next-spec =
     tie.close
     (tie.spec
-    enum-told
-    optional-requires
-    enum-told-2
-    optional-requires-2
-    enum-told-3
-    is-category-requires
-    to-if-requires
-    enum-told-4
-    returns
+    (λ c. search needs) (λ c κs. search needs) (λ c. search needs) (λ c κs. search needs) (λ c. search needs) (λ c κs. search needs)
+    (λ c κs. search needs) (λ c. search needs) returns
     returns-2
     returns-3
-    returns-4)
+    (λ c. search needs))

@@ -11,51 +11,6 @@ use borrow.Author.Needs.{needs}
 use Rattle.walk.proofs.tails.must_next.Statement.{statement}
 use Rattle.walk.proofs.tails.must_next.Tie as tie
 
-enum-told : tie.Need-enum-told
-enum-told c = search needs
-
-is-category-requires : tie.Need-is-category-requires
-is-category-requires c κs = search needs
-
-to-if-requires : tie.Need-to-if-requires
-to-if-requires c κs = search needs
-
-enum-told-2 : tie.Need-enum-told-2
-enum-told-2 c = search needs
-
-is-low-nine-requires : tie.Need-is-low-nine-requires
-is-low-nine-requires c κs = search needs
-
-to-if-requires-2 : tie.Need-to-if-requires-2
-to-if-requires-2 c κs = search needs
-
-enum-told-3 : tie.Need-enum-told-3
-enum-told-3 c = search needs
-
-is-category-requires-2 : tie.Need-is-category-requires-2
-is-category-requires-2 c κs = search needs
-
-to-if-requires-3 : tie.Need-to-if-requires-3
-to-if-requires-3 c κs = search needs
-
-enum-told-4 : tie.Need-enum-told-4
-enum-told-4 c = search needs
-
-is-marker-requires : tie.Need-is-marker-requires
-is-marker-requires c κs = search needs
-
-to-if-requires-4 : tie.Need-to-if-requires-4
-to-if-requires-4 c κs = search needs
-
-enum-told-5 : tie.Need-enum-told-5
-enum-told-5 c = search needs
-
-is-three-five-seven-requires : tie.Need-is-three-five-seven-requires
-is-three-five-seven-requires c κs = search needs
-
-to-if-requires-5 : tie.Need-to-if-requires-5
-to-if-requires-5 c κs = search needs
-
 returns : tie.Need-returns
 returns c =
     let s = c .before .before .before .before .args in
@@ -90,22 +45,9 @@ pub must-next-spec : {M : Type 1} → statement M
 must-next-spec =
     tie.close
     (tie.spec
-    enum-told
-    is-category-requires
-    to-if-requires
-    enum-told-2
-    is-low-nine-requires
-    to-if-requires-2
-    enum-told-3
-    is-category-requires-2
-    to-if-requires-3
-    enum-told-4
-    is-marker-requires
-    to-if-requires-4
-    enum-told-5
-    is-three-five-seven-requires
-    to-if-requires-5
-    returns
+    (λ c. search needs) (λ c κs. search needs) (λ c κs. search needs) (λ c. search needs) (λ c κs. search needs) (λ c κs. search needs)
+    (λ c. search needs) (λ c κs. search needs) (λ c κs. search needs) (λ c. search needs) (λ c κs. search needs) (λ c κs. search needs)
+    (λ c. search needs) (λ c κs. search needs) (λ c κs. search needs) returns
     returns-2
     returns-3
     returns-4

@@ -10,20 +10,11 @@ use borrow.Author.Needs.{needs}
 use Rattle.walk.proofs.tails.optional.Statement.{statement}
 use Rattle.walk.proofs.tails.optional.Tie as tie
 
-is-category-requires : tie.Need-is-category-requires
-is-category-requires c κs = search needs
-
 returns : tie.Need-returns
 returns c =
     let s = c .before .before in
     let is = sym (c .before .is-category .ensures) ∙ c .if1 .taken in
     rw (is, not-number (s .args .c) (s .args .b .part) (s .pre) is)
-
-is-category-requires-2 : tie.Need-is-category-requires-2
-is-category-requires-2 c κs = search needs
-
-to-if-requires : tie.Need-to-if-requires
-to-if-requires c κs = search needs
 
 returns-2 : tie.Need-returns-2
 returns-2 c =
@@ -37,4 +28,6 @@ returns-2 c =
 pub optional-spec : {M : Type 1} → statement M
 optional-spec =
     tie.close
-    (tie.spec is-category-requires returns is-category-requires-2 to-if-requires returns-2)
+    (tie.spec
+    (λ c κs. search needs) returns
+    (λ c κs. search needs) (λ c κs. search needs) returns-2)

@@ -7,8 +7,9 @@ use Rattle.walk.proofs.tails.to_if.Tie as tie
 returns : tie.Need-returns
 returns c = rw (c .if1 .taken)
 
-returns-2 : tie.Need-returns-2
-returns-2 c = search needs
-
 pub to-if-spec : {M : Type 1} → statement M
-to-if-spec = tie.close (tie.spec returns returns-2)
+to-if-spec =
+    tie.close
+    (tie.spec
+    returns
+    (λ c. search needs))

@@ -12,21 +12,6 @@ use Rattle.words.proofs.Masks.{mask, even-under}
 use Rattle.words.proofs.reading.is_code.Statement.{statement}
 use Rattle.words.proofs.reading.is_code.Tie as tie
 
-is-even-requires : tie.Need-is-even-requires
-is-even-requires c κs = search needs
-
-is-even-requires-2 : tie.Need-is-even-requires-2
-is-even-requires-2 c κs = search needs
-
-is-even-requires-3 : tie.Need-is-even-requires-3
-is-even-requires-3 c κs = search needs
-
-is-even-requires-4 : tie.Need-is-even-requires-4
-is-even-requires-4 c κs = search needs
-
-is-even-requires-5 : tie.Need-is-even-requires-5
-is-even-requires-5 c κs = search needs
-
 -- a second test is asked where the first holds, and decides there
 asked : (t a b : Bool) → a ≡ true → t ≡ b → t ≡ a && b
 asked t a b holds is = is ∙ ap (λ (x : Bool). x && b) (sym holds)
@@ -99,10 +84,5 @@ pub is-code-spec : {M : Type 1} → statement M
 is-code-spec =
     tie.close
     (tie.spec
-    is-even-requires
-    is-even-requires-2
-    is-even-requires-3
-    is-even-requires-4
-    is-even-requires-5
-    returns
+    (λ c κs. search needs) (λ c κs. search needs) (λ c κs. search needs) (λ c κs. search needs) (λ c κs. search needs) returns
     returns-2)

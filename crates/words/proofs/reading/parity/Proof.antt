@@ -12,9 +12,6 @@ use Rattle.words.proofs.Parities.{counted}
 use Rattle.words.proofs.reading.parity.Statement.{statement}
 use Rattle.words.proofs.reading.parity.Tie as tie
 
-is-even-requires : tie.Need-is-even-requires
-is-even-requires c κs = search needs
-
 -- what the test found is the parity, in a word of n bits
 found : (n w : ℕ) {t s : Bool} → t ≡ eqb (ones w % 2) 0 → t ≡ s → w < 2 ^ n → pick s Parity.Even Parity.Odd ≡ parity n w
 found n w is so small = ap (λ (b : Bool). pick b Parity.Even Parity.Odd) (sym so ∙ is) ∙ counted n w small
@@ -32,4 +29,8 @@ returns-2 c =
     (found 16 w is (c .if1 .left) (c .before .before .pre), found 8 w is (c .if1 .left))
 
 pub parity-spec : {M : Type 1} → statement M
-parity-spec = tie.close (tie.spec is-even-requires returns returns-2)
+parity-spec =
+    tie.close
+    (tie.spec
+    (λ c κs. search needs) returns
+    returns-2)

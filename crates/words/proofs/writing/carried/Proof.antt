@@ -43,9 +43,6 @@ loop-holds : tie.Need-loop-holds Inv-loop μ-loop
 unfolding carriers
 loop-holds c = (search needs, refl, spelt-none (from (c .args .x)))
 
-carrier-requires : tie.Need-carrier-requires Inv-loop μ-loop
-carrier-requires c κs = search needs
-
 shr-b : tie.Need-shr-b Inv-loop μ-loop
 shr-b c = omega (arith, carriers-le (c .before .before .loop .i))
 
@@ -109,12 +106,6 @@ mul-one : tie.Need-mul-one Inv-loop μ-loop
 unfolding x i h one b
 mul-one c = omega (arith, worth c)
 
-add-i : tie.Need-add-i Inv-loop μ-loop
-add-i c = omega arith
-
-loop-less : tie.Need-loop-less Inv-loop μ-loop
-loop-less c = omega arith
-
 loop-again : tie.Need-loop-again Inv-loop μ-loop
 unfolding x i h one b k
 loop-again c = (omega arith, counted c, grown c)
@@ -136,14 +127,11 @@ carried-spec =
     Inv-loop
     μ-loop
     loop-holds
-    carrier-requires
-    shr-b
+    (λ c κs. search needs) shr-b
     mul-b
     mul-h
     add-h
     add-k
     mul-one
-    add-i
-    loop-less
-    loop-again
+    (λ c. omega arith) (λ c. omega arith) loop-again
     returns)

@@ -7,9 +7,6 @@ use Rattle.words.specs.Answer.{pick}
 use Rattle.words.proofs.writing.carrier.Statement.{statement}
 use Rattle.words.proofs.writing.carrier.Tie as tie
 
-is-check-requires : tie.Need-is-check-requires
-is-check-requires c κs = search needs
-
 returns : tie.Need-returns
 returns c = ap (λ (t : Bool). pick t 0 1) (sym (c .if1 .taken) ∙ c .before .is-check .ensures)
 
@@ -17,4 +14,8 @@ returns-2 : tie.Need-returns-2
 returns-2 c = ap (λ (t : Bool). pick t 0 1) (sym (c .if1 .left) ∙ c .before .is-check .ensures)
 
 pub carrier-spec : {M : Type 1} → statement M
-carrier-spec = tie.close (tie.spec is-check-requires returns returns-2)
+carrier-spec =
+    tie.close
+    (tie.spec
+    (λ c κs. search needs) returns
+    returns-2)

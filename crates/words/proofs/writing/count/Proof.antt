@@ -20,12 +20,6 @@ loop-holds : tie.Need-loop-holds Inv-loop μ-loop
 unfolding count
 loop-holds c = (search needs, refl)
 
-covers-requires : tie.Need-covers-requires Inv-loop μ-loop
-covers-requires c κs = search needs
-
-shr-found : tie.Need-shr-found Inv-loop μ-loop
-shr-found c = omega arith
-
 module _ (c : tie.After-covers Inv-loop μ-loop) where
   looks : ℕ
   looks = c .before .before .before .args .c
@@ -54,12 +48,6 @@ add-found : tie.Need-add-found Inv-loop μ-loop
 unfolding looks h i
 add-found c = omega (arith, more c, count-le (looks c) (h c) (i c + 1))
 
-add-i : tie.Need-add-i Inv-loop μ-loop
-add-i c = omega arith
-
-loop-less : tie.Need-loop-less Inv-loop μ-loop
-loop-less c = omega arith
-
 loop-again : tie.Need-loop-again Inv-loop μ-loop
 unfolding looks h i
 loop-again c = (omega arith, more c)
@@ -78,11 +66,7 @@ count-spec =
     Inv-loop
     μ-loop
     loop-holds
-    covers-requires
-    shr-found
-    mul-found
+    (λ c κs. search needs) (λ c. omega arith) mul-found
     add-found
-    add-i
-    loop-less
-    loop-again
+    (λ c. omega arith) (λ c. omega arith) loop-again
     returns)

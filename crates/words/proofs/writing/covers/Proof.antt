@@ -5,9 +5,6 @@ use Rattle.words.specs.Plain.{covers}
 use Rattle.words.proofs.writing.covers.Statement.{statement}
 use Rattle.words.proofs.writing.covers.Tie as tie
 
-div-result : tie.Need-div-result
-div-result c = search needs
-
 returns : tie.Need-returns
 unfolding covers
 returns c = simp (eq-eqb (c .before .args .c) 0 (c .if1 .taken))
@@ -17,4 +14,8 @@ unfolding covers
 returns-2 c = simp (ne-eqb (c .before .args .c) 0 (c .if1 .left))
 
 pub covers-spec : {M : Type 1} → statement M
-covers-spec = tie.close (tie.spec div-result returns returns-2)
+covers-spec =
+    tie.close
+    (tie.spec
+    (λ c. search needs) returns
+    returns-2)

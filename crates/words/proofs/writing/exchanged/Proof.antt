@@ -23,9 +23,6 @@ abbrev μ-loop : tie.MeasureT-loop
 loop-holds : tie.Need-loop-holds Inv-loop μ-loop
 loop-holds c = (search needs, spelt-none (from (c .args .w)))
 
-other-requires : tie.Need-other-requires Inv-loop μ-loop
-other-requires c κs = search needs
-
 shr-b : tie.Need-shr-b Inv-loop μ-loop
 shr-b c = omega (arith, other-lt (c .before .before .loop .i) (omega arith))
 
@@ -73,12 +70,6 @@ mul-one : tie.Need-mul-one Inv-loop μ-loop
 unfolding w i e one b
 mul-one c = omega (arith, worth c)
 
-add-i : tie.Need-add-i Inv-loop μ-loop
-add-i c = omega arith
-
-loop-less : tie.Need-loop-less Inv-loop μ-loop
-loop-less c = omega arith
-
 loop-again : tie.Need-loop-again Inv-loop μ-loop
 unfolding w i e one b
 loop-again c = (omega arith, grown c)
@@ -97,12 +88,9 @@ exchanged-spec =
     Inv-loop
     μ-loop
     loop-holds
-    other-requires
-    shr-b
+    (λ c κs. search needs) shr-b
     mul-e
     add-e
     mul-one
-    add-i
-    loop-less
-    loop-again
+    (λ c. omega arith) (λ c. omega arith) loop-again
     returns)

@@ -8,12 +8,6 @@ use Rattle.words.proofs.Checking.{worth-le, shifted, added-le}
 use Rattle.words.proofs.writing.made_even.Statement.{statement}
 use Rattle.words.proofs.writing.made_even.Tie as tie
 
-count-requires : tie.Need-count-requires
-count-requires c κs = search needs
-
-shl-result : tie.Need-shl-result
-shl-result c = search needs
-
 mul-result : tie.Need-mul-result
 mul-result c =
     let k = c .before .args .c in
@@ -33,4 +27,9 @@ returns c =
     )
 
 pub made-even-spec : {M : Type 1} → statement M
-made-even-spec = tie.close (tie.spec count-requires shl-result mul-result add-result returns)
+made-even-spec =
+    tie.close
+    (tie.spec
+    (λ c κs. search needs) (λ c. search needs) mul-result
+    add-result
+    returns)

@@ -8,27 +8,6 @@ use Rattle.words.specs.Code.{exchanged, sent}
 use Rattle.words.proofs.writing.sent.Statement.{statement}
 use Rattle.words.proofs.writing.sent.Tie as tie
 
-carried-requires : tie.Need-carried-requires
-carried-requires c κs = search needs
-
-made-even-requires : tie.Need-made-even-requires
-made-even-requires c κs = omega arith
-
-made-even-requires-2 : tie.Need-made-even-requires-2
-made-even-requires-2 c κs = omega arith
-
-made-even-requires-3 : tie.Need-made-even-requires-3
-made-even-requires-3 c κs = omega arith
-
-made-even-requires-4 : tie.Need-made-even-requires-4
-made-even-requires-4 c κs = omega arith
-
-made-even-requires-5 : tie.Need-made-even-requires-5
-made-even-requires-5 c κs = omega arith
-
-exchanged-requires : tie.Need-exchanged-requires
-exchanged-requires c κs = search needs
-
 -- One check more: what is made of a word is made of what that word is.
 on : (n check : ℕ) {w v r : ℕ} → w ≡ v → r ≡ madeEven n w check → r ≡ madeEven n v check
 on n check is made = made ∙ ap (λ (h : ℕ). madeEven n h check) is
@@ -51,11 +30,5 @@ pub sent-spec : {M : Type 1} → statement M
 sent-spec =
     tie.close
     (tie.spec
-    carried-requires
-    made-even-requires
-    made-even-requires-2
-    made-even-requires-3
-    made-even-requires-4
-    made-even-requires-5
-    exchanged-requires
-    returns)
+    (λ c κs. search needs) (λ c κs. omega arith) (λ c κs. omega arith) (λ c κs. omega arith) (λ c κs. omega arith) (λ c κs. omega arith)
+    (λ c κs. search needs) returns)

@@ -14,15 +14,6 @@ use borrow.Author.Needs.{needs}
 use Rattle.writer.proofs.filling.write_words.Statement.{statement}
 use Rattle.writer.proofs.filling.write_words.Tie as tie
 
-good-pair-requires : tie.Need-good-pair-requires
-good-pair-requires c κs = search needs
-
-enum-told : tie.Need-enum-told
-enum-told c = search needs
-
-enum-told-2 : tie.Need-enum-told-2
-enum-told-2 c = search needs
-
 -- the words, and that the pair is good
 abbrev words : tie.Start → Words
 words c = record { x = c .args .x; y = c .args .y; z = c .args .z }
@@ -49,24 +40,12 @@ returns-2 c =
 in-range : (c : tie.Else1) → inRange (c .before .before .before .before .before .args .n) ≡ true
 in-range c = range (c .before .before .before .before .before .args .n) ∙ ap not (c .if1 .left)
 
-mul-end : tie.Need-mul-end
-mul-end c = search needs
-
-add-end : tie.Need-add-end
-add-end c = search needs
-
 returns-3 : tie.Need-returns-3
 returns-3 c =
     let p = c .before .before .before .before .before .before in
     let a = p .args in
     let short : length (a .out .now) < 4 * a .n + 1 = omega arith in
     answers-21 (a .s) (a .t) (a .n) (words p) (a .out .now) (is-pair (c .before .before)) (in-range (c .before)) short
-
-fill-requires : tie.Need-fill-requires
-fill-requires c κs = search needs
-
-same-length : tie.Need-same-length
-same-length c = search needs
 
 returns-4 : tie.Need-returns-4
 returns-4 c =
@@ -85,14 +64,7 @@ pub write-words-spec : {M : Type 1} → statement M
 write-words-spec =
     tie.close
     (tie.spec
-    good-pair-requires
-    enum-told
-    enum-told-2
-    returns
+    (λ c κs. search needs) (λ c. search needs) (λ c. search needs) returns
     returns-2
-    mul-end
-    add-end
-    returns-3
-    fill-requires
-    same-length
-    returns-4)
+    (λ c. search needs) (λ c. search needs) returns-3
+    (λ c κs. search needs) (λ c. search needs) returns-4)

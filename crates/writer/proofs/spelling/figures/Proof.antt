@@ -9,15 +9,6 @@ use Rattle.writer.proofs.Spelt.{written, unwritten, large, fifteen, spe
 use Rattle.writer.proofs.spelling.figures.Statement.{statement}
 use Rattle.writer.proofs.spelling.figures.Tie as tie
 
-write-short-requires : tie.Need-write-short-requires
-write-short-requires c κs = search needs
-
-enum-known-a : tie.Need-enum-known-a
-enum-known-a c = search needs
-
-enum-told : tie.Need-enum-told
-enum-told c = search needs
-
 returns : tie.Need-returns
 returns c =
     let s = c .before .before in
@@ -30,15 +21,6 @@ x-word : (c : tie.After-a) → let a = c .before .before .before .args in (a .x 
 x-word c =
     let s = c .before .before in
     written 8 15 (s .before .args .x) (c .a .given .0 .0) (ap saysShortWritten (sym (c .a .given .1)) ∙ s .write-short .ensures)
-
-short-requires : tie.Need-short-requires
-short-requires c κs = search needs
-
-enum-known-b : tie.Need-enum-known-b
-enum-known-b c = search needs
-
-enum-told-2 : tie.Need-enum-told-2
-enum-told-2 c = search needs
 
 returns-2 : tie.Need-returns-2
 returns-2 c =
@@ -55,15 +37,6 @@ y-word c =
     let s = c .before .before in
     let a = s .before .before .before .before .before .args in
     written 8 15 (a .y) (c .b .given .0 .0) (ap saysShortWritten (sym (c .b .given .1)) ∙ s .short .ensures)
-
-write-short-requires-2 : tie.Need-write-short-requires-2
-write-short-requires-2 c κs = search needs
-
-enum-known-c : tie.Need-enum-known-c
-enum-known-c c = search needs
-
-enum-told-3 : tie.Need-enum-told-3
-enum-told-3 c = search needs
 
 returns-3 : tie.Need-returns-3
 returns-3 c =
@@ -104,17 +77,8 @@ pub figures-spec : {M : Type 1} → statement M
 figures-spec =
     tie.close
     (tie.spec
-    write-short-requires
-    enum-known-a
-    enum-told
-    returns
-    short-requires
-    enum-known-b
-    enum-told-2
-    returns-2
-    write-short-requires-2
-    enum-known-c
-    enum-told-3
-    returns-3
+    (λ c κs. search needs) (λ c. search needs) (λ c. search needs) returns
+    (λ c κs. search needs) (λ c. search needs) (λ c. search needs) returns-2
+    (λ c κs. search needs) (λ c. search needs) (λ c. search needs) returns-3
     returns-4
     returns-5)

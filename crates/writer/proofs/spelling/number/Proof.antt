@@ -12,26 +12,11 @@ use Rattle.writer.proofs.Spelt.{written, unwritten, large-number, numbe
 use Rattle.writer.proofs.spelling.number.Statement.{statement}
 use Rattle.writer.proofs.spelling.number.Tie as tie
 
-write-long-requires : tie.Need-write-long-requires
-write-long-requires c κs = search needs
-
-enum-known-w : tie.Need-enum-known-w
-enum-known-w c = search needs
-
-enum-told : tie.Need-enum-told
-enum-told c = search needs
-
 returns : tie.Need-returns
 returns c =
     let s = c .before .before in
     let m = s .before .args .m in
     large-number m (unwritten 16 2047 m (ap saysLongWritten (sym (c .enum-told .given .1)) ∙ s .write-long .ensures))
-
-cast-t5 : tie.Need-cast-t5
-cast-t5 c = search needs
-
-cast-t7 : tie.Need-cast-t7
-cast-t7 c = search needs
 
 -- the word for 12
 twelve : sent 8 12 ≡ 0xC3
@@ -50,4 +35,6 @@ returns-2 c =
 pub number-spec : {M : Type 1} → statement M
 number-spec =
     tie.close
-    (tie.spec write-long-requires enum-known-w enum-told returns cast-t5 cast-t7 returns-2)
+    (tie.spec
+    (λ c κs. search needs) (λ c. search needs) (λ c. search needs) returns
+    (λ c. search needs) (λ c. search needs) returns-2)

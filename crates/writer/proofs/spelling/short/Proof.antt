@@ -13,14 +13,9 @@ returns c =
     let h : 15 < c .before .args .figure = omega arith in
     simp (lt-leb _ _ h)
 
-cast-write-short : tie.Need-cast-write-short
-cast-write-short c = search needs
-
-write-short-requires : tie.Need-write-short-requires
-write-short-requires c κs = search needs
-
-returns-2 : tie.Need-returns-2
-returns-2 c = search needs
-
 pub short-spec : {M : Type 1} → statement M
-short-spec = tie.close (tie.spec returns cast-write-short write-short-requires returns-2)
+short-spec =
+    tie.close
+    (tie.spec
+    returns
+    (λ c. search needs) (λ c κs. search needs) (λ c. search needs))

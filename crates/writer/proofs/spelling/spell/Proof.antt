@@ -9,12 +9,6 @@ use Rattle.writer.specs.Words.{asked, spell}
 use Rattle.writer.proofs.spelling.spell.Statement.{statement}
 use Rattle.writer.proofs.spelling.spell.Tie as tie
 
-number-requires : tie.Need-number-requires
-number-requires c κs = search needs
-
-figures-requires : tie.Need-figures-requires
-figures-requires c κs = search needs
-
 returns : tie.Need-returns
 unfolding asked
 returns c =
@@ -30,4 +24,8 @@ returns-2 c =
     ∙ ap (λ (t : Bool). spell (pick t (Telegram.Number (a .y)) (Telegram.Figures (a .x) (a .y) (a .z)))) (sym (ne-eqb (a .x) 12 (c .before .if1 .left)))
 
 pub spell-spec : {M : Type 1} → statement M
-spell-spec = tie.close (tie.spec number-requires figures-requires returns returns-2)
+spell-spec =
+    tie.close
+    (tie.spec
+    (λ c κs. search needs) (λ c κs. search needs) returns
+    returns-2)
