@@ -15,10 +15,7 @@ use Rattle.words.specs.Answer.{pick}
 use Rattle.arguments.specs.Figures.{between, allDigits, continued, decimal, hexDigit, hex}
 use Rattle.arguments.specs.declared.Figure.{Figure}
 use Rattle.arguments.specs.declared.Byte.{Byte}
-
-both : (a b : Bool) → a && b ≡ true → (a ≡ true) × (b ≡ true)
-both true b e = (refl, e)
-both false b e = (e, cc)
+use Rattle.words.proofs.Linear.{and-parts as both}
 
 module _ (text : List ℕ) (i : ℕ) (in-text : i < length text) where
   abbrev c : ℕ

@@ -1,7 +1,7 @@
--- Demand 1: "Any bits, any trace, any settings: every call ends with a named reading or a numbered refusal of document 01,
--- given exactly under the condition written there. A refusal hands out no figure, and lent memory and state stay untouched
--- unless the table says otherwise."
--- The first sentence is the record `Demand1`, the second the record `Untouched` of specs/Untouched.antt. The conditions are specs/Table.antt and Table02.antt, the
+-- Demand 1: "Any bits, any trace, any settings: every call ends with a named reading or a numbered refusal from document 01,
+-- given exactly under the condition written there. A refusal hands out no figure, and lent memory and the running state stay
+-- untouched unless the table says otherwise."
+-- The first sentence is the record `Demand1`, the second the record `Untouched` of specs/Untouched.antt. The conditions are specs/Table.antt, RecordTable.antt and Table02.antt, the
 -- lists specs/Lists.antt and, for a store, Stores.antt; what the contracts allow is specs/Contracts.antt. That every call ends is the kit's own check of each
 -- function, and no theorem here. Of the crates whose functions have one, those without a list give no number: `fresh`, `speed` and `end` always answer; `put_line`
 -- says that a line has no room, for which document 01 has no number; `settings::allowed` says whether row 19's condition does not hold; what M-111 added

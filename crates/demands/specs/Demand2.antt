@@ -1,8 +1,8 @@
--- Demand 2: "Words, telegrams, groups, speeds, distances and linking marks are exactly those of document 01. Written and
--- read back, a figure is itself; an accepted word read and written is itself."
+-- Demand 2: "Words, telegrams, groups, signal speeds, distances and linking marks are exactly those that document 01 draws from the
+-- ATC-2 papers. Writing a figure as a code word and reading it back gives the figure; reading an accepted word and writing it gives the word."
 -- That each contract is an equation with document 01's definitions is in each crate; here every answer that the contracts allow
 -- is compared with document 01's own sentences and numbers, and the contracts with each other. What the contracts allow:
--- specs/Contracts.antt. The rows, to be compared with document 01: crates/group/specs/Rows.antt, and what a row is: Row.antt there; cases of
+-- specs/Contracts.antt. The rows, to be compared with document 01: crates/walk/specs/Rows.antt, and what a row is: Row.antt there; cases of
 -- all of them: specs/RowCases.antt. What accepted groups say: specs/Said.antt. The ride, its marks and missed signals: specs/Ride.antt. The table of proved cases:
 -- specs/Cases.antt. The ride in full, and what the program writes: specs/Output.antt. That all of this holds: proofs/Demand2.antt.
 -- It does not say that the rows, tables and speeds of document 01 are those of the railway's own papers: source 000's tables are
@@ -53,13 +53,13 @@ use Rattle.demands.specs.Output.{Written, OneRide}
 
 -- ---- the two codes
 
--- "Written and read back, a figure is itself", of a code with this largest figure: it is written as a word, and every reading of
+-- "Writing a figure as a code word and reading it back gives the figure", of a code with this largest figure: it is written as a word, and every reading of
 -- that word is the figure.
 abbrev pub WrittenBack : {A R : Type 0} → ℕ → (ℕ → A → Type 0) → (ℕ → A) → (ℕ → R → Type 0) → (ℕ → R) → Type 0
 WrittenBack {A} {R} largest Writes word Reads figure =
     (x : ℕ) (a : A) → x ≤ largest → Writes x a → (w : ℕ) × (a ≡ word w) × ((r : R) → Reads w r → r ≡ figure x)
 
--- "an accepted word read and written is itself", of a code with so many words.
+-- "reading an accepted word and writing it gives the word", of a code with so many words.
 abbrev pub ReadBack : {A R : Type 0} → ℕ → (ℕ → A → Type 0) → (ℕ → A) → (ℕ → R → Type 0) → (ℕ → R) → Type 0
 ReadBack {A} {R} many Writes word Reads figure = (w x : ℕ) (a : A) → w < many → Reads w (figure x) → Writes x a → a ≡ word w
 

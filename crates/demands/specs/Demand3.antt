@@ -1,6 +1,6 @@
--- Demand 3: "Noise alone decides what noise can do. For both codes a received word is accepted exactly if its set of
+-- Demand 3: "Noise alone decides what noise can do. For both codes, a received word is accepted exactly if its set of
 -- flipped bits is itself a code word, whichever code word was sent, and then reads as the sent figure with the flips'
--- figure added bit by bit without carry. Over any stretch (not refused with 4 or 5) from one balise repeating one valid
+-- figure added bit by bit without carry. Over any stretch of bits, not refused with 4 or 5, from one balise repeating one valid
 -- telegram with the set sync words, if no sync bit flips and no telegram, alone or together with the next, cut ones
 -- included, has more than three flipped data bits, every telegram handed out is the one sent, at its true place, and every
 -- unflipped telegram lying with both its sync words in the stretch is handed out."
@@ -84,10 +84,10 @@ allSent o = map (λ p. Found.At p (o .telegram)) (those (sentAt o) (from (o .sta
 -- Demand 3. Of a telegram that has flips, up to three, it says that it is handed out as it was sent or not at all. It says nothing
 -- of a stretch from two balises, or of where the detector cuts a stretch.
 pub record Demand3 : Type 0 where
-  -- "For both codes a received word is accepted exactly if its set of flipped bits is itself a code word ..": one law, twice
+  -- "For both codes, a received word is accepted exactly if its set of flipped bits is itself a code word ..": one law, twice
   pub short-code : NoiseLaw 8 saysShortRead ReadShort
   pub long-code : NoiseLaw 16 saysLongRead ReadLong
-  -- "Over any stretch (not refused with 4 or 5) .. if no sync bit flips and no telegram .. has more than three flipped data bits .."
+  -- "Over any stretch of bits, not refused with 4 or 5, .. if no sync bit flips and no telegram .. has more than three flipped data bits .."
   pub stretch : (o : OneBalise) → Proper o → FewFlips o → OnlyTheSent o
   -- asking ends: one who is answered at every call of `find` inside the stretch comes to 6
   pub ends : (o : OneBalise) → Proper o

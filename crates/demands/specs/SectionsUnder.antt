@@ -76,11 +76,11 @@ pub record BlocksUnder : Type 0 where
   -- the cards from a fresh ride, the first record with the number 1, and then the end: what the program writes
   pub program : (store : Store) (f : Ride) (cards : List (List ℕ)) (calls : List Call) (e : Ended) → Good store → anyBad cards ≡ false → Fresh f
       → ByListUnder store f 1 (joined cards) calls → EndOf (afterCalls f calls) e → textFrom calls ++ textOf (saysLines (e .lines)) ≡ outputUnder store cards
-  -- "Without -s the gap is 40, as document 01 says": a store opened with that gap and any good pair
+  -- without settings the gap is 40, as document 01 says: a store opened with that gap and any good pair
   pub forty : (s t : ℕ) (r : Begun) (cards : List (List ℕ)) → notSeven s t ≡ false → BeginStore 40 s t r
       → Good (r .store) × (outputUnder (r .store) cards ≡ outputOf cards)
 
--- "a store of one version", opened with any good pair: its answers are those of its plain gap, line for line.
+-- A store of one version, opened with any good pair: its answers are those of its plain gap, line for line.
 pub record OneVersion : Type 0 where
   pub by-run : (gap s t : ℕ) (r : Begun) → notSeven s t ≡ false → BeginStore gap s t r
       → (ride : Ride) (trace : List ℕ) (p q : Ran) → RunUnder ride (r .store) trace p → RunOver ride gap trace q → p ≡ q

@@ -1,6 +1,6 @@
 -- Demand 1 for the viewer of document 02's M-108: "19, then 16 refuse it"; "22 for back exactly if the kept count is 0; 23 for forward exactly at
 -- the end; both leave the viewer unchanged." Each function stands here twice: over a viewer, with what its contract allows as
--- viewer/specs/Laws.antt says it, and over a plain slice (`.._at`). Many at once: "that often (it stops at the first refusal)".
+-- viewer/specs/Laws.antt says it, and over a plain slice (`.._at`). Many at once: up to the first refusal.
 -- Assumes nothing.
 use Prim.Native.Nat.{ℕ, zero, suc, _-_, _/_}
 use mathlib.Core.Path.{_≡_}
@@ -124,7 +124,7 @@ pub record ViewersUntouched : Type 0 where
   pub forward-at : (trace : List ℕ) (s : Stand) (r : Went) (n : ℕ) → ForwardAt trace s r → saysHow (r .how) ≡ refuses n
       → (r .stand ≡ s) × (r .lines ≡ Lines.None) × (r .closed ≡ noGroup)
   pub back-at : (s : Stand) (r : Came) (n : ℕ) → BackAt s r → saysHow (r .how) ≡ refuses n → r .stand ≡ s
-  -- many at once stop "each where it stopped": one more is refused there with the same number
+  -- many at once stop where one more is refused with the same number
   pub forwards-at : (trace : List ℕ) (s : Stand) (times : ℕ) (r : Came) (n : ℕ) (next : Went) → ForwardsAt trace s times r → saysHow (r .how) ≡ refuses n
       → ForwardAt trace (r .stand) next → saysHow (next .how) ≡ refuses n
   pub backs-at : (s : Stand) (times : ℕ) (r : Came) (n : ℕ) (next : Came) → BacksAt s times r → saysHow (r .how) ≡ refuses n

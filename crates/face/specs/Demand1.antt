@@ -60,7 +60,7 @@ pub record Demand1 : Type 0 where
 abbrev pub Refused : ℤ → Type 0
 Refused r = (n : ℕ) × (r ≡ negℤ (pos (suc n)))
 
--- "lent memory and state stay untouched": a call that returns a number below 0 leaves every lent array as it was.
+-- "lent memory and the running state stay untouched": a call that returns a number below 0 leaves every lent array as it was.
 pub record Untouched : Type 0 where
   pub find : (b : List ℕ) (start len s t : ℕ) (before : List ℕ) (r : ℤ) (after : List ℕ) → Find b start len s t before r after → Refused r → after ≡ before
   pub begin : (b : List ℕ) (start len : ℕ) (before : List ℕ) (r : ℤ) (after : List ℕ) → Begin b start len before r after → Refused r → after ≡ before

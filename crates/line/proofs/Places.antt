@@ -13,11 +13,7 @@ use Rattle.words.specs.Answer.{pick}
 use Rattle.words.specs.Plain.{among}
 use Rattle.telegram.specs.Stretch.{bitsAt}
 use Rattle.telegram.specs.Place.{areSyncs, wordsAt, accepted, isPlace, from, those}
-
--- The parts of a conjunction that holds.
-pub and-parts : (a b : Bool) → (a && b) ≡ true → (a ≡ true) × (b ≡ true)
-and-parts true b e = (refl, e)
-and-parts false b e = absurd (subst T (sym e) tt)
+pub use Rattle.words.proofs.Linear.{and-parts}
 
 pub and-true : {a b : Bool} → a ≡ true → b ≡ true → (a && b) ≡ true
 and-true p q = ap₂ _&&_ p q

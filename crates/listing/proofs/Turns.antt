@@ -20,6 +20,7 @@ use Rattle.listing.specs.Put.{placed}
 use Rattle.listing.specs.List.{textOf, isTaken, taken, Taken, Listing, listOf}
 use Rattle.listing.proofs.Placing.{placed-none, placed-length, placed-join}
 use Rattle.listing.proofs.Texts.{text-join}
+pub use Rattle.words.proofs.Linear.{and-parts as both}
 
 abbrev pub listing : ℕ → ℕ → Ride → ℕ → List ℕ → Listing
 listing n bytes ride number out = record { answer = gives (record { records = n; bytes = bytes }); ride = ride; number = number; out = out }
@@ -120,8 +121,3 @@ stopped gaps ride number room trace count i false more e = none-left gaps ride n
 pub no-more : (gaps : ℕ → ℕ) (ride : Ride) (number room : ℕ) (trace : List ℕ) (count i : ℕ) → (ltb i count && isTaken number room) ≡ false
     → taken gaps ride number room (leftOf trace count i) ≡ 0
 no-more gaps ride number room trace count i e = stopped gaps ride number room trace count i (ltb i count) refl e
-
--- A test that holds, part by part.
-pub both : (a b : Bool) → (a && b) ≡ true → (a ≡ true) × (b ≡ true)
-both true b e = (refl, e)
-both false b e = let z : true ≡ b = cc in (e, sym z)

@@ -35,7 +35,7 @@ pub record InForce (store : Store) (place : ℕ) (held : Held) : Type 0 where
 pub record Settings : Type 0 where
   -- "A store is opened with its first version, at place 0, so it is never empty."
   pub opened-good : (gap s t : ℕ) → begin gap s t .answer ≡ gives kept → judged (begin gap s t .store) ≡ gives kept
-  -- "Versions are added in rising place order": what is added to leaves a store without a fault.
+  -- "Versions are added in rising place order": a store that was added to is without a fault.
   pub added-good : (store : Store) (v : Version) → length (store .versions) ≡ 32 → add store v .answer ≡ gives kept → judged (add store v .store) ≡ gives kept
   -- "Any place up to 4,000,000,000 can be asked"
   pub any-place : (store : Store) (place : ℕ) → judged store ≡ gives kept → place ≤ highest → (held : Held) × (asked store place ≡ gives held)

@@ -1,4 +1,4 @@
--- A line of the settings: "a line `PLACE GAP S S*` for each version (decimal, decimal, two hex digits each; `#` begins a comment ..)".
+-- A line of the settings: `PLACE GAP S S*` for each version, decimal, decimal, two hex digits each; `#` begins a comment.
 -- Assumes nothing.
 use Prim.Native.Nat.{ℕ}
 use mathlib.Core.Bool.{Bool, true, false}
@@ -17,7 +17,7 @@ abbrev pub empty : List ℕ → Bool
 empty [] = true
 empty (c ∷ cs) = false
 
--- The largest number of 32 bits, which stands for all above it: "a number too large for its type is refused as what it is, 18 or 19".
+-- The largest number of 32 bits, which stands for all above it: a number too large for its type is refused as what it is, 18 or 19.
 abbrev pub largest : ℕ
 largest = 4294967295
 

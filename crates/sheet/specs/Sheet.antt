@@ -29,11 +29,11 @@ isFine How.Unreadable = false
 isFine (How.Refused n) = false
 isFine How.TooLong = false
 
--- What a text comes to after its last line: "No version at all: .. 19". There is no line to name then: 0.
+-- What a text comes to after its last line: without any version 19. There is no line to name then: 0.
 unfoldable pub ended : Store → Sheet
 ended store = record { store = store; line = 0; how = pick (eqb (store .count) 0) (How.Refused 19) How.Fine }
 
--- The lines from the one with number n on, which are counted "with comments and blank ones": "the first bad line is told".
+-- The lines from the one with number n on, which are counted with comments and blank ones: the first bad line is told.
 unfoldable pub linesFrom : Store → ℕ → List (List ℕ) → Sheet
 linesFrom store n [] = ended store
 linesFrom store n (line ∷ lines) =

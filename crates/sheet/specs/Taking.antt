@@ -21,7 +21,7 @@ afterIt (refuses n) before after = record { store = before; how = How.Refused n 
 abbrev pub changed : Store → Change → Taken
 changed before change = afterIt (change .answer) before (change .store)
 
--- A version given to the store: the first opens it, and "the first place is 0", else the line is unreadable; any other is added.
+-- A version given to the store: the first opens it, and its place is 0, else the line is unreadable; any other is added.
 unfoldable pub given : Store → Version → Taken
 given store v =
     pick (eqb (store .count) 0)

@@ -11,7 +11,7 @@ use Rattle.sheet.specs.declared.cutting.Stop.{Stop}
 abbrev pub blank : ℕ → Bool
 blank c = eqb c 32 || eqb c 9 || eqb c 13
 
--- Where a stretch of a text ends: at the next word, at the next blank, at a comment ("`#` begins a comment"), or at a newline.
+-- Where a stretch of a text ends: at the next word, at the next blank, at a comment, which `#` begins, or at a newline.
 abbrev pub stops : Stop → ℕ → Bool
 stops Stop.Word c = not (blank c)
 stops Stop.Blank c = blank c

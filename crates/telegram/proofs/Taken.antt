@@ -12,11 +12,7 @@ use Rattle.words.specs.Answer.{Outcome, gives, refuses, pick}
 use Rattle.telegram.specs.Stretch.{inside, Taken, taken as is-taken, stretchOf}
 use Rattle.telegram.specs.Says.{saysReach}
 use Rattle.telegram.specs.declared.Reach.{Reach}
-
--- Both of two tests hold.
-pub both : (a b : Bool) → a && b ≡ true → (a ≡ true) × (b ≡ true)
-both true b e = (refl, e)
-both false b e = (e, cc)
+pub use Rattle.words.proofs.Linear.{and-parts as both}
 
 pub taken : (b : List ℕ) (start len : ℕ) → inside b start len ≡ true
     → (start + len ≤ 8 * length b) × (start + len < 2 ^ 64) × (len ≤ 16777216)

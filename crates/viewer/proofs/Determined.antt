@@ -1,5 +1,5 @@
--- Each contract fixes the whole answer: any two answers that it allows are equal. Of a viewer that was opened it fixes what lies behind its slice,
--- not where that lies.
+-- Each contract fixes the whole answer: any two answers that it allows are equal. Of a viewer that was opened it fixes the bytes of its slice,
+-- not where they lie.
 -- Assumes nothing.
 use Prim.Native.Nat.{ℕ}
 use mathlib.Core.Path.{_≡_, refl, sym, ap, _∙_}
@@ -129,7 +129,7 @@ backs-at-determined κs a r r′ x x′ p q = sym (came-back r) ∙ ap cameOf (p
 
 -- ---- over a viewer
 
--- A viewer that was opened: how it went, where it stands, and what lies behind its slice.
+-- A viewer that was opened: how it went, where it stands, and the bytes of its slice.
 pub record Alike (r r′ : Started) : Type 0 where
   pub begun : r .begun ≡ r′ .begun
   pub stand : r .viewer .stand ≡ r′ .viewer .stand

@@ -1,4 +1,4 @@
--- Going many records at once (document 02, M-108): forward or back "that often (it stops at the first refusal)", and forward to a place.
+-- Going many records at once, for the program `view`: forward or back so many times, up to the first refusal, and forward to a place.
 -- Assumes nothing.
 use Prim.Native.Nat.{ℕ, zero, suc, _+_}
 use mathlib.Core.List.{List, [], _∷_, _++_}
@@ -35,7 +35,7 @@ backs (suc n) s =
     let b : Back = back s in
     further (b .answer) (b .stand) (backs n (b .stand))
 
--- How many forwards lead "to the first record at or past that odometer place", among those that are left. Without one it is the forward
+-- How many forwards lead to the first record at or past an odometer place, among those that are left. Without one it is the forward
 -- at the end, which is refused.
 unfoldable pub timesTo : ℕ → List (List ℕ) → ℕ
 timesTo place [] = 1

@@ -24,7 +24,7 @@ use Rattle.viewer.specs.Going.{forwards, backs, linesPassed}
 use Rattle.viewer.specs.History.{Plain, first, Call, forth, back, plainly, straight}
 
 -- What the contracts allow: `start` answers r, `forward` and `back` of a viewer answer r. The kit states the contract of a function that takes or hands out a struct
--- with a slice as a formula over what is lent, and a file of specs/ cannot name it: so the clauses stand here again, and proofs/Tied.antt shows that the contracts
+-- with a slice as a formula over what is lent, and a crate's own specs/ cannot name it: so the clauses stand here again, and proofs/Tied.antt shows that the contracts
 -- ensure them.
 abbrev pub Starts : ℕ → RefT (List ℕ) → Started → Type 0
 Starts gap trace r = saysStarted r ≡ start gap (now trace)
@@ -80,7 +80,7 @@ abbrev pub often : ℕ → Call → List Call
 often zero c = []
 often (suc n) c = c ∷ often n c
 
--- Many at once: "`f` forward, `b` back, `f 20` and `b 20` that often".
+-- Many at once, as `f 20` and `b 20` of the program `view` ask.
 pub record ManyAtOnce : Type 0 where
   -- what is shown after so many forwards or backs at once is what so many single calls come to, refused ones too
   pub forward-often : (n : ℕ) (v w : Viewer) → Lead (often n forth) v w → forwards n (now (v .trace)) (v .stand) .stand ≡ w .stand

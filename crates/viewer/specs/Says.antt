@@ -30,11 +30,12 @@ saysHow How.NothingKept = refuses 22
 saysHow How.AtEnd = refuses 23
 saysHow (How.Settings bad) = refuses (saysBad bad)
 
--- Where a viewer stands that was opened, for a lent trace: a refused one holds an empty one.
+-- The trace that an opened viewer holds: the lent one, or an empty one where it was refused.
 abbrev pub traceOf : Outcome Done → List ℕ → List ℕ
 traceOf (gives d) trace = trace
 traceOf (refuses n) trace = []
 
+-- Opening over a lent trace.
 abbrev pub saysOpened : Opened → List ℕ → Start
 saysOpened o trace = record { answer = saysBegun (o .begun); trace = traceOf (saysBegun (o .begun)) trace; stand = o .stand }
 
@@ -46,7 +47,7 @@ saysWent w = record { answer = saysHow (w .how); lines = saysLines (w .lines); c
 abbrev pub saysCame : Came → Back
 saysCame c = record { answer = saysHow (c .how); stand = c .stand }
 
--- A viewer that was opened: its trace is what lies behind the slice that it holds.
+-- A viewer that was opened: its trace is the bytes of the slice that it holds.
 abbrev pub saysStarted : Started → Start
 saysStarted s = record { answer = saysBegun (s .begun); trace = now (s .viewer .trace); stand = s .viewer .stand }
 

@@ -1,4 +1,4 @@
--- The viewer's calls (document 02, M-108): "A viewer holds the caller's lent trace and a record number, with forward and back."
+-- The viewer's calls (document 02, M-108): "a viewer that holds the caller's lent trace and a record number, with forward and back".
 -- Assumes nothing.
 use Prim.Native.Nat.{ℕ, _+_, _/_, _%_}
 use mathlib.Core.List.{List, []}

@@ -3,6 +3,7 @@
 use mathlib.Core.Path.{_≡_, refl, sym, subst}
 use mathlib.Core.Bool.{Bool, true, false, _&&_, _||_}
 use lib.Dec.{T}
+pub use Rattle.words.proofs.Linear.{and-parts as both}
 
 -- The two halves of an `&&`.
 pub and-left : (a b : Bool) → T (a && b) → T a
@@ -12,10 +13,6 @@ and-left false b t = t
 pub and-right : (a b : Bool) → T (a && b) → T b
 and-right true b t = t
 and-right false b t = absurd t
-
-pub both : (a b : Bool) → a && b ≡ true → (a ≡ true) × (b ≡ true)
-both true b e = (refl, e)
-both false b e = (e, cc)
 
 -- By the half of an `||` that holds.
 pub either : {R : Type 0} (a b : Bool) → T (a || b) → (T a → R) → (T b → R) → R

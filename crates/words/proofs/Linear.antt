@@ -40,6 +40,7 @@ even-xor n a b c e =
     drops : (x y : ℕ) → x % 2 ≡ 0 → (x + y) % 2 ≡ y % 2
     drops x y h = omega arith
 
+-- The parts of a conjunction that holds.
 pub and-parts : (a b : Bool) → (a && b) ≡ true → (a ≡ true) × (b ≡ true)
 and-parts true b e = (refl, e)
 and-parts false true e = (e, refl)

@@ -25,6 +25,7 @@ use Rattle.viewer.proofs.Many.{forwards-next, forwards-stop}
 use borrow.Author.Needs.{needs}
 use Rattle.viewer.proofs.going.over.Statement.{statement}
 use Rattle.viewer.proofs.going.over.Tie as tie
+use Rattle.words.proofs.Linear.{and-parts as both}
 
 -- where the loop has come
 abbrev here : ℕ → ℕ → Ride → List Ride → Store → Stand
@@ -43,11 +44,6 @@ loop-holds c =
     (rw (s .pre .1) (holding-at (s .args .from .settings) 0 (s .pre .0)), refl)
 
 -- what the loop's test says: a time is left, and a record
-both : (a b : Bool) → (a && b) ≡ true → (a ≡ true) × (b ≡ true)
-both true true e = (refl, refl)
-both true false e = (refl, e)
-both false b e = absurd (let z : _≡_ {A = ℕ} 0 1 = cc in omega arith)
-
 test : (c : tie.In-loop Inv-loop μ-loop) → (0 < c .before .loop .left) × (c .before .loop .number < length (c .before .before .before .before .before .before .args .trace .now) / 8)
 test c =
     let l = c .before .loop in
