@@ -32,35 +32,24 @@ use Rattle.abi.proofs.traces.atc2_compact.Kinds as compact-kinds
 use Rattle.abi.proofs.traces.atc2_compact.Reads as compact-reads
 use Rattle.abi.proofs.distances.atc2_distance.Kinds as distance-kinds
 use Rattle.abi.proofs.distances.atc2_distance.Reads as distance-reads
+use Rattle.words.proofs.Told.{Fixed}
 
-pub atc2-read-short-determined : (κs : Lfts 0) (a : Dens κs read-short-kinds.ps) (r r′ : ℤ)
-    (x x′ : AtExit (endedOf 0 read-short-kinds.ps read-short-kinds.r) κs)
-    → read-short-reads.Post κs a r x → read-short-reads.Post κs a r′ x′ → r ≡ r′
+pub atc2-read-short-determined : Fixed 0 read-short-kinds.ps read-short-kinds.r read-short-reads.Post
 atc2-read-short-determined κs a r r′ x x′ p q = p ∙ sym q
 
-pub atc2-write-short-determined : (κs : Lfts 0) (a : Dens κs write-short-kinds.ps) (r r′ : ℤ)
-    (x x′ : AtExit (endedOf 0 write-short-kinds.ps write-short-kinds.r) κs)
-    → write-short-reads.Post κs a r x → write-short-reads.Post κs a r′ x′ → r ≡ r′
+pub atc2-write-short-determined : Fixed 0 write-short-kinds.ps write-short-kinds.r write-short-reads.Post
 atc2-write-short-determined κs a r r′ x x′ p q = p ∙ sym q
 
-pub atc2-read-long-determined : (κs : Lfts 0) (a : Dens κs read-long-kinds.ps) (r r′ : ℤ)
-    (x x′ : AtExit (endedOf 0 read-long-kinds.ps read-long-kinds.r) κs)
-    → read-long-reads.Post κs a r x → read-long-reads.Post κs a r′ x′ → r ≡ r′
+pub atc2-read-long-determined : Fixed 0 read-long-kinds.ps read-long-kinds.r read-long-reads.Post
 atc2-read-long-determined κs a r r′ x x′ p q = p ∙ sym q
 
-pub atc2-write-long-determined : (κs : Lfts 0) (a : Dens κs write-long-kinds.ps) (r r′ : ℤ)
-    (x x′ : AtExit (endedOf 0 write-long-kinds.ps write-long-kinds.r) κs)
-    → write-long-reads.Post κs a r x → write-long-reads.Post κs a r′ x′ → r ≡ r′
+pub atc2-write-long-determined : Fixed 0 write-long-kinds.ps write-long-kinds.r write-long-reads.Post
 atc2-write-long-determined κs a r r′ x x′ p q = p ∙ sym q
 
-pub atc2-read-telegram-determined : (κs : Lfts 0) (a : Dens κs read-telegram-kinds.ps) (r r′ : ℤ)
-    (x x′ : AtExit (endedOf 0 read-telegram-kinds.ps read-telegram-kinds.r) κs)
-    → read-telegram-reads.Post κs a r x → read-telegram-reads.Post κs a r′ x′ → r ≡ r′
+pub atc2-read-telegram-determined : Fixed 0 read-telegram-kinds.ps read-telegram-kinds.r read-telegram-reads.Post
 atc2-read-telegram-determined κs a r r′ x x′ p q = p ∙ sym q
 
-pub atc2-why-telegram-determined : (κs : Lfts 0) (a : Dens κs why-telegram-kinds.ps) (r r′ : ℤ)
-    (x x′ : AtExit (endedOf 0 why-telegram-kinds.ps why-telegram-kinds.r) κs)
-    → why-telegram-reads.Post κs a r x → why-telegram-reads.Post κs a r′ x′ → r ≡ r′
+pub atc2-why-telegram-determined : Fixed 0 why-telegram-kinds.ps why-telegram-kinds.r why-telegram-reads.Post
 atc2-why-telegram-determined κs a r r′ x x′ p q = p ∙ sym q
 
 -- `out` is the sixth of the arguments of `atc2_find` and of `atc2_judge`.
@@ -90,9 +79,7 @@ pub atc2-next-contact-determined : (κs : Lfts 3) (a : Dens κs next-contact-kin
     → (r ≡ r′) × (x .1 .0 .now ≡ x′ .1 .0 .now) × (x .1 .1 .0 .now ≡ x′ .1 .1 .0 .now)
 atc2-next-contact-determined κs a r r′ x x′ p q = (p .0 ∙ sym (q .0), p .1 .0 ∙ sym (q .1 .0), p .1 .1 ∙ sym (q .1 .1))
 
-pub atc2-distance-determined : (κs : Lfts 0) (a : Dens κs distance-kinds.ps) (r r′ : ℤ)
-    (x x′ : AtExit (endedOf 0 distance-kinds.ps distance-kinds.r) κs)
-    → distance-reads.Post κs a r x → distance-reads.Post κs a r′ x′ → r ≡ r′
+pub atc2-distance-determined : Fixed 0 distance-kinds.ps distance-kinds.r distance-reads.Post
 atc2-distance-determined κs a r r′ x x′ p q = p ∙ sym q
 
 -- `out` is the seventh of the arguments of `atc2_write_balise`.

@@ -14,11 +14,12 @@ use Rattle.ride.specs.declared.Ride.{Ride}
 use Rattle.ride.specs.Joining.{allowed}
 use Rattle.compaction.specs.Compact.{Compaction, untouched, smallerTrace, compact}
 use Rattle.compaction.proofs.Trace.{not-longer}
+use Rattle.words.proofs.Never.{cannot-be}
 
 picked : (a w : Bool) (m n : ℕ) → gives n ≡ pick {A = Outcome ℕ} a (pick w (gives m) (refuses 16)) (refuses 19) → n ≡ m
 picked true true m n e = cc
-picked true false m n e = absurd (let z : _≡_ {A = ℕ} 0 1 = cc in omega arith)
-picked false w m n e = absurd (let z : _≡_ {A = ℕ} 0 1 = cc in omega arith)
+picked true false m n e = cannot-be cc
+picked false w m n e = cannot-be cc
 
 answer-of : (a w : Bool) (x y z : Compaction) → pick a (pick w x y) z .answer ≡ pick a (pick w (x .answer) (y .answer)) (z .answer)
 answer-of true true x y z = refl
@@ -40,7 +41,7 @@ never-16 Bad.NotAbove e = absurd (omega arith)
 never-16 Bad.Full e = absurd (omega arith)
 
 refused-by : (a w : Bool) (m : ℕ) (bad : Bad) → refuses (saysBad bad) ≡ pick {A = Outcome ℕ} a (pick w (gives m) (refuses 16)) (refuses 19) → saysBad bad ≡ 19
-refused-by true true m bad e = absurd (let z : _≡_ {A = ℕ} 0 1 = cc in omega arith)
+refused-by true true m bad e = cannot-be cc
 refused-by true false m bad e = never-16 bad (cc)
 refused-by false w m bad e = cc
 

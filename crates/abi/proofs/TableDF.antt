@@ -10,6 +10,7 @@ use lib.Dec.{leb}
 use borrow.Author.Tests.{leb-true}
 use Rattle.words.specs.Answer.{Outcome, gives, refuses, pick}
 use Rattle.group.specs.Distance.{Column, column, plus, minus, columns, inColumn, inTable, distance}
+use Rattle.words.proofs.Never.{cannot-be}
 
 -- The largest distance of a column.
 abbrev largest : Column → ℕ
@@ -26,7 +27,7 @@ together [] = 0
 together (c ∷ cs) = largest c + together cs
 
 in-table : (cs : List Column) (by figure d : ℕ) → figure ≤ 14 → inTable cs by figure ≡ gives d → d ≤ together cs
-in-table [] by figure d h e = let z : _≡_ {A = ℕ} 0 1 = cc in omega arith
+in-table [] by figure d h e = cannot-be cc
 in-table (c ∷ cs) zero figure d h e = let same : inColumn c figure ≡ d = cc in omega (arith, at-most c figure h)
 in-table (c ∷ cs) (suc by) figure d h e = omega (arith, in-table cs by figure d h e)
 
@@ -37,5 +38,5 @@ small by figure d = go (leb 1 figure) (leb figure 14) (λ e. leb-true figure 14 
   where
     go : (a b : Bool) → (b ≡ true → figure ≤ 14) → pick (a && b) (inTable columns by figure) (refuses 15) ≡ gives d → d < 2 ^ 31
     go true true h e = omega (arith, in-table columns by figure d (h refl) e)
-    go true false h e = let z : _≡_ {A = ℕ} 0 1 = cc in omega arith
-    go false b h e = let z : _≡_ {A = ℕ} 0 1 = cc in omega arith
+    go true false h e = cannot-be cc
+    go false b h e = cannot-be cc

@@ -24,13 +24,14 @@ use Rattle.acceptance.specs.Plan.{allGood, wellFormed, entriesOf, apart,
 use Rattle.acceptance.specs.Taking.{planned, isPresent, waiting, afterWanted, afterExtra, takeGroup, noPart, takeLine}
 use Rattle.acceptance.specs.Report.{report, metIn, upToMost, sumUp}
 use Rattle.acceptance.proofs.Filling.{entries-length}
+use Rattle.words.proofs.Never.{cannot-be}
 
 -- ---- a plan
 
 both : (a b c : Bool) → (a && b && c) ≡ true → b ≡ true
 both true true c e = refl
 both true false c e = e
-both false b c e = absurd (let z : _≡_ {A = ℕ} 0 1 = cc in omega arith)
+both false b c e = cannot-be cc
 
 -- A plan that is well formed has no more than 64 entries.
 pub few : (b : List ℕ) → wellFormed b ≡ true → length b / 8 ≤ 64

@@ -11,11 +11,12 @@ use borrow.Author.Tests.{leb-true}
 use Rattle.words.specs.Answer.{pick}
 use Rattle.arguments.specs.Figures.{allDigits, continued, decimal}
 use Rattle.arguments.specs.declared.Figure.{Figure}
+use Rattle.words.proofs.Never.{cannot-be}
 
 by-tests : (a b : Bool) (v n most : ℕ) → (b ≡ true → v ≤ most) → Figure.Number n ≡ pick a (pick b (Figure.Number v) Figure.Above) Figure.Odd → n ≤ most
 by-tests true true v n most h e = let same : n ≡ v = cc in let w = h refl in omega arith
-by-tests true false v n most h e = let z : _≡_ {A = ℕ} 0 1 = cc in omega arith
-by-tests false b v n most h e = let z : _≡_ {A = ℕ} 0 1 = cc in omega arith
+by-tests true false v n most h e = cannot-be cc
+by-tests false b v n most h e = cannot-be cc
 
 pub no-larger : (t : List ℕ) (most n : ℕ) → Figure.Number n ≡ decimal t most → n ≤ most
 unfolding decimal

@@ -18,6 +18,7 @@ use Rattle.compaction.specs.declared.Waiting.{Waiting}
 use Rattle.compaction.specs.Dropped.{isDropped, compactOver}
 use Rattle.compaction.specs.Blocks.{waitingRecord, settled, waitsNext, keptOver, waitsAfter}
 use Rattle.compaction.specs.Compact.{bytesOf}
+use Rattle.words.proofs.Never.{cannot-be}
 
 abbrev waiting : Ride → List ℕ → Bool → Waiting
 waiting ride bytes waits = record { ride = ride; bytes = bytes; waits = waits }
@@ -95,5 +96,5 @@ room-by gaps ride b (r ∷ rs) e all =
 pub room : (gaps : ℕ → ℕ) (ride : Ride) (b : List ℕ) (rs : List (List ℕ)) → Eights rs → waitsAfter gaps (waiting ride b false) rs .waits ≡ true
     → length (bytesOf (keptOver gaps (waiting ride b false) rs)) + 8 ≤ length rs * 8
 unfolding keptOver waitsAfter settled waitsNext
-room gaps ride b [] all h = absurd (let z : _≡_ {A = ℕ} 0 1 = cc in omega arith)
+room gaps ride b [] all h = cannot-be cc
 room gaps ride b (r ∷ rs) all h = omega (arith, room-by gaps ride r rs (all .0) (all .1))

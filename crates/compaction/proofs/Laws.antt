@@ -2,7 +2,6 @@
 -- alone.
 -- Assumes nothing.
 use Prim.Native.Nat.{ℕ, _≤_}
-use native.Mathlib.Omega.{arith}
 use native.Mathlib.Nat.{le-refl, le-trans}
 use mathlib.Core.Path.{_≡_, refl, sym, ap, _∙_}
 use mathlib.Core.Bool.{Bool, true, false, not, _&&_}
@@ -21,6 +20,7 @@ use Rattle.ride.specs.Closing.{Closing, close, leave}
 use Rattle.ride.specs.Step.{closeBehind, isMissed, missedLines, Step, afterClosing, goOn, refuseOr, treat}
 use Rattle.ride.proofs.Steps.{quiet}
 use Rattle.compaction.specs.Dropped.{isQuiet, isAccepted}
+use Rattle.words.proofs.Never.{cannot-be}
 
 -- The state with another last odometer.
 abbrev pub atOdometer : ℕ → Ride → Ride
@@ -33,7 +33,7 @@ of-tests : (a b c d : Bool) (x e : Entry) → (c ≡ false → d ≡ false)
     → _≡_ {A = Outcome Entry} (pick a (refuses 16) (pick b (refuses 18) (pick d (refuses 17) (gives x)))) (gives e)
 of-tests true b c d x e f h = h
 of-tests false true c d x e f h = h
-of-tests false false true d x e f h = absurd (let z : _≡_ {A = ℕ} 0 1 = cc in omega arith)
+of-tests false false true d x e f h = cannot-be cc
 of-tests false false false d x e f h = ap (λ (t : Bool). pick t (refuses 17) (gives x)) (f refl) ∙ h
 
 -- a record that is accepted after some odometer is accepted after any lower one, and says the same
@@ -51,7 +51,7 @@ accepted-lower low last r e h a =
 of-check : (low : ℕ) (ride : Ride) (gap : ℕ) (r : List ℕ) (o : Outcome Entry) → low ≤ ride .odometer → checkRecord (ride .odometer) r ≡ o → isAccepted o ≡ true
     → treat (atOdometer low ride) gap r ≡ treat ride gap r
 unfolding treat goOn
-of-check low ride gap r (refuses n) h e a = absurd (let z : _≡_ {A = ℕ} 0 1 = cc in omega arith)
+of-check low ride gap r (refuses n) h e a = cannot-be cc
 of-check low ride gap r (gives x) h e a =
     ap (refuseOr (atOdometer low ride) gap) (accepted-lower low (ride .odometer) r x h e) ∙ sym (ap (refuseOr ride gap) e)
 
@@ -66,17 +66,17 @@ of-quiet : (b m : Bool) (ride : Ride) (gap : ℕ) (e : Entry) → isBehind gap (
     → isQuiet (goOn ride gap e .lines) ≡ true → (isBehind gap (e .odometer) (ride .group) ≡ false) × (isMissed (e .odometer) (ride .group) (ride .known) ≡ false)
 unfolding goOn closeBehind close leave missedLines
 of-quiet false false ride gap e behind missed q = (behind, missed)
-of-quiet true m ride gap e behind missed q = absurd (let q′ : false ≡ true = rw behind at q in let z : _≡_ {A = ℕ} 0 1 = cc in omega arith)
-of-quiet false true ride gap e behind missed q = absurd (let q′ : false ≡ true = rw (behind, missed) at q in let z : _≡_ {A = ℕ} 0 1 = cc in omega arith)
+of-quiet true m ride gap e behind missed q = absurd (let q′ : false ≡ true = rw behind at q in cannot-be cc)
+of-quiet false true ride gap e behind missed q = absurd (let q′ : false ≡ true = rw (behind, missed) at q in cannot-be cc)
 
 position : (r : List ℕ) → kindOf r ≡ 3 → passedOf r ≡ Passed.Position
 unfolding passedOf
 position r e = rw e
 
 said : (a b c : Bool) (x e : Entry) → _≡_ {A = Outcome Entry} (pick a (refuses 16) (pick b (refuses 18) (pick c (refuses 17) (gives x)))) (gives e) → x ≡ e
-said true b c x e h = absurd (let z : _≡_ {A = ℕ} 0 1 = cc in omega arith)
-said false true c x e h = absurd (let z : _≡_ {A = ℕ} 0 1 = cc in omega arith)
-said false false true x e h = absurd (let z : _≡_ {A = ℕ} 0 1 = cc in omega arith)
+said true b c x e h = cannot-be cc
+said false true c x e h = cannot-be cc
+said false false true x e h = cannot-be cc
 said false false false x e h = cc
 
 entry-is : (last : ℕ) (r : List ℕ) (e : Entry) → checkRecord last r ≡ gives e → record { odometer = odometerOf r; passed = passedOf r } ≡ e
@@ -89,7 +89,7 @@ stays-so g o = refl
 
 of-answer : (ride : Ride) (gap : ℕ) (r : List ℕ) (o : Outcome Entry) → checkRecord (ride .odometer) r ≡ o → kindOf r ≡ 3 → isQuiet (refuseOr ride gap o .lines) ≡ true
     → refuseOr ride gap o .ride ≡ atOdometer (odometerOf r) ride
-of-answer ride gap r (refuses n) e k q = absurd (let z : _≡_ {A = ℕ} 0 1 = cc in omega arith)
+of-answer ride gap r (refuses n) e k q = cannot-be cc
 of-answer ride gap r (gives x) e k q =
     let n = of-quiet _ _ ride gap x refl refl q in
     let is : record { odometer = odometerOf r; passed = Passed.Position } ≡ x =
@@ -105,7 +105,7 @@ odometer-alone ride gap r k q = of-answer ride gap r (checkRecord (ride .odomete
 
 -- a quiet record is accepted
 quiet-answer : (ride : Ride) (gap : ℕ) (o : Outcome Entry) → isQuiet (refuseOr ride gap o .lines) ≡ true → isAccepted o ≡ true
-quiet-answer ride gap (refuses n) q = absurd (let z : _≡_ {A = ℕ} 0 1 = cc in omega arith)
+quiet-answer ride gap (refuses n) q = cannot-be cc
 quiet-answer ride gap (gives x) q = refl
 
 pub quiet-accepted : (ride : Ride) (gap : ℕ) (r : List ℕ) → isQuiet (treat ride gap r .lines) ≡ true → isAccepted (checkRecord (ride .odometer) r) ≡ true

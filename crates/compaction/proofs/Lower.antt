@@ -2,7 +2,6 @@
 -- as the higher one does.
 -- Assumes nothing.
 use Prim.Native.Nat.{ℕ, _≤_}
-use native.Mathlib.Omega.{arith}
 use native.Mathlib.Nat.{le-refl, le-trans}
 use mathlib.Core.Path.{_≡_, refl, sym, subst}
 use mathlib.Core.Bool.{Bool, true, false, _&&_}
@@ -16,6 +15,7 @@ use Rattle.ride.specs.Step.{treat}
 use Rattle.ride.proofs.Law.{odometer-rises}
 use Rattle.compaction.specs.Dropped.{isQuiet, isAccepted, isDropped, isDroppedBefore}
 use Rattle.compaction.proofs.Laws.{atOdometer, same-step, odometer-alone}
+use Rattle.words.proofs.Never.{cannot-be}
 
 -- ---- what a dropped record shows
 
@@ -26,9 +26,9 @@ pub record Dropped (ride : Ride) (gap : ℕ) (r next : List ℕ) : Type 0 where
 
 three : (a b c : Bool) → (a && (b && c)) ≡ true → (a ≡ true) × (b ≡ true) × (c ≡ true)
 three true true true e = (refl, refl, refl)
-three true true false e = absurd (let z : _≡_ {A = ℕ} 0 1 = cc in omega arith)
-three true false c e = absurd (let z : _≡_ {A = ℕ} 0 1 = cc in omega arith)
-three false b c e = absurd (let z : _≡_ {A = ℕ} 0 1 = cc in omega arith)
+three true true false e = cannot-be cc
+three true false c e = cannot-be cc
+three false b c e = cannot-be cc
 
 pub is-dropped : (ride : Ride) (gap : ℕ) (r next : List ℕ) → isDropped ride gap r next ≡ true → Dropped ride gap r next
 unfolding isDropped
@@ -63,18 +63,18 @@ drop-next low ride gap r next rs h d =
 
 pub still-lower : (ride low : Ride) (gap : ℕ) (r : List ℕ) (rs : List (List ℕ)) → Lower ride low (r ∷ rs) → isDroppedBefore ride gap r rs ≡ true
     → Lower (treat ride gap r .ride) low rs
-still-lower ride low gap r [] l e = absurd (let z : _≡_ {A = ℕ} 0 1 = cc in omega arith)
+still-lower ride low gap r [] l e = cannot-be cc
 still-lower ride low gap r (next ∷ rs) level e = drop-next (ride .odometer) ride gap r next rs (le-refl (ride .odometer)) (is-dropped ride gap r next e)
 still-lower ride low gap r (next ∷ rs) (below o h a) e = drop-next o ride gap r next rs h (is-dropped ride gap r next e)
 
 -- ---- of whatever follows
 
 pub was-quiet : (ride : Ride) (gap : ℕ) (r : List ℕ) (rs : List (List ℕ)) → isDroppedBefore ride gap r rs ≡ true → isQuiet (treat ride gap r .lines) ≡ true
-was-quiet ride gap r [] e = absurd (let z : _≡_ {A = ℕ} 0 1 = cc in omega arith)
+was-quiet ride gap r [] e = cannot-be cc
 was-quiet ride gap r (next ∷ rs) e = is-dropped ride gap r next e .quiet
 
 pub was-kind : (ride : Ride) (gap : ℕ) (r : List ℕ) (rs : List (List ℕ)) → isDroppedBefore ride gap r rs ≡ true → kindOf r ≡ 3
-was-kind ride gap r [] e = absurd (let z : _≡_ {A = ℕ} 0 1 = cc in omega arith)
+was-kind ride gap r [] e = cannot-be cc
 was-kind ride gap r (next ∷ rs) e = is-dropped ride gap r next e .kind
 
 pub by-pick : (P : List (List ℕ) → Type 0) (b : Bool) (x y : List (List ℕ)) → (b ≡ true → P x) → (b ≡ false → P y) → P (pick b x y)

@@ -1,7 +1,6 @@
 -- Compacting once more drops nothing: what kept a record still keeps it.
 -- Assumes nothing.
 use Prim.Native.Nat.{ℕ}
-use native.Mathlib.Omega.{arith}
 use mathlib.Core.Path.{_≡_, refl, ap, _∙_}
 use mathlib.Core.Bool.{Bool, true, false, _&&_}
 use mathlib.Core.List.{List, [], _∷_}
@@ -13,6 +12,7 @@ use Rattle.ride.specs.Step.{Step, treat}
 use Rattle.compaction.specs.Dropped.{isQuiet, isAccepted, isDropped, isDroppedBefore, compactOver}
 use Rattle.compaction.proofs.Laws.{quiet-accepted}
 use Rattle.compaction.proofs.Lower.{Lower, level, first-step, still-lower, was-quiet, by-pick}
+use Rattle.words.proofs.Never.{cannot-be}
 
 -- whether a record is dropped goes by its step
 by-step : (ride low : Ride) (gap : ℕ) (r : List ℕ) (ks : List (List ℕ)) → treat low gap r ≡ treat ride gap r
@@ -23,8 +23,8 @@ by-step ride low gap r (next ∷ ks) e =
     ap (λ (s : Step). eqb (kindOf r) 3 && (isQuiet (s .lines) && isAccepted (checkRecord (s .ride .odometer) next))) e
 
 neither : (a b c d : Bool) → (a && (b && c)) ≡ false → c ≡ true → (a && (b && d)) ≡ false
-neither true true true d e f = absurd (let z : _≡_ {A = ℕ} 0 1 = cc in omega arith)
-neither true true false d e f = absurd (let z : _≡_ {A = ℕ} 0 1 = cc in omega arith)
+neither true true true d e f = cannot-be cc
+neither true true false d e f = cannot-be cc
 neither true false c d e f = refl
 neither false b c d e f = refl
 

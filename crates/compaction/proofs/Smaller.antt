@@ -2,7 +2,6 @@
 -- from there on all is the same.
 -- Assumes nothing.
 use Prim.Native.Nat.{ℕ, suc}
-use native.Mathlib.Omega.{arith}
 use mathlib.Core.Path.{_≡_, refl, sym, ap, subst}
 use mathlib.Core.Bool.{true, false}
 use mathlib.Core.List.{List, [], _∷_, _++_}
@@ -16,6 +15,7 @@ use Rattle.compaction.specs.Dropped.{isQuiet, isDroppedBefore, compactOv
 use Rattle.compaction.specs.Smaller.{withoutRefused, refusals, Agree, none, same, refused, KeptOf, nothing, kept, dropped, Smaller}
 use Rattle.compaction.proofs.Lower.{Lower, level, first-step, still-lower, was-quiet, was-kind, by-pick}
 use Rattle.compaction.proofs.Once.{once-more}
+use Rattle.words.proofs.Never.{cannot-be}
 
 -- ---- the same ride
 
@@ -39,8 +39,8 @@ agree-for k m (refuses n) = refused k m n none
 
 no-lines : (m : ℕ) (o : Outcome (List Line)) → isQuiet o ≡ true → linesFor m o ≡ []
 no-lines m (gives []) q = refl
-no-lines m (gives (l ∷ ls)) q = absurd (let z : _≡_ {A = ℕ} 0 1 = cc in omega arith)
-no-lines m (refuses n) q = absurd (let z : _≡_ {A = ℕ} 0 1 = cc in omega arith)
+no-lines m (gives (l ∷ ls)) q = cannot-be cc
+no-lines m (refuses n) q = cannot-be cc
 
 -- a dropped record gave no line
 after-dropped : (m : ℕ) (a b : Ridden) (o : Outcome (List Line)) → isQuiet o ≡ true → Alike a b → Alike a (before (linesFor m o) b)

@@ -2,9 +2,6 @@
 -- Assumes nothing.
 use mathlib.Core.Path.{_≡_, refl, sym, ap, _∙_}
 use lib.Dec.{eqb}
-use contract.Lifetimes.{Lfts}
-use borrow.Fn.Kinds.{Dens, endedOf}
-use denote.Triple.Clauses.{AtExit}
 use Rattle.words.specs.Answer.{Outcome, gives, refuses, pick}
 use Rattle.contact.specs.Contacts.{Handed, handed, noFurther}
 use Rattle.telegram.proofs.Determined.{told}
@@ -25,6 +22,7 @@ use Rattle.contact.proofs.judge.Kinds as judge-kinds
 use Rattle.contact.proofs.judge.Reads as judge-reads
 use Rattle.contact.proofs.judge_under.Kinds as judge-under-kinds
 use Rattle.contact.proofs.judge_under.Reads as judge-under-reads
+use Rattle.words.proofs.Told.{Fixed}
 
 -- From what an answer says, the answer.
 abbrev pub begunOf : Outcome Search → Begun
@@ -60,19 +58,13 @@ judged-back Judged.Beyond = refl
 judged-back Judged.Differ = refl
 judged-back Judged.Neither = refl
 
-pub begin-determined : (κs : Lfts 1) (a : Dens κs begin-kinds.ps) (r r′ : Begun)
-    (x x′ : AtExit (endedOf 1 begin-kinds.ps begin-kinds.r) κs)
-    → begin-reads.Post κs a r x → begin-reads.Post κs a r′ x′ → r ≡ r′
+pub begin-determined : Fixed 1 begin-kinds.ps begin-kinds.r begin-reads.Post
 begin-determined κs a r r′ x x′ p q = sym (begun-back r) ∙ ap begunOf (p ∙ sym q) ∙ begun-back r′
 
-pub next-contact-determined : (κs : Lfts 1) (a : Dens κs next-kinds.ps) (r r′ : Next)
-    (x x′ : AtExit (endedOf 1 next-kinds.ps next-kinds.r) κs)
-    → next-reads.Post κs a r x → next-reads.Post κs a r′ x′ → r ≡ r′
+pub next-contact-determined : Fixed 1 next-kinds.ps next-kinds.r next-reads.Post
 next-contact-determined κs a r r′ x x′ p q = sym (next-back r) ∙ ap nextOf (p ∙ sym q) ∙ next-back r′
 
-pub judge-determined : (κs : Lfts 1) (a : Dens κs judge-kinds.ps) (r r′ : Judged)
-    (x x′ : AtExit (endedOf 1 judge-kinds.ps judge-kinds.r) κs)
-    → judge-reads.Post κs a r x → judge-reads.Post κs a r′ x′ → r ≡ r′
+pub judge-determined : Fixed 1 judge-kinds.ps judge-kinds.r judge-reads.Post
 judge-determined κs a r r′ x x′ p q = sym (judged-back r) ∙ ap judgedOf (p ∙ sym q) ∙ judged-back r′
 
 abbrev pub judgedUnderOf : Outcome Contact → JudgedUnder
@@ -93,7 +85,5 @@ judged-under-back JudgedUnder.Beyond = refl
 judged-under-back JudgedUnder.Differ = refl
 judged-under-back JudgedUnder.Neither = refl
 
-pub judge-under-determined : (κs : Lfts 1) (a : Dens κs judge-under-kinds.ps) (r r′ : JudgedUnder)
-    (x x′ : AtExit (endedOf 1 judge-under-kinds.ps judge-under-kinds.r) κs)
-    → judge-under-reads.Post κs a r x → judge-under-reads.Post κs a r′ x′ → r ≡ r′
+pub judge-under-determined : Fixed 1 judge-under-kinds.ps judge-under-kinds.r judge-under-reads.Post
 judge-under-determined κs a r r′ x x′ p q = sym (judged-under-back r) ∙ ap judgedUnderOf (p ∙ sym q) ∙ judged-under-back r′

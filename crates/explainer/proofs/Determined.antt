@@ -9,7 +9,7 @@ use borrow.Fn.Kinds.{Dens, endedOf}
 use denote.Triple.Clauses.{AtExit}
 use Rattle.words.specs.Answer.{pick}
 use Rattle.words.specs.Why.{why, are, unsaid}
-use Rattle.words.proofs.Told.{told}
+use Rattle.words.proofs.Told.{Fixed, told}
 use Rattle.text.specs.Put.{Put, came}
 use Rattle.telegram.specs.Telegram.{badWord}
 use Rattle.explainer.specs.declared.Bad.{Bad as Badly}
@@ -49,9 +49,7 @@ reason-back (Reason.Unread i place b) = rw (badly-back b)
 reason-back (Reason.NoRow run k) = refl
 reason-back (Reason.NoDistance i place) = refl
 
-pub explain-determined : (κs : Lfts 0) (a : Dens κs explain-kinds.ps) (r r′ : Reason)
-    (x x′ : AtExit (endedOf 0 explain-kinds.ps explain-kinds.r) κs)
-    → explain-reads.Post κs a r x → explain-reads.Post κs a r′ x′ → r ≡ r′
+pub explain-determined : Fixed 0 explain-kinds.ps explain-kinds.r explain-reads.Post
 explain-determined κs a r r′ x x′ p q = told saysReason reason reason-back r r′ p q
 
 pub put-reason-determined : (κs : Lfts 1) (a : Dens κs put-reason-kinds.ps) (r r′ : ℕ)

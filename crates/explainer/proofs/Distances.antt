@@ -21,6 +21,7 @@ use Rattle.explainer.specs.Reason.{figure}
 use Rattle.explainer.specs.Explain.{indexOf, isFound, oneToFourteen, bBreaks, cBreaks}
 use Rattle.explainer.specs.Truths.{At, BBreaks, preset-barred, without-14, with-14, no-column, CBreaks}
 use Rattle.explainer.proofs.Openings.{or-cases}
+use Rattle.words.proofs.Never.{cannot-be}
 
 -- ---- table DF
 
@@ -115,8 +116,8 @@ b-keeps r b none e n (without-14 is out) =
     let h = neither (ltb 14 (Y (b .part))) (not (oneToFourteen (Z (b .part)))) e in
     let t = both (leb 1 (Z (b .part))) (leb (Z (b .part)) 14) (not-false (oneToFourteen (Z (b .part))) (h .1)) in
     out (leb-true 1 (Z (b .part)) (t .0)) (leb-true (Z (b .part)) 14 (t .1))
-b-keeps r b (found x) e n (without-14 is out) = absurd (let z : _≡_ {A = ℕ} 0 1 = cc in omega arith)
-b-keeps r b none e n (with-14 x is out) = absurd (let z : _≡_ {A = ℕ} 0 1 = cc in omega arith)
+b-keeps r b (found x) e n (without-14 is out) = cannot-be cc
+b-keeps r b none e n (with-14 x is out) = cannot-be cc
 b-keeps r b (found y) e n (with-14 x is out) =
     let h = neither (ltb 14 (Y (b .part))) (not (eqb (Z (b .part)) 0)) e in
     out (eqb-true (Z (b .part)) 0 (not-false (eqb (Z (b .part)) 0) (h .1)))
@@ -128,7 +129,7 @@ b-keeps r b c e n (no-column h) =
 -- The first balise of category c stands at its index.
 pub at-index : (c : ℕ) (bs : List Placed) (b : Placed) → first (any c) bs ≡ found b → At bs (indexOf c bs) b
 unfolding first indexOf
-at-index c [] b e = absurd (let z : _≡_ {A = ℕ} 0 1 = cc in omega arith)
+at-index c [] b e = cannot-be cc
 at-index c (x ∷ bs) b e = go (isCategory c (x .part)) (sym (rw (meets-any c (x .part))) ∙ e) (at-index c bs b)
   where
     go : (so : Bool) → pick so (found x) (first (any c) bs) ≡ found b → (first (any c) bs ≡ found b → At bs (indexOf c bs) b) → At (x ∷ bs) (pick so 0 (suc (indexOf c bs))) b

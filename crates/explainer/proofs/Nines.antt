@@ -21,6 +21,7 @@ use Rattle.walk.proofs.Figures.{meets-any}
 use Rattle.group.specs.Judge.{B}
 use Rattle.explainer.specs.Explain.{isFound}
 use Rattle.explainer.proofs.Openings.{or-cases}
+use Rattle.words.proofs.Never.{cannot-be}
 
 -- What is found among some balises is found with one more before them.
 one-before : (w : Asked) (b : Placed) (bs : List Placed) → isFound (first w bs) ≡ true → isFound (first w (b ∷ bs)) ≡ true
@@ -87,8 +88,8 @@ unfolding fitRow
 row-nine kind k ms bs a t e j = go (fits ms bs) refl (calledA ms bs) e
   where
     go : (so : Bool) → fits ms bs ≡ so → (f : Found) → pick so (fitWith kind f) misfit ≡ fit k a → isFound (first (any 9) bs) ≡ true
-    go false q f r = absurd (let z : _≡_ {A = ℕ} 0 1 = cc in omega arith)
-    go true q none r = absurd (let z : _≡_ {A = ℕ} 0 1 = cc in omega arith)
+    go false q f r = cannot-be cc
+    go true q none r = cannot-be cc
     go true q (found x) r =
         let same : kind ≡ k = cc in
         let judged : isJudged kind ≡ true = ap isJudged same ∙ j in
@@ -98,7 +99,7 @@ row-nine kind k ms bs a t e j = go (fits ms bs) refl (calledA ms bs) e
 rows-nine : (rs : List Row) (k : Kind) (bs : List Placed) (a : Placed) → nines rs ≡ true → fitRows rs bs ≡ fit k a → isJudged k ≡ true
     → isFound (first (any 9) bs) ≡ true
 unfolding fitRows
-rows-nine [] k bs a t e j = absurd (let z : _≡_ {A = ℕ} 0 1 = cc in omega arith)
+rows-nine [] k bs a t e j = cannot-be cc
 rows-nine (row kind ms ∷ rs) k bs a t e j =
     let h = both (pick (isJudged kind) (hasNine ms) true) (nines rs) t in
     go (fitRow (row kind ms) bs) refl e (λ q. row-nine kind k ms bs a (h .0) q j) (λ q. rows-nine rs k bs a (h .1) q j)
@@ -117,8 +118,8 @@ unfolding fitting
 only-13 bs n e = go (fitIn present bs) (fitIn opposite bs) e
   where
     go : (p o : Fit) → asOr Direction.Present p (asOr Direction.Opposite o (refuses 13)) ≡ refuses n → n ≡ 13
-    go (fit k a) o q = absurd (let z : _≡_ {A = ℕ} 0 1 = cc in omega arith)
-    go misfit (fit k a) q = absurd (let z : _≡_ {A = ℕ} 0 1 = cc in omega arith)
+    go (fit k a) o q = cannot-be cc
+    go misfit (fit k a) q = cannot-be cc
     go misfit misfit q = cc
 
 -- B is there.
@@ -132,7 +133,7 @@ nine-there bs r e way j = go (leb (howMany 12 bs) 1) (fitRows present bs) refl (
     go true (fit k a) q o s =
         let same : k ≡ r .kind = cc in
         rows-nine present k bs a refl q (ap isJudged same ∙ j)
-    go true misfit q misfit s = absurd (let z : _≡_ {A = ℕ} 0 1 = cc in omega arith)
+    go true misfit q misfit s = cannot-be cc
     go true misfit q (fit k a) s = absurd (let z : Direction.Opposite ≡ Direction.Present = cc in let y : _≡_ {A = ℕ} 0 1 = cc in omega arith)
-    go false p q misfit s = absurd (let z : _≡_ {A = ℕ} 0 1 = cc in omega arith)
+    go false p q misfit s = cannot-be cc
     go false p q (fit k a) s = absurd (let z : Direction.Opposite ≡ Direction.Present = cc in let y : _≡_ {A = ℕ} 0 1 = cc in omega arith)

@@ -37,6 +37,7 @@ use Rattle.explainer.proofs.Runs.{run-is-longest}
 use Rattle.explainer.proofs.Firsts.{unnamed, read-unnamed, names-first}
 use Rattle.explainer.proofs.Nines.{isJudged, only-13, nine-there}
 use Rattle.explainer.proofs.Culprits.{Decided, breaks, allowed, decided}
+use Rattle.words.proofs.Never.{cannot-be}
 
 -- ---- the row that fits
 
@@ -69,7 +70,7 @@ module _ (g : Group) (bs : List Placed) (read : received.readAll (received.balis
       go (allowed d given why) = rw given why
 
   of-warning : (b : Placed) → B bs ≡ found b → row .direction ≡ Direction.Present → row .kind ≡ Kind.Warning → OfKind Kind.Warning
-  of-warning b is way kind = go (decided row b bs is false (λ e. false-true e) (λ h. absurd (let k : Kind.Signal ≡ Kind.Warning = cc in let z : _≡_ {A = ℕ} 0 1 = cc in omega arith)))
+  of-warning b is way kind = go (decided row b bs is false (λ e. false-true e) (λ h. absurd (let k : Kind.Signal ≡ Kind.Warning = cc in cannot-be cc)))
     where
       go : Decided row b bs false → OfKind Kind.Warning
       go (breaks i place refused why c) = rw (refused, why) (why-15 i place (rule i place b is way (inr kind) c))
@@ -134,11 +135,11 @@ of-group g = go (eqb (g .count) 1) refl (ltb 5 (g .count)) refl
     go false e false f = of-few g
 
 reasoned : (g : Group) (n : ℕ) (e : Explained) → Why g n e → e ≡ noReason → ⊥
-reasoned g n e (why-10 h) q = let z : _≡_ {A = ℕ} 0 1 = cc in omega arith
-reasoned g n e (why-11 h) q = let z : _≡_ {A = ℕ} 0 1 = cc in omega arith
-reasoned g n e (why-12 i place what h) q = let z : _≡_ {A = ℕ} 0 1 = cc in omega arith
-reasoned g n e (why-13 run many h) q = let z : _≡_ {A = ℕ} 0 1 = cc in omega arith
-reasoned g n e (why-15 i place h) q = let z : _≡_ {A = ℕ} 0 1 = cc in omega arith
+reasoned g n e (why-10 h) q = cannot-be cc
+reasoned g n e (why-11 h) q = cannot-be cc
+reasoned g n e (why-12 i place what h) q = cannot-be cc
+reasoned g n e (why-13 run many h) q = cannot-be cc
+reasoned g n e (why-15 i place h) q = cannot-be cc
 
 accepted : (g : Group) (o : Outcome Message) (e : Explained) → Right g o e → e ≡ noReason → (m : Message) × (o ≡ gives m)
 accepted g (gives m) e r q = (m, refl)

@@ -16,10 +16,9 @@ use Rattle.fields.proofs.has.Kinds as has-kinds
 use Rattle.fields.proofs.has.Reads as has-reads
 use Rattle.fields.proofs.more.Kinds as more-kinds
 use Rattle.fields.proofs.more.Reads as more-reads
+use Rattle.words.proofs.Told.{Fixed}
 
-pub place-of-determined : (κs : Lfts 1) (a : Dens κs place-kinds.ps) (r r′ : ℕ)
-    (x x′ : AtExit (endedOf 1 place-kinds.ps place-kinds.r) κs)
-    → place-reads.Post κs a r x → place-reads.Post κs a r′ x′ → r ≡ r′
+pub place-of-determined : Fixed 1 place-kinds.ps place-kinds.r place-reads.Post
 place-of-determined κs a r r′ x x′ p q = p ∙ sym q
 
 pub field-determined : (κs : Lfts 1) (a : Dens κs field-kinds.ps) (r r′ : RefT (List ℕ))
@@ -27,12 +26,8 @@ pub field-determined : (κs : Lfts 1) (a : Dens κs field-kinds.ps) (r r′ : Re
     → field-reads.Post κs a r x → field-reads.Post κs a r′ x′ → now r ≡ now r′
 field-determined κs a r r′ x x′ p q = p ∙ sym q
 
-pub has-determined : (κs : Lfts 1) (a : Dens κs has-kinds.ps) (r r′ : Bool)
-    (x x′ : AtExit (endedOf 1 has-kinds.ps has-kinds.r) κs)
-    → has-reads.Post κs a r x → has-reads.Post κs a r′ x′ → r ≡ r′
+pub has-determined : Fixed 1 has-kinds.ps has-kinds.r has-reads.Post
 has-determined κs a r r′ x x′ p q = p ∙ sym q
 
-pub more-determined : (κs : Lfts 0) (a : Dens κs more-kinds.ps) (r r′ : ℕ)
-    (x x′ : AtExit (endedOf 0 more-kinds.ps more-kinds.r) κs)
-    → more-reads.Post κs a r x → more-reads.Post κs a r′ x′ → r ≡ r′
+pub more-determined : Fixed 0 more-kinds.ps more-kinds.r more-reads.Post
 more-determined κs a r r′ x x′ p q = p ∙ sym q

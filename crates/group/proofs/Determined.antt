@@ -3,11 +3,8 @@
 use Prim.Native.Nat.{ℕ}
 use mathlib.Core.Path.{_≡_, refl, sym, _∙_}
 use lib.Dec.{eqb}
-use contract.Lifetimes.{Lfts}
-use borrow.Fn.Kinds.{Dens, endedOf}
-use denote.Triple.Clauses.{AtExit}
 use Rattle.words.specs.Answer.{Outcome, gives, refuses, pick}
-use Rattle.words.proofs.Told.{told}
+use Rattle.words.proofs.Told.{Fixed, told}
 use Rattle.group.specs.declared.Measured.{Measured}
 use Rattle.group.specs.declared.Told.{Told}
 use Rattle.group.specs.declared.Message.{Message}
@@ -47,17 +44,11 @@ judged-back GroupJudged.Unread = refl
 judged-back GroupJudged.NoRow = refl
 judged-back GroupJudged.NoDistance = refl
 
-pub distance-determined : (κs : Lfts 0) (a : Dens κs distance-kinds.ps) (r r′ : Measured)
-    (x x′ : AtExit (endedOf 0 distance-kinds.ps distance-kinds.r) κs)
-    → distance-reads.Post κs a r x → distance-reads.Post κs a r′ x′ → r ≡ r′
+pub distance-determined : Fixed 0 distance-kinds.ps distance-kinds.r distance-reads.Post
 distance-determined κs a r r′ x x′ p q = told saysMeasured measured measured-back r r′ p q
 
-pub speed-determined : (κs : Lfts 0) (a : Dens κs speed-kinds.ps) (r r′ : Told)
-    (x x′ : AtExit (endedOf 0 speed-kinds.ps speed-kinds.r) κs)
-    → speed-reads.Post κs a r x → speed-reads.Post κs a r′ x′ → r ≡ r′
+pub speed-determined : Fixed 0 speed-kinds.ps speed-kinds.r speed-reads.Post
 speed-determined κs a r r′ x x′ p q = p ∙ sym q
 
-pub judge-determined : (κs : Lfts 0) (a : Dens κs judge-kinds.ps) (r r′ : GroupJudged)
-    (x x′ : AtExit (endedOf 0 judge-kinds.ps judge-kinds.r) κs)
-    → judge-reads.Post κs a r x → judge-reads.Post κs a r′ x′ → r ≡ r′
+pub judge-determined : Fixed 0 judge-kinds.ps judge-kinds.r judge-reads.Post
 judge-determined κs a r r′ x x′ p q = told saysGroupJudged judged judged-back r r′ p q

@@ -24,6 +24,7 @@ use Rattle.contact.specs.History.{zeroesOf}
 use Rattle.line.specs.Line.{OneBalise, Proper, Clean, repeated, sentBit, receivedBit, inStretch, flip, unequal}
 use Rattle.line.proofs.Sums.{unequal-none}
 use Rattle.heard.specs.Zeroes.{zeroesIn, zeroesSent}
+use Rattle.words.proofs.Never.{cannot-be}
 
 module _ (o : OneBalise) (clean : Clean o) where
   pub received : (k : ℕ) → k < o .len → bitAt (o .buffer) (o .start + k) ≡ sentBit o (o .phase + k)
@@ -77,7 +78,7 @@ four-zeroes x l = below fourZeroes 256 tt x l
 
 first-read : (w : Answer Why ℕ) (f : ℕ → Received) (m : Telegram) → then (named Word.X w) f ≡ gives m → isRead w ≡ true
 first-read (gives a) f m e = refl
-first-read (refuses n) f m e = absurd (let z : _≡_ {A = ℕ} 0 1 = cc in omega arith)
+first-read (refuses n) f m e = cannot-be cc
 
 pub x-four : (x y z : ℕ) (m : Telegram) → x < 256 → telegram x y z ≡ gives m → 4 ≤ zeroesOf x 8
 unfolding telegram fourZeroes

@@ -20,6 +20,7 @@ use Rattle.telegram.specs.declared.Word.{Word}
 use Rattle.telegram.specs.Place.{accepted}
 use Rattle.line.proofs.Bits.{ones-differing}
 use Rattle.words.proofs.HowMany.{onesOf}
+use Rattle.words.proofs.Never.{cannot-be}
 
 -- Of either code: a word that is accepted and differs from a code word in at most three bits is that code word.
 pub still : {n : ℕ} → Width n → (c w x y : ℕ) → c < 2 ^ n → w < 2 ^ n → readWord n c ≡ gives x → readWord n w ≡ gives y → differing w c n ≤ 3 → w ≡ c
@@ -40,7 +41,7 @@ still {n} wide c w x y hc hw sent received few = go (onesOf f n) refl
         let bad : readWord n (bitXor c f) ≡ refuses (notCodeWord n f) = three-flips wide c f x sent f-lt (subst (λ (j : ℕ). 1 ≤ j) (sym some) (omega arith)) count in
         let again : bitXor c f ≡ w = xor-twice n c w hc hw in
         let same : gives y ≡ refuses (notCodeWord n f) = sym received ∙ ap (readWord n) (sym again) ∙ bad in
-        absurd (let z : _≡_ {A = ℕ} 0 1 = cc in omega arith)
+        cannot-be cc
 
 -- A short word of a telegram is accepted only as a code word.
 as-short : (w a : ℕ) → shortWord w ≡ gives a → readShort w ≡ gives a
@@ -52,17 +53,17 @@ as-short w a e = go (readShort w) e
     go (gives v) e = by (eqb v 15) e
       where
         by : (t : Bool) → pick t (refuses (why 3 unsaid)) (gives v) ≡ gives a → _≡_ {A = Answer Why ℕ} (gives v) (gives a)
-        by true e = absurd (let z : _≡_ {A = ℕ} 0 1 = cc in omega arith)
+        by true e = cannot-be cc
         by false e = e
 
 -- A word whose answer goes on to a telegram gave a figure.
 onward : (l : Word) (o : Answer Why ℕ) (next : ℕ → Received) (m : Telegram) → then (named l o) next ≡ gives m → (a : ℕ) × (o ≡ gives a) × (next a ≡ gives m)
 onward l (gives a) next m e = (a, refl, e)
-onward l (refuses k) next m e = absurd (let z : _≡_ {A = ℕ} 0 1 = cc in omega arith)
+onward l (refuses k) next m e = cannot-be cc
 
 pub taken : (r : Received) → accepted r ≡ true → (m : Telegram) × (r ≡ gives m)
 taken (gives m) e = (m, refl)
-taken (refuses b) e = absurd (let z : _≡_ {A = ℕ} 0 1 = cc in omega arith)
+taken (refuses b) e = cannot-be cc
 
 -- what follows an X that reads a
 abbrev after : ℕ → ℕ → ℕ → Received

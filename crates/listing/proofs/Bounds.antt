@@ -28,13 +28,14 @@ use Rattle.listing.specs.List.{textOf, isTaken, taken, Taken, Listing, l
 use Rattle.listing.specs.Under.{judgedFirst, listUnder}
 use Rattle.listing.specs.Says.{saysDone, saysListed}
 use Rattle.listing.proofs.Plain.{plain-list}
+use Rattle.words.proofs.Never.{cannot-be}
 
 -- a text that was put lies within the buffer
 put-within : (b : Bool) (k most n : ℕ) (x y : List ℕ) → leb k most ≡ b → Put.Next n ≡ pick b (filled (Put.Next k) x) (filled Put.NoRoom y) .ends → n ≤ most
 put-within true k most n x y e is =
     let n-is : n ≡ k = cc in
     omega (arith, leb-true k most e)
-put-within false k most n x y e is = let z : _≡_ {A = ℕ} 0 1 = cc in omega arith
+put-within false k most n x y e is = cannot-be cc
 
 pub next-within : (t b x : List ℕ) (at : ℕ) (r : Put) (n : ℕ) → filled r x ≡ put t b at → r ≡ Put.Next n → n ≤ length b
 unfolding put

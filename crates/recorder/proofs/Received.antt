@@ -26,6 +26,7 @@ use Rattle.contact.specs.declared.Judged.{Judged}
 use Rattle.writer.specs.Words.{Words, asked, tooLarge, hasFifteen, wordsOf, spell}
 use Rattle.recorder.specs.Record.{Content, telegramOf, informed, contentOf, bytesOf, atOdometer, recordOf}
 use Rattle.recorder.specs.Received.{AsReceived}
+use Rattle.words.proofs.Never.{cannot-be}
 
 -- A reading says what the words at its first place say.
 pub place-words : (b : List ℕ) (start len s t : ℕ) (m : Telegram) (first count : ℕ) → judge b start len s t ≡ gives (read (gives m) first count) → wordsAt b first ≡ gives m
@@ -42,11 +43,11 @@ place-words b start len s t m first count = go (isGood s t) (inside b start len)
         let place : firstPlace ps ≡ first = cc in
         let words : wordsAt b (firstPlace ps) ≡ gives m = cc in
         ap (wordsAt b) (sym place) ∙ words
-    go true true false true mark e = absurd (let z : _≡_ {A = ℕ} 0 1 = cc in omega arith)
-    go true true false false true e = absurd (let z : _≡_ {A = ℕ} 0 1 = cc in omega arith)
-    go true true false false false e = absurd (let z : _≡_ {A = ℕ} 0 1 = cc in omega arith)
-    go true false two other mark e = absurd (let z : _≡_ {A = ℕ} 0 1 = cc in omega arith)
-    go false i two other mark e = absurd (let z : _≡_ {A = ℕ} 0 1 = cc in omega arith)
+    go true true false true mark e = cannot-be cc
+    go true true false false true e = cannot-be cc
+    go true true false false false e = cannot-be cc
+    go true false two other mark e = cannot-be cc
+    go false i two other mark e = cannot-be cc
 
 -- Figures that are read are no larger than those that are written.
 short-small : (w a : ℕ) → readShort w ≡ gives a → ltb 15 a ≡ false
@@ -68,14 +69,14 @@ unfolding shortWord
 of-short w a low e = go (readShort w) refl e
   where
     by : (v : ℕ) (t : Bool) → eqb v 15 ≡ t → readShort w ≡ gives v → pick {A = Answer Why ℕ} t (refuses (why 3 unsaid)) (gives v) ≡ gives a → Short w a
-    by v true is so e = absurd (let z : _≡_ {A = ℕ} 0 1 = cc in omega arith)
+    by v true is so e = cannot-be cc
     by v false is so e =
         let same : v ≡ a = cc in
         let reads : readShort w ≡ gives a = so ∙ ap gives same in
         record { is = writes-back short w a low reads; small = short-small w a reads; not-fifteen = ap (λ (x : ℕ). eqb x 15) (sym same) ∙ is }
 
     go : (o : Answer Why ℕ) → readShort w ≡ o → then o notFifteen ≡ gives a → Short w a
-    go (refuses k) so e = absurd (let z : _≡_ {A = ℕ} 0 1 = cc in omega arith)
+    go (refuses k) so e = cannot-be cc
     go (gives v) so e = by v (eqb v 15) refl so e
 
 -- The words of a telegram are those that are written for it.
@@ -102,18 +103,18 @@ module _ (x y z : ℕ) (x-low : x < 256) (y-low : y < 256) (z-low : z < 256) whe
     where
       last : (a b : ℕ) → eqb a 12 ≡ false → Short x a → Short y b → (o : Answer Why ℕ) → shortWord z ≡ o
           → then (named Word.Z o) (λ c. gives (Telegram.Figures a b c)) ≡ gives m → spell (telegramOf m) ≡ gives three
-      last a b other p q (refuses k) is e = absurd (let z : _≡_ {A = ℕ} 0 1 = cc in omega arith)
+      last a b other p q (refuses k) is e = cannot-be cc
       last a b other p q (gives c) is e =
           let same : Telegram.Figures a b c ≡ m = cc in
           ap (λ (t : Telegram). spell (telegramOf t)) (sym same) ∙ figures-spelt a b c other p q (of-short z c z-low is)
 
       middle : (a : ℕ) → eqb a 12 ≡ false → Short x a → (o : Answer Why ℕ) → shortWord y ≡ o
           → then (named Word.Y o) (λ b. then (named Word.Z (shortWord z)) (λ c. gives (Telegram.Figures a b c))) ≡ gives m → spell (telegramOf m) ≡ gives three
-      middle a other p (refuses k) is e = absurd (let z : _≡_ {A = ℕ} 0 1 = cc in omega arith)
+      middle a other p (refuses k) is e = cannot-be cc
       middle a other p (gives b) is e = last a b other p (of-short y b y-low is) (shortWord z) refl e
 
       number : Short x 12 → (o : Answer Why ℕ) → longWord y z ≡ o → then (named Word.YZ o) (λ n. gives (Telegram.Number n)) ≡ gives m → spell (telegramOf m) ≡ gives three
-      number p (refuses k) is e = absurd (let z : _≡_ {A = ℕ} 0 1 = cc in omega arith)
+      number p (refuses k) is e = cannot-be cc
       number p (gives n) is e =
           let same : Telegram.Number n ≡ m = cc in
           ap (λ (t : Telegram). spell (telegramOf t)) (sym same) ∙ number-spelt n p is
@@ -129,7 +130,7 @@ module _ (x y z : ℕ) (x-low : x < 256) (y-low : y < 256) (z-low : z < 256) whe
           → then (named Word.X o) (λ a. pick (eqb a 12) (then (named Word.YZ (longWord y z)) (λ n. gives (Telegram.Number n)))
           (then (named Word.Y (shortWord y)) (λ b. then (named Word.Z (shortWord z)) (λ c. gives (Telegram.Figures a b c))))) ≡ gives m
           → spell (telegramOf m) ≡ gives three
-      first (refuses k) is e = absurd (let z : _≡_ {A = ℕ} 0 1 = cc in omega arith)
+      first (refuses k) is e = cannot-be cc
       first (gives a) is e = by a (eqb a 12) refl (of-short x a x-low is) e
 
 pub as-received : AsReceived

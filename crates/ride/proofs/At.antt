@@ -22,6 +22,7 @@ use Rattle.ride.specs.Step.{Step, treat}
 use Rattle.ride.specs.At.{recordAt, Standing, noRecord, treated, Treatment, byStep, stays, treatAt}
 use Rattle.ride.specs.Says.{saysGiven, saysReply, saysTreated}
 use Rattle.ride.proofs.trace.Reply.{the-type}
+use Rattle.words.proofs.Never.{cannot-be}
 
 -- ---- the definition, from what its tests say
 
@@ -41,10 +42,10 @@ at-record ride gap trace i e h = rw (e, lt-ltb i (length trace / 8) h)
 -- ---- what a reply tells
 
 never : (A : Type 0) (s : Standing) (n : ℕ) → _≡_ {A = Outcome Standing} (gives s) (refuses n) → A
-never A s n e = absurd (let z : _≡_ {A = ℕ} 0 1 = cc in omega arith)
+never A s n e = cannot-be cc
 
 never-both : (A : Type 0) (o : Outcome (List Line)) → _≡_ {A = Outcome Standing} (gives noRecord) (gives (treated o)) → A
-never-both A o e = absurd (let z : _≡_ {A = ℕ} 0 1 = cc in omega arith)
+never-both A o e = cannot-be cc
 
 -- A reply with a record: it stands in the trace, and its step is what was answered.
 pub record Took (ride : Ride) (gap : ℕ) (trace : List ℕ) (i : ℕ) (t : Treated) (g : Given) : Type 0 where

@@ -5,9 +5,6 @@ use mathlib.Core.Bool.{Bool}
 use mathlib.Core.List.{List, [], _∷_}
 use Prim.Native.Nat.{ℕ}
 use lib.Dec.{eqb}
-use contract.Lifetimes.{Lfts}
-use borrow.Fn.Kinds.{Dens, endedOf}
-use denote.Triple.Clauses.{AtExit}
 use Rattle.words.specs.Answer.{Outcome, gives, refuses, pick}
 use Rattle.settings.specs.declared.Bad.{Bad}
 use Rattle.settings.proofs.Determined.{badOf}
@@ -45,6 +42,7 @@ use Rattle.ride.proofs.run_under.Kinds as run-under-kinds
 use Rattle.ride.proofs.run_under.Reads as run-under-reads
 use Rattle.ride.proofs.trace.odometer_at.Kinds as odometer-at-kinds
 use Rattle.ride.proofs.trace.odometer_at.Reads as odometer-at-reads
+use Rattle.words.proofs.Told.{Fixed}
 
 -- From what an answer says, the answer.
 abbrev pub wrongOf : ℕ → Wrong
@@ -139,42 +137,26 @@ ranOf r = record { ride = r .ride; way = wayOf (r .answer) }
 pub ran-back : (r : Ran) → ranOf (saysRan r) ≡ r
 ran-back r = ap (λ (w : Way). record { ride = r .ride; way = w }) (way-back (r .way))
 
-pub fresh-determined : (κs : Lfts 0) (a : Dens κs fresh-kinds.ps) (r r′ : Ride)
-    (x x′ : AtExit (endedOf 0 fresh-kinds.ps fresh-kinds.r) κs)
-    → fresh-reads.Post κs a r x → fresh-reads.Post κs a r′ x′ → r ≡ r′
+pub fresh-determined : Fixed 0 fresh-kinds.ps fresh-kinds.r fresh-reads.Post
 fresh-determined κs a r r′ x x′ p q = p ∙ sym q
 
-pub check-record-determined : (κs : Lfts 0) (a : Dens κs check-kinds.ps) (r r′ : Checked)
-    (x x′ : AtExit (endedOf 0 check-kinds.ps check-kinds.r) κs)
-    → check-reads.Post κs a r x → check-reads.Post κs a r′ x′ → r ≡ r′
+pub check-record-determined : Fixed 0 check-kinds.ps check-kinds.r check-reads.Post
 check-record-determined κs a r r′ x x′ p q = sym (checked-back r) ∙ ap checkedOf (p ∙ sym q) ∙ checked-back r′
 
-pub step-determined : (κs : Lfts 0) (a : Dens κs step-kinds.ps) (r r′ : Stepped)
-    (x x′ : AtExit (endedOf 0 step-kinds.ps step-kinds.r) κs)
-    → step-reads.Post κs a r x → step-reads.Post κs a r′ x′ → r ≡ r′
+pub step-determined : Fixed 0 step-kinds.ps step-kinds.r step-reads.Post
 step-determined κs a r r′ x x′ p q = sym (stepped-back r) ∙ ap steppedOf (p ∙ sym q) ∙ stepped-back r′
 
-pub treat-at-determined : (κs : Lfts 1) (a : Dens κs treat-at-kinds.ps) (r r′ : Treated)
-    (x x′ : AtExit (endedOf 1 treat-at-kinds.ps treat-at-kinds.r) κs)
-    → treat-at-reads.Post κs a r x → treat-at-reads.Post κs a r′ x′ → r ≡ r′
+pub treat-at-determined : Fixed 1 treat-at-kinds.ps treat-at-kinds.r treat-at-reads.Post
 treat-at-determined κs a r r′ x x′ p q = sym (treated-back r) ∙ ap treatedOf (p ∙ sym q) ∙ treated-back r′
 
-pub end-determined : (κs : Lfts 0) (a : Dens κs end-kinds.ps) (r r′ : Ended)
-    (x x′ : AtExit (endedOf 0 end-kinds.ps end-kinds.r) κs)
-    → end-reads.Post κs a r x → end-reads.Post κs a r′ x′ → r ≡ r′
+pub end-determined : Fixed 0 end-kinds.ps end-kinds.r end-reads.Post
 end-determined κs a r r′ x x′ p q = sym (ended-back r) ∙ ap endedOf′ (p ∙ sym q) ∙ ended-back r′
 
-pub run-determined : (κs : Lfts 1) (a : Dens κs run-kinds.ps) (r r′ : Ran)
-    (x x′ : AtExit (endedOf 1 run-kinds.ps run-kinds.r) κs)
-    → run-reads.Post κs a r x → run-reads.Post κs a r′ x′ → r ≡ r′
+pub run-determined : Fixed 1 run-kinds.ps run-kinds.r run-reads.Post
 run-determined κs a r r′ x x′ p q = sym (ran-back r) ∙ ap ranOf (p ∙ sym q) ∙ ran-back r′
 
-pub run-under-determined : (κs : Lfts 1) (a : Dens κs run-under-kinds.ps) (r r′ : Ran)
-    (x x′ : AtExit (endedOf 1 run-under-kinds.ps run-under-kinds.r) κs)
-    → run-under-reads.Post κs a r x → run-under-reads.Post κs a r′ x′ → r ≡ r′
+pub run-under-determined : Fixed 1 run-under-kinds.ps run-under-kinds.r run-under-reads.Post
 run-under-determined κs a r r′ x x′ p q = sym (ran-back r) ∙ ap ranOf (p ∙ sym q) ∙ ran-back r′
 
-pub odometer-at-determined : (κs : Lfts 1) (a : Dens κs odometer-at-kinds.ps) (r r′ : ℕ)
-    (x x′ : AtExit (endedOf 1 odometer-at-kinds.ps odometer-at-kinds.r) κs)
-    → odometer-at-reads.Post κs a r x → odometer-at-reads.Post κs a r′ x′ → r ≡ r′
+pub odometer-at-determined : Fixed 1 odometer-at-kinds.ps odometer-at-kinds.r odometer-at-reads.Post
 odometer-at-determined κs a r r′ x x′ p q = p ∙ sym q

@@ -19,6 +19,7 @@ use Rattle.ride.specs.Record.{Entry, odometerOf, passedOf, inOrder, chec
 use Rattle.ride.specs.Joining.{allowed}
 use Rattle.ride.specs.Step.{Step, refused, goOn, refuseOr, treat, step, end}
 use Rattle.ride.specs.Over.{firstRecords, linesFor, Ridden, before, rideOver}
+use Rattle.words.proofs.Never.{cannot-be}
 
 -- ---- a refused record changes nothing
 
@@ -27,7 +28,7 @@ unfolding goOn
 of-check ride gap (refuses m) n e =
     let same : m ≡ n = cc in
     ap (refused ride) same
-of-check ride gap (gives x) n e = absurd (let z : _≡_ {A = ℕ} 0 1 = cc in omega arith)
+of-check ride gap (gives x) n e = cannot-be cc
 
 pub treat-refused : (ride : Ride) (gap : ℕ) (r : List ℕ) (n : ℕ) → treat ride gap r .lines ≡ refuses n → treat ride gap r ≡ refused ride n
 unfolding treat
@@ -48,9 +49,9 @@ step-refused ride gap r n e = of-gap (allowed gap) ride gap r n e
 -- ---- the odometer of accepted records never falls
 
 of-tests : (a b c : Bool) (x e : Entry) → _≡_ {A = Outcome Entry} (pick a (refuses 16) (pick b (refuses 18) (pick c (refuses 17) (gives x)))) (gives e) → (c ≡ false) × (x ≡ e)
-of-tests true b c x e h = absurd (let z : _≡_ {A = ℕ} 0 1 = cc in omega arith)
-of-tests false true c x e h = absurd (let z : _≡_ {A = ℕ} 0 1 = cc in omega arith)
-of-tests false false true x e h = absurd (let z : _≡_ {A = ℕ} 0 1 = cc in omega arith)
+of-tests true b c x e h = cannot-be cc
+of-tests false true c x e h = cannot-be cc
+of-tests false false true x e h = cannot-be cc
 of-tests false false false x e h = (refl, cc)
 
 -- an accepted record's odometer is not below the last accepted one

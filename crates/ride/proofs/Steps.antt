@@ -24,6 +24,7 @@ use Rattle.ride.specs.Linking.{isOverdue, missedPlace}
 use Rattle.ride.specs.Closing.{Closing, close, leave}
 use Rattle.ride.specs.Step.{closeBehind, isMissed, missedLines, unlinked, afterMissed, Step, refused, afterClosing, goOn, treat, step}
 use Rattle.ride.specs.Says.{saysLines}
+use Rattle.words.proofs.Never.{cannot-be}
 
 -- ---- step 4
 
@@ -118,8 +119,8 @@ pub quiet-none : (gap o : ℕ) (g : Group) (known : Known) → isOpen g ≡ fals
 quiet-none gap o g known e = rw e
 
 pub neither : (a b : Bool) → (not a && not b) ≡ true → (a ≡ false) × (b ≡ false)
-neither true b e = absurd (let z : _≡_ {A = ℕ} 0 1 = cc in omega arith)
-neither false true e = absurd (let z : _≡_ {A = ℕ} 0 1 = cc in omega arith)
+neither true b e = cannot-be cc
+neither false true e = cannot-be cc
 neither false false e = (refl, refl)
 
 -- Where no group is left behind and no signal is missed, steps 2 and 3 do nothing: the odometer is set, a balise is taken up,

@@ -1,7 +1,6 @@
 -- Rides under a store: what is held treats each record as the gap in force at its own odometer does; a plain gap is a store of one version.
 -- Assumes nothing.
 use Prim.Native.Nat.{ℕ, suc, _/_, _%_, _≤_, _<_}
-use native.Mathlib.Omega.{arith}
 use mathlib.Core.Path.{_≡_, refl, ap, sym, _∙_}
 use mathlib.Core.Bool.{Bool, true, false, not}
 use mathlib.Core.List.{List, [], _∷_}
@@ -24,6 +23,7 @@ use Rattle.ride.specs.Step.{Step, refuseOr, treat}
 use Rattle.ride.specs.At.{recordAt, odometerAt}
 use Rattle.ride.specs.Over.{records, linesFor, Ridden, before, rideOver, through, Run, run}
 use Rattle.ride.specs.Under.{judgedFirst, runUnder}
+use Rattle.words.proofs.Never.{cannot-be}
 
 -- ---- the odometer at an index
 
@@ -109,7 +109,7 @@ pub looked : (store : Store) (held next : Held) (ride : Ride) (trace : List ℕ)
     → Turning store next × (treat ride (next .gap) (recordAt trace i) ≡ treat ride (gapAt store (odometerOf (recordAt trace i))) (recordAt trace i))
 looked store held next ride trace i odometer e h t there is for =
     let turned = turn store held next ride trace i odometer h (t .holding) there is for in
-    (record { holding = turned .0; first = λ a. absurd (let z : _≡_ {A = ℕ} 0 1 = cc in omega arith) }, turned .1)
+    (record { holding = turned .0; first = λ a. cannot-be cc }, turned .1)
 
 -- ---- the rule counts only at the records' own odometers
 

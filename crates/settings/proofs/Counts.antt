@@ -14,9 +14,10 @@ use Rattle.settings.specs.declared.Store.{Store}
 use Rattle.settings.specs.Versions.{then, Kept, kept, settingsOf, follows}
 use Rattle.settings.specs.Store.{noVersion, versionsOf, allFollow, inOrder, judged, lastPlace, mayAdd}
 use Rattle.settings.proofs.Walking.{first-of}
+use Rattle.words.proofs.Never.{cannot-be}
 
 never : (A : Type 0) (k : Kept) (n : ℕ) → _≡_ {A = Outcome Kept} (refuses n) (gives k) → A
-never A k n e = absurd (let z : _≡_ {A = ℕ} 0 1 = cc in omega arith)
+never A k n e = cannot-be cc
 
 -- ---- a store judged good
 

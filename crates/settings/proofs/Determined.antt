@@ -4,9 +4,6 @@ use mathlib.Core.Path.{_≡_, refl, sym, ap, _∙_}
 use mathlib.Core.Bool.{Bool}
 use Prim.Native.Nat.{ℕ}
 use lib.Dec.{eqb}
-use contract.Lifetimes.{Lfts}
-use borrow.Fn.Kinds.{Dens, endedOf}
-use denote.Triple.Clauses.{AtExit}
 use Rattle.words.specs.Answer.{Outcome, gives, refuses, pick}
 use Rattle.settings.specs.declared.Bad.{Bad}
 use Rattle.settings.specs.declared.Verdict.{Verdict}
@@ -29,6 +26,7 @@ use Rattle.settings.proofs.places.leaves.Kinds as leaves-kinds
 use Rattle.settings.proofs.places.leaves.Reads as leaves-reads
 use Rattle.settings.proofs.hold.Kinds as hold-kinds
 use Rattle.settings.proofs.hold.Reads as hold-reads
+use Rattle.words.proofs.Told.{Fixed}
 
 -- From what an answer says, the answer.
 abbrev pub badOf : ℕ → Bad
@@ -74,32 +72,20 @@ pub asked-back : (a : Asked) → askedOf (saysAsked a) ≡ a
 asked-back (Asked.InForce held) = refl
 asked-back (Asked.Refused b) = ap Asked.Refused (bad-back b)
 
-pub allowed-determined : (κs : Lfts 0) (a : Dens κs allowed-kinds.ps) (r r′ : Bool)
-    (x x′ : AtExit (endedOf 0 allowed-kinds.ps allowed-kinds.r) κs)
-    → allowed-reads.Post κs a r x → allowed-reads.Post κs a r′ x′ → r ≡ r′
+pub allowed-determined : Fixed 0 allowed-kinds.ps allowed-kinds.r allowed-reads.Post
 allowed-determined κs a r r′ x x′ p q = p ∙ sym q
 
-pub begin-determined : (κs : Lfts 0) (a : Dens κs begin-kinds.ps) (r r′ : Begun)
-    (x x′ : AtExit (endedOf 0 begin-kinds.ps begin-kinds.r) κs)
-    → begin-reads.Post κs a r x → begin-reads.Post κs a r′ x′ → r ≡ r′
+pub begin-determined : Fixed 0 begin-kinds.ps begin-kinds.r begin-reads.Post
 begin-determined κs a r r′ x x′ p q = sym (begun-back r) ∙ ap begunOf (p ∙ sym q) ∙ begun-back r′
 
-pub add-determined : (κs : Lfts 0) (a : Dens κs add-kinds.ps) (r r′ : Added)
-    (x x′ : AtExit (endedOf 0 add-kinds.ps add-kinds.r) κs)
-    → add-reads.Post κs a r x → add-reads.Post κs a r′ x′ → r ≡ r′
+pub add-determined : Fixed 0 add-kinds.ps add-kinds.r add-reads.Post
 add-determined κs a r r′ x x′ p q = sym (added-back r) ∙ ap addedOf (p ∙ sym q) ∙ added-back r′
 
-pub at-determined : (κs : Lfts 0) (a : Dens κs at-kinds.ps) (r r′ : Asked)
-    (x x′ : AtExit (endedOf 0 at-kinds.ps at-kinds.r) κs)
-    → at-reads.Post κs a r x → at-reads.Post κs a r′ x′ → r ≡ r′
+pub at-determined : Fixed 0 at-kinds.ps at-kinds.r at-reads.Post
 at-determined κs a r r′ x x′ p q = sym (asked-back r) ∙ ap askedOf (p ∙ sym q) ∙ asked-back r′
 
-pub leaves-determined : (κs : Lfts 0) (a : Dens κs leaves-kinds.ps) (r r′ : Bool)
-    (x x′ : AtExit (endedOf 0 leaves-kinds.ps leaves-kinds.r) κs)
-    → leaves-reads.Post κs a r x → leaves-reads.Post κs a r′ x′ → r ≡ r′
+pub leaves-determined : Fixed 0 leaves-kinds.ps leaves-kinds.r leaves-reads.Post
 leaves-determined κs a r r′ x x′ p q = p ∙ sym q
 
-pub hold-determined : (κs : Lfts 0) (a : Dens κs hold-kinds.ps) (r r′ : Held)
-    (x x′ : AtExit (endedOf 0 hold-kinds.ps hold-kinds.r) κs)
-    → hold-reads.Post κs a r x → hold-reads.Post κs a r′ x′ → r ≡ r′
+pub hold-determined : Fixed 0 hold-kinds.ps hold-kinds.r hold-reads.Post
 hold-determined κs a r r′ x x′ p q = p ∙ sym q

@@ -4,7 +4,6 @@ use Prim.Native.Nat.{ℕ, _<_, _≤_}
 use mathlib.Core.Path.{_≡_, refl, ap}
 use mathlib.Core.Bool.{Bool, true, false}
 use mathlib.Core.List.{List, [], _∷_}
-use native.Mathlib.Omega.{arith}
 use borrow.Author.Tests.{leb-false, ltb-false}
 use lib.Dec.{leb, ltb}
 use Rattle.words.specs.Answer.{Outcome, gives, refuses, pick}
@@ -12,9 +11,10 @@ use Rattle.telegram.specs.Sync.{goodPair}
 use Rattle.settings.specs.declared.Version.{Version}
 use Rattle.settings.specs.Versions.{then, allowed, highest, Kept, kept, settingsOf, follows}
 use Rattle.settings.specs.Store.{allFollow}
+use Rattle.words.proofs.Never.{cannot-be}
 
 pub never : (A : Type 0) (k : Kept) (n : ℕ) → _≡_ {A = Outcome Kept} (refuses n) (gives k) → A
-never A k n e = absurd (let z : _≡_ {A = ℕ} 0 1 = cc in omega arith)
+never A k n e = cannot-be cc
 
 pub same : (k : Kept) → k ≡ kept
 same kept = refl

@@ -17,6 +17,7 @@ use Rattle.settings.specs.Store.{versionsOf, allFollow, inOrder, judged}
 use Rattle.settings.specs.At.{ending, holds, heldFrom, heldAmong, heldAt, gapAt, asked, leaves, heldOr, hold, heldFor}
 use Rattle.settings.proofs.Counts.{in-order}
 use Rattle.settings.proofs.Following.{never, same, first-kept, Next, follow-split, gap-good}
+use Rattle.words.proofs.Never.{cannot-be}
 
 -- ---- among some versions
 
@@ -126,8 +127,8 @@ keeps store held place h hold = keeps-by (leaves held place) store held place h 
 
 within : (b c : Bool) (held : Held) (place : ℕ) → ltb place (held .from) ≡ b → leb (held .until) place ≡ c → (b || c) ≡ false
     → (held .from ≤ place) × (place < held .until)
-within true c held place eb ec h = absurd (let z : _≡_ {A = ℕ} 0 1 = cc in omega arith)
-within false true held place eb ec h = absurd (let z : _≡_ {A = ℕ} 0 1 = cc in omega arith)
+within true c held place eb ec h = cannot-be cc
+within false true held place eb ec h = cannot-be cc
 within false false held place eb ec h = (ltb-false place (held .from) eb, leb-false (held .until) place ec)
 
 gap-by-asking : (b : Bool) (store : Store) (held : Held) (place : ℕ) → leaves held place ≡ b → judged store ≡ gives kept → Holding store held → ltb highest place ≡ false
@@ -156,8 +157,8 @@ stays-for store held next place e h = rw e h
 -- ---- what an asking tells of the store
 
 asked-gives : (o : Outcome Kept) (b : Bool) (h g : Held) → then o (λ k. pick {A = Outcome Held} b (refuses 18) (gives h)) ≡ gives g → (o ≡ gives kept) × (b ≡ false) × (g ≡ h)
-asked-gives (refuses m) b h g e = absurd (let z : _≡_ {A = ℕ} 0 1 = cc in omega arith)
-asked-gives (gives k) true h g e = absurd (let z : _≡_ {A = ℕ} 0 1 = cc in omega arith)
+asked-gives (refuses m) b h g e = cannot-be cc
+asked-gives (gives k) true h g e = cannot-be cc
 asked-gives (gives k) false h g e = (ap gives (same k), refl, cc)
 
 pub held-given : (store : Store) (place : ℕ) (g : Held) → asked store place ≡ gives g → (judged store ≡ gives kept) × (ltb highest place ≡ false) × (g ≡ heldAt store place)
@@ -166,7 +167,7 @@ held-given store place g e = asked-gives (judged store) (ltb highest place) (hel
 
 asked-refuses : (o : Outcome Kept) (h : Held) (n : ℕ) → then o (λ k. gives h) ≡ refuses n → o ≡ refuses n
 asked-refuses (refuses m) h n e = let same : m ≡ n = cc in ap refuses same
-asked-refuses (gives k) h n e = absurd (let z : _≡_ {A = ℕ} 0 1 = cc in omega arith)
+asked-refuses (gives k) h n e = cannot-be cc
 
 -- Place 0 is refused for the store's sake alone.
 pub store-refused : (store : Store) (n : ℕ) → asked store 0 ≡ refuses n → judged store ≡ refuses n

@@ -15,15 +15,12 @@ use Rattle.sheet.proofs.read.Kinds as read-kinds
 use Rattle.sheet.proofs.read.Reads as read-reads
 use Rattle.sheet.proofs.put_told.Kinds as put-told-kinds
 use Rattle.sheet.proofs.put_told.Reads as put-told-reads
+use Rattle.words.proofs.Told.{Fixed}
 
-pub take-determined : (κs : Lfts 1) (a : Dens κs take-kinds.ps) (r r′ : Taken)
-    (x x′ : AtExit (endedOf 1 take-kinds.ps take-kinds.r) κs)
-    → take-reads.Post κs a r x → take-reads.Post κs a r′ x′ → r ≡ r′
+pub take-determined : Fixed 1 take-kinds.ps take-kinds.r take-reads.Post
 take-determined κs a r r′ x x′ p q = p ∙ sym q
 
-pub read-determined : (κs : Lfts 1) (a : Dens κs read-kinds.ps) (r r′ : Sheet)
-    (x x′ : AtExit (endedOf 1 read-kinds.ps read-kinds.r) κs)
-    → read-reads.Post κs a r x → read-reads.Post κs a r′ x′ → r ≡ r′
+pub read-determined : Fixed 1 read-kinds.ps read-kinds.r read-reads.Post
 read-determined κs a r r′ x x′ p q = p ∙ sym q
 
 pub put-told-determined : (κs : Lfts 1) (a : Dens κs put-told-kinds.ps) (r r′ : ℕ)

@@ -12,6 +12,7 @@ use Rattle.shown.proofs.put_state.Kinds as put-state-kinds
 use Rattle.shown.proofs.put_state.Reads as put-state-reads
 use Rattle.shown.proofs.commands.read.Kinds as read-kinds
 use Rattle.shown.proofs.commands.read.Reads as read-reads
+use Rattle.words.proofs.Told.{Fixed}
 
 pub put-state-determined : (κs : Lfts 1) (a : Dens κs put-state-kinds.ps) (r r′ : ℕ)
     (x x′ : AtExit (endedOf 1 put-state-kinds.ps put-state-kinds.r) κs)
@@ -20,7 +21,5 @@ put-state-determined κs a r r′ x x′ p q =
     let same : came r (now (x .1 .1 .1 .1 .0)) ≡ came r′ (now (x′ .1 .1 .1 .1 .0)) = p ∙ sym q in
     (ap (λ (v : Put). v .next) same, ap (λ (v : Put). v .buffer) same)
 
-pub read-determined : (κs : Lfts 1) (a : Dens κs read-kinds.ps) (r r′ : Command)
-    (x x′ : AtExit (endedOf 1 read-kinds.ps read-kinds.r) κs)
-    → read-reads.Post κs a r x → read-reads.Post κs a r′ x′ → r ≡ r′
+pub read-determined : Fixed 1 read-kinds.ps read-kinds.r read-reads.Post
 read-determined κs a r r′ x x′ p q = p ∙ sym q

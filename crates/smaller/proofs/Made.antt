@@ -32,11 +32,12 @@ use Rattle.compaction.proofs.Trace.{new-records}
 use Rattle.compaction.proofs.Smaller.{smaller}
 use Rattle.demands.specs.Sections.{ByStep, linesFrom, afterSteps}
 use Rattle.smaller.specs.Trace.{SameLines}
+use Rattle.words.proofs.Never.{cannot-be}
 
 -- ---- which conditions held
 
 never : {A : Type 0} {n m : ℕ} → _≡_ {A = Outcome ℕ} (refuses m) (gives n) → A
-never e = absurd (let z : _≡_ {A = ℕ} 0 1 = cc in omega arith)
+never e = cannot-be cc
 
 -- A compaction with this rule was made of this trace of whole records.
 pub record Was (gaps : ℕ → ℕ) (ride : Ride) (trace : List ℕ) (made : Compaction) : Type 0 where

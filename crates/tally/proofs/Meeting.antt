@@ -14,6 +14,7 @@ use Rattle.acceptance.specs.Plan.{noEntry, apart}
 use Rattle.acceptance.specs.Taking.{isAbsent, isFor, waits, waiting, metAt}
 use Rattle.acceptance.specs.Report.{metIn}
 use Rattle.tally.proofs.Near.{and-left, and-right, and-false, Follow, apart-follow, rest-apart, beyond, follow-on, not-beyond, too-far}
+use Rattle.words.proofs.Never.{cannot-be}
 
 -- An entry once a group at a place came by, which is for it or not.
 abbrev pub metOnce : Bool → ℕ → Met → Met
@@ -27,7 +28,7 @@ abbrev pub meet : ℕ → ℕ → Kind → Entry → Entry
 meet tolerance place kind e = with e (metOnce (isFor tolerance place kind e) place (e .met))
 
 never : {A : Type 0} → false ≡ true → A
-never e = absurd (let z : _≡_ {A = ℕ} 0 1 = cc in omega arith)
+never e = cannot-be cc
 
 -- What does not wait stays as it is, and what waits is met.
 met-stays : (b : Bool) (place : ℕ) (m : Met) → (isAbsent m && b) ≡ false → metOnce b place m ≡ m

@@ -12,6 +12,7 @@ use Rattle.walk.specs.declared.Kind.{Kind}
 use Rattle.acceptance.specs.declared.Entry.{Entry}
 use Rattle.acceptance.specs.Plan.{numberOf, noEntry, isBeyond, apart}
 use Rattle.acceptance.specs.Taking.{within, isFor}
+use Rattle.words.proofs.Never.{cannot-be}
 
 pub and-left : (a b : Bool) → (a && b) ≡ true → a ≡ true
 and-left true b e = refl
@@ -19,7 +20,7 @@ and-left false b e = e
 
 pub and-right : (a b : Bool) → (a && b) ≡ true → b ≡ true
 and-right true b e = e
-and-right false b e = absurd (let z : _≡_ {A = ℕ} 0 1 = cc in omega arith)
+and-right false b e = cannot-be cc
 
 pub and-false : (a b : Bool) → b ≡ false → (a && b) ≡ false
 and-false true b e = e
@@ -70,7 +71,7 @@ none-follow tolerance place kind p (e ∷ es) f h (suc i) k =
     none-follow tolerance place kind (e .place) es (follow-on tolerance p e es f) (omega (arith, beyond tolerance p e es f)) i (omega arith)
 
 never : {A : Type 0} → true ≡ false → A
-never e = absurd (let z : _≡_ {A = ℕ} 0 1 = cc in omega arith)
+never e = cannot-be cc
 
 -- A group is for one entry at most.
 pub only-one : (tolerance place : ℕ) (kind : Kind) (es : List Entry) → apart tolerance es ≡ true → (i j : ℕ) → i < length es → j < length es

@@ -3,9 +3,6 @@
 use Prim.Native.Nat.{ℕ}
 use mathlib.Core.Path.{_≡_, refl, sym, ap, _∙_}
 use lib.Dec.{eqb}
-use contract.Lifetimes.{Lfts}
-use borrow.Fn.Kinds.{Dens, endedOf}
-use denote.Triple.Clauses.{AtExit}
 use Rattle.words.specs.Answer.{Outcome, gives, refuses, pick}
 use Rattle.words.specs.Why.{why, are, unsaid}
 use Rattle.telegram.specs.Sync.{Good}
@@ -32,6 +29,7 @@ use Rattle.telegram.proofs.find.Kinds as find-kinds
 use Rattle.telegram.proofs.find.Reads as find-reads
 use Rattle.telegram.proofs.survey.Kinds as survey-kinds
 use Rattle.telegram.proofs.survey.Reads as survey-reads
+use Rattle.words.proofs.Told.{Fixed}
 
 -- From what an answer says, the answer.
 abbrev pub pairOf : Outcome Good → Pair
@@ -87,32 +85,20 @@ surveyed-back Surveyed.NotSeven = refl
 surveyed-back Surveyed.Beyond = refl
 surveyed-back Surveyed.NoPlace = refl
 
-pub good-pair-determined : (κs : Lfts 0) (a : Dens κs pair-kinds.ps) (r r′ : Pair)
-    (x x′ : AtExit (endedOf 0 pair-kinds.ps pair-kinds.r) κs)
-    → pair-reads.Post κs a r x → pair-reads.Post κs a r′ x′ → r ≡ r′
+pub good-pair-determined : Fixed 0 pair-kinds.ps pair-kinds.r pair-reads.Post
 good-pair-determined κs a r r′ x x′ p q = sym (pair-back r) ∙ ap pairOf (p ∙ sym q) ∙ pair-back r′
 
-pub read-determined : (κs : Lfts 0) (a : Dens κs read-kinds.ps) (r r′ : TelegramRead)
-    (x x′ : AtExit (endedOf 0 read-kinds.ps read-kinds.r) κs)
-    → read-reads.Post κs a r x → read-reads.Post κs a r′ x′ → r ≡ r′
+pub read-determined : Fixed 0 read-kinds.ps read-kinds.r read-reads.Post
 read-determined κs a r r′ x x′ p q = sym (read-back r) ∙ ap readOf (p ∙ sym q) ∙ read-back r′
 
-pub inside-determined : (κs : Lfts 1) (a : Dens κs inside-kinds.ps) (r r′ : Reach)
-    (x x′ : AtExit (endedOf 1 inside-kinds.ps inside-kinds.r) κs)
-    → inside-reads.Post κs a r x → inside-reads.Post κs a r′ x′ → r ≡ r′
+pub inside-determined : Fixed 1 inside-kinds.ps inside-kinds.r inside-reads.Post
 inside-determined κs a r r′ x x′ p q = sym (reach-back r) ∙ ap reachOf (p ∙ sym q) ∙ reach-back r′
 
-pub eight-bytes-determined : (κs : Lfts 1) (a : Dens κs eight-bytes-kinds.ps) (r r′ : ℕ)
-    (x x′ : AtExit (endedOf 1 eight-bytes-kinds.ps eight-bytes-kinds.r) κs)
-    → eight-bytes-reads.Post κs a r x → eight-bytes-reads.Post κs a r′ x′ → r ≡ r′
+pub eight-bytes-determined : Fixed 1 eight-bytes-kinds.ps eight-bytes-kinds.r eight-bytes-reads.Post
 eight-bytes-determined κs a r r′ x x′ p q = p ∙ sym q
 
-pub find-determined : (κs : Lfts 1) (a : Dens κs find-kinds.ps) (r r′ : Found)
-    (x x′ : AtExit (endedOf 1 find-kinds.ps find-kinds.r) κs)
-    → find-reads.Post κs a r x → find-reads.Post κs a r′ x′ → r ≡ r′
+pub find-determined : Fixed 1 find-kinds.ps find-kinds.r find-reads.Post
 find-determined κs a r r′ x x′ p q = sym (found-back r) ∙ ap foundOf (p ∙ sym q) ∙ found-back r′
 
-pub survey-determined : (κs : Lfts 1) (a : Dens κs survey-kinds.ps) (r r′ : Surveyed)
-    (x x′ : AtExit (endedOf 1 survey-kinds.ps survey-kinds.r) κs)
-    → survey-reads.Post κs a r x → survey-reads.Post κs a r′ x′ → r ≡ r′
+pub survey-determined : Fixed 1 survey-kinds.ps survey-kinds.r survey-reads.Post
 survey-determined κs a r r′ x x′ p q = sym (surveyed-back r) ∙ ap surveyedOf (p ∙ sym q) ∙ surveyed-back r′

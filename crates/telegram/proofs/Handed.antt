@@ -4,7 +4,6 @@ use mathlib.Core.Path.{_≡_, refl, ap, _∙_}
 use mathlib.Core.Bool.{Bool, true, false}
 use mathlib.Core.List.{List, [], _∷_}
 use Prim.Native.Nat.{ℕ, _-_}
-use native.Mathlib.Omega.{arith}
 use Rattle.words.specs.Answer.{gives, refuses, pick}
 use Rattle.telegram.specs.Stretch.{inside}
 use Rattle.telegram.specs.Sync.{isGood}
@@ -12,6 +11,7 @@ use Rattle.telegram.specs.Telegram.{Received}
 use Rattle.telegram.specs.Place.{wordsAt, places, at, firstOf, find}
 use Rattle.telegram.specs.Survey.{together, survey}
 use Rattle.telegram.proofs.Rest.{First, first-and-rest}
+use Rattle.words.proofs.Never.{cannot-be}
 
 -- What it says that the place p is handed out with m: the stretch is a good one, p is its first place, and m is read there.
 pub record Handed (b : List ℕ) (start len s t p : ℕ) (m : Received) : Type 0 where
@@ -40,9 +40,9 @@ module _ (b : List ℕ) (start len s t : ℕ) where
             first = first-and-rest b s t start len p qs listed;
             says = (cc);
           }
-      go true true [] g-is i-is list e = absurd (let z : _≡_ {A = ℕ} 0 1 = cc in omega arith)
-      go true false ps g-is i-is list e = absurd (let z : _≡_ {A = ℕ} 0 1 = cc in omega arith)
-      go false i ps g-is i-is list e = absurd (let z : _≡_ {A = ℕ} 0 1 = cc in omega arith)
+      go true true [] g-is i-is list e = cannot-be cc
+      go true false ps g-is i-is list e = cannot-be cc
+      go false i ps g-is i-is list e = cannot-be cc
 
   pub as-refused : (n : ℕ) → find b start len s t ≡ refuses n → survey b start len s t ≡ refuses n
   unfolding find survey

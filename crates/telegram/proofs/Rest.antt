@@ -12,6 +12,7 @@ use Rattle.telegram.specs.Stretch.{bitsAt}
 use Rattle.telegram.specs.Place.{areSyncs, accepted, wordsAt, isPlace, from, those, places}
 use Rattle.telegram.proofs.Taken.{both}
 use Rattle.telegram.proofs.Places.{one-offset}
+use Rattle.words.proofs.Never.{cannot-be}
 
 -- A place lies in its stretch.
 lies-in : (b : List ℕ) (start len s t p : ℕ) → isPlace b start len s t p ≡ true → p + 40 ≤ start + len
@@ -30,7 +31,7 @@ pub record First (b : List ℕ) (s t start len p : ℕ) (ps : List ℕ) : Type 0
 module _ (b : List ℕ) (s t : ℕ) where
   pub first-and-rest : (start len p : ℕ) (ps : List ℕ) → places b start len s t ≡ p ∷ ps → First b s t start len p ps
   unfolding places those from
-  first-and-rest start zero p ps e = absurd (let z : _≡_ {A = ℕ} 0 1 = cc in omega arith)
+  first-and-rest start zero p ps e = cannot-be cc
   first-and-rest start (suc l) p ps e =
       go (isPlace b start (suc l) s t start) refl (sym (one-offset b s t start l) ∙ e) (first-and-rest (start + 1) l p ps)
     where

@@ -16,6 +16,7 @@ use Rattle.heard.proofs.Either.{by-period}
 use Rattle.writer.specs.Words.{Words}
 use Rattle.unheard.specs.Sound.{some, isBroken, sending, Heard, audible, broken, soundWith, soundOf}
 use Rattle.unheard.specs.Means.{Asked, Means}
+use Rattle.words.proofs.Never.{cannot-be}
 
 -- One of the numbers below n passes the test,
 found : (test : ℕ → Bool) (n : ℕ) → some test n ≡ true → (j : ℕ) × (test j ≡ true)
@@ -60,7 +61,7 @@ told s t w a = go (isGood s t)
   where
     go : (g : Bool) → pick {A = Outcome Heard} g (gives (pick (isBroken (sending s t w)) broken audible)) (refuses 4) ≡ gives a → pick (isBroken (sending s t w)) broken audible ≡ a
     go true e = cc
-    go false e = absurd (let z : _≡_ {A = ℕ} 0 1 = cc in omega arith)
+    go false e = cannot-be cc
 
 -- Balises that send the same words and sync words send the same zeroes.
 alike : (o p : OneBalise) → o .s ≡ p .s → o .t ≡ p .t → o .x ≡ p .x → o .y ≡ p .y → o .z ≡ p .z → (j n : ℕ) → zeroesSent o j n ≡ zeroesSent p j n
@@ -84,14 +85,14 @@ module _ (x y z : ℕ) (o : OneBalise) where
     where
       go : (t : Bool) → isBroken (sending (o .s) (o .t) (k .words)) ≡ t → pick t broken audible ≡ broken → Broken o
       go true is e = let f = is-broken (sending (o .s) (o .t) (k .words)) is in (f .0, omega (arith, f .1, same k (f .0)))
-      go false is e = absurd (let z : _≡_ {A = ℕ} 0 1 = cc in omega arith)
+      go false is e = cannot-be cc
 
   says-audible : Asked x y z o audible → Audible o
   says-audible k = go (isBroken (sending (o .s) (o .t) (k .words))) refl (asked-so x y z o audible k)
     where
       go : (t : Bool) → isBroken (sending (o .s) (o .t) (k .words)) ≡ t → pick t broken audible ≡ audible → Audible o
       go false is e = λ j. omega (arith, is-audible (sending (o .s) (o .t) (k .words)) is j, same k j)
-      go true is e = absurd (let z : _≡_ {A = ℕ} 0 1 = cc in omega arith)
+      go true is e = cannot-be cc
 
 pub means : Means
 means = record { says-broken = says-broken; says-audible = says-audible }

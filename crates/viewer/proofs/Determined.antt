@@ -5,10 +5,7 @@ use Prim.Native.Nat.{ℕ}
 use mathlib.Core.Path.{_≡_, refl, sym, ap, _∙_}
 use mathlib.Core.List.{List, []}
 use lib.Dec.{eqb}
-use contract.Lifetimes.{Lfts}
-use borrow.Fn.Kinds.{Dens, endedOf}
 use denote.Ref.{RefT, now}
-use denote.Triple.Clauses.{AtExit}
 use Rattle.words.specs.Answer.{Outcome, gives, refuses, pick}
 use Rattle.settings.specs.declared.Bad.{Bad}
 use Rattle.settings.specs.declared.Store.{Store}
@@ -41,6 +38,7 @@ use Rattle.viewer.proofs.going.times_to.Kinds as times-to-kinds
 use Rattle.viewer.proofs.going.times_to.Reads as times-to-reads
 use Rattle.viewer.proofs.going.backs_at.Kinds as backs-at-kinds
 use Rattle.viewer.proofs.going.backs_at.Reads as backs-at-reads
+use Rattle.words.proofs.Told.{Fixed}
 
 -- From what an answer says, the answer.
 abbrev pub begunOf : Outcome Done → Begun
@@ -92,39 +90,25 @@ came-back c = ap (λ (h : How). record { stand = c .stand; how = h }) (how-back 
 
 -- ---- over a lent trace
 
-pub start-at-determined : (κs : Lfts 1) (a : Dens κs start-at-kinds.ps) (r r′ : Opened)
-    (x x′ : AtExit (endedOf 1 start-at-kinds.ps start-at-kinds.r) κs)
-    → start-at-reads.Post κs a r x → start-at-reads.Post κs a r′ x′ → r ≡ r′
+pub start-at-determined : Fixed 1 start-at-kinds.ps start-at-kinds.r start-at-reads.Post
 start-at-determined κs a r r′ x x′ p q = sym (opened-back [] r) ∙ ap openedOf (p ∙ sym q) ∙ opened-back [] r′
 
-pub start-under-at-determined : (κs : Lfts 1) (a : Dens κs start-under-at-kinds.ps) (r r′ : Opened)
-    (x x′ : AtExit (endedOf 1 start-under-at-kinds.ps start-under-at-kinds.r) κs)
-    → start-under-at-reads.Post κs a r x → start-under-at-reads.Post κs a r′ x′ → r ≡ r′
+pub start-under-at-determined : Fixed 1 start-under-at-kinds.ps start-under-at-kinds.r start-under-at-reads.Post
 start-under-at-determined κs a r r′ x x′ p q = sym (opened-back [] r) ∙ ap openedOf (p ∙ sym q) ∙ opened-back [] r′
 
-pub forward-at-determined : (κs : Lfts 1) (a : Dens κs forward-at-kinds.ps) (r r′ : Went)
-    (x x′ : AtExit (endedOf 1 forward-at-kinds.ps forward-at-kinds.r) κs)
-    → forward-at-reads.Post κs a r x → forward-at-reads.Post κs a r′ x′ → r ≡ r′
+pub forward-at-determined : Fixed 1 forward-at-kinds.ps forward-at-kinds.r forward-at-reads.Post
 forward-at-determined κs a r r′ x x′ p q = sym (went-back r) ∙ ap wentOf (p ∙ sym q) ∙ went-back r′
 
-pub back-at-determined : (κs : Lfts 0) (a : Dens κs back-at-kinds.ps) (r r′ : Came)
-    (x x′ : AtExit (endedOf 0 back-at-kinds.ps back-at-kinds.r) κs)
-    → back-at-reads.Post κs a r x → back-at-reads.Post κs a r′ x′ → r ≡ r′
+pub back-at-determined : Fixed 0 back-at-kinds.ps back-at-kinds.r back-at-reads.Post
 back-at-determined κs a r r′ x x′ p q = sym (came-back r) ∙ ap cameOf (p ∙ sym q) ∙ came-back r′
 
-pub forwards-at-determined : (κs : Lfts 1) (a : Dens κs forwards-at-kinds.ps) (r r′ : Came)
-    (x x′ : AtExit (endedOf 1 forwards-at-kinds.ps forwards-at-kinds.r) κs)
-    → forwards-at-reads.Post κs a r x → forwards-at-reads.Post κs a r′ x′ → r ≡ r′
+pub forwards-at-determined : Fixed 1 forwards-at-kinds.ps forwards-at-kinds.r forwards-at-reads.Post
 forwards-at-determined κs a r r′ x x′ p q = sym (came-back r) ∙ ap cameOf (p ∙ sym q) ∙ came-back r′
 
-pub times-to-determined : (κs : Lfts 1) (a : Dens κs times-to-kinds.ps) (r r′ : ℕ)
-    (x x′ : AtExit (endedOf 1 times-to-kinds.ps times-to-kinds.r) κs)
-    → times-to-reads.Post κs a r x → times-to-reads.Post κs a r′ x′ → r ≡ r′
+pub times-to-determined : Fixed 1 times-to-kinds.ps times-to-kinds.r times-to-reads.Post
 times-to-determined κs a r r′ x x′ p q = p ∙ sym q
 
-pub backs-at-determined : (κs : Lfts 0) (a : Dens κs backs-at-kinds.ps) (r r′ : Came)
-    (x x′ : AtExit (endedOf 0 backs-at-kinds.ps backs-at-kinds.r) κs)
-    → backs-at-reads.Post κs a r x → backs-at-reads.Post κs a r′ x′ → r ≡ r′
+pub backs-at-determined : Fixed 0 backs-at-kinds.ps backs-at-kinds.r backs-at-reads.Post
 backs-at-determined κs a r r′ x x′ p q = sym (came-back r) ∙ ap cameOf (p ∙ sym q) ∙ came-back r′
 
 -- ---- over a viewer

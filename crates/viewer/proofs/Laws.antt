@@ -4,7 +4,6 @@ use Prim.Native.Nat.{ℕ, _+_, _/_, _%_}
 use mathlib.Core.Path.{_≡_, refl, sym, ap, subst, _∙_}
 use mathlib.Core.Bool.{Bool, true, false}
 use mathlib.Core.List.{List, [], _∷_}
-use native.Mathlib.Omega.{arith}
 use lib.Dec.{eqb, ltb}
 use lib.ListN.{length, take}
 use denote.Ref.{RefT, now}
@@ -30,6 +29,7 @@ use Rattle.viewer.specs.History.{Plain, first, goForth, Call, forth, bac
 use Rattle.viewer.specs.Laws.{Starts, StartsUnder, Lead, Shows, Views, Viewing}
 use Rattle.viewer.proofs.Straight.{Held, first-held, plainly-held}
 use Rattle.viewer.proofs.Ring.{Alike, opened-alike, called-alike}
+use Rattle.words.proofs.Never.{cannot-be}
 
 -- ---- some calls
 
@@ -50,10 +50,10 @@ lead-alike store trace (back ∷ cs) v w p held good h l =
 -- ---- from an opened viewer
 
 never : (A : Type 0) (n : ℕ) → _≡_ {A = Outcome Done} (gives done) (refuses n) → A
-never A n e = absurd (let z : _≡_ {A = ℕ} 0 1 = cc in omega arith)
+never A n e = cannot-be cc
 
 never′ : (A : Type 0) → _≡_ {A = Outcome Kept} (gives kept) (refuses 19) → A
-never′ A e = absurd (let z : _≡_ {A = ℕ} 0 1 = cc in omega arith)
+never′ A e = cannot-be cc
 
 -- a viewer that is not refused has good settings, the whole trace, and stands at the first record
 pub record Opens (store : Store) (trace : List ℕ) : Type 0 where

@@ -27,11 +27,12 @@ use Rattle.viewer.specs.History.{forth, back}
 use Rattle.viewer.specs.Laws.{Lead, often, ManyAtOnce}
 use Rattle.viewer.proofs.Calls.{forward-end, forward-step}
 use Rattle.viewer.proofs.Places.{left-next}
+use Rattle.words.proofs.Never.{cannot-be}
 
 -- ---- a refusal leaves the viewer
 
 no-refusal : (A : Type 0) (n : ℕ) → _≡_ {A = Outcome Done} (gives done) (refuses n) → A
-no-refusal A n e = absurd (let z : _≡_ {A = ℕ} 0 1 = cc in omega arith)
+no-refusal A n e = cannot-be cc
 
 forward-by : (b : Bool) (o : Outcome Kept) (s : Stand) (t : Step) (n : ℕ) → pick b (under s o (byStep s t)) (stays s 23) .answer ≡ refuses n → pick b (under s o (byStep s t)) (stays s 23) .stand ≡ s
 forward-by true (gives k) s t n e = no-refusal _ n e

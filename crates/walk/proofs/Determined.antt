@@ -9,11 +9,8 @@ use lib.Dec.{ltb}
 use borrow.Author.Tests.{ltb-true, ltb-false}
 use lib.ListN.{length, take, drop, take-append-drop}
 use lib.Seq.{take-take}
-use contract.Lifetimes.{Lfts}
-use borrow.Fn.Kinds.{Dens, endedOf}
-use denote.Triple.Clauses.{AtExit}
 use Rattle.words.specs.Answer.{Outcome, gives, refuses}
-use Rattle.words.proofs.Told.{told}
+use Rattle.words.proofs.Told.{Fixed, told}
 use Rattle.walk.specs.declared.Placed.{Placed}
 use Rattle.walk.specs.declared.Picked.{Picked}
 use Rattle.walk.specs.declared.Fitted.{Fitted}
@@ -29,14 +26,10 @@ use Rattle.walk.proofs.fit.Reads as fit-reads
 use Rattle.walk.proofs.opening.Kinds as opening-kinds
 use Rattle.walk.proofs.opening.Reads as opening-reads
 
-pub is-category-determined : (κs : Lfts 0) (a : Dens κs is-category-kinds.ps) (r r′ : Bool)
-    (x x′ : AtExit (endedOf 0 is-category-kinds.ps is-category-kinds.r) κs)
-    → is-category-reads.Post κs a r x → is-category-reads.Post κs a r′ x′ → r ≡ r′
+pub is-category-determined : Fixed 0 is-category-kinds.ps is-category-kinds.r is-category-reads.Post
 is-category-determined κs a r r′ x x′ p q = p ∙ sym q
 
-pub after-first-determined : (κs : Lfts 0) (a : Dens κs after-first-kinds.ps) (r r′ : List Placed)
-    (x x′ : AtExit (endedOf 0 after-first-kinds.ps after-first-kinds.r) κs)
-    → after-first-reads.Post κs a r x → after-first-reads.Post κs a r′ x′ → r ≡ r′
+pub after-first-determined : Fixed 0 after-first-kinds.ps after-first-kinds.r after-first-reads.Post
 after-first-determined κs a r r′ x x′ p q = p ∙ sym q
 
 -- From what an answer says, the answer.
@@ -49,9 +42,7 @@ unfolding fitted
 fitted-back (Fitted.Is p) = refl
 fitted-back Fitted.NoRow = refl
 
-pub fit-determined : (κs : Lfts 0) (a : Dens κs fit-kinds.ps) (r r′ : Fitted)
-    (x x′ : AtExit (endedOf 0 fit-kinds.ps fit-kinds.r) κs)
-    → fit-reads.Post κs a r x → fit-reads.Post κs a r′ x′ → r ≡ r′
+pub fit-determined : Fixed 0 fit-kinds.ps fit-kinds.r fit-reads.Post
 fit-determined κs a r r′ x x′ p q = told saysFitted fitted fitted-back r r′ p q
 
 -- Balises that open a group do so without the last of them.
@@ -83,7 +74,5 @@ longest-one bs r r′ l l′ = go (ltb r r′) (ltb r′ r) refl refl
     go false true p q = absurd (not-below bs r′ r l′ l (ltb-true r′ r q))
     go false false p q = omega (arith, ltb-false r r′ p, ltb-false r′ r q)
 
-pub opening-determined : (κs : Lfts 0) (a : Dens κs opening-kinds.ps) (r r′ : ℕ)
-    (x x′ : AtExit (endedOf 0 opening-kinds.ps opening-kinds.r) κs)
-    → opening-reads.Post κs a r x → opening-reads.Post κs a r′ x′ → r ≡ r′
+pub opening-determined : Fixed 0 opening-kinds.ps opening-kinds.r opening-reads.Post
 opening-determined κs a r r′ x x′ p q = longest-one _ r r′ p q

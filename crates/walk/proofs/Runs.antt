@@ -24,6 +24,7 @@ use Rattle.walk.specs.Opening.{Opens, Longest, Ran}
 use Rattle.walk.proofs.Laws.{at-end}
 use Rattle.walk.proofs.Ends.{ended-right, nothing-fits}
 use Rattle.walk.proofs.Finish.{finish, finishes}
+use Rattle.words.proofs.Never.{cannot-be}
 
 -- The first n of five, or all five.
 pub few-take : (p : List Placed) (n : ℕ) → length p ≡ 5 → take (pick (ltb n 5) n 5) p ≡ take n p
@@ -44,7 +45,7 @@ few-most n = go (ltb n 5) refl
     go false e = omega arith
 
 no-fit : {kind : Kind} {a : Placed} {f : Fit} → f ≡ misfit → f ≡ fit kind a → ⊥
-no-fit p q = let z : _≡_ {A = ℕ} 0 1 = cc in omega arith
+no-fit p q = cannot-be cc
 
 module _ (p : List Placed) (n few : ℕ) (long : length p ≡ 5) (is : few ≡ pick (ltb n 5) n 5) where
   pub most : few ≤ 5

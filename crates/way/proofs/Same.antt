@@ -29,6 +29,7 @@ use Rattle.ride.specs.declared.Passed.{Passed}
 use Rattle.ride.specs.declared.Checked.{Checked}
 use Rattle.ride.proofs.Determined.{checkedOf, checked-back}
 use Rattle.way.specs.Same.{RecordOf, CheckRecord, Same, SaysTheSame}
+use Rattle.words.proofs.Never.{cannot-be}
 
 -- The eight bytes have the odometer.
 odometer-kept : (odometer : ℕ) (c : Content) → odometerOf (bytesOf odometer c) ≡ odometer
@@ -90,7 +91,7 @@ kept odometer j r call so = go (contentOf j) refl (call .1)
     at c is true high e =
         absurd (let f : saysWent (r .went) ≡ refuses 18 = ap (λ (v : Recording). v .answer) e in
         let g : saysWent (r .went) ≡ gives made = ap saysWent so in
-        let z : _≡_ {A = ℕ} 0 1 = cc in omega arith)
+        cannot-be cc)
     at c is false high e = record { high = ltb-false 4000000000 odometer high; content = c; content-is = is; bytes-are = ap (λ (v : Recording). v .bytes) e }
 
     go : (o : Outcome Content) → contentOf j ≡ o → saysRecorded r ≡ recording (then (contentOf j) (λ c. pick (ltb 4000000000 odometer) (refuses 18) (gives (bytesOf odometer c)))) → Kept odometer j r
@@ -98,7 +99,7 @@ kept odometer j r call so = go (contentOf j) refl (call .1)
     go (refuses n) is e =
         absurd (let f : saysWent (r .went) ≡ refuses n = ap (λ (v : Recording). v .answer) (e ∙ ap (λ (o : Outcome Content). recording (then o (λ c. pick (ltb 4000000000 odometer) (refuses 18) (gives (bytesOf odometer c))))) is) in
         let g : saysWent (r .went) ≡ gives made = ap saysWent so in
-        let z : _≡_ {A = ℕ} 0 1 = cc in omega arith)
+        cannot-be cc)
 
 -- What was judged of a contact in the buffer b.
 module _ (b : List ℕ) (start len s t : ℕ) where
@@ -151,11 +152,11 @@ module _ (b : List ℕ) (start len s t : ℕ) where
   accepted odometer Judged.NotSeven r ride k call recorded so low asked = absurd (none (kept odometer Judged.NotSeven r recorded so .content-is))
     where
       none : {c : Content} → _≡_ {A = Outcome Content} (refuses 4) (gives c) → ⊥
-      none e = let z : _≡_ {A = ℕ} 0 1 = cc in omega arith
+      none e = cannot-be cc
   accepted odometer Judged.Beyond r ride k call recorded so low asked = absurd (none (kept odometer Judged.Beyond r recorded so .content-is))
     where
       none : {c : Content} → _≡_ {A = Outcome Content} (refuses 5) (gives c) → ⊥
-      none e = let z : _≡_ {A = ℕ} 0 1 = cc in omega arith
+      none e = cannot-be cc
 
   -- An answer that says so is made.
   made-so : (r : Recorded) (bytes : List ℕ) → saysRecorded r ≡ recording (gives bytes) → r .went ≡ Went.Made

@@ -14,6 +14,7 @@ use Rattle.words.specs.Code.{readWord, writeWord, sent, readShort, write
 use Rattle.words.proofs.Widths.{Width, short, long}
 use Rattle.words.proofs.Laws.{heard, noise, even-number, four-ones, three-flips, reads-back, writes-back, figure-small}
 use Rattle.words.proofs.HowMany.{onesOf}
+use Rattle.words.proofs.Never.{cannot-be}
 
 -- The largest figure that each code carries.
 abbrev pub largest : {n : ℕ} → Width n → ℕ
@@ -32,7 +33,7 @@ without long x l = omega arith
 
 given : (t : Bool) (v w : ℕ) → pick {A = Outcome ℕ} t (gives v) (refuses 2) ≡ gives w → (t ≡ true) × (v ≡ w)
 given true v w e = (refl, cc)
-given false v w e = absurd (let z : _≡_ {A = ℕ} 0 1 = cc in omega arith)
+given false v w e = cannot-be cc
 
 -- Written and read back, a figure is itself.
 pub written-read : {n : ℕ} (wide : Width n) (x w : ℕ) → writeWord n (largest wide) x ≡ gives w → readWord n w ≡ gives x

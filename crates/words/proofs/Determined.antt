@@ -2,9 +2,6 @@
 -- Assumes nothing.
 use mathlib.Core.Path.{_≡_, refl}
 use Prim.Native.Nat.{ℕ}
-use contract.Lifetimes.{Lfts}
-use borrow.Fn.Kinds.{Dens, endedOf}
-use denote.Triple.Clauses.{AtExit}
 use Rattle.words.specs.Answer.{Answer, Outcome, gives, refuses}
 use Rattle.words.specs.Why.{Why, why, are, unsaid}
 use Rattle.words.specs.Says.{saysShortRead, saysShortWritten, saysLongRead, saysLongWritten}
@@ -13,7 +10,7 @@ use Rattle.words.specs.declared.ShortWritten.{ShortWritten}
 use Rattle.words.specs.declared.LongRead.{LongRead}
 use Rattle.words.specs.declared.LongWritten.{LongWritten}
 use Rattle.words.specs.declared.Parity.{Parity}
-use Rattle.words.proofs.Told.{told}
+use Rattle.words.proofs.Told.{Fixed, told}
 use Rattle.words.proofs.read_short.Kinds as read-short-kinds
 use Rattle.words.proofs.read_short.Reads as read-short-reads
 use Rattle.words.proofs.write_short.Kinds as write-short-kinds
@@ -65,22 +62,14 @@ unfolding longWritten
 longWritten-back (LongWritten.Word w) = refl
 longWritten-back LongWritten.TooLarge = refl
 
-pub read-short-determined : (κs : Lfts 0) (a : Dens κs read-short-kinds.ps) (r r′ : ShortRead)
-    (x x′ : AtExit (endedOf 0 read-short-kinds.ps read-short-kinds.r) κs)
-    → read-short-reads.Post κs a r x → read-short-reads.Post κs a r′ x′ → r ≡ r′
+pub read-short-determined : Fixed 0 read-short-kinds.ps read-short-kinds.r read-short-reads.Post
 read-short-determined κs a r r′ x x′ p q = told saysShortRead shortRead shortRead-back r r′ p q
 
-pub write-short-determined : (κs : Lfts 0) (a : Dens κs write-short-kinds.ps) (r r′ : ShortWritten)
-    (x x′ : AtExit (endedOf 0 write-short-kinds.ps write-short-kinds.r) κs)
-    → write-short-reads.Post κs a r x → write-short-reads.Post κs a r′ x′ → r ≡ r′
+pub write-short-determined : Fixed 0 write-short-kinds.ps write-short-kinds.r write-short-reads.Post
 write-short-determined κs a r r′ x x′ p q = told saysShortWritten shortWritten shortWritten-back r r′ p q
 
-pub read-long-determined : (κs : Lfts 0) (a : Dens κs read-long-kinds.ps) (r r′ : LongRead)
-    (x x′ : AtExit (endedOf 0 read-long-kinds.ps read-long-kinds.r) κs)
-    → read-long-reads.Post κs a r x → read-long-reads.Post κs a r′ x′ → r ≡ r′
+pub read-long-determined : Fixed 0 read-long-kinds.ps read-long-kinds.r read-long-reads.Post
 read-long-determined κs a r r′ x x′ p q = told saysLongRead longRead longRead-back r r′ p q
 
-pub write-long-determined : (κs : Lfts 0) (a : Dens κs write-long-kinds.ps) (r r′ : LongWritten)
-    (x x′ : AtExit (endedOf 0 write-long-kinds.ps write-long-kinds.r) κs)
-    → write-long-reads.Post κs a r x → write-long-reads.Post κs a r′ x′ → r ≡ r′
+pub write-long-determined : Fixed 0 write-long-kinds.ps write-long-kinds.r write-long-reads.Post
 write-long-determined κs a r r′ x x′ p q = told saysLongWritten longWritten longWritten-back r r′ p q

@@ -24,11 +24,12 @@ use Rattle.words.proofs.Zero.{zero-word, bit-zero}
 use Rattle.words.proofs.Weight.{even-ones, no-ones, no-ones-zero, ones-zero}
 use Rattle.words.proofs.Widths.{Width, width-le, width-pos, exchanged-twice, ones-exchanged}
 use Rattle.words.proofs.HowMany.{onesOf}
+use Rattle.words.proofs.Never.{cannot-be}
 
 -- What an accepted word shows: every check is even, and the figure is the word's.
 given : (t : Bool) (v x : ℕ) (b : Why) → pick t (gives v) (refuses b) ≡ gives x → (t ≡ true) × (v ≡ x)
 given true v x b e = (refl, cc)
-given false v x b e = absurd (let z : _≡_ {A = ℕ} 0 1 = cc in omega arith)
+given false v x b e = cannot-be cc
 
 pub shown : (n w x : ℕ) → readWord n w ≡ gives x → (isCode n (exchanged n w) ≡ true) × (figure n (exchanged n w) ≡ x)
 unfolding readWord
@@ -114,7 +115,7 @@ writes-back {n} wide w x small e =
     sym (xor-none n w (sent n x) small (sent-lt n x) (go (readWord n (bitXor w (sent n x))) refl same))
   where
     go : (o : Answer Why ℕ) → readWord n (bitXor w (sent n x)) ≡ o → gives x ≡ heard x o → bitXor w (sent n x) ≡ 0
-    go (refuses k) is same = absurd (let z : _≡_ {A = ℕ} 0 1 = cc in omega arith)
+    go (refuses k) is same = cannot-be cc
     go (gives y) is same =
         let l : x < 2 ^ carriers n = figure-small n w x e in
         let m : y < 2 ^ carriers n = figure-small n (bitXor w (sent n x)) y is in

@@ -13,6 +13,7 @@ pub mod Zero
 pub mod Weight
 pub mod Widths
 pub mod Masks
+pub mod Never
 pub mod Carrying
 pub mod Short
 pub mod Made

@@ -15,6 +15,7 @@ use Rattle.line.proofs.Places.{and-parts}
 use Rattle.writer.specs.Words.{asked, tooLarge, hasFifteen, wordsOf, spell}
 use Rattle.writer.specs.Write.{telegrams, inRange, bytesOf, Writing, onto, withWords, write}
 use Rattle.writer.proofs.Bytes.{telegrams-length}
+use Rattle.words.proofs.Never.{cannot-be}
 
 pub record Accepted (m : Telegram) (s t n : ℕ) (before : List ℕ) (bytes : ℕ) (after : List ℕ) : Type 0 where
   pub figures : (tooLarge m ≡ false) × (hasFifteen m ≡ false)
@@ -26,7 +27,7 @@ pub record Accepted (m : Telegram) (s t n : ℕ) (before : List ℕ) (bytes : �
 
 -- what gives does not refuse
 no : {A : Type 0} {k bytes : ℕ} → gives bytes ≡ refuses k → A
-no e = absurd (let z : _≡_ {A = ℕ} 0 1 = cc in omega arith)
+no e = cannot-be cc
 
 pub accepted : (x y z s t n : ℕ) (before : List ℕ) (bytes : ℕ) (after : List ℕ)
     → record { answer = gives bytes; buffer = after } ≡ write x y z s t n before → Accepted (asked x y z) s t n before bytes after

@@ -3,13 +3,13 @@
 use mathlib.Core.Path.{_≡_, refl}
 use mathlib.Core.Bool.{Bool, true, false, _||_}
 use Prim.Native.Nat.{ℕ, _≤_, _<_}
-use native.Mathlib.Omega.{arith}
 use lib.Dec.{eqb, leb, ltb}
 use borrow.Author.Tests.{leb-true, leb-false, lt-ltb, le-ltb}
 use Rattle.words.specs.Answer.{Outcome, gives, refuses, pick}
 use Rattle.words.specs.Code.{writeWord, sent}
 use Rattle.telegram.specs.declared.Telegram.{Telegram}
 use Rattle.writer.specs.Words.{tooLarge, hasFifteen, wordsOf, spell}
+use Rattle.words.proofs.Never.{cannot-be}
 
 module _ (n largest x : ℕ) where
   -- A figure that was written is small enough, and its word is the one sent for it.
@@ -19,7 +19,7 @@ module _ (n largest x : ℕ) where
     where
       go : (t : Bool) → leb x largest ≡ t → _≡_ {A = Outcome ℕ} (gives w) (pick t (gives (sent n x)) (refuses 2)) → (x ≤ largest) × (w ≡ sent n x)
       go true is e = (leb-true x largest is, cc)
-      go false is e = absurd (let z : _≡_ {A = ℕ} 0 1 = cc in omega arith)
+      go false is e = cannot-be cc
 
   -- One that was refused is too large.
   pub unwritten : refuses 2 ≡ writeWord n largest x → largest < x
@@ -28,7 +28,7 @@ module _ (n largest x : ℕ) where
     where
       go : (t : Bool) → leb x largest ≡ t → _≡_ {A = Outcome ℕ} (refuses 2) (pick t (gives (sent n x)) (refuses 2)) → largest < x
       go false is e = leb-false x largest is
-      go true is e = absurd (let z : _≡_ {A = ℕ} 0 1 = cc in omega arith)
+      go true is e = cannot-be cc
 
 -- Three figures.
 module _ (x y z : ℕ) where

@@ -4,10 +4,10 @@ use mathlib.Core.Path.{_≡_, refl, sym, subst}
 use mathlib.Core.Bool.{Bool, true, false, not}
 use mathlib.Core.List.{List, _∷_}
 use Prim.Native.Nat.{ℕ}
-use native.Mathlib.Omega.{arith}
 use lib.Dec.{T}
 use Rattle.words.specs.Answer.{gives, refuses, pick}
 use Rattle.demands.specs.Rules.{Rule, Decided, Given}
+use Rattle.words.proofs.Never.{cannot-be}
 
 pub true-not-false : true ≡ false → ⊥
 true-not-false e = subst T e tt
@@ -33,7 +33,7 @@ module _ {A : Type 0} (Reading : A → Type 0) (rules : List (Rule A)) (answer o
 
 -- A refusal gives nothing.
 pub never : {A : Type 0} {m : A} (n : ℕ) → refuses n ≡ gives m → ⊥
-never n e = let z : _≡_ {A = ℕ} 0 1 = cc in omega arith
+never n e = cannot-be cc
 
 -- What gives something is a reading.
 pub given : {A : Type 0} (x : A) → Given {R = ℕ} (gives x)

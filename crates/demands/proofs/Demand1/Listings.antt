@@ -4,7 +4,6 @@ use mathlib.Core.Path.{_≡_, refl, sym, subst}
 use mathlib.Core.Bool.{Bool, true, false, not}
 use mathlib.Core.List.{List, [], _∷_}
 use Prim.Native.Nat.{ℕ, _+_, _%_}
-use native.Mathlib.Omega.{arith}
 use lib.Dec.{eqb, leb}
 use lib.ListN.{length}
 use Rattle.words.specs.Answer.{refuses, pick}
@@ -20,6 +19,7 @@ use Rattle.demands.specs.Lists.{runRules}
 use Rattle.demands.proofs.Common.Rules.{true-not-false}
 use Rattle.demands.proofs.Demand1.Rides.{gives-not}
 use Rattle.demands.proofs.Common.Spelled.{bad-gap}
+use Rattle.words.proofs.Never.{cannot-be}
 
 -- A listing: 19, 16.
 pub listing : (ride : Ride) (gap number : ℕ) (trace out : List ℕ) → Decided Given (runRules gap trace) (list ride gap number trace out .answer)
@@ -59,4 +59,4 @@ put-untouched text buffer at e = go (leb (at + length text) (length buffer)) e
     go : (t : Bool) → pick t (filled (Put.Next (at + length text)) (placed text buffer at)) (filled Put.NoRoom buffer) .ends ≡ Put.NoRoom
         → pick t (filled (Put.Next (at + length text)) (placed text buffer at)) (filled Put.NoRoom buffer) .buffer ≡ buffer
     go false q = refl
-    go true q = absurd (let z : _≡_ {A = ℕ} 0 1 = cc in omega arith)
+    go true q = cannot-be cc

@@ -4,7 +4,6 @@ use mathlib.Core.Path.{_≡_, refl, sym, subst}
 use mathlib.Core.Bool.{Bool, true, false, not}
 use mathlib.Core.List.{List, [], _∷_}
 use Prim.Native.Nat.{ℕ, _%_}
-use native.Mathlib.Omega.{arith}
 use lib.Dec.{eqb, ltb}
 use lib.ListN.{length}
 use Rattle.words.specs.Answer.{Outcome, gives, refuses, pick}
@@ -19,6 +18,7 @@ use Rattle.demands.specs.Table.{badLength, wentBack, tooFar}
 use Rattle.demands.specs.Lists.{recordRules, stepRules, runRules}
 use Rattle.demands.proofs.Common.Rules.{true-not-false, if-so}
 use Rattle.demands.proofs.Common.Spelled.{bad-gap, bad-record}
+use Rattle.words.proofs.Never.{cannot-be}
 
 -- The check of a record: 16, 18, 17.
 pub checking : (ride : Ride) (r : List ℕ)
@@ -82,7 +82,7 @@ running ride gap trace =
     go true true = (λ q. absurd (true-not-false (sym q)), λ q. (λ p. absurd (true-not-false (sym p)), λ p. refl))
 
 pub gives-not : {A : Type 0} {x : A} {n : ℕ} → gives x ≡ refuses n → ⊥
-gives-not e = let z : _≡_ {A = ℕ} 0 1 = cc in omega arith
+gives-not e = cannot-be cc
 
 -- A refused step leaves the ride.
 pub step-untouched : (ride : Ride) (gap : ℕ) (r : List ℕ) (n : ℕ) → step ride gap r .lines ≡ refuses n

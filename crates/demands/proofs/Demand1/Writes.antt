@@ -4,7 +4,6 @@ use mathlib.Core.Path.{_≡_, refl, sym, ap, _∙_}
 use mathlib.Core.Bool.{Bool, true, false, not, _||_}
 use mathlib.Core.List.{List, [], _∷_}
 use Prim.Native.Nat.{ℕ, _+_, _*_}
-use native.Mathlib.Omega.{arith}
 use lib.Dec.{eqb, leb, ltb}
 use lib.ListN.{length}
 use borrow.Author.Tests.{le-ltb, lt-ltb, leb-true, leb-false}
@@ -20,6 +19,7 @@ use Rattle.demands.specs.Table.{above, notSeven}
 use Rattle.demands.specs.Table02.{someAbove, someFifteen, badCount, shortBuffer}
 use Rattle.demands.specs.Lists.{writeRules}
 use Rattle.demands.proofs.Common.Rules.{if-so, if-not}
+use Rattle.words.proofs.Never.{cannot-be}
 
 -- The conditions are those by which the function refuses.
 above-is : (x y z : ℕ) → someAbove x y z ≡ tooLarge (asked x y z)
@@ -77,7 +77,7 @@ module _ (x y z s t n : ℕ) (out : List ℕ) where
       go false false true false l = (refl, λ k e. refl)
       go false false true true false = (refl, λ k e. refl)
       go false false true true true =
-          (ap gives (telegrams-length s t (wordsOf (asked x y z)) n), λ k e. absurd (let z : _≡_ {A = ℕ} 0 1 = cc in omega arith))
+          (ap gives (telegrams-length s t (wordsOf (asked x y z)) n), λ k e. cannot-be cc)
 
   -- 2, 3, 4, 20, 21, in this order.
   pub writing-test : Decided (Is (4 * n + 1)) (writeRules x y z s t n out) (write x y z s t n out .answer)

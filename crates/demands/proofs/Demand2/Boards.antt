@@ -12,6 +12,7 @@ use Rattle.walk.specs.Row.{_to_, Asked, category, M, any, A, Member, Row, row, 
 use Rattle.walk.specs.Rows.{signal, warning, annulled, line, route, present, howMany, fitIn}
 use Rattle.walk.specs.declared.Kind.{Kind}
 use Rattle.walk.specs.declared.Placed.{Placed}
+use Rattle.words.proofs.Never.{cannot-be}
 
 -- a line or a route board
 abbrev pub Board : Kind → Type 0
@@ -24,12 +25,12 @@ Head bs a = (rest : List Placed) × (bs ≡ a ∷ rest)
 -- A row that begins with A gives the first balise.
 head-row : (kind : Kind) (w : Asked) (ms : List Member) (bs : List Placed) (k : Kind) (a : Placed) → fitRow (row kind (A w ∷ ms)) bs ≡ fit k a → Head bs a
 unfolding fitRow fits first
-head-row kind w ms [] k a e = absurd (let z : _≡_ {A = ℕ} 0 1 = cc in omega arith)
+head-row kind w ms [] k a e = cannot-be cc
 head-row kind w ms (b ∷ bs) k a e = go (meets w (b .part)) (fits ms bs) e
   where
     go : (t u : Bool) → pick (t && u) (fitWith kind (pick t (found b) (first w bs))) misfit ≡ fit k a → Head (b ∷ bs) a
-    go false u q = absurd (let z : _≡_ {A = ℕ} 0 1 = cc in omega arith)
-    go true false q = absurd (let z : _≡_ {A = ℕ} 0 1 = cc in omega arith)
+    go false u q = cannot-be cc
+    go true false q = cannot-be cc
     go true true q = let same : b ≡ a = cc in (bs, ap (λ (v : Placed). v ∷ bs) same)
 
 -- A row of another kind gives no board.
@@ -38,8 +39,8 @@ unfolding fitRow
 other-row kind ms other bs k a e is = absurd (other (go (fits ms bs) (calledA ms bs) e is))
   where
     go : (t : Bool) (f : Found) → pick t (fitWith kind f) misfit ≡ fit k a → Board k → Board kind
-    go false f q is = absurd (let z : _≡_ {A = ℕ} 0 1 = cc in omega arith)
-    go true none q is = absurd (let z : _≡_ {A = ℕ} 0 1 = cc in omega arith)
+    go false f q is = cannot-be cc
+    go true none q is = cannot-be cc
     go true (found c) q is = let same : k ≡ kind = cc in subst Board same is
 
 -- Every row of a list gives the first balise, if it is of a board.
@@ -48,7 +49,7 @@ Heads rows = (bs : List Placed) (k : Kind) (a : Placed) → fitRows rows bs ≡ 
 
 no-heads : Heads []
 unfolding fitRows
-no-heads bs k a e is = absurd (let z : _≡_ {A = ℕ} 0 1 = cc in omega arith)
+no-heads bs k a e is = cannot-be cc
 
 one-head : (r : Row) (rows : List Row) → ((bs : List Placed) (k : Kind) (a : Placed) → fitRow r bs ≡ fit k a → Board k → Head bs a) → Heads rows → Heads (r ∷ rows)
 unfolding fitRows
@@ -89,4 +90,4 @@ board-head bs k a e is = go (leb (howMany 12 bs) 1) e
   where
     go : (t : Bool) → pick t (fitRows present bs) misfit ≡ fit k a → Head bs a
     go true q = present-heads bs k a q is
-    go false q = absurd (let z : _≡_ {A = ℕ} 0 1 = cc in omega arith)
+    go false q = cannot-be cc

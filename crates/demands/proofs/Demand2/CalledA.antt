@@ -4,7 +4,6 @@ use mathlib.Core.Path.{_≡_, refl, sym, ap, _∙_, subst}
 use mathlib.Core.Bool.{Bool, true, false, _&&_}
 use mathlib.Core.List.{List, [], _∷_, List·Memᴰ, List·Memᴰ·head, List·Memᴰ·tail}
 use Prim.Native.Nat.{ℕ}
-use native.Mathlib.Omega.{arith}
 use lib.Dec.{eqb, ltb, leb}
 use Rattle.words.specs.Answer.{Outcome, gives, refuses, pick}
 use Rattle.group.specs.Balise.{balises, then, readAll}
@@ -26,11 +25,12 @@ use Rattle.demands.specs.Table.{listOf, partsOf}
 use Rattle.demands.specs.Said.{asA, Its-A}
 use Rattle.line.proofs.Places.{and-parts, or-left, or-right}
 use Rattle.demands.proofs.Demand2.Boards.{Board, Head, board-head}
+use Rattle.words.proofs.Never.{cannot-be}
 
 -- What is sought is among the balises, and is what was asked.
 first-of : (w : Asked) (bs : List Placed) (a : Placed) → first w bs ≡ found a → List·Memᴰ a bs × (meets w (a .part) ≡ true)
 unfolding first
-first-of w [] a e = absurd (let z : _≡_ {A = ℕ} 0 1 = cc in omega arith)
+first-of w [] a e = cannot-be cc
 first-of w (b ∷ bs) a e = go (meets w (b .part)) refl e (first-of w bs a)
   where
     go : (t : Bool) → meets w (b .part) ≡ t → pick t (found b) (first w bs) ≡ found a → (first w bs ≡ found a → List·Memᴰ a bs × (meets w (a .part) ≡ true))
@@ -50,8 +50,8 @@ unfolding fitRow
 fit-row kind ms w called asked bs k a e = go (fits ms bs) (calledA ms bs) (called bs) e
   where
     go : (t : Bool) (f : Found) → f ≡ first w bs → pick t (fitWith kind f) misfit ≡ fit k a → CanBeA bs k a
-    go false f is q = absurd (let z : _≡_ {A = ℕ} 0 1 = cc in omega arith)
-    go true none is q = absurd (let z : _≡_ {A = ℕ} 0 1 = cc in omega arith)
+    go false f is q = cannot-be cc
+    go true none is q = cannot-be cc
     go true (found c) is q =
         let same-k : kind ≡ k = cc in
         let same-a : c ≡ a = cc in
@@ -64,7 +64,7 @@ Every rows = (bs : List Placed) (k : Kind) (a : Placed) → fitRows rows bs ≡ 
 
 none-fits : Every []
 unfolding fitRows
-none-fits bs k a e = absurd (let z : _≡_ {A = ℕ} 0 1 = cc in omega arith)
+none-fits bs k a e = cannot-be cc
 
 one-more : (r : Row) (rows : List Row) → ((bs : List Placed) (k : Kind) (a : Placed) → fitRow r bs ≡ fit k a → CanBeA bs k a) → Every rows → Every (r ∷ rows)
 unfolding fitRows
@@ -113,7 +113,7 @@ in-direction rows every bs k a e = go (leb (howMany 12 bs) 1) e
   where
     go : (t : Bool) → pick t (fitRows rows bs) misfit ≡ fit k a → CanBeA bs k a
     go true q = every bs k a q
-    go false q = absurd (let z : _≡_ {A = ℕ} 0 1 = cc in omega arith)
+    go false q = cannot-be cc
 
 -- ---- the message
 
@@ -135,7 +135,7 @@ decided-a : (bs : List Placed) (m : Message) (p o : Fit) → ((k : Kind) (a : Pl
     → ((k : Kind) (a : Placed) → p ≡ fit k a → Board k → Head bs a) → decide p o bs ≡ gives m → Its-A bs m
 decided-a bs m misfit misfit here there heads e = absurd (never 13 e)
 decided-a bs m misfit (fit k a) here there heads e =
-    let is : messageOf (said Direction.Opposite k a) (numberOf bs) Content.Nothing ≡ m = cc in from-a bs Direction.Opposite k a Content.Nothing m (there k a refl) (λ q. absurd (let z : _≡_ {A = ℕ} 0 1 = cc in omega arith)) is
+    let is : messageOf (said Direction.Opposite k a) (numberOf bs) Content.Nothing ≡ m = cc in from-a bs Direction.Opposite k a Content.Nothing m (there k a refl) (λ q. cannot-be cc) is
 decided-a bs m (fit k a) o here there heads e = go (contentOf k (speedOf k a) (Y (a .part)) (Z (a .part)) bs) e
   where
     go : (c : Outcome Content) → then c (λ more. gives (messageOf (said Direction.Present k a) (numberOf bs) more)) ≡ gives m → Its-A bs m

@@ -23,6 +23,7 @@ use Rattle.ride.specs.declared.Mark.{Mark}
 use Rattle.demands.specs.Table.{partsOf}
 use Rattle.demands.specs.Ride.{IsSignal, IsMarked, first, early, good, late, unmarked, Becomes}
 use Rattle.demands.proofs.Demand2.Messages.{not-signal, View, signal, warning, route, plain, view}
+use Rattle.words.proofs.Never.{cannot-be}
 
 -- The content of a group that is no present signal sets no mark and leaves what is known.
 abbrev Leaves : Message → Type 0
@@ -43,8 +44,8 @@ other-leaves bs m other (plain p e) =
 signal-marks : (bs : List Placed) (m : Message) (linking : Linking) → IsSignal m → View bs m
     → markFrom (m .content) (m .place) linking ≡ markOf linking (m .place)
 signal-marks bs m linking s (signal d k distance _ e) = ap (λ (v : Content). markFrom v (m .place) linking) e
-signal-marks bs m linking s (warning _ k d distance e) = absurd (let f = s .1 in let z : _≡_ {A = ℕ} 0 1 = cc in omega arith)
-signal-marks bs m linking s (route _ k e) = absurd (let f = s .1 in let z : _≡_ {A = ℕ} 0 1 = cc in omega arith)
+signal-marks bs m linking s (warning _ k d distance e) = absurd (let f = s .1 in cannot-be cc)
+signal-marks bs m linking s (route _ k e) = absurd (let f = s .1 in cannot-be cc)
 signal-marks bs m linking s (plain other e) = absurd (not-signal m other (s .0) (s .1))
 
 module _ (g : Group) (m : Message) (judged : judge g ≡ gives m) where
@@ -90,12 +91,12 @@ signal? : (m : Message) → Signal? m
 signal? m = go (m .direction) refl (m .kind) refl
   where
     go : (d : Direction) → m .direction ≡ d → (k : Kind) → m .kind ≡ k → Signal? m
-    go Direction.Opposite e k f = is-not (λ s. let g = s .0 in let z : _≡_ {A = ℕ} 0 1 = cc in omega arith)
+    go Direction.Opposite e k f = is-not (λ s. let g = s .0 in cannot-be cc)
     go Direction.Present e Kind.Signal f = is (e, f)
-    go Direction.Present e Kind.Warning f = is-not (λ s. let g = s .1 in let z : _≡_ {A = ℕ} 0 1 = cc in omega arith)
-    go Direction.Present e Kind.Annulled f = is-not (λ s. let g = s .1 in let z : _≡_ {A = ℕ} 0 1 = cc in omega arith)
-    go Direction.Present e Kind.Line f = is-not (λ s. let g = s .1 in let z : _≡_ {A = ℕ} 0 1 = cc in omega arith)
-    go Direction.Present e Kind.Route f = is-not (λ s. let g = s .1 in let z : _≡_ {A = ℕ} 0 1 = cc in omega arith)
+    go Direction.Present e Kind.Warning f = is-not (λ s. let g = s .1 in cannot-be cc)
+    go Direction.Present e Kind.Annulled f = is-not (λ s. let g = s .1 in cannot-be cc)
+    go Direction.Present e Kind.Line f = is-not (λ s. let g = s .1 in cannot-be cc)
+    go Direction.Present e Kind.Route f = is-not (λ s. let g = s .1 in cannot-be cc)
 
 -- Every group has a mark, or none.
 pub mark-of : (linking : Linking) (m : Message) → (mark : Mark) × IsMarked linking m mark

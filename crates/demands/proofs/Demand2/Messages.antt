@@ -5,7 +5,6 @@ use mathlib.Core.Logic.{_⊎_, inl, inr}
 use mathlib.Core.Bool.{Bool, true, false}
 use mathlib.Core.List.{List}
 use Prim.Native.Nat.{ℕ}
-use native.Mathlib.Omega.{arith}
 use lib.Dec.{eqb, ltb}
 use Rattle.words.specs.Answer.{Outcome, gives, refuses, pick}
 use Rattle.group.specs.Balise.{balises, then, readAll}
@@ -25,6 +24,7 @@ use Rattle.walk.specs.declared.Placed.{Placed}
 use Rattle.demands.specs.Table.{listOf, partsOf}
 use Rattle.demands.proofs.Common.Rules.{never}
 use Rattle.demands.proofs.Common.Fits.{said, decide}
+use Rattle.words.proofs.Never.{cannot-be}
 
 -- A message that says no more than its kind.
 abbrev pub Other : Message → Type 0
@@ -32,9 +32,9 @@ Other m = (m .direction ≡ Direction.Opposite) ⊎ ((m .kind ≡ Kind.Annulled)
 
 -- It is no present signal.
 pub not-signal : (m : Message) → Other m → m .direction ≡ Direction.Present → m .kind ≡ Kind.Signal → ⊥
-not-signal m (inl o) d k = let z : _≡_ {A = ℕ} 0 1 = cc in omega arith
-not-signal m (inr (inl o)) d k = let z : _≡_ {A = ℕ} 0 1 = cc in omega arith
-not-signal m (inr (inr o)) d k = let z : _≡_ {A = ℕ} 0 1 = cc in omega arith
+not-signal m (inl o) d k = cannot-be cc
+not-signal m (inr (inl o)) d k = cannot-be cc
+not-signal m (inr (inr o)) d k = cannot-be cc
 
 -- The content of a message of these balises, by its direction and kind.
 pub data View (bs : List Placed) (m : Message) : Type 0 where

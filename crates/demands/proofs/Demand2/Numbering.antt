@@ -4,7 +4,6 @@ use mathlib.Core.Path.{_≡_, refl, ap, subst}
 use mathlib.Core.Logic.{_⊎_, inl, inr}
 use mathlib.Core.List.{List, [], _∷_, List·Memᴰ, List·Memᴰ·head, List·Memᴰ·tail, List·Memᴰ·not-nil, List·Memᴰ·cases-cons}
 use Prim.Native.Nat.{ℕ}
-use native.Mathlib.Omega.{arith}
 use Rattle.words.specs.Answer.{Outcome, gives, refuses}
 use Rattle.group.specs.Balise.{then}
 use Rattle.walk.specs.Row.{Y, Z}
@@ -26,6 +25,7 @@ use Rattle.demands.specs.Said.{Its-number, figure, no-figure}
 use Rattle.demands.specs.Ride.{IsNumbered, of-signal, of-other}
 use Rattle.demands.proofs.Common.Rules.{never}
 use Rattle.demands.proofs.Demand2.Messages.{of-group}
+use Rattle.words.proofs.Never.{cannot-be}
 
 -- ---- the number of a group
 
@@ -47,8 +47,8 @@ among (b ∷ bs) = go (b .part) refl (among bs)
 
     go : (p : Part) → b .part ≡ p → Its-number bs (numberOf bs) → Its-number (b ∷ bs) (numberOr p (numberOf bs))
     go (Part.Number n) e rest = figure b n (List·Memᴰ·head refl) e
-    go (Part.Figures x y z) e rest = passes (numberOf bs) (λ n f. let z : _≡_ {A = ℕ} 0 1 = cc in omega arith) rest
-    go Part.Marker e rest = passes (numberOf bs) (λ n f. let z : _≡_ {A = ℕ} 0 1 = cc in omega arith) rest
+    go (Part.Figures x y z) e rest = passes (numberOf bs) (λ n f. cannot-be cc) rest
+    go Part.Marker e rest = passes (numberOf bs) (λ n f. cannot-be cc) rest
 
 -- The number of a message is that of its balises.
 as-number : (direction : Direction) (row : Picked) (bs : List Placed) (m : Message) → judgeAs direction row bs ≡ gives m → numberOf bs ≡ m .number
@@ -95,7 +95,7 @@ number-on m = go (m .kind) refl
   where
     go : (k : Kind) → m .kind ≡ k → (number : Number) × IsNumbered m number
     go Kind.Signal e = (m .number, of-signal e)
-    go Kind.Warning e = (Number.None, of-other (λ is. let z : _≡_ {A = ℕ} 0 1 = cc in omega arith))
-    go Kind.Annulled e = (Number.None, of-other (λ is. let z : _≡_ {A = ℕ} 0 1 = cc in omega arith))
-    go Kind.Line e = (Number.None, of-other (λ is. let z : _≡_ {A = ℕ} 0 1 = cc in omega arith))
-    go Kind.Route e = (Number.None, of-other (λ is. let z : _≡_ {A = ℕ} 0 1 = cc in omega arith))
+    go Kind.Warning e = (Number.None, of-other (λ is. cannot-be cc))
+    go Kind.Annulled e = (Number.None, of-other (λ is. cannot-be cc))
+    go Kind.Line e = (Number.None, of-other (λ is. cannot-be cc))
+    go Kind.Route e = (Number.None, of-other (λ is. cannot-be cc))

@@ -4,7 +4,6 @@ use mathlib.Core.Path.{_≡_, refl, sym, ap, _∙_}
 use mathlib.Core.Bool.{Bool, true, false, not, _&&_}
 use mathlib.Core.List.{List, [], _∷_}
 use Prim.Native.Nat.{ℕ}
-use native.Mathlib.Omega.{arith}
 use lib.Dec.{eqb, ltb, leb}
 use Rattle.words.specs.Answer.{Outcome, gives, refuses, pick}
 use Rattle.group.specs.Balise.{balises, then, readAll}
@@ -23,6 +22,7 @@ use Rattle.group.specs.declared.Group.{Group}
 use Rattle.line.proofs.Places.{and-parts}
 use Rattle.demands.proofs.Common.Rules.{true-not-false, not-true, never}
 use Rattle.demands.proofs.Common.Fits.{said, decide}
+use Rattle.words.proofs.Never.{cannot-be}
 
 abbrev isRoute : Kind → Bool
 isRoute Kind.Signal = false
@@ -45,13 +45,13 @@ unfolding fitRow
 fit-kind (row kind members) bs k a e = go (fits members bs) (calledA members bs) e
   where
     go : (t : Bool) (f : Found) → pick t (fitWith kind f) misfit ≡ fit k a → isRoute k ≡ isRoute kind
-    go false f q = absurd (let z : _≡_ {A = ℕ} 0 1 = cc in omega arith)
-    go true none q = absurd (let z : _≡_ {A = ℕ} 0 1 = cc in omega arith)
+    go false f q = cannot-be cc
+    go true none q = cannot-be cc
     go true (found c) q = let same : kind ≡ k = cc in ap isRoute (sym same)
 
 fits-no-route : (rows : List Row) → noRoute rows ≡ true → (bs : List Placed) (k : Kind) (a : Placed) → fitRows rows bs ≡ fit k a → isRoute k ≡ false
 unfolding fitRows
-fits-no-route [] free bs k a e = absurd (let z : _≡_ {A = ℕ} 0 1 = cc in omega arith)
+fits-no-route [] free bs k a e = cannot-be cc
 fits-no-route (r ∷ rows) free bs k a e =
     let both = and-parts (not (ofRow r)) (noRoute rows) free in
     go (fits-no-route rows (both .1) bs k a) (not-true (ofRow r) (both .0)) (fitRow r bs) refl e
@@ -66,7 +66,7 @@ in-opposite bs k a e = go (leb (howMany 12 bs) 1) e
   where
     go : (t : Bool) → pick t (fitRows opposite bs) misfit ≡ fit k a → isRoute k ≡ false
     go true q = fits-no-route opposite refl bs k a q
-    go false q = absurd (let z : _≡_ {A = ℕ} 0 1 = cc in omega arith)
+    go false q = cannot-be cc
 
 decided-way : (bs : List Placed) (m : Message) (p o : Fit) → ((k : Kind) (a : Placed) → o ≡ fit k a → isRoute k ≡ false)
     → decide p o bs ≡ gives m → m .kind ≡ Kind.Route → m .direction ≡ Direction.Present

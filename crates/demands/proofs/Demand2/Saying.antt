@@ -5,7 +5,6 @@ use mathlib.Core.Path.{_≡_, refl, sym, ap, _∙_}
 use mathlib.Core.Bool.{Bool, true, false, _&&_}
 use mathlib.Core.List.{List, [], _∷_}
 use native.Mathlib.Nat.{not-suc-le-zero, le-of-suc-le-suc}
-use native.Mathlib.Omega.{arith}
 use lib.Dec.{eqb, leb, ltb}
 use lib.ListN.{length, getD}
 use borrow.Author.Tests.{le-leb, leb-true}
@@ -39,6 +38,7 @@ use Rattle.demands.proofs.Demand2.Entered.{entry, preset-range, linked}
 use Rattle.demands.proofs.Demand2.CalledA.{has-a}
 use Rattle.demands.proofs.Demand2.RoutePresent.{route-present}
 use Rattle.demands.proofs.Demand2.Contents.{content-so}
+use Rattle.words.proofs.Never.{cannot-be}
 
 -- Two to five balises that were all read are judged by the rows.
 rows-judge : (g : Group) → eqb (g .count) 1 ≡ false → ltb 5 (g .count) ≡ false → unread g ≡ false → judge g ≡ judgeRead (partsOf g)
@@ -93,11 +93,11 @@ signal-so bs m d preset main target e (signal _ _ k far is) =
     let same-t : target ≡ signalSpeed (targetFigure (m .ay) (m .az) (yOf (P bs)) (zOf (P bs))) = cc in
     (announces bs d (given (m .az) bs k far .1 ∙ ap gives same-d), same-p, speeds-so bs m main target same-m same-t)
 signal-so bs m d preset main target e (warning _ _ k far is) =
-    absurd (let both = sym e ∙ is in let z : _≡_ {A = ℕ} 0 1 = cc in omega arith)
+    absurd (let both = sym e ∙ is in cannot-be cc)
 signal-so bs m d preset main target e (route _ _ is) =
-    absurd (let both = sym e ∙ is in let z : _≡_ {A = ℕ} 0 1 = cc in omega arith)
+    absurd (let both = sym e ∙ is in cannot-be cc)
 signal-so bs m d preset main target e (plain _ is) =
-    absurd (let both = sym e ∙ is in let z : _≡_ {A = ℕ} 0 1 = cc in omega arith)
+    absurd (let both = sym e ∙ is in cannot-be cc)
 
 -- an accepted preset point has a target above 40
 preset-so : (bs : List Placed) (m : Message) (d : ℕ) (main target : Told) → m .content ≡ Content.Signal d true main target
@@ -108,11 +108,11 @@ preset-so bs m d main target e (signal _ _ k far is) =
     let not-both = given (m .az) bs k far .0 in
     ap (λ (t : Bool). t && noIncrease (m .az)) so ∙ not-both
 preset-so bs m d main target e (warning _ _ k far is) =
-    absurd (let both = sym e ∙ is in let z : _≡_ {A = ℕ} 0 1 = cc in omega arith)
+    absurd (let both = sym e ∙ is in cannot-be cc)
 preset-so bs m d main target e (route _ _ is) =
-    absurd (let both = sym e ∙ is in let z : _≡_ {A = ℕ} 0 1 = cc in omega arith)
+    absurd (let both = sym e ∙ is in cannot-be cc)
 preset-so bs m d main target e (plain _ is) =
-    absurd (let both = sym e ∙ is in let z : _≡_ {A = ℕ} 0 1 = cc in omega arith)
+    absurd (let both = sym e ∙ is in cannot-be cc)
 
 warning-so : (bs : List Placed) (m : Message) (d : ℕ) → m .content ≡ Content.Warning d → View bs m → Announces bs d
 warning-so bs m d e (warning _ _ k far is) =
@@ -120,20 +120,20 @@ warning-so bs m d e (warning _ _ k far is) =
     let same-d : k ≡ d = cc in
     announces bs d (far ∙ ap gives same-d)
 warning-so bs m d e (signal _ _ k far is) =
-    absurd (let both = sym e ∙ is in let z : _≡_ {A = ℕ} 0 1 = cc in omega arith)
+    absurd (let both = sym e ∙ is in cannot-be cc)
 warning-so bs m d e (route _ _ is) =
-    absurd (let both = sym e ∙ is in let z : _≡_ {A = ℕ} 0 1 = cc in omega arith)
+    absurd (let both = sym e ∙ is in cannot-be cc)
 warning-so bs m d e (plain _ is) =
-    absurd (let both = sym e ∙ is in let z : _≡_ {A = ℕ} 0 1 = cc in omega arith)
+    absurd (let both = sym e ∙ is in cannot-be cc)
 
 route-so : (bs : List Placed) (m : Message) (v : ℕ) → m .content ≡ Content.Route v → View bs m → v ≡ routeSpeed (m .ay) (m .az)
 route-so bs m v e (route _ _ is) = let both = sym e ∙ is in cc
 route-so bs m v e (signal _ _ k far is) =
-    absurd (let both = sym e ∙ is in let z : _≡_ {A = ℕ} 0 1 = cc in omega arith)
+    absurd (let both = sym e ∙ is in cannot-be cc)
 route-so bs m v e (warning _ _ k far is) =
-    absurd (let both = sym e ∙ is in let z : _≡_ {A = ℕ} 0 1 = cc in omega arith)
+    absurd (let both = sym e ∙ is in cannot-be cc)
 route-so bs m v e (plain _ is) =
-    absurd (let both = sym e ∙ is in let z : _≡_ {A = ℕ} 0 1 = cc in omega arith)
+    absurd (let both = sym e ∙ is in cannot-be cc)
 
 pub groups : Groups
 unfolding routeSpeed

@@ -26,6 +26,7 @@ use Rattle.demands.specs.Demand3.{TheSent, ComesOf}
 use Rattle.line.proofs.Places.{or-left, or-right, or-parts}
 use Rattle.line.proofs.Sent.{Sent, AllSent, read-as-sent}
 use Rattle.line.proofs.Unflipped.{unflipped-words, unflipped-among}
+use Rattle.words.proofs.Never.{cannot-be}
 
 -- A call answers as the specification says.
 pub specified : (b : List ℕ) (start len s t : ℕ) (r : Found) → Find b start len s t r → find b start len s t ≡ saysFound r
@@ -76,15 +77,15 @@ listed-comes {b} {s} {t} {start} {len} low high ask from to (listed-further {p =
     go (Found.At q n) k is rest =
         let same : p ≡ q = cc in
         (Found.At q n ∷ rest .0, further k (subst (λ (v : ℕ). Comes b s t (v + 1) (start + len - (v + 1)) (rest .0)) same (rest .1)))
-    go Found.NotSeven k is rest = absurd (let z : _≡_ {A = ℕ} 0 1 = cc in omega arith)
-    go Found.Beyond k is rest = absurd (let z : _≡_ {A = ℕ} 0 1 = cc in omega arith)
-    go Found.NoPlace k is rest = absurd (let z : _≡_ {A = ℕ} 0 1 = cc in omega arith)
+    go Found.NotSeven k is rest = cannot-be cc
+    go Found.Beyond k is rest = cannot-be cc
+    go Found.NoPlace k is rest = cannot-be cc
 listed-comes {b} {s} {t} {start} {len} low high ask from to (listed-ends e) =
     let a = ask start len from to in
     go (a .0) (a .1) (sym (specified b start len s t (a .0) (a .1)) ∙ e)
   where
     go : (r : Found) → Find b start len s t r → saysFound r ≡ refuses 6 → (w : List Found) × Comes b s t start len w
-    go (Found.At q n) k is = absurd (let z : _≡_ {A = ℕ} 0 1 = cc in omega arith)
+    go (Found.At q n) k is = cannot-be cc
     go Found.NotSeven k is = absurd (let z : _≡_ {A = ℕ} 4 6 = cc in omega arith)
     go Found.Beyond k is = absurd (let z : _≡_ {A = ℕ} 5 6 = cc in omega arith)
     go Found.NoPlace k is = ([], ends k)

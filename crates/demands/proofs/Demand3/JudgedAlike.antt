@@ -22,6 +22,7 @@ use Rattle.demands.specs.Contracts.{JudgeContact}
 use Rattle.demands.specs.Demand3.{TogetherTheSent}
 use Rattle.line.proofs.Sent.{AllSent}
 use Rattle.demands.proofs.Demand3.Together.{Known, Survey, the-survey, known-sent, same-known}
+use Rattle.words.proofs.Never.{cannot-be}
 
 module _ (o : OneBalise) (proper : Proper o) (every-place : AllSent o) where
   -- What a call of `judge` answers.
@@ -42,11 +43,11 @@ module _ (o : OneBalise) (proper : Proper o) (every-place : AllSent o) where
       by r k = sym (by-survey (o .buffer) (o .start) (o .len) (o .s) (o .t)) ∙ judge-says r k
 
       never-left : (t : Bool) → pick {A = Outcome Contact} t (gives marker) (refuses 8) ≡ refuses 7 → ⊥
-      never-left true e = let z : _≡_ {A = ℕ} 0 1 = cc in omega arith
+      never-left true e = cannot-be cc
       never-left false e = let z : _≡_ {A = ℕ} 8 7 = cc in omega arith
 
       never-several : (t u : Bool) (m : Received) (first count : ℕ) → pick {A = Outcome Contact} t (gives (read m first count)) (pick u (gives marker) (refuses 8)) ≡ refuses 7 → ⊥
-      never-several true u m first count e = let z : _≡_ {A = ℕ} 0 1 = cc in omega arith
+      never-several true u m first count e = cannot-be cc
       never-several false u m first count e = never-left u e
 
       never : {a : Outcome Alike} → Survey o proper every-place a → fromSurvey (markerOr (o .buffer) (o .start) (o .len)) a ≡ refuses 7 → ⊥
@@ -56,8 +57,8 @@ module _ (o : OneBalise) (proper : Proper o) (every-place : AllSent o) where
           (sym (ap (fromSurvey (markerOr (o .buffer) (o .start) (o .len))) (r .is)) ∙ e)
 
       known-left : (t : Bool) (m : Received) (first count : ℕ) → pick {A = Outcome Contact} t (gives marker) (refuses 8) ≡ gives (read m first count) → Known o proper every-place m first count
-      known-left true m first count e = absurd (let z : _≡_ {A = ℕ} 0 1 = cc in omega arith)
-      known-left false m first count e = absurd (let z : _≡_ {A = ℕ} 0 1 = cc in omega arith)
+      known-left true m first count e = cannot-be cc
+      known-left false m first count e = cannot-be cc
 
       known-several : (t u : Bool) (n m : Received) (p q k l : ℕ) → Known o proper every-place n p k
           → pick {A = Outcome Contact} t (gives (read n p k)) (pick u (gives marker) (refuses 8)) ≡ gives (read m q l) → Known o proper every-place m q l
@@ -81,11 +82,11 @@ module _ (o : OneBalise) (proper : Proper o) (every-place : AllSent o) where
 
       is-read : (r : Judged) {m : Received} {first count : ℕ} → gives (read m first count) ≡ saysJudged r → (m : Telegram) × (first : ℕ) × (count : ℕ) × (r ≡ Judged.Read m first count)
       is-read (Judged.Read m first count) e = (m, first, count, refl)
-      is-read Judged.Marker e = absurd (let z : _≡_ {A = ℕ} 0 1 = cc in omega arith)
-      is-read Judged.NotSeven e = absurd (let z : _≡_ {A = ℕ} 0 1 = cc in omega arith)
-      is-read Judged.Beyond e = absurd (let z : _≡_ {A = ℕ} 0 1 = cc in omega arith)
-      is-read Judged.Differ e = absurd (let z : _≡_ {A = ℕ} 0 1 = cc in omega arith)
-      is-read Judged.Neither e = absurd (let z : _≡_ {A = ℕ} 0 1 = cc in omega arith)
+      is-read Judged.Marker e = cannot-be cc
+      is-read Judged.NotSeven e = cannot-be cc
+      is-read Judged.Beyond e = cannot-be cc
+      is-read Judged.Differ e = cannot-be cc
+      is-read Judged.Neither e = cannot-be cc
 
       -- where there are two places, they are read
       reads-so : 2 ≤ length (placesOf o) → {a : Outcome Alike} → Survey o proper every-place a → (r : Judged) → fromSurvey (markerOr (o .buffer) (o .start) (o .len)) a ≡ saysJudged r

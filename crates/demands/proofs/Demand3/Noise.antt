@@ -3,7 +3,6 @@
 use mathlib.Core.Path.{_≡_, refl, sym, ap, _∙_}
 use mathlib.Core.Bool.{Bool, true, false, not}
 use Prim.Native.Nat.{ℕ}
-use native.Mathlib.Omega.{arith}
 use lib.Bits.{bitXor}
 use Rattle.words.specs.Answer.{Answer, gives, refuses, pick}
 use Rattle.words.specs.Why.{Why, notCodeWord}
@@ -14,6 +13,7 @@ use Rattle.words.proofs.Laws.{heard, noise}
 use Rattle.demands.specs.Table.{notCode}
 use Rattle.demands.specs.Demand3.{ByFlipsAlone, NoiseLaw}
 use Rattle.demands.proofs.Common.Rules.{true-not-false}
+use Rattle.words.proofs.Never.{cannot-be}
 
 -- What is heard of x is decided by the flips alone.
 by-flips : (n x f : ℕ) (received : Answer Why ℕ) → received ≡ heard x (readWord n f) → ByFlipsAlone n x f received
@@ -32,7 +32,7 @@ by-flips n x f received e = go (isCode n (exchanged n f)) refl e
         }
       where
         never : (v : ℕ) → refuses (notCodeWord n f) ≡ gives v → ⊥
-        never v q = let z : _≡_ {A = ℕ} 0 1 = cc in omega arith
+        never v q = cannot-be cc
 
         code : not (isCode n (exchanged n f)) ≡ false → ⊥
         code q = true-not-false (sym (ap not is) ∙ q)

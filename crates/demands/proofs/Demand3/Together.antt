@@ -24,6 +24,7 @@ use Rattle.demands.specs.Demand3.{TheSent, TogetherTheSent}
 use Rattle.line.proofs.Places.{and-true, or-left, or-right}
 use Rattle.line.proofs.Sent.{Sent, AllSent}
 use Rattle.demands.proofs.Demand3.Handed.{the-sent}
+use Rattle.words.proofs.Never.{cannot-be}
 
 -- Places that have the words sent are alike.
 all-alike : (o : OneBalise) (p : ℕ) → Sent o p → (ps : List ℕ) → ((q : ℕ) → among q ps ≡ true → Sent o q) → allAs (o .buffer) p ps ≡ true
@@ -119,17 +120,17 @@ module _ (o : OneBalise) (proper : Proper o) (every-place : AllSent o) where
 
       reads-so : (r : Surveyed) {a : Outcome Alike} → AllAlike a → a ≡ saysSurveyed r → (m : Telegram) × (first : ℕ) × (count : ℕ) × (r ≡ Surveyed.Alike m first count)
       reads-so (Surveyed.Alike m first count) all e = (m, first, count, refl)
-      reads-so Surveyed.NotSeven all e = absurd (let f = all .is in let z : _≡_ {A = ℕ} 0 1 = cc in omega arith)
-      reads-so Surveyed.Beyond all e = absurd (let f = all .is in let z : _≡_ {A = ℕ} 0 1 = cc in omega arith)
-      reads-so Surveyed.NoPlace all e = absurd (let f = all .is in let z : _≡_ {A = ℕ} 0 1 = cc in omega arith)
-      reads-so Surveyed.Differ all e = absurd (let f = all .is in let z : _≡_ {A = ℕ} 0 1 = cc in omega arith)
+      reads-so Surveyed.NotSeven all e = absurd (let f = all .is in cannot-be cc)
+      reads-so Surveyed.Beyond all e = absurd (let f = all .is in cannot-be cc)
+      reads-so Surveyed.NoPlace all e = absurd (let f = all .is in cannot-be cc)
+      reads-so Surveyed.Differ all e = absurd (let f = all .is in cannot-be cc)
 
       never : {a : Outcome Alike} → Survey a → a ≡ refuses 7 → ⊥
       never (inl none) e = let f = none .0 in let z : _≡_ {A = ℕ} 6 7 = cc in omega arith
-      never (inr r) e = let f = r .is in let z : _≡_ {A = ℕ} 0 1 = cc in omega arith
+      never (inr r) e = let f = r .is in cannot-be cc
 
       known : {a : Outcome Alike} → Survey a → (m : Received) (first count : ℕ) → a ≡ gives (alike m first count) → Known m first count
-      known (inl none) m first count e = absurd (let f = none .0 in let z : _≡_ {A = ℕ} 0 1 = cc in omega arith)
+      known (inl none) m first count e = absurd (let f = none .0 in cannot-be cc)
       known (inr r) m first count e =
           let f = r .is in
           let same-m : r .message ≡ m = cc in

@@ -50,6 +50,7 @@ use Rattle.demands.specs.Contracts.{EndOf}
 use Rattle.demands.specs.Steps.{StaysOpen}
 use Rattle.demands.specs.Ride.{unmarked}
 use Rattle.demands.proofs.Witness.MarksMet.{itsGroup}
+use Rattle.words.proofs.Never.{cannot-be}
 
 -- ---- no group is open, and the signal announced 4000 dm from 1000 on is missed at 5801 dm
 
@@ -191,4 +192,4 @@ itsOther = record { direction = Direction.Opposite; kind = Kind.Signal; place = 
 
 other-met : JudgeGroup backwards (GroupJudged.Accepted itsOther) × IsMarked Linking.Unset itsOther Mark.Unmarked
 unfolding readWord isCode even count covers figure onwards isCheck exchanged other word shortWord longWord telegram balises readAll fits first fitRow fitRows howMany fitIn fitting distance signalSpeed targetFigure routeSpeed distanceOf signalDistance numberOf judgeRead judge odometerOf passedOf inOrder checkRecord noGroup nothingKnown freshRide join takeUp markAt close leave closeBehind missedLines afterMissed goOn treat step badGap end
-other-met = (((backwards, tt), refl), unmarked (λ s. let e = s .0 in let z : _≡_ {A = ℕ} 0 1 = cc in omega arith))
+other-met = (((backwards, tt), refl), unmarked (λ s. let e = s .0 in cannot-be cc))

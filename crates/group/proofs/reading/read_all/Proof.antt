@@ -14,9 +14,10 @@ use Rattle.group.specs.Numbers.{numberOf}
 use Rattle.group.proofs.Hearing.{after, after-none, placed, unheard, number-next, read-good, read-bad, read-end}
 use Rattle.group.proofs.reading.read_all.Statement.{statement}
 use Rattle.group.proofs.reading.read_all.Tie as tie
+use Rattle.words.proofs.Never.{cannot-be}
 
 never-good : {A : Type 0} → false ≡ true → A
-never-good e = absurd (let z : _≡_ {A = ℕ} 0 1 = cc in omega arith)
+never-good e = cannot-be cc
 
 abbrev Inv-loop : tie.InvT-loop
 Inv-loop n kept parts₀ number₀ i₀ parts number i =
