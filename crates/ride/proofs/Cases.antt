@@ -1,11 +1,13 @@
 -- The cases of the definitions, each from an equation of what they go by.
 -- Assumes nothing.
-use Prim.Native.Nat.{ℕ, _+_, _-_, _*_, _/_}
+use Prim.Native.Nat.{ℕ, _+_, _-_, _*_, _/_, _<_}
+use native.Mathlib.Omega.{arith}
 use mathlib.Core.Path.{_≡_, refl, ap, _∙_}
 use mathlib.Core.Bool.{Bool, true, false}
 use mathlib.Core.List.{List, [], _∷_}
 use lib.Dec.{ltb}
 use lib.ListN.{getD}
+use borrow.Author.Tests.{ne-eqb}
 use Rattle.words.specs.Answer.{Outcome, refuses}
 use Rattle.group.specs.declared.Balise.{Balise}
 use Rattle.group.specs.declared.Group.{Group}
@@ -17,13 +19,14 @@ use Rattle.group.specs.declared.Message.{Message}
 use Rattle.group.specs.Judge.{judge}
 use Rattle.ride.specs.declared.Linking.{Linking}
 use Rattle.ride.specs.declared.Known.{Known}
-use Rattle.ride.specs.declared.Line.{Line}
+use Rattle.ride.specs.declared.Seen.{Seen}
 use Rattle.ride.specs.declared.Ride.{Ride}
 use Rattle.ride.specs.declared.closing.Verdict.{Verdict}
 use Rattle.ride.specs.State.{noBalise, noGroup, isOpen, nothingKnown}
 use Rattle.ride.specs.Linking.{markAt, markOf, isOverdue, missedPlace}
-use Rattle.ride.specs.Closing.{Closing, linkingFrom, mainFrom, knownFrom, knownAfter, markFrom, firstPlace, lineOf, close, leave}
+use Rattle.ride.specs.Closing.{Judgement, Closing, linkingFrom, mainFrom, knownFrom, knownAfter, markFrom, firstPlace, lineOf, close, leave}
 use Rattle.ride.specs.Step.{end, ended}
+use Rattle.ride.specs.Says.{saysVerdict}
 
 -- ---- linking that is set
 
@@ -59,22 +62,24 @@ first-place [] b e = e
 first-place (x ∷ bs) b e = refl
 
 -- the verdict on a group with this judgement
-abbrev pub verdictOn : Group → Known → Outcome Message → Verdict
+abbrev pub verdictOn : Group → Known → Outcome Message → Judgement
 verdictOn g known judged = record { line = lineOf g (known .linking) judged; known = knownAfter judged known }
 
 -- a refused group's line shows its first place, and nothing is known then
-pub faulted : (g : Group) (before after : Known) (place n : ℕ) → after ≡ nothingKnown → place ≡ firstPlace g
-    → _≡_ {A = Verdict} (record { line = Line.Fault place n; known = after }) (verdictOn g before (refuses n))
-faulted g before after place n e f = rw (e, f)
+pub faulted : (g : Group) (before after : Known) (seen : Seen) (n : ℕ) → 0 < n → after ≡ nothingKnown → seen .place ≡ firstPlace g
+    → saysVerdict (record { fault = n; seen = seen; known = after }) ≡ verdictOn g before (refuses n)
+unfolding saysVerdict
+faulted g before after seen n h e f = rw (ne-eqb n 0 (omega (arith, h)), e, f)
 
 -- a group closes with the verdict on it
-pub closed-with : (g : Group) (known : Known) (v : Verdict) (c : Closing) → v ≡ verdictOn g known (judge g)
-    → c ≡ record { lines = v .line ∷ []; closed = g; group = noGroup; known = v .known } → c ≡ close g known
-unfolding close
-closed-with g known v c e h = h ∙ ap (λ (w : Verdict). record { lines = w .line ∷ []; closed = g; group = noGroup; known = w .known }) e
+pub closed-with : (g : Group) (known : Known) (v : Verdict) (c : Closing) → saysVerdict v ≡ verdictOn g known (judge g)
+    → c ≡ record { lines = saysVerdict v .line ∷ []; closed = g; group = noGroup; known = v .known } → c ≡ close g known
+unfolding close saysVerdict
+closed-with g known v c e h = h ∙ ap (λ (w : Judgement). record { lines = w .line ∷ []; closed = g; group = noGroup; known = w .known }) e
 
 -- the verdict on a group is that on the same group
-pub verdict-same : (g h : Group) (known : Known) (v : Verdict) → v ≡ verdictOn g known (judge g) → g ≡ h → v ≡ verdictOn h known (judge h)
+pub verdict-same : (g h : Group) (known : Known) (v : Verdict) → saysVerdict v ≡ verdictOn g known (judge g) → g ≡ h
+    → saysVerdict v ≡ verdictOn h known (judge h)
 verdict-same g h known v e is = e ∙ ap (λ (x : Group). verdictOn x known (judge x)) is
 
 -- ---- the end

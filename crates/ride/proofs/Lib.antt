@@ -3,7 +3,8 @@ pub mod Steps
 pub mod At
 pub mod Turns
 pub mod Under
-pub mod Law
+pub mod Joined
+mod Law
 pub mod Cutting
 pub mod Sections
 pub mod Examples

@@ -32,12 +32,6 @@ use Rattle.words.proofs.Never.{cannot-be}
 abbrev pub kept : Group → Balise → List Balise
 kept g b = pick (ltb (g .count) 5) (set (g .kept) (g .count) b) (g .kept)
 
-pub kept-one : (g : Group) (b : Balise) (bs : List Balise) → g .count < 5 → bs ≡ set (g .kept) (g .count) b → bs ≡ kept g b
-kept-one g b bs h e = rw (lt-ltb _ _ h) e
-
-pub kept-none : (g : Group) (b : Balise) (bs : List Balise) → 5 ≤ g .count → bs ≡ g .kept → bs ≡ kept g b
-kept-none g b bs h e = rw (le-ltb _ _ h) e
-
 pub joined : (g : Group) (b : Balise) (bs : List Balise) (n : ℕ) → bs ≡ kept g b → n ≡ counted (g .count)
     → _≡_ {A = Group} (record { kept = bs; count = n; last = b .place }) (join g b)
 unfolding join

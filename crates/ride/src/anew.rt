@@ -1,8 +1,9 @@
-// The state of a ride, written field by field. A copy of the whole would carry the bytes between its fields too, from record to record.
+// The state of a ride, and what a line shows, written field by field. A copy of the whole would carry the bytes between its fields too, from record to record.
 ghost use mathlib.Core.Path.{_≡_};
 use crate::Known;
 use crate::Linking;
 use crate::Ride;
+use crate::Seen;
 use group::Group;
 
 // A group.
@@ -24,6 +25,23 @@ fn linking_anew(linking: Linking) -> Linking
     match linking {
         Linking::Unset => Linking::Unset,
         Linking::Set { distance, from } => Linking::Set { distance, from },
+    }
+}
+
+// An accepted group as a line shows it.
+pub fn seen_anew(seen: Seen) -> Seen
+    ensures { λ r. ⌜ r ≡ seen ⌝ }
+{
+    let direction = seen.direction;
+    let kind = seen.kind;
+    let mark = seen.mark;
+    let number = seen.number;
+    Seen {
+        place: seen.place,
+        direction,
+        kind,
+        mark,
+        number,
     }
 }
 

@@ -1,18 +1,22 @@
 // Closing and judging a group: what is known then, and its line.
 ghost use mathlib.Core.Path.{_≡_};
 ghost use mathlib.Core.List.{[], _∷_};
+ghost use Prim.Native.Nat.{_<_};
 ghost use Rattle.words.specs.Answer.{gives, refuses};
 ghost use Rattle.group.specs.Judge.{judge};
 ghost use Rattle.ride.specs.State.{noGroup, nothingKnown};
 ghost use Rattle.ride.specs.Closing.{linkingFrom, mainFrom, knownFrom, knownAfter, lineOf, leave};
 ghost use Rattle.ride.specs.Step.{ended};
-ghost use Rattle.ride.specs.Says.{saysClosed, saysEnded};
+ghost use Rattle.ride.specs.Says.{saysVerdict, saysClosed, saysEnded};
 use crate::Ended;
 use crate::Known;
 use crate::Line;
 use crate::Lines;
 use crate::Linking;
+use crate::Mark;
 use crate::Ride;
+use crate::Seen;
+use crate::anew::seen_anew;
 use crate::joining::no_group;
 use crate::shown::seen_from;
 use group::Content;
@@ -21,6 +25,8 @@ use group::GroupJudged;
 use group::Message;
 use group::Number;
 use group::Told;
+use walk::Direction;
+use walk::Kind;
 
 // What closing leaves: its lines, the group that closed, the group that is there then, and what is known then.
 pub struct Closed {
@@ -30,9 +36,11 @@ pub struct Closed {
     pub known: Known,
 }
 
-// What judging a group says: its line, and what is known then.
+// What judging a group says: the number of its refusal, or 0; what its line shows (of a refused group its first place, and nothing else);
+// and what is known then. Its line is made of it where it is written, field by field.
 pub struct Verdict {
-    pub line: Line,
+    pub fault: u8,
+    pub seen: Seen,
     pub known: Known,
 }
 
@@ -98,7 +106,7 @@ fn known_from(content: Content, place: u32, number: Number, known: Known) -> Kno
 
 // The verdict on an accepted group.
 fn accepted(group: Group, known: Known, message: Message) -> Verdict
-    ensures { λ r. ⌜ r ≡ record { line = lineOf group (known .linking) (gives message); known = knownAfter (gives message) known } ⌝ }
+    ensures { λ r. ⌜ saysVerdict r ≡ record { line = lineOf group (known .linking) (gives message); known = knownAfter (gives message) known } ⌝ }
 {
     let content = message.content;
     let number = message.number;
@@ -106,26 +114,35 @@ fn accepted(group: Group, known: Known, message: Message) -> Verdict
     let seen = seen_from(message, linking);
     let after = known_from(content, message.place, number, known);
     Verdict {
-        line: Line::Group(seen),
+        fault: 0,
+        seen,
         known: after,
     }
 }
 
 // The verdict on a group that is refused with this number.
 fn faulty(group: Group, known: Known, number: u8) -> Verdict
-    ensures { λ r. ⌜ r ≡ record { line = lineOf group (known .linking) (refuses number); known = knownAfter (refuses number) known } ⌝ }
+    requires { ⌜ 0 < number ⌝ }
+    ensures { λ r. ⌜ saysVerdict r ≡ record { line = lineOf group (known .linking) (refuses number); known = knownAfter (refuses number) known } ⌝ }
 {
     let first = group.kept[0];
     let nothing = nothing_known();
     Verdict {
-        line: Line::Fault(first.place as u64, number),
+        fault: number,
+        seen: Seen {
+            place: first.place as u64,
+            direction: Direction::Present,
+            kind: Kind::Signal,
+            mark: Mark::Unmarked,
+            number: Number::None,
+        },
         known: nothing,
     }
 }
 
 // The verdict on a group.
 pub fn judge(group: Group, known: Known) -> Verdict
-    ensures { λ r. ⌜ r ≡ record { line = lineOf group (known .linking) (judge group); known = knownAfter (judge group) known } ⌝ }
+    ensures { λ r. ⌜ saysVerdict r ≡ record { line = lineOf group (known .linking) (judge group); known = knownAfter (judge group) known } ⌝ }
 {
     match group::judge(group) {
         GroupJudged::Accepted(message) => accepted(group, known, message),
@@ -137,11 +154,22 @@ pub fn judge(group: Group, known: Known) -> Verdict
     }
 }
 
+// The line of a verdict.
+fn line_from(verdict: Verdict) -> Line
+    ensures { λ r. ⌜ r ≡ saysVerdict verdict .line ⌝ }
+{
+    let seen = verdict.seen;
+    if verdict.fault == 0 {
+        return Line::Group(seen_anew(seen));
+    }
+    Line::Fault(seen.place, verdict.fault)
+}
+
 // The group closes with this verdict.
 pub fn close(group: Group, verdict: Verdict) -> Closed
-    ensures { λ r. ⌜ saysClosed r ≡ record { lines = verdict .line ∷ []; closed = group; group = noGroup; known = verdict .known } ⌝ }
+    ensures { λ r. ⌜ saysClosed r ≡ record { lines = saysVerdict verdict .line ∷ []; closed = group; group = noGroup; known = verdict .known } ⌝ }
 {
-    let line = verdict.line;
+    let line = line_from(verdict);
     let known = verdict.known;
     let none = no_group();
     Closed {

@@ -2,6 +2,8 @@
 ghost use mathlib.Core.Path.{_≡_};
 ghost use Prim.Native.Nat.{_+_};
 ghost use lib.Dec.{ltb};
+ghost use lib.ListN.{set};
+ghost use Rattle.words.specs.Answer.{pick};
 ghost use Rattle.ride.specs.State.{noGroup, isOpen};
 ghost use Rattle.ride.specs.Joining.{counted, join, takeUp};
 use crate::Passed;
@@ -53,17 +55,35 @@ fn counted(count: u8) -> u8
     255
 }
 
+// The new balise if so, or else the old one.
+fn either(so: bool, new: Balise, old: Balise) -> Balise
+    ensures { λ r. ⌜ r ≡ pick so new old ⌝ }
+{
+    if so { new } else { old }
+}
+
+// The five with a balise more, where so many were counted before it. Each of them is asked for: at an index that changes, all five would be
+// written to memory and read back for each balise.
+fn with_one(old: [Balise; 5], count: u8, balise: Balise) -> [Balise; 5]
+    ensures { λ r. ⌜ r ≡ pick (ltb count 5) (set old count balise) old ⌝ }
+{
+    [
+        either(count == 0, balise, old[0]),
+        either(count == 1, balise, old[1]),
+        either(count == 2, balise, old[2]),
+        either(count == 3, balise, old[3]),
+        either(count == 4, balise, old[4]),
+    ]
+}
+
 // The group with one balise more.
 fn join(group: Group, balise: Balise) -> Group
     ensures { λ r. ⌜ r ≡ join group balise ⌝ }
 {
     let count = group.count;
-    let mut kept = group.kept;
-    if count < 5 {
-        kept[count as usize] = balise;
-    }
+    let old = group.kept;
     Group {
-        kept,
+        kept: with_one(old, count, balise),
         count: counted(count),
         last: balise.place,
     }

@@ -43,17 +43,12 @@ fn in_order(bytes: [u8; 8]) -> bool
 fn what_passed(bytes: [u8; 8]) -> Passed
     ensures { λ r. ⌜ r ≡ passedOf bytes ⌝ }
 {
-    let kind = bytes[4];
-    if kind == 0 {
-        return Passed::Balise(Heard::Words(bytes[5], bytes[6], bytes[7]));
+    match bytes[4] {
+        0 => Passed::Balise(Heard::Words(bytes[5], bytes[6], bytes[7])),
+        1 => Passed::Balise(Heard::Marker),
+        2 => Passed::Balise(Heard::Unreadable),
+        _ => Passed::Position,
     }
-    if kind == 1 {
-        return Passed::Balise(Heard::Marker);
-    }
-    if kind == 2 {
-        return Passed::Balise(Heard::Unreadable);
-    }
-    Passed::Position
 }
 
 // The check of a record's eight bytes: 16, 18, 17 in this order, or what the record says. That is read first, since its kind is looked at then once

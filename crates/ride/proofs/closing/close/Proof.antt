@@ -4,10 +4,10 @@ use Rattle.ride.proofs.closing.close.Statement.{statement}
 use Rattle.ride.proofs.closing.close.Tie as tie
 
 returns : tie.Need-returns
-returns c = rw (c .no-group .ensures)
+returns c = rw (c .before .before .line-from .ensures, c .no-group .ensures)
 
 pub close-spec : {M : Type 1} → statement M
 close-spec =
     tie.close
     (tie.spec
-    (λ c κs. search needs) returns)
+    (λ c κs. search needs) (λ c κs. search needs) returns)

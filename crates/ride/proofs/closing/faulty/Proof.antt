@@ -9,7 +9,7 @@ use Rattle.ride.proofs.closing.faulty.Tie as tie
 returns : tie.Need-returns
 returns c =
     let a = c .before .before .before .args in
-    faulted (a .t1) (a .known) _ _ (a .number) (c .before .nothing-known .ensures)
+    faulted (a .t1) (a .known) _ _ (a .number) (c .before .before .before .pre) (c .before .nothing-known .ensures)
     (first-place (a .t1 .kept) (record { place = 0; heard = Heard.Words 0 0 0 }) refl)
 
 pub faulty-spec : {M : Type 1} → statement M
