@@ -1,7 +1,8 @@
 // Reading the balises of a group from what was heard.
 ghost use mathlib.Core.Path.{_≡_};
 ghost use Prim.Native.Nat.{_≤_};
-ghost use lib.ListN.{take};
+ghost use lib.ListN.{take, drop};
+ghost use mathlib.Core.List.{_++_};
 ghost use mathlib.Core.Bool.{true};
 ghost use Rattle.group.specs.Numbers.{numberOf};
 ghost use Rattle.group.specs.Balise.{partSaid, partHeard, readAll};
@@ -59,6 +60,13 @@ const NO_PARTS: [Placed; 5] = [Placed {
     part: Part::Marker,
 }; 5];
 
+// The balises after the first; the last stands twice, so that they are five again.
+fn after_first(kept: [Balise; 5]) -> [Balise; 5]
+    ensures { λ r. ⌜ r ≡ drop 1 kept ++ drop 4 kept ⌝ }
+{
+    [kept[1], kept[2], kept[3], kept[4], kept[4]]
+}
+
 // The first n balises read, or refusal 12.
 pub fn read_all(kept: [Balise; 5], n: usize) -> AllRead
     requires { ⌜ n ≤ 5 ⌝ }
@@ -67,9 +75,10 @@ pub fn read_all(kept: [Balise; 5], n: usize) -> AllRead
 {
     let mut parts = NO_PARTS;
     let mut number = Number::None;
+    let mut ahead = kept;
     let mut i = 0;
     while i < n {
-        let b = kept[i];
+        let b = ahead[0];
         let heard = b.heard;
         let PartRead::Is(part) = part_heard(heard) else {
             return AllRead {
@@ -83,6 +92,7 @@ pub fn read_all(kept: [Balise; 5], n: usize) -> AllRead
             part,
         };
         number = else_number(number, part);
+        ahead = after_first(ahead);
         i += 1;
     }
     AllRead {
