@@ -19,15 +19,21 @@ pub fn copy(bytes: &[u8], buf: &mut [u8], at: usize) -> usize
     at + i
 }
 
-// How many digits a number has: two are taken off at a time.
+// How many digits a number has: four are taken off at a time.
 pub fn places(n: u64) -> usize
     ensures { λ r. ⌜ r ≡ length (decimal n) ⌝ }
 {
     let mut count = 1;
     let mut rest = n;
-    while rest >= 100 {
-        rest /= 100;
-        count += 2;
+    while rest >= 10000 {
+        rest /= 10000;
+        count += 4;
+    }
+    if rest >= 1000 {
+        return count + 3;
+    }
+    if rest >= 100 {
+        return count + 2;
     }
     if rest >= 10 {
         return count + 1;

@@ -1,4 +1,4 @@
--- `places` takes two digits off a turn: those counted and those left are always one more than all.
+-- `places` takes four digits off a turn: those counted and those left are always one more than all.
 use Prim.Native.Nat.{ℕ, _+_, _/_, _^_, _<_, _≤_}
 use mathlib.Core.Path.{_≡_, ap, _∙_}
 use native.Mathlib.Omega.{arith}
@@ -19,31 +19,63 @@ abbrev μ-loop : tie.MeasureT-loop
 one-more : (n : ℕ) → 10 ≤ n → n < 2 ^ 64 → length (decimal n) ≡ length (decimal (n / 10)) + 1
 one-more n h small = ap length (decimal-last n h small) ∙ simp length-append
 
+-- from a hundred on, two more than its hundredth
+two-more : (n : ℕ) → 100 ≤ n → n < 2 ^ 64 → length (decimal n) ≡ length (decimal (n / 100)) + 2
+two-more n h small =
+    let ten : 10 ≤ n / 10 = omega arith in
+    let less : n / 10 < 2 ^ 64 = omega arith in
+    let hundredth : n / 10 / 10 ≡ n / 100 = omega arith in
+    let first : length (decimal n) ≡ length (decimal (n / 10)) + 1 = one-more n (omega arith) small in
+    let second : length (decimal (n / 10)) ≡ length (decimal (n / 100)) + 1 =
+    one-more (n / 10) ten less ∙ ap (λ (k : ℕ). length (decimal k) + 1) hundredth in
+    omega arith
+
 loop-again : tie.Need-loop-again Inv-loop μ-loop
 loop-again c =
-    let l = c .before in
-    let rest = l .loop .rest in
+    let rest = c .before .loop .rest in
     let small : rest < 2 ^ 64 = omega arith in
-    let ten : 10 ≤ rest / 10 = omega arith in
-    let less : rest / 10 < 2 ^ 64 = omega arith in
-    let hundredth : rest / 10 / 10 ≡ rest / 100 = omega arith in
-    let first : length (decimal rest) ≡ length (decimal (rest / 10)) + 1 = one-more rest (omega arith) small in
-    let second : length (decimal (rest / 10)) ≡ length (decimal (rest / 100)) + 1 =
-    one-more (rest / 10) ten less ∙ ap (λ (k : ℕ). length (decimal k) + 1) hundredth in
+    let hundred : 100 ≤ rest / 100 = omega arith in
+    let less : rest / 100 < 2 ^ 64 = omega arith in
+    let part : rest / 100 / 100 ≡ rest / 10000 = omega arith in
+    let first : length (decimal rest) ≡ length (decimal (rest / 100)) + 2 = two-more rest (omega arith) small in
+    let second : length (decimal (rest / 100)) ≡ length (decimal (rest / 10000)) + 2 =
+    two-more (rest / 100) hundred less ∙ ap (λ (k : ℕ). length (decimal k) + 2) part in
+    omega arith
+
+-- a number below ten has one digit
+one : (n : ℕ) → n < 10 → length (decimal n) ≡ 1
+one n h = ap length (decimal-one n h)
+
+-- a number from ten to ninety-nine has two
+two : (n : ℕ) → 10 ≤ n → n < 100 → length (decimal n) ≡ 2
+two n h small =
+    let first : length (decimal n) ≡ length (decimal (n / 10)) + 1 = one-more n h (omega arith) in
+    let last : length (decimal (n / 10)) ≡ 1 = one (n / 10) (omega arith) in
     omega arith
 
 returns : tie.Need-returns Inv-loop μ-loop
 returns c =
     let rest = c .before .before .loop .rest in
-    let small : rest < 2 ^ 64 = omega arith in
-    let last : length (decimal (rest / 10)) ≡ 1 = ap length (decimal-one (rest / 10) (omega arith)) in
-    omega (arith, one-more rest (c .if1 .taken) small)
+    let first : length (decimal rest) ≡ length (decimal (rest / 100)) + 2 = two-more rest (omega arith) (omega arith) in
+    let last : length (decimal (rest / 100)) ≡ 2 = two (rest / 100) (omega arith) (omega arith) in
+    omega arith
 
 returns-2 : tie.Need-returns-2 Inv-loop μ-loop
 returns-2 c =
-    let rest = c .before .before .loop .rest in
-    let last : length (decimal rest) ≡ 1 = ap length (decimal-one rest (c .if1 .left)) in
+    let rest = c .before .before .before .loop .rest in
+    let first : length (decimal rest) ≡ length (decimal (rest / 100)) + 2 = two-more rest (c .if2 .taken) (omega arith) in
+    let last : length (decimal (rest / 100)) ≡ 1 = one (rest / 100) (omega arith) in
     omega arith
+
+returns-3 : tie.Need-returns-3 Inv-loop μ-loop
+returns-3 c =
+    let rest = c .before .before .before .before .loop .rest in
+    omega (arith, two rest (c .if3 .taken) (c .before .if2 .left))
+
+returns-4 : tie.Need-returns-4 Inv-loop μ-loop
+returns-4 c =
+    let rest = c .before .before .before .before .loop .rest in
+    omega (arith, one rest (c .if3 .left))
 
 pub places-spec : {M : Type 1} → statement M
 places-spec =
@@ -53,4 +85,6 @@ places-spec =
     μ-loop
     (λ c. omega arith) (λ c. omega arith) (λ c. omega arith) loop-again
     (λ c. omega arith) returns
-    returns-2)
+    (λ c. omega arith) returns-2
+    (λ c. omega arith) returns-3
+    returns-4)
