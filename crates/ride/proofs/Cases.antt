@@ -77,11 +77,6 @@ pub closed-with : (g : Group) (known : Known) (v : Verdict) (c : Closing) → sa
 unfolding close saysVerdict
 closed-with g known v c e h = h ∙ ap (λ (w : Judgement). record { lines = w .line ∷ []; closed = g; group = noGroup; known = w .known }) e
 
--- the verdict on a group is that on the same group
-pub verdict-same : (g h : Group) (known : Known) (v : Verdict) → saysVerdict v ≡ verdictOn g known (judge g) → g ≡ h
-    → saysVerdict v ≡ verdictOn h known (judge h)
-verdict-same g h known v e is = e ∙ ap (λ (x : Group). verdictOn x known (judge x)) is
-
 -- ---- the end
 
 pub end-open : (ride : Ride) (c : Closing) → isOpen (ride .group) ≡ true → c ≡ close (ride .group) (ride .known) → ended (ride .odometer) c ≡ end ride

@@ -7,7 +7,7 @@ use crate::Seen;
 use group::Group;
 
 // A group.
-pub fn group_anew(group: Group) -> Group
+fn group_anew(group: Group) -> Group
     ensures { λ r. ⌜ r ≡ group ⌝ }
 {
     let kept = group.kept;

@@ -16,7 +16,6 @@ use crate::Lines;
 use crate::Linking;
 use crate::Passed;
 use crate::Ride;
-use crate::anew::group_anew;
 use crate::closing::Closed;
 use crate::closing::close;
 use crate::closing::judge;
@@ -48,7 +47,7 @@ fn close_behind(ride: Ride, gap: u32, odometer: u32) -> Closed
     let group = ride.group;
     let known = ride.known;
     if is_behind(ride, gap, odometer) {
-        return close(group, judge(group_anew(group), known));
+        return close(group, judge(group, known));
     }
     leave(group, known)
 }
