@@ -4,7 +4,7 @@ pub mod At
 pub mod Turns
 pub mod Under
 pub mod Joined
-mod Law
+pub mod Law
 pub mod Cutting
 pub mod Sections
 pub mod Examples
