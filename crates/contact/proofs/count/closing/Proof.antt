@@ -1,4 +1,4 @@
--- More than four: one of the two highest digits is set, or the third beside a lower one.
+-- More than four: the count is eight or more, or its third digit is set beside a lower one.
 -- Assumes nothing.
 use Prim.Native.Nat.{_/_, _^_}
 use native.Mathlib.Omega.{arith}
@@ -12,7 +12,7 @@ returns : tie.Need-returns
 returns c k room none =
     let n = c .before .before .before .counted in
     let r = n .result in
-    four (r .a) (r .b) (r .c) (r .d) (r .e) k (zeroesOf (c .before .before .before .before .args .w / 2 ^ k) 16) (n .ensures k room) (omega arith) none
+    four (r .a) (r .b) (r .c) (r .d) k (zeroesOf (c .before .before .before .before .args .w / 2 ^ k) 16) (n .ensures .0 k room, n .ensures .1 k room) (omega arith) none
 
 pub closing-spec : {M : Type 1} → statement M
 closing-spec =

@@ -1,6 +1,5 @@
 -- One bit, then two, four, eight, sixteen.
 -- Assumes nothing.
-use native.Mathlib.Omega.{arith}
 use lib.Bits.{bitXor}
 use Rattle.contact.proofs.Adders.{single, twice}
 use borrow.Author.Needs.{needs}
@@ -18,13 +17,15 @@ returns c =
     let f = four .result in
     let g = eight .result in
     let r = all .result in
-    twice w 8 (g .a) (g .b) (g .c) (g .d) (g .e) (r .a) (r .b) (r .c) (r .d) (r .e) (omega arith)
-    (twice w 4 (f .a) (f .b) (f .c) (f .d) (f .e) (g .a) (g .b) (g .c) (g .d) (g .e) (omega arith)
-    (twice w 2 (t .a) (t .b) (t .c) (t .d) (t .e) (f .a) (f .b) (f .c) (f .d) (f .e) (omega arith)
-    (twice w 1 (bitXor w 18446744073709551615) 0 0 0 0 (t .a) (t .b) (t .c) (t .d) (t .e) (omega arith) (single w) (two .ensures))
-    (four .ensures))
-    (eight .ensures))
-    (all .ensures)
+    let tells =
+    twice w 8 (g .a) (g .b) (g .c) (g .d) (r .a) (r .b) (r .c) (r .d)
+    (twice w 4 (f .a) (f .b) (f .c) (f .d) (g .a) (g .b) (g .c) (g .d)
+    (twice w 2 (t .a) (t .b) (t .c) (t .d) (f .a) (f .b) (f .c) (f .d)
+    (twice w 1 (bitXor w 18446744073709551615) 0 0 0 (t .a) (t .b) (t .c) (t .d) (single w) (two .ensures .0) (two .ensures .1))
+    (four .ensures .0) (four .ensures .1))
+    (eight .ensures .0) (eight .ensures .1))
+    (all .ensures .0) (all .ensures .1) in
+    (λ k room. tells k room .0, λ k room. tells k room .1)
 
 pub counted-spec : {M : Type 1} → statement M
 counted-spec =

@@ -1,31 +1,36 @@
--- Two numbers of four digits added, digit by digit.
+-- Two numbers of three digits added, digit by digit; eight or more is what goes up, or was there.
 -- Assumes nothing.
-use Prim.Native.Nat.{_+_, _/_, _^_}
+use Prim.Native.Nat.{ℕ, _+_, _/_}
+use mathlib.Core.Path.{ap, _∙_}
 use Rattle.words.specs.Bits.{bit}
-use Rattle.contact.proofs.Adders.{no-digit, shifted, four-columns}
+use Rattle.contact.proofs.Adders.{shifted, summed}
 use borrow.Author.Needs.{needs}
 use Rattle.contact.proofs.count.doubled.Statement.{statement}
 use Rattle.contact.proofs.count.doubled.Tie as tie
 
 returns : tie.Need-returns
-returns c k =
-    let arg = c .before .before .before .before .before .before .before .before .before .before .before .before .before .before .before .before .args in
+returns c =
+    let q6 = c .before .before in
+    let q5 = q6 .before .before in
+    let q4 = q5 .before .before in
+    let q3 = q4 .before .before in
+    let q2 = q3 .before .before in
+    let q1 = q2 .before .before in
+    let arg = q1 .before .before .args in
     let n = arg .n in
     let m = arg .m in
-    let a = c .before .before .before .before .before .before .before .before .before .before .before .before .before .before .sum in
-    let x = c .before .before .before .before .before .before .before .before .before .before .before .before .carry in
-    let b = c .before .before .before .before .before .before .before .before .before .before .sum2 in
-    let y = c .before .before .before .before .before .before .before .before .carry2 in
-    let p = c .before .before .before .before .before .before .sum3 in
-    let z = c .before .before .before .before .carry3 in
-    let d = c .before .before .sum4 in
-    let e = c .carry4 in
-    four-columns (bit (a .result) k) (bit (b .result) k) (bit (p .result) k) (bit (d .result) k) (bit (e .result) k) (bit (x .result) k) (bit (y .result) k) (bit (z .result) k) (bit 0 k)
-    (bit (n .a) k) (bit (n .b) k) (bit (n .c) k) (bit (n .d) k)
-    (bit (n .a / 2 ^ m) k) (bit (n .b / 2 ^ m) k) (bit (n .c / 2 ^ m) k) (bit (n .d / 2 ^ m) k)
-    (bit (n .a) (m + k)) (bit (n .b) (m + k)) (bit (n .c) (m + k)) (bit (n .d) (m + k))
-    (no-digit k) (shifted (n .a) m k) (shifted (n .b) m k) (shifted (n .c) m k) (shifted (n .d) m k)
-    (a .ensures k) (x .ensures k) (b .ensures k) (y .ensures k) (p .ensures k) (z .ensures k) (d .ensures k) (e .ensures k)
+    let a = q1 .sum in
+    let x = q2 .carry in
+    let b = q3 .sum2 in
+    let y = q4 .carry2 in
+    let p = q5 .sum3 in
+    let z = q6 .carry3 in
+    let is = summed (a .result) (b .result) (p .result) (x .result) (y .result) (z .result) (n .a) (n .b) (n .c) m (a .ensures) (x .ensures) (b .ensures) (y .ensures) (p .ensures) (z .ensures) in (
+      λ k. is k .0,
+      λ k. c .any .ensures k
+          ∙ ap (λ (d : ℕ). (bit (n .d) k + d + bit (z .result) k + 2) / 3) (shifted (n .d) m k)
+          ∙ ap (λ (u : ℕ). (bit (n .d) k + bit (n .d) (m + k) + u + 2) / 3) (is k .1),
+    )
 
 pub doubled-spec : {M : Type 1} → statement M
 doubled-spec =
@@ -33,4 +38,4 @@ doubled-spec =
     (tie.spec
     (λ c. search needs) (λ c κs. search needs) (λ c. search needs) (λ c κs. search needs) (λ c. search needs) (λ c κs. search needs)
     (λ c. search needs) (λ c κs. search needs) (λ c. search needs) (λ c κs. search needs) (λ c. search needs) (λ c κs. search needs)
-    (λ c. search needs) (λ c κs. search needs) (λ c. search needs) (λ c κs. search needs) returns)
+    (λ c. search needs) (λ c κs. search needs) returns)

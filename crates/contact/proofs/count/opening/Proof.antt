@@ -1,4 +1,4 @@
--- Fewer than eight: neither of the two highest digits is set.
+-- Fewer than eight: the count says so.
 -- Assumes nothing.
 use Prim.Native.Nat.{_/_, _^_}
 use Rattle.contact.specs.History.{zeroesOf}
@@ -9,9 +9,9 @@ use Rattle.contact.proofs.count.opening.Tie as tie
 
 returns : tie.Need-returns
 returns c k room none =
-    let n = c .before .counted in
+    let n = c .counted in
     let r = n .result in
-    eight (r .a) (r .b) (r .c) (r .d) (r .e) k (zeroesOf (c .before .before .args .w / 2 ^ k) 16) (n .ensures k room) none
+    eight (r .a) (r .b) (r .c) (r .d) k (zeroesOf (c .before .args .w / 2 ^ k) 16) (n .ensures .0 k room, n .ensures .1 k room) none
 
 pub opening-spec : {M : Type 1} → statement M
 opening-spec =
