@@ -14,7 +14,7 @@ use Rattle.acceptance.specs.declared.Took.{Took}
 use Rattle.acceptance.specs.declared.Reported.{Reported}
 use Rattle.acceptance.specs.declared.Sums.{Sums}
 use Rattle.acceptance.specs.Plan.{Good, good, Planning}
-use Rattle.acceptance.specs.Says.{saysJudged, saysPlanned}
+use Rattle.acceptance.specs.Says.{saysPlanJudged, saysPlanned}
 use Rattle.acceptance.proofs.plan.Kinds as plan-kinds
 use Rattle.acceptance.proofs.plan.Reads as plan-reads
 use Rattle.acceptance.proofs.take.Kinds as take-kinds
@@ -29,7 +29,7 @@ abbrev pub judgedBy : Outcome Good → PlanJudged
 judgedBy (gives g) = PlanJudged.Good
 judgedBy (refuses n) = pick (eqb n 26) PlanJudged.Record (pick (eqb n 27) PlanJudged.Near PlanJudged.Tolerance)
 
-judged-back : (j : PlanJudged) → judgedBy (saysJudged j) ≡ j
+judged-back : (j : PlanJudged) → judgedBy (saysPlanJudged j) ≡ j
 judged-back PlanJudged.Good = refl
 judged-back PlanJudged.Tolerance = refl
 judged-back PlanJudged.Record = refl

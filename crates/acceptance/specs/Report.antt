@@ -5,6 +5,7 @@ use mathlib.Core.List.{List, [], _∷_}
 use lib.Dec.{leb, ltb}
 use lib.ListN.{length, getD}
 use Rattle.words.specs.Answer.{pick}
+use Rattle.words.specs.Limits.{largest64}
 use Rattle.acceptance.specs.declared.Entry.{Entry}
 use Rattle.acceptance.specs.declared.Acceptance.{Acceptance}
 use Rattle.acceptance.specs.declared.Reported.{Reported}
@@ -22,9 +23,9 @@ unfoldable pub metIn : List Entry → ℕ
 metIn [] = 0
 metIn (e ∷ es) = pick (isAbsent (e .met)) (metIn es) (suc (metIn es))
 
--- A count of groups; 2^64 - 1 stands for that many or more.
+-- A count of groups; the largest number of 64 bits stands for that many or more.
 abbrev pub upToMost : ℕ → ℕ
-upToMost n = pick (leb n 18446744073709551615) n 18446744073709551615
+upToMost n = pick (leb n largest64) n largest64
 
 -- The sums: the entries, those met and those absent; the present groups, and those of them that are extra. The others are wanted: as many as the
 -- entries met.

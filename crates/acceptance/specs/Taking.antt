@@ -9,6 +9,7 @@ use mathlib.Core.List.{List, [], _∷_}
 use lib.Dec.{eqb, leb, ltb}
 use lib.ListN.{length, take, getD, set}
 use Rattle.words.specs.Answer.{pick}
+use Rattle.words.specs.Limits.{largest64}
 use Rattle.walk.specs.declared.Direction.{Direction}
 use Rattle.walk.specs.declared.Kind.{Kind}
 use Rattle.ride.specs.declared.Seen.{Seen}
@@ -55,9 +56,9 @@ waiting tolerance place kind (e ∷ es) = pick (waits tolerance place kind e) 0 
 abbrev pub metAt : ℕ → Entry → Entry
 metAt place e = record { place = e .place; kind = e .kind; met = Met.At place }
 
--- One more; 2^64 - 1 stands for that many or more.
+-- One more; the largest number of 64 bits stands for that many or more.
 abbrev pub oneMore : ℕ → ℕ
-oneMore n = pick (ltb n 18446744073709551615) (n + 1) n
+oneMore n = pick (ltb n largest64) (n + 1) n
 
 -- The run after a group met the entry with this index,
 unfoldable pub afterWanted : Acceptance → ℕ → ℕ → Acceptance

@@ -24,11 +24,7 @@ fn list(store: Store, first: usize) {
         Found::BadLength(_) => {
             blocks::write_line(Line::Trace(16));
         }
-        Found::NoCard => {}
-        Found::TooMany => {}
-        Found::CannotOpen(_) => {}
-        Found::CannotRead(_) => {}
-        Found::Once(_) => {}
+        _ => {}
     }
 }
 
@@ -38,9 +34,8 @@ fn main() {
     let first = asked.first;
     let how = asked.how;
     match how {
-        How::Plain => list(store, first),
-        How::Settings => list(store, first),
         How::Usage => cards::say(b"checker", b"usage: checker [-s SETTINGS] CARD.."),
         How::Said => {}
+        _ => list(store, first),
     }
 }

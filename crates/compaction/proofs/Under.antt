@@ -1,22 +1,27 @@
 -- Under a store: what decides first, and a plain gap as a store of one version.
 -- Assumes nothing.
 use Prim.Native.Nat.{ℕ, _%_}
-use mathlib.Core.Path.{_≡_, refl, ap, ap₂, _∙_}
+use mathlib.Core.Path.{_≡_, refl, sym, ap, ap₂, _∙_}
 use mathlib.Core.Bool.{Bool, true, false}
 use mathlib.Core.List.{List, [], _∷_}
 use lib.Dec.{eqb}
 use lib.ListN.{length}
 use Rattle.words.specs.Answer.{gives, refuses, pick}
 use Rattle.settings.specs.declared.Store.{Store}
+use Rattle.settings.specs.declared.Held.{Held}
+use Rattle.settings.specs.declared.Bad.{Bad}
+use Rattle.settings.specs.declared.Asked.{Asked}
 use Rattle.settings.specs.Versions.{kept}
 use Rattle.settings.specs.Store.{plain, judged}
-use Rattle.settings.specs.At.{gapAt}
+use Rattle.settings.specs.At.{heldAt, gapAt, asked}
+use Rattle.settings.specs.Says.{saysBad, saysAsked}
+use Rattle.settings.proofs.Holding.{held-given, store-refused}
 use Rattle.settings.proofs.Plain.{plain-good, plain-bad, plain-gap}
 use Rattle.ride.specs.declared.Ride.{Ride}
 use Rattle.ride.specs.Record.{odometerOf}
 use Rattle.ride.specs.Joining.{allowed}
 use Rattle.ride.specs.Step.{treat}
-use Rattle.ride.specs.Over.{records, Ridden, rideOver}
+use Rattle.ride.specs.Over.{records, Ridden}
 use Rattle.ride.proofs.Under.{same-rule}
 use Rattle.compaction.specs.declared.Waiting.{Waiting}
 use Rattle.compaction.specs.Dropped.{isDroppedBefore, compactOver}
@@ -24,6 +29,14 @@ use Rattle.compaction.specs.Compact.{bytesOf, onto, Compaction, untouche
 use Rattle.compaction.specs.Inside.{Over}
 
 -- ---- what decides
+
+-- What the store answered for place 0: it is good, and the version is the one in force there.
+pub in-force : (store : Store) (r : Asked) (held : Held) → r ≡ Asked.InForce held → saysAsked r ≡ asked store 0 → (judged store ≡ gives kept) × (held ≡ heldAt store 0)
+in-force store r held is says = let given = held-given store 0 held (sym says ∙ ap saysAsked is) in (given .0, given .2)
+
+-- .. or the number of its own refusal.
+pub refused-with : (store : Store) (r : Asked) (bad : Bad) → r ≡ Asked.Refused bad → saysAsked r ≡ asked store 0 → judged store ≡ refuses (saysBad bad)
+refused-with store r bad is says = store-refused store (saysBad bad) (sym says ∙ ap saysAsked is)
 
 pub under-refused : (ride : Ride) (store : Store) (trace : List ℕ) (n : ℕ) → judged store ≡ refuses n → untouched ride trace n ≡ compactUnder ride store trace
 unfolding compactUnder

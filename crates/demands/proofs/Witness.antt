@@ -8,3 +8,4 @@ pub mod RidesMet
 pub mod NumbersMet
 pub mod SectionsMet
 pub mod StoresMet
+pub mod BacksMet

@@ -7,6 +7,7 @@ use mathlib.Core.Bool.{true, false}
 use mathlib.Core.List.{List, [], _∷_, _++_}
 use lib.ListN.{length, take, drop}
 use Rattle.words.specs.Answer.{pick}
+use Rattle.words.specs.Limits.{largest64}
 use Rattle.walk.specs.declared.Direction.{Direction}
 use Rattle.walk.specs.declared.Kind.{Kind}
 use Rattle.group.specs.declared.Number.{Number}
@@ -79,8 +80,8 @@ pub record Takes (gaps : ℕ → ℕ) (ride : Ride) (number : ℕ) (trace before
   pub bytes : ℕ
   pub took : l .done ≡ Done.Took n bytes
   pub of-these : n ≤ recordsIn trace
-  pub one-at-least : 1 ≤ recordsIn trace → 128 ≤ length before → number < 18446744073709551615 → 1 ≤ n
-  pub all-with-room : 128 * recordsIn trace ≤ length before → number + recordsIn trace ≤ 18446744073709551615 → n ≡ recordsIn trace
+  pub one-at-least : 1 ≤ recordsIn trace → 128 ≤ length before → number < largest64 → 1 ≤ n
+  pub all-with-room : 128 * recordsIn trace ≤ length before → number + recordsIn trace ≤ largest64 → n ≡ recordsIn trace
   pub written : take bytes after ≡ textOf (rideOver gaps ride number (take n (records trace)) .lines)
   pub rest-stays : drop bytes after ≡ drop bytes before
   pub ridden-so : l .ride ≡ rideOver gaps ride number (take n (records trace)) .ride
@@ -100,7 +101,7 @@ pub record Written : Type 0 where
   pub takes : (ride : Ride) (gap number : ℕ) (trace before : List ℕ) (l : Listed) (after : List ℕ) → badGap gap ≡ false → badLength trace ≡ false
       → ListInto ride gap number trace before l after → Takes (λ odometer. gap) ride number trace before l after
   -- with room for 128 bytes a record it takes them all, and with the lines of `end` its bytes are the output
-  pub whole : (f : Ride) (l : Listed) (e : Ended) (trace before after : List ℕ) → badLength trace ≡ false → recordsIn trace < 18446744073709551615
+  pub whole : (f : Ride) (l : Listed) (e : Ended) (trace before after : List ℕ) → badLength trace ≡ false → recordsIn trace < largest64
       → 128 * recordsIn trace ≤ length before → Fresh f → ListInto f 40 1 trace before l after → EndOf (l .ride) e
       → (bytes : ℕ) × (l .done ≡ Done.Took (recordsIn trace) bytes) × (take bytes after ++ textOf (saysLines (e .lines)) ≡ output trace)
   -- for a bad trace length the output is the one line

@@ -10,6 +10,7 @@ use mathlib.Core.Bool.{Bool, false, _||_}
 use mathlib.Core.List.{List, [], _∷_, _++_}
 use lib.ListN.{length, take, drop}
 use Rattle.words.specs.Answer.{pick}
+use Rattle.words.specs.Limits.{largest64}
 use Rattle.ride.specs.Record.{odometerOf}
 use Rattle.ride.specs.State.{freshRide}
 use Rattle.ride.specs.Step.{end}
@@ -176,11 +177,11 @@ pub record Blocks : Type 0 where
       × (numberAfter number calls ≡ number + recordsIn trace)
   -- so long as it has room for one record, a call takes one, so that the calls come to an end
   pub goes-on : (ride : Ride) (gap number : ℕ) (c : Call) → badGap gap ≡ false → Whole (c .block) → 1 ≤ recordsIn (c .block)
-      → 128 ≤ length (c .before) → number < 18446744073709551615
+      → 128 ≤ length (c .before) → number < largest64
       → ListInto ride gap number (c .block) (c .before) (c .answer) (c .after) → 1 ≤ taken (c .answer .done)
   -- with room for 128 bytes a record it takes the whole block
   pub all-at-once : (ride : Ride) (gap number : ℕ) (c : Call) → badGap gap ≡ false → Whole (c .block)
-      → 128 * recordsIn (c .block) ≤ length (c .before) → number + recordsIn (c .block) ≤ 18446744073709551615
+      → 128 * recordsIn (c .block) ≤ length (c .before) → number + recordsIn (c .block) ≤ largest64
       → ListInto ride gap number (c .block) (c .before) (c .answer) (c .after) → taken (c .answer .done) ≡ recordsIn (c .block)
   -- the cards from a fresh ride with the program's gap, the first record with the number 1, and then the end: what the program writes
   pub program : (f : Ride) (cards : List (List ℕ)) (calls : List Call) (e : Ended) → anyBad cards ≡ false → Fresh f

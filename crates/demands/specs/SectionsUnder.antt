@@ -7,6 +7,7 @@ use mathlib.Core.Bool.{false}
 use mathlib.Core.List.{List, [], _++_}
 use lib.ListN.{length}
 use Rattle.words.specs.Answer.{gives}
+use Rattle.words.specs.Limits.{largest64}
 use Rattle.settings.specs.declared.Begun.{Begun}
 use Rattle.settings.specs.declared.Store.{Store}
 use Rattle.settings.specs.Versions.{kept}
@@ -67,11 +68,11 @@ pub record BlocksUnder : Type 0 where
       × (numberAfter number calls ≡ number + recordsIn trace)
   -- so long as it has room for one record, a call takes one, so that the calls come to an end
   pub goes-on : (ride : Ride) (store : Store) (number : ℕ) (c : Call) → Good store → Whole (c .block) → 1 ≤ recordsIn (c .block)
-      → 128 ≤ length (c .before) → number < 18446744073709551615
+      → 128 ≤ length (c .before) → number < largest64
       → ListUnder ride store number (c .block) (c .before) (c .answer) (c .after) → 1 ≤ taken (c .answer .done)
   -- with room for 128 bytes a record it takes the whole block
   pub all-at-once : (ride : Ride) (store : Store) (number : ℕ) (c : Call) → Good store → Whole (c .block)
-      → 128 * recordsIn (c .block) ≤ length (c .before) → number + recordsIn (c .block) ≤ 18446744073709551615
+      → 128 * recordsIn (c .block) ≤ length (c .before) → number + recordsIn (c .block) ≤ largest64
       → ListUnder ride store number (c .block) (c .before) (c .answer) (c .after) → taken (c .answer .done) ≡ recordsIn (c .block)
   -- the cards from a fresh ride, the first record with the number 1, and then the end: what the program writes
   pub program : (store : Store) (f : Ride) (cards : List (List ℕ)) (calls : List Call) (e : Ended) → Good store → anyBad cards ≡ false → Fresh f

@@ -75,16 +75,11 @@ fn write_end(ride: Ride) {
 
 // What comes after the last block: the end's line where all cards were read, and nothing after a card that cannot be opened any more or a read that failed.
 fn finish(how: How, stand: Stand) {
-    match how {
-        How::End => {
-            let ride = stand.ride;
-            write_end(ride);
-        }
-        How::More => {}
-        How::CannotOpen(_) => {}
-        How::CannotRead(_) => {}
-        How::NoRoom => {}
-    }
+    let How::End = how else {
+        return;
+    };
+    let ride = stand.ride;
+    write_end(ride);
 }
 
 // The lines of all records of the cards, whose lengths were kept, as one ride, and of its end. A proved loop has to end, and nothing says that

@@ -27,10 +27,7 @@ fn explain_cards(store: Store, first: usize) {
             blocks::write_line(Line::Trace(16));
         }
         Found::NoCard => usage(),
-        Found::TooMany => cards::say_found(b"explain", found),
-        Found::CannotOpen(_) => cards::say_found(b"explain", found),
-        Found::CannotRead(_) => cards::say_found(b"explain", found),
-        Found::Once(_) => cards::say_found(b"explain", found),
+        _ => cards::say_found(b"explain", found),
     }
 }
 
@@ -41,9 +38,8 @@ fn main() {
     let first = asked.first;
     let how = asked.how;
     match how {
-        How::Plain => explain_cards(store, first),
-        How::Settings => explain_cards(store, first),
         How::Usage => usage(),
         How::Said => {}
+        _ => explain_cards(store, first),
     }
 }

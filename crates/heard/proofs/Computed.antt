@@ -9,7 +9,7 @@ use lib.Dec.{T, leb, ltb, eqb, eqb→eq}
 use borrow.Author.Tests.{leb-true, ltb-true}
 use Rattle.words.specs.Answer.{pick}
 use Rattle.words.proofs.Ranges.{upto, below}
-use Rattle.telegram.specs.Stretch.{bitAt}
+use Rattle.telegram.specs.Stretch.{bitAt, inside}
 use Rattle.line.specs.Line.{OneBalise, Proper, Clean, sentBit, receivedBit, inStretch, flip, unequal}
 use Rattle.line.proofs.Sums.{unequal-same}
 use Rattle.line.proofs.Places.{and-parts}
@@ -19,7 +19,7 @@ use Rattle.contact.specs.declared.Search.{Search}
 use Rattle.contact.specs.declared.Judged.{Judged}
 use Rattle.contact.proofs.Determined.{judgedOf}
 use Rattle.heard.specs.Zeroes.{Audible}
-use Rattle.heard.specs.Pass.{Ones, Pass, cutBits}
+use Rattle.heard.specs.Pass.{between, Ones, Pass, cutBits}
 use Rattle.heard.specs.Limits.{Answered}
 use Rattle.heard.proofs.Over.{listened}
 use Rattle.heard.proofs.Alike.{judges}
@@ -47,6 +47,20 @@ clean-computed o t j = go (leb (o .phase) j && ltb j (o .phase + o .len)) refl
         unequal-same (bitAt (o .buffer) (o .start + k)) (sentBit o j)
         (eqb→eq (bitAt (o .buffer) (o .start + k)) (sentBit o (o .phase + k)) (below (λ k. eqb (bitAt (o .buffer) (o .start + k)) (sentBit o (o .phase + k))) (o .len) t k (omega arith))
         ∙ ap (sentBit o) line)
+
+-- A pass of a balise: the stretch is clean, and ones stand before and after it.
+pub pass-computed : (o : OneBalise) (from to : ℕ) → T (upto (λ k. eqb (bitAt (o .buffer) (o .start + k)) (sentBit o (o .phase + k))) (o .len)) → from ≤ o .start → o .start + o .len + between ≤ to
+    → T (upto (λ k. eqb (bitAt (o .buffer) (from + k)) 1) (o .start - from)) → T (upto (λ k. eqb (bitAt (o .buffer) (o .start + o .len + k)) 1) (to - (o .start + o .len)))
+    → inside (o .buffer) from (to - from) ≡ true → Pass o from to
+pass-computed o from to clean low high before after taken =
+    record {
+      clean = clean-computed o clean;
+      from-low = low;
+      to-high = high;
+      ones-before = ones-computed (o .buffer) from (o .start) before;
+      ones-after = ones-computed (o .buffer) (o .start + o .len) to after;
+      taken = taken;
+    }
 
 -- The one contact of a pass, and what `judge` answers for it, computed.
 pub answered-so : (o : OneBalise) (from to skipped ones-in : ℕ) (then : Search) (r : Judged) → Proper o → Audible o → Pass o from to

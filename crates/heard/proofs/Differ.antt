@@ -22,7 +22,7 @@ use Rattle.heard.specs.Zeroes.{zeroesSent, Audible}
 use Rattle.heard.specs.Pass.{Pass, cutBits}
 use Rattle.heard.specs.Limits.{Answered}
 use Rattle.heard.proofs.Either.{audible-computed}
-use Rattle.heard.proofs.Computed.{ones-computed, clean-computed, answered-so}
+use Rattle.heard.proofs.Computed.{pass-computed, answered-so}
 
 -- Figures 0 0 1 with the sync words 00 and 7F hex, 192 bits; seven of the ones after it end a false place.
 abbrev pub zeroes-ahead : OneBalise
@@ -50,15 +50,7 @@ zeroes-ahead-audible = audible-computed zeroes-ahead tt
 
 zeroes-ahead-pass : Pass zeroes-ahead 0 232
 unfolding inside sentBit
-zeroes-ahead-pass =
-    record {
-      clean = clean-computed zeroes-ahead tt;
-      from-low = omega arith;
-      to-high = omega arith;
-      ones-before = ones-computed (zeroes-ahead .buffer) 0 16 tt;
-      ones-after = ones-computed (zeroes-ahead .buffer) 208 232 tt;
-      taken = refl;
-    }
+zeroes-ahead-pass = pass-computed zeroes-ahead 0 232 tt (omega arith) (omega arith) tt tt refl
 
 zeroes-ahead-contact : contactsFrom (zeroes-ahead .buffer) (fromStart 0 232) ≡ contact 23 196 record { next = 220; left = 12; history = 4095 } quiet
 unfolding contactsFrom fromStart contacts inside after zeroesOf zeroes opens closes

@@ -22,7 +22,7 @@ use Rattle.heard.specs.Zeroes.{zeroesSent, Audible}
 use Rattle.heard.specs.Pass.{Pass, cutBits}
 use Rattle.heard.specs.Limits.{Answered}
 use Rattle.heard.proofs.Either.{audible-computed}
-use Rattle.heard.proofs.Computed.{ones-computed, clean-computed, answered-so}
+use Rattle.heard.proofs.Computed.{pass-computed, answered-so}
 use Rattle.heard.specs.Heard.{endsInFourOnes, NoFalse}
 use Rattle.heard.proofs.Fair.{no-false}
 
@@ -52,15 +52,7 @@ short-audible = audible-computed short tt
 
 short-pass : Pass short 0 200
 unfolding inside sentBit
-short-pass =
-    record {
-      clean = clean-computed short tt;
-      from-low = omega arith;
-      to-high = omega arith;
-      ones-before = ones-computed (short .buffer) 0 16 tt;
-      ones-after = ones-computed (short .buffer) 182 200 tt;
-      taken = refl;
-    }
+short-pass = pass-computed short 0 200 tt (omega arith) (omega arith) tt tt refl
 
 short-contact : contactsFrom (short .buffer) (fromStart 0 200) ≡ contact 80 106 record { next = 187; left = 13; history = 16063 } quiet
 unfolding contactsFrom fromStart contacts inside after zeroesOf zeroes opens closes

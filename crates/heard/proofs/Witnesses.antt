@@ -19,7 +19,7 @@ use Rattle.heard.specs.Heard.{endsInFourOnes, NoFalse}
 use Rattle.heard.specs.Row.{Thing, balise, marker, Long, Row}
 use Rattle.heard.proofs.Fair.{no-false}
 use Rattle.heard.proofs.Either.{audible-computed, fairAt, no-false-computed}
-use Rattle.heard.proofs.Computed.{ones-computed, zeroes-computed, clean-computed}
+use Rattle.heard.proofs.Computed.{ones-computed, zeroes-computed, clean-computed, pass-computed}
 
 -- Number 127 with the sync words 72 and 0D hex, 200 bits.
 abbrev never : OneBalise
@@ -47,15 +47,7 @@ never-broken = (14, omega arith)
 
 never-pass : Pass never 0 240
 unfolding inside sentBit
-never-pass =
-    record {
-      clean = clean-computed never tt;
-      from-low = omega arith;
-      to-high = omega arith;
-      ones-before = ones-computed (never .buffer) 0 16 tt;
-      ones-after = ones-computed (never .buffer) 216 240 tt;
-      taken = refl;
-    }
+never-pass = pass-computed never 0 240 tt (omega arith) (omega arith) tt tt refl
 
 never-fair : NoFalse never
 unfolding endsInFourOnes

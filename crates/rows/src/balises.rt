@@ -54,9 +54,6 @@ fn number(text: &[u8]) -> Meant {
     let Figure::Number(n) = arguments::decimal(fields::field(text, b'n', 1), 65535) else {
         return Meant::Nothing;
     };
-    if 65535 < n {
-        return Meant::Nothing;
-    }
     let LongWritten::Word(w) = words::write_long(n as u16) else {
         return Meant::Nothing;
     };

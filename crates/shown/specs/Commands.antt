@@ -5,13 +5,14 @@ use Prim.Native.Nat.{ℕ, _-_}
 use mathlib.Core.List.{List, [], _∷_}
 use lib.Dec.{eqb}
 use Rattle.words.specs.Answer.{pick}
+use Rattle.words.specs.Limits.{largest64}
 use Rattle.arguments.specs.Figures.{decimal}
 use Rattle.arguments.specs.declared.Figure.{Figure}
 use Rattle.shown.specs.declared.commands.Command.{Command}
 
 -- The largest number that is asked for: a larger one means it.
 abbrev pub largest : ℕ
-largest = 18446744073709551615
+largest = largest64
 
 -- A command by its letter, with the number after it. Just before record n lie n - 1; record 0 is none, so `g 0` asks for nothing.
 unfoldable pub by : ℕ → ℕ → Command

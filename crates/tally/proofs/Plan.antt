@@ -17,7 +17,7 @@ use Rattle.acceptance.specs.declared.Planned.{Planned}
 use Rattle.acceptance.specs.Plan.{Good, good, Planning, entryOf, entriesOf, noEntry, apart, wellFormed, planWith, emptyPlan, plan}
 use Rattle.acceptance.specs.Taking.{planned, isAbsent}
 use Rattle.acceptance.specs.Report.{metIn}
-use Rattle.acceptance.specs.Says.{saysJudged, saysPlanned}
+use Rattle.acceptance.specs.Says.{saysPlanJudged, saysPlanned}
 
 pub no : {A : Type 0} → _≡_ {A = ℕ} 0 1 → A
 no z = absurd (omega arith)
@@ -29,13 +29,13 @@ good-by : (x y z : Bool) (p : Planned) (whole : Acceptance)
     → p .judged ≡ PlanJudged.Good → (z ≡ true) × (p .plan ≡ whole)
 good-by true true true p whole e g = (refl, ap (λ (q : Planning). q .plan) e)
 good-by true true false p whole e g =
-    let q : _≡_ {A = Outcome Good} (gives good) (refuses 27) = sym (ap saysJudged g) ∙ ap (λ (q : Planning). q .answer) e in
+    let q : _≡_ {A = Outcome Good} (gives good) (refuses 27) = sym (ap saysPlanJudged g) ∙ ap (λ (q : Planning). q .answer) e in
     no (cc)
 good-by true false z p whole e g =
-    let q : _≡_ {A = Outcome Good} (gives good) (refuses 26) = sym (ap saysJudged g) ∙ ap (λ (q : Planning). q .answer) e in
+    let q : _≡_ {A = Outcome Good} (gives good) (refuses 26) = sym (ap saysPlanJudged g) ∙ ap (λ (q : Planning). q .answer) e in
     no (cc)
 good-by false y z p whole e g =
-    let q : _≡_ {A = Outcome Good} (gives good) (refuses 28) = sym (ap saysJudged g) ∙ ap (λ (q : Planning). q .answer) e in
+    let q : _≡_ {A = Outcome Good} (gives good) (refuses 28) = sym (ap saysPlanJudged g) ∙ ap (λ (q : Planning). q .answer) e in
     no (cc)
 
 pub good-plan : (b : List ℕ) (tolerance : ℕ) (p : Planned) → saysPlanned p ≡ plan b tolerance → p .judged ≡ PlanJudged.Good

@@ -46,21 +46,30 @@ fn refused_one(before: Tally, parity: Parity) -> Tally {
     }
 }
 
+// Begins the line of a difference.
+fn begin_long(word: u16, figure: u16) {
+    say::long_word(b"difference: long word ", word);
+    say::number(b", read ", figure as u32);
+}
+
+fn begin_short(word: u8, figure: u8) {
+    say::short_word(b"difference: short word ", word);
+    say::number(b", read ", figure as u32);
+}
+
 // A long word that reads as the figure is written back as itself; if not, a line says so.
 fn is_long_back(word: u16, figure: u16) -> bool {
     match words::write_long(figure) {
         LongWritten::Word(w) => {
             if w != word {
-                say::long_word(b"difference: long word ", word);
-                say::number(b", read ", figure as u32);
+                begin_long(word, figure);
                 say::long_word(b", written ", w);
                 say::text(b"\n");
             }
             w == word
         }
         LongWritten::TooLarge => {
-            say::long_word(b"difference: long word ", word);
-            say::number(b", read ", figure as u32);
+            begin_long(word, figure);
             say::text(b", writing refused with 2\n");
             false
         }
@@ -72,16 +81,14 @@ fn is_short_back(word: u8, figure: u8) -> bool {
     match words::write_short(figure) {
         ShortWritten::Word(w) => {
             if w != word {
-                say::short_word(b"difference: short word ", word);
-                say::number(b", read ", figure as u32);
+                begin_short(word, figure);
                 say::short_word(b", written ", w);
                 say::text(b"\n");
             }
             w == word
         }
         ShortWritten::TooLarge => {
-            say::short_word(b"difference: short word ", word);
-            say::number(b", read ", figure as u32);
+            begin_short(word, figure);
             say::text(b", writing refused with 2\n");
             false
         }

@@ -24,10 +24,7 @@ fn look(store: Store, first: usize) {
         Found::Cards => reading::open(store, first, &lengths),
         Found::BadLength(_) => out::refuse_trace(),
         Found::NoCard => usage(),
-        Found::TooMany => cards::say_found(b"view", found),
-        Found::CannotOpen(_) => cards::say_found(b"view", found),
-        Found::CannotRead(_) => cards::say_found(b"view", found),
-        Found::Once(_) => cards::say_found(b"view", found),
+        _ => cards::say_found(b"view", found),
     }
 }
 
@@ -37,9 +34,8 @@ fn main() {
     let first = asked.first;
     let how = asked.how;
     match how {
-        How::Plain => look(store, first),
-        How::Settings => look(store, first),
         How::Usage => usage(),
         How::Said => {}
+        _ => look(store, first),
     }
 }

@@ -2,7 +2,7 @@
 -- Assumes nothing.
 use mathlib.Core.Path.{_≡_, refl}
 use Prim.Native.Nat.{ℕ}
-use Rattle.words.specs.Answer.{Answer, Outcome, gives, refuses}
+use Rattle.words.specs.Answer.{Answer, Outcome}
 use Rattle.words.specs.Why.{Why, why, are, unsaid}
 use Rattle.words.specs.Says.{saysShortRead, saysShortWritten, saysLongRead, saysLongWritten}
 use Rattle.words.specs.declared.ShortRead.{ShortRead}
@@ -10,7 +10,7 @@ use Rattle.words.specs.declared.ShortWritten.{ShortWritten}
 use Rattle.words.specs.declared.LongRead.{LongRead}
 use Rattle.words.specs.declared.LongWritten.{LongWritten}
 use Rattle.words.specs.declared.Parity.{Parity}
-use Rattle.words.proofs.Told.{Fixed, told}
+use Rattle.words.proofs.Told.{Fixed, told, twoCases}
 use Rattle.words.proofs.read_short.Kinds as read-short-kinds
 use Rattle.words.proofs.read_short.Reads as read-short-reads
 use Rattle.words.proofs.write_short.Kinds as write-short-kinds
@@ -27,8 +27,7 @@ parityOf (why n unsaid) = Parity.Odd
 
 -- From what an answer says, the answer.
 pub shortRead : Answer Why ℕ → ShortRead
-shortRead (gives x) = ShortRead.Figure x
-shortRead (refuses b) = ShortRead.NotCode (parityOf b)
+shortRead = twoCases ShortRead.Figure (λ b. ShortRead.NotCode (parityOf b))
 
 pub shortRead-back : (r : ShortRead) → shortRead (saysShortRead r) ≡ r
 unfolding shortRead
@@ -36,8 +35,7 @@ shortRead-back (ShortRead.Figure x) = refl
 shortRead-back (ShortRead.NotCode p) = refl
 
 pub shortWritten : Outcome ℕ → ShortWritten
-shortWritten (gives w) = ShortWritten.Word w
-shortWritten (refuses n) = ShortWritten.TooLarge
+shortWritten = twoCases ShortWritten.Word (λ n. ShortWritten.TooLarge)
 
 pub shortWritten-back : (r : ShortWritten) → shortWritten (saysShortWritten r) ≡ r
 unfolding shortWritten
@@ -45,8 +43,7 @@ shortWritten-back (ShortWritten.Word w) = refl
 shortWritten-back ShortWritten.TooLarge = refl
 
 pub longRead : Answer Why ℕ → LongRead
-longRead (gives x) = LongRead.Figure x
-longRead (refuses b) = LongRead.NotCode (parityOf b)
+longRead = twoCases LongRead.Figure (λ b. LongRead.NotCode (parityOf b))
 
 pub longRead-back : (r : LongRead) → longRead (saysLongRead r) ≡ r
 unfolding longRead
@@ -54,8 +51,7 @@ longRead-back (LongRead.Figure x) = refl
 longRead-back (LongRead.NotCode p) = refl
 
 pub longWritten : Outcome ℕ → LongWritten
-longWritten (gives w) = LongWritten.Word w
-longWritten (refuses n) = LongWritten.TooLarge
+longWritten = twoCases LongWritten.Word (λ n. LongWritten.TooLarge)
 
 pub longWritten-back : (r : LongWritten) → longWritten (saysLongWritten r) ≡ r
 unfolding longWritten

@@ -6,12 +6,18 @@ use mathlib.Core.Path.{_≡_, sym, ap, _∙_}
 use contract.Lifetimes.{Lfts}
 use borrow.Fn.Kinds.{PK, RK, Dens, Out, resT, endedOf}
 use denote.Triple.Clauses.{AtExit}
+use Rattle.words.specs.Answer.{Answer, gives, refuses}
 
 -- A contract fixes its function's whole answer: any two that it allows are equal.
 abbrev pub Fixed : (n : ℕ) (ps : List (PK n)) (r : RK n) → Out n ps r → Type 0
 Fixed n ps r Post =
     (κs : Lfts n) (a : Dens κs ps) (x y : resT r κs .Denot) (at-x : AtExit (endedOf n ps r) κs) (at-y : AtExit (endedOf n ps r) κs)
     → Post κs a x at-x → Post κs a y at-y → x ≡ y
+
+-- What an answer with two cases was, from what it says.
+abbrev pub twoCases : {R A T : Type 0} → (A → T) → (R → T) → Answer R A → T
+twoCases of-given of-refused (gives x) = of-given x
+twoCases of-given of-refused (refuses r) = of-refused r
 
 pub told : {A B : Type 0} (says : A → B) (of : B → A) → ((r : A) → of (says r) ≡ r) → {o : B} (r r′ : A) → says r ≡ o → says r′ ≡ o → r ≡ r′
 told says of back r r′ p q = sym (back r) ∙ ap of (p ∙ sym q) ∙ back r′

@@ -1,5 +1,6 @@
 pub mod Answer
 pub mod Bits
+pub mod Limits
 pub mod Plain
 pub mod Why
 pub mod Code

@@ -1,6 +1,7 @@
 // The two codes of document 01: M(8,4) for a short word, M(16,11) for a long one.
 // Promises: a word reads as its figure or is refused and says whether its ones are odd or even, nothing is mended; a figure is written as its one word or refused.
-// Specification: specs/Plain.antt (the plain code H), specs/Code.antt (the sent code M), specs/Why.antt (refusals of words), specs/Says.antt (the answers).
+// Specification: specs/Plain.antt (the plain code H), specs/Code.antt (the sent code M), specs/Why.antt (refusals of words), specs/Says.antt (the answers);
+// specs/Limits.antt is for those above: the largest number of 64 bits.
 ghost use mathlib.Core.Path.{_≡_};
 ghost use Rattle.words.specs.Code.{readShort, writeShort, readLong, writeLong};
 ghost use Rattle.words.specs.Says.{saysShortRead, saysShortWritten, saysLongRead, saysLongWritten};

@@ -9,22 +9,13 @@ use Rattle.fields.proofs.field.Statement.{statement}
 use Rattle.fields.proofs.field.Tie as tie
 
 sub-result : tie.Need-sub-result
-sub-result c =
-    let s = c .before .start-of in
-    let a = c .before .before .before .args in
-    omega (arith, found-within (a .sign) (a .text .now) (s .result) (c .place-of .result) (c .place-of .ensures), s .ensures .0)
+sub-result c = omega (arith, found-within _ _ _ _ (c .place-of .ensures), c .before .start-of .ensures .0)
 
 part-result-start : tie.Need-part-result-start
-part-result-start c =
-    let s = c .before .start-of in
-    let a = c .before .before .before .args in
-    omega (arith, found-within (a .sign) (a .text .now) (s .result) (c .place-of .result) (c .place-of .ensures), s .ensures .0)
+part-result-start c = omega (arith, found-within _ _ _ _ (c .place-of .ensures), c .before .start-of .ensures .0)
 
 part-result-end : tie.Need-part-result-end
-part-result-end c =
-    let s = c .before .start-of in
-    let a = c .before .before .before .args in
-    omega (arith, found-within (a .sign) (a .text .now) (s .result) (c .place-of .result) (c .place-of .ensures), s .ensures .0)
+part-result-end c = omega (arith, found-within _ _ _ _ (c .place-of .ensures), c .before .start-of .ensures .0)
 
 returns : tie.Need-returns
 returns c =

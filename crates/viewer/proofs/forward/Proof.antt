@@ -1,22 +1,22 @@
 -- `forward` meets its contract: a walk of its MIR, by hand. The viewer is taken apart, `forward_at` is called on its slice and where it stands, and the viewer is made anew.
 -- Assumes nothing.
-use mathlib.Core.Path.{_≡_, refl, ap, sym, subst}
+use mathlib.Core.Path.{_≡_, refl, ap}
 use Prim.Native.Nat.{ℕ}
 use mathlib.Core.List.{List, [], _∷_}
 use mathlib.Core.Option.{some}
 use types.Kit.{some}
 use denote.Struct.Laws as LL
-use Rattle.viewer.proofs.Walking.{Holds, URA, Lifetime, Ty, Tys, tyStruct, tcons, tnil, Local, local, valueLocal, Fn, named, erased, Val, WT, hasTy, SProp, ent, sep, emp, via, fst∗, snd∗, exE, id⊢, Lft, Share, Fml, ftrue, flft, fat, fullShare, Memory, fieldAt, Routine, Heap, Calls, Loops, WpFn, Tables, Atoms, sem, Lfts, Fun, fact, givenOf, tables, tablesOf, Given, ‵, raw, _⊛_, given, ⋆, later, _$_, _∵_, !, qed, by, move, drop, use1, use2, split, join, learn, pick, rewrite, fsplit, fjoin, suffices, frame, await, done, whole, sub, look-in, agg, look, init, forget, stop, fld, from, load, of-opd, and-then, no-more, assigns, land, returns, enter, alloc1, alloc0, params1, pass1, pass0, free1, free0, FmC, fmOf, WpFn-mono, RattleType, owns, Is, shows, u8, RefT, NamedLft, now, namedLft, ShrSlice, only, peeks, heard, nothing, all-own, own-open, own-shut, Values, Contract, Triple, calls-at, Vals, onEntry, Meets, tripleOf, entered, cited, says, Stays, stay-none, walkOf, goes-none, Walks, ends-at, walked, walk-meets, yes, ensured, lasts}
+use denote.Struct.Rest.{rest}
+use Rattle.viewer.proofs.Walking.{Holds, URA, Lifetime, Ty, Tys, tyStruct, tcons, tnil, Local, local, valueLocal, Fn, named, erased, Val, WT, hasTy, SProp, ent, sep, snd∗, exE, id⊢, Lft, Share, Fml, ftrue, flft, fat, fullShare, Memory, fieldAt, Routine, Heap, Calls, Loops, WpFn, Tables, Atoms, sem, Fun, fact, givenOf, tables, tablesOf, Given, ‵, raw, _⊛_, given, ⋆, later, _$_, _∵_, !, qed, by, move, drop, use1, use2, use3, split, join, learn, pick, rewrite, fsplit, fjoin, suffices, frame, await, done, whole, sub, look-in, agg, look, init, forget, stop, fld, from, load, of-opd, and-then, no-more, assigns, land, returns, enter, alloc1, alloc0, params1, pass1, pass0, free1, free0, FmC, fmOf, owns, Is, shows, u8, RefT, NamedLft, now, namedLft, ShrSlice, only, peeks, heard, nothing, all-own, own-open, own-shut, Values, Contract, Triple, calls-at, Vals, Meets, tripleOf, entered, cited, says, ends-at, ensured, lasts}
 use Rattle.viewer.specs.Viewing.{Forward, forward as goesForward}
-use Rattle.viewer.specs.Says.{Over, over, saysWent}
+use Rattle.viewer.specs.Says.{over, saysWent}
 use Rattle.viewer.specs.declared.Viewer.{Viewer}
 use Rattle.viewer.specs.declared.Went.{Went}
 use Rattle.viewer.specs.declared.Forwarded.{Forwarded}
 use Rattle.viewer.proofs.Stand as P
 use Rattle.viewer.proofs.Stand.Laws as P′
 use Rattle.viewer.proofs.Viewer as T
-use Rattle.viewer.proofs.Viewer.Laws as T′
-use Rattle.viewer.proofs.Turning.{viewer, StandTy, SliceTy, viewerTys, ViewerTy, offset, stand-in, slice, mach, parts, Own, Trace, Parts, twice, opened, trace, is-viewer, typed-viewer, typed-given, typed-stand}
+use Rattle.viewer.proofs.Turning.{viewer, StandTy, SliceTy, ViewerTy, offset, stand-in, slice, mach, parts, Own, Trace, Parts, twice, opened, trace, made, is-viewer, typed-viewer, Known, Taken, stayed, Before, After, turned}
 use Rattle.ride.proofs.Lines.Laws as Lines′
 use Rattle.group.proofs.Group.Laws as Group′
 use Rattle.viewer.proofs.How.Laws as How′
@@ -32,13 +32,6 @@ use Rattle.viewer.proofs.forward.Key.{name as #here}
 use Rattle.viewer.proofs.forward as forward
 use Rattle.viewer.proofs.forward.Statement as stated
 use Rattle.viewer.proofs.forward.Code as code
-
--- the struct's type, over the signature's lifetimes
-abbrev B : Lfts 1 → RattleType
-B κs = T.the-row (namedLft 1 0 tt κs)
-
-abbrev stayed : Stays (forward.ended .signature .params) (forward.ended .kept)
-stayed = (stay-none B yes, tt)
 
 -- the type of `lines`, by name
 unfoldable LinesTy : Ty
@@ -89,8 +82,13 @@ same = refl
 abbrev answer : RefT (List ℕ) → Went → Forwarded
 answer s m = record { viewer = viewer s (m .stand); lines = m .lines; closed = m .closed; how = m .how }
 
+-- what the covered function's answer owns
 abbrev Got : Went → Val → Fml
 Got m u = N.the-row .own m (u ∷ [])
+
+-- .. and of it all but where the viewer stands
+abbrev Beside : Went → Fml
+Beside m = rest (N.the-type .parts) N′.the-laws 0 (m .stand, (m .lines, (m .closed, (m .how, tt))))
 
 module _ {M : Type 1} (𝓤 : URA M) (H : Heap 𝓤) (A : Atoms 𝓤) (mem : Memory → SProp 𝓤) (run : Routine → Fun 𝓤) where
   -- the contract that the proof cites
@@ -117,13 +115,16 @@ module _ {M : Type 1} (𝓤 : URA M) (H : Heap 𝓤) (A : Atoms 𝓤) (W : Given
   abbrev machs : Forwarded → Val
   machs r = LL.val (R.the-type α) (R′.the-laws α) r
 
+  abbrev Starts : SProp 𝓤
+  Starts = Before 𝓤 H A (forward.signature .result) (forward.clauses 𝓤 H A mem run) κ q d
+
   abbrev Post : Val → SProp 𝓤
-  Post = walkOf 𝓤 H A forward.ended stayed (forward.clauses 𝓤 H A mem run) .post (((κ, tt), (q, tt), tt, (d, tt), (mach α d ∷ [], tt)), tt)
+  Post = After 𝓤 H A (forward.signature .result) (forward.clauses 𝓤 H A mem run) κ q d tt
 
   -- what the viewer owns gives what the callee asks, and is kept twice
-  apart : ent 𝓤 (onEntry 𝓤 H A forward.signature (κ, tt) (q, tt) (d, tt) (mach α d ∷ [], tt)) (sep 𝓤 (At 𝓤 H A mem run .pre to) (sep 𝓤 (sem 𝓤 H A (Own α d)) (sem 𝓤 H A (Own α d))))
+  apart : ent 𝓤 Starts (sep 𝓤 (At 𝓤 H A mem run .pre to) (sep 𝓤 (sem 𝓤 H A (Own α d)) (sem 𝓤 H A (Own α d))))
   apart =
-      qed W ((‵ (flft κ q) ⊛ ‵ ftrue) ∷ ‵ (owns (B (κ, tt) ∷ []) (d, tt) (mach α d ∷ [], tt)) ∷ []) ∵
+      qed W ((‵ (flft κ q) ⊛ ‵ ftrue) ∷ ‵ (owns (Taken (κ, tt) ∷ []) (d, tt) (mach α d ∷ [], tt)) ∷ []) ∵
       move ! (1 ∷ []) $ fsplit ! $ move ! (1 ∷ []) $ drop ! $ use1 W (‵ (Own α d) ⊛ ‵ (Own α d)) (twice 𝓤 H A W α d) $ split ! $ use1 W (‵ (Own α d) ⊛ ‵ (Own α d)) (twice 𝓤 H A W α d) $ split ! $ use1 W (‵ (Parts α d)) (opened 𝓤 H A W α d) $
       -- [what the fields own; Own; Own; the token]
       move ! (3 ∷ 0 ∷ []) $ use2 W (raw (At 𝓤 H A mem run .pre to)) (qed W ((‵ (flft κ q) ⊛ ‵ ftrue) ∷ ‵ (owns (ShrSlice (named 0) κ u8 ∷ P.the-row ∷ []) vd passed) ∷ []) ∵ join ! $ frame ! $ done !) $ frame ! $ frame ! $ done !
@@ -135,12 +136,11 @@ module _ {M : Type 1} (𝓤 : URA M) (H : Heap 𝓤) (A : Atoms 𝓤) (W : Given
   exits : (m : Went) (u : Val) → saysWent m ≡ found → ent 𝓤 (⋆ 𝓤 H A (‵ (Got m u) ∷ (‵ (flft κ q) ⊛ ‵ ftrue) ∷ ‵ (Own α d) ∷ ‵ (Own α d) ∷ [])) (Post (machs (answer (d .trace) m)))
   exits m u e =
       qed W (‵ (Got m u) ∷ (‵ (flft κ q) ⊛ ‵ ftrue) ∷ ‵ (Own α d) ∷ ‵ (Own α d) ∷ []) ∵
-      suffices ! _ (ends-at 𝓤 H A forward.ended stayed (forward.clauses 𝓤 H A mem run) W (((κ, tt), (q, tt), tt, (d, tt), (mach α d ∷ [], tt)), tt) (machs (answer (d .trace) m)) (answer (d .trace) m) (tt, tt) (tt, tt)) $ says ! (ap (over (d .trace)) e) $
+      suffices ! _ (ends-at 𝓤 H A forward.ended (stayed (forward.signature .result)) (forward.clauses 𝓤 H A mem run) W (((κ, tt), (q, tt), tt, (d, tt), (mach α d ∷ [], tt)), tt) (machs (answer (d .trace) m)) (answer (d .trace) m) (tt, tt) (tt, tt)) $ says ! (ap (over (d .trace)) e) $
       move ! (1 ∷ []) $ frame ! $ nothing ! $ move ! (2 ∷ 0 ∷ []) $ fjoin ! $ frame ! $ move ! (1 ∷ []) $ use1 W (‵ (Trace α (d .trace))) (trace 𝓤 H A W α d) $ move ! (1 ∷ 0 ∷ []) $
       -- [what the callee gave; the slice]
       use1 W (given (u ∷ [] ≡ LL.vals N.the-type N′.the-laws m) (‵ (all-own (N.the-type .parts) N′.the-laws (m .stand, (m .lines, (m .closed, (m .how, tt))))))) (own-open 𝓤 H A W N.the-type N′.the-laws (m .stand, (m .lines, (m .closed, (m .how, tt)))) u) $ learn ! (λ _. fsplit ! $
-      nothing ! $ move ! (1 ∷ 0 ∷ []) $ fjoin ! $ move ! (2 ∷ 0 ∷ []) $ fjoin ! $
-      use1 W (‵ (Own α (viewer (d .trace) (m .stand)))) (own-shut 𝓤 H A W (T.the-type α) (T′.the-laws α) (parts α (viewer (d .trace) (m .stand)))) $ fjoin ! $
+      use3 W (‵ (Own α (viewer (d .trace) (m .stand))) ⊛ ‵ (Beside m)) (made 𝓤 H A W α (d .trace) (m .stand) (Beside m)) $ split ! $ fjoin ! $
       by ! (own-shut 𝓤 H A W (R.the-type α) (R′.the-laws α) (viewer (d .trace) (m .stand), (m .lines, (m .closed, (m .how, tt))))))
 
   -- the answer that is made has its type
@@ -158,52 +158,33 @@ module _ {M : Type 1} (𝓤 : URA M) (H : Heap 𝓤) (A : Atoms 𝓤) (W : Given
         LL.lawful (R.the-type α) (R′.the-laws α) 𝓤 H A W .typed (answer (d .trace) m) _
         (LL.owes (R.the-type α) (R′.the-laws α) (answer (d .trace) m) (is-viewer 𝓤 H A W α (named 0) (d .trace) (m .stand) g there, LL.owed N.the-type N′.the-laws m _ is .1)) .0
 
-  module _ (C : Calls 𝓤 H) (Λ : Loops 𝓤 H) (fm : FmC 𝓤 H (W .laws) C) (known : Triple 𝓤 (C #called) (At 𝓤 H A mem run)) where
-    walk : Is (B (κ, tt)) d (mach α d ∷ []) → ent 𝓤 (onEntry 𝓤 H A forward.signature (κ, tt) (q, tt) (d, tt) (mach α d ∷ [], tt)) (WpFn 𝓤 H C Λ here (mach α d ∷ []) Post)
-    walk g =
-        let owed = LL.owed (T.the-type α) (T′.the-laws α) d _ g in
-        let wt = typed-given 𝓤 H A W α d g in
-        qed W (raw (onEntry 𝓤 H A forward.signature (κ, tt) (q, tt) (d, tt) (mach α d ∷ [], tt)) ∷ []) ∵ enter ! C Λ here (mach α d ∷ []) _ $
-        alloc1 ! (λ l₀. alloc1 ! (λ l₁. alloc1 ! (λ l₂. alloc1 ! (λ l₃. alloc1 ! (λ l₄. alloc1 ! (λ l₅. alloc1 ! (λ l₆. alloc1 ! (λ l₇. alloc0 ! $ params1 ! $ pass1 ! (init ! 12 refl wt) $ pass0 ! $
-        assigns ! (of-opd ! (load ! (from ! (fld ! refl (stop !))) (look-in ! 12 (sub ! 0 refl (whole !))))) (from ! (stop !)) (init ! 6 refl (tt, wt .1 .0)) $
-        assigns ! (of-opd ! (load ! (from ! (fld ! (stand-in (named 0)) (stop !))) (look-in ! 12 (sub ! 1 (stand-in (named 0)) (whole !))))) (from ! (stop !)) (init ! 4 refl (typed-stand 𝓤 H A W α (d .stand) (owed .1 .0))) $
-        move ! (16 ∷ []) $ use1 W (raw (At 𝓤 H A mem run .pre to) ⊛ (‵ (Own α d) ⊛ ‵ (Own α d))) apart $ split ! $ move ! (1 ∷ []) $ split ! $ move ! (2 ∷ []) $
-        -- [what is asked; Own; Own; …]
-        calls-at ! fm (At 𝓤 H A mem run) known to (and-then ! (load ! (from ! (stop !)) (look ! 9 refl)) (and-then ! (load ! (from ! (stop !)) (look ! 7 refl)) (no-more !))) (λ u.
-        use1 W (later (some (λ (m : Went). ((‵ (flft κ q) ⊛ ‵ ftrue) ⊛ ‵ (Got m u)) ⊛ raw (ensured 𝓤 H A at.ended (at.clauses 𝓤 H A mem run) (κ, tt) vd tt m)))) (id⊢ 𝓤 _) $ await ! tt $ pick ! (λ m.
-        split ! $ move ! (1 ∷ []) $ use1 W (raw (fact 𝓤 (saysWent m ≡ found))) (said m) $ heard ! (saysWent m ≡ found) (λ e. split ! $ move ! (1 ∷ []) $
-        -- [the result; the token; Own; Own; …]
-        peeks ! N.the-row (Is N.the-row) (shows 𝓤 H A N.the-row) m (u ∷ []) (λ is.
-        land ! (from ! (stop !)) (init ! 14 refl (typed-gave m u (owed .0) is)) $
-        rewrite ! 14 (λ (w : Val). ‵ (fat fullShare GaveTy l₂ 0 w)) (ap only (LL.tells N.the-type N′.the-laws m (u ∷ []) is)) refl $
-        assigns ! (of-opd ! (load ! (from ! (fld ! refl (stop !))) (look-in ! 16 (sub ! 0 refl (whole !))))) (from ! (stop !)) (init ! 6 refl (tt, wt .1 .0)) $
-        assigns ! (agg ! (and-then ! (load ! (from ! (stop !)) (look ! 6 refl)) (and-then ! (load ! (from ! (fld ! refl (stop !))) (look-in ! 14 (sub ! 0 refl (whole !)))) (no-more !)))) (from ! (stop !)) (init ! 12 refl (typed-viewer 𝓤 H A W α erased (d .trace) (m .stand) (owed .0) (there m u (owed .0) is))) $
-        assigns ! (of-opd ! (load ! (from ! (stop !)) (look ! 12 refl))) (from ! (stop !)) (init ! 4 refl (typed-viewer 𝓤 H A W α erased (d .trace) (m .stand) (owed .0) (there m u (owed .0) is))) $
-        assigns ! (agg ! (and-then ! (load ! (from ! (stop !)) (look ! 4 refl)) (and-then ! (load ! (from ! (fld ! gave-1 (stop !))) (look-in ! 14 (sub ! 1 gave-1 (whole !)))) (and-then ! (load ! (from ! (fld ! gave-2 (stop !))) (look-in ! 14 (sub ! 2 gave-2 (whole !)))) (and-then ! (load ! (from ! (fld ! gave-3 (stop !))) (look-in ! 14 (sub ! 3 gave-3 (whole !)))) (no-more !)))))) (from ! (stop !)) (init ! 18 refl (typed-answer m u (owed .0) is)) $
-        returns ! (look ! 18 refl) $ forget ! 4 refl $ forget ! 6 refl $ forget ! 8 refl $ forget ! 10 refl $ forget ! 12 refl $ forget ! 14 refl $ forget ! 16 refl $ forget ! 18 refl $
-        move ! (18 ∷ 19 ∷ []) $ free1 ! $ move ! (16 ∷ 17 ∷ []) $ free1 ! $ move ! (14 ∷ 15 ∷ []) $ free1 ! $ move ! (12 ∷ 13 ∷ []) $ free1 ! $ move ! (10 ∷ 11 ∷ []) $ free1 ! $ move ! (8 ∷ 9 ∷ []) $ free1 ! $ move ! (6 ∷ 7 ∷ []) $ free1 ! $ move ! (4 ∷ 5 ∷ []) $ free1 ! $ free0 ! $ by ! (exits m u e)))))))))))))
-
-    -- the same of the code as it stands
-    walk′ : Is (B (κ, tt)) d (mach α d ∷ []) → ent 𝓤 (onEntry 𝓤 H A forward.signature (κ, tt) (q, tt) (d, tt) (mach α d ∷ [], tt)) (WpFn 𝓤 H C Λ code.function (mach α d ∷ []) Post)
-    walk′ g =
-        subst (λ (f : Fn). ent 𝓤 (onEntry 𝓤 H A forward.signature (κ, tt) (q, tt) (d, tt) (mach α d ∷ [], tt)) (WpFn 𝓤 H C Λ f (mach α d ∷ []) Post)) (sym same) (walk g)
-
-module _ {M : Type 1} (𝓤 : URA M) (H : Heap 𝓤) (A : Atoms 𝓤) (W : Given 𝓤 H A) (mem : Memory → SProp 𝓤) (run : Routine → Fun 𝓤) where
-  walks : (C : Calls 𝓤 H) (Λ : Loops 𝓤 H) → FmC 𝓤 H (W .laws) C → Triple 𝓤 (C #called) (At 𝓤 H A mem run)
-      → Walks 𝓤 H A forward.ended stayed (WpFn 𝓤 H C Λ code.function) (forward.clauses 𝓤 H A mem run)
-  walks C Λ fm known =
-      walked 𝓤 H A forward.ended stayed (forward.clauses 𝓤 H A mem run) (WpFn 𝓤 H C Λ code.function)
-      (λ κs. (LL.vals (T.the-type (namedLft 1 0 tt κs)) (T′.the-laws (namedLft 1 0 tt κs)), tt))
-      (λ κs. (LL.tells (T.the-type (namedLft 1 0 tt κs)) (T′.the-laws (namedLft 1 0 tt κs)), tt))
-      (λ κs qs bounds a g are. via 𝓤 _ (fst∗ 𝓤 _ (emp 𝓤)) (walk′ 𝓤 H A W mem run (κs .0) (qs .0) (a .0) C Λ fm known (are .0)))
+  walk : (C : Calls 𝓤 H) (Λ : Loops 𝓤 H) → FmC 𝓤 H (W .laws) C → Triple 𝓤 (C #called) (At 𝓤 H A mem run) → Known 𝓤 H A W α d → ent 𝓤 Starts (WpFn 𝓤 H C Λ here (mach α d ∷ []) Post)
+  walk C Λ fm met k =
+      qed W (raw Starts ∷ []) ∵ enter ! C Λ here (mach α d ∷ []) _ $
+      alloc1 ! (λ l₀. alloc1 ! (λ l₁. alloc1 ! (λ l₂. alloc1 ! (λ l₃. alloc1 ! (λ l₄. alloc1 ! (λ l₅. alloc1 ! (λ l₆. alloc1 ! (λ l₇. alloc0 ! $ params1 ! $ pass1 ! (init ! 12 refl (k .typed)) $ pass0 ! $
+      assigns ! (of-opd ! (load ! (from ! (fld ! refl (stop !))) (look-in ! 12 (sub ! 0 refl (whole !))))) (from ! (stop !)) (init ! 6 refl (tt, k .typed .1 .0)) $
+      assigns ! (of-opd ! (load ! (from ! (fld ! (stand-in (named 0)) (stop !))) (look-in ! 12 (sub ! 1 (stand-in (named 0)) (whole !))))) (from ! (stop !)) (init ! 4 refl (k .stand-typed)) $
+      move ! (16 ∷ []) $ use1 W (raw (At 𝓤 H A mem run .pre to) ⊛ (‵ (Own α d) ⊛ ‵ (Own α d))) apart $ split ! $ move ! (1 ∷ []) $ split ! $ move ! (2 ∷ []) $
+      -- [what is asked; Own; Own; …]
+      calls-at ! fm (At 𝓤 H A mem run) met to (and-then ! (load ! (from ! (stop !)) (look ! 9 refl)) (and-then ! (load ! (from ! (stop !)) (look ! 7 refl)) (no-more !))) (λ u.
+      use1 W (later (some (λ (m : Went). ((‵ (flft κ q) ⊛ ‵ ftrue) ⊛ ‵ (Got m u)) ⊛ raw (ensured 𝓤 H A at.ended (at.clauses 𝓤 H A mem run) (κ, tt) vd tt m)))) (id⊢ 𝓤 _) $ await ! tt $ pick ! (λ m.
+      split ! $ move ! (1 ∷ []) $ use1 W (raw (fact 𝓤 (saysWent m ≡ found))) (said m) $ heard ! (saysWent m ≡ found) (λ e. split ! $ move ! (1 ∷ []) $
+      -- [the result; the token; Own; Own; …]
+      peeks ! N.the-row (Is N.the-row) (shows 𝓤 H A N.the-row) m (u ∷ []) (λ is.
+      land ! (from ! (stop !)) (init ! 14 refl (typed-gave m u (k .slice-is) is)) $
+      rewrite ! 14 (λ (w : Val). ‵ (fat fullShare GaveTy l₂ 0 w)) (ap only (LL.tells N.the-type N′.the-laws m (u ∷ []) is)) refl $
+      assigns ! (of-opd ! (load ! (from ! (fld ! refl (stop !))) (look-in ! 16 (sub ! 0 refl (whole !))))) (from ! (stop !)) (init ! 6 refl (tt, k .typed .1 .0)) $
+      assigns ! (agg ! (and-then ! (load ! (from ! (stop !)) (look ! 6 refl)) (and-then ! (load ! (from ! (fld ! refl (stop !))) (look-in ! 14 (sub ! 0 refl (whole !)))) (no-more !)))) (from ! (stop !)) (init ! 12 refl (typed-viewer 𝓤 H A W α erased (d .trace) (m .stand) (k .slice-is) (there m u (k .slice-is) is))) $
+      assigns ! (of-opd ! (load ! (from ! (stop !)) (look ! 12 refl))) (from ! (stop !)) (init ! 4 refl (typed-viewer 𝓤 H A W α erased (d .trace) (m .stand) (k .slice-is) (there m u (k .slice-is) is))) $
+      assigns ! (agg ! (and-then ! (load ! (from ! (stop !)) (look ! 4 refl)) (and-then ! (load ! (from ! (fld ! gave-1 (stop !))) (look-in ! 14 (sub ! 1 gave-1 (whole !)))) (and-then ! (load ! (from ! (fld ! gave-2 (stop !))) (look-in ! 14 (sub ! 2 gave-2 (whole !)))) (and-then ! (load ! (from ! (fld ! gave-3 (stop !))) (look-in ! 14 (sub ! 3 gave-3 (whole !)))) (no-more !)))))) (from ! (stop !)) (init ! 18 refl (typed-answer m u (k .slice-is) is)) $
+      returns ! (look ! 18 refl) $ forget ! 4 refl $ forget ! 6 refl $ forget ! 8 refl $ forget ! 10 refl $ forget ! 12 refl $ forget ! 14 refl $ forget ! 16 refl $ forget ! 18 refl $
+      move ! (18 ∷ 19 ∷ []) $ free1 ! $ move ! (16 ∷ 17 ∷ []) $ free1 ! $ move ! (14 ∷ 15 ∷ []) $ free1 ! $ move ! (12 ∷ 13 ∷ []) $ free1 ! $ move ! (10 ∷ 11 ∷ []) $ free1 ! $ move ! (8 ∷ 9 ∷ []) $ free1 ! $ move ! (6 ∷ 7 ∷ []) $ free1 ! $ move ! (4 ∷ 5 ∷ []) $ free1 ! $ free0 ! $ by ! (exits m u e)))))))))))))
 
 meets : {M : Type 1} (𝓤 : URA M) (H : Heap 𝓤) (A : Atoms 𝓤) (W : Given 𝓤 H A) (mem : Memory → SProp 𝓤) (run : Routine → Fun 𝓤) (𝓣 : Tables 𝓤 H)
     → Triple 𝓤 (𝓣 .C #called) (At 𝓤 H A mem run)
     → Meets 𝓤 H A forward.signature (WpFn 𝓤 H (𝓣 .C) (𝓣 .Λ) code.function) (forward.spec 𝓤 H A mem run)
-meets 𝓤 H A W mem run 𝓣 known =
-    walk-meets 𝓤 H A forward.ended stayed W (goes-none 𝓤 H A W 1 B yes (λ κs x f. refl), tt) (forward.clauses 𝓤 H A mem run) (WpFn 𝓤 H (𝓣 .C) (𝓣 .Λ) code.function)
-    (WpFn-mono 𝓤 H (W .laws) 𝓣 code.function)
-    (walks 𝓤 H A W mem run (𝓣 .C) (𝓣 .Λ) (fmOf 𝓤 H (W .laws) 𝓣) known)
+meets 𝓤 H A W mem run 𝓣 met =
+    turned 𝓤 H A (forward.signature .result) (forward.clauses 𝓤 H A mem run) W 𝓣 code.function here same (λ κ q d g k. walk 𝓤 H A W mem run κ q d (𝓣 .C) (𝓣 .Λ) (fmOf 𝓤 H (W .laws) 𝓣) met k)
 
 pub forward-spec : {M : Type 1} → stated.statement M
 unfolding code.routine tablesOf

@@ -1,5 +1,5 @@
 -- What is left of the text falls.
-use Prim.Native.Nat.{_+_, _-_, _≤_}
+use Prim.Native.Nat.{_-_}
 use native.Mathlib.Omega.{arith}
 use lib.ListN.{length}
 use borrow.Author.Needs.{needs}
@@ -13,29 +13,20 @@ Inv-loop file text t₀ at₀ t at = Unit {0}
 abbrev μ-loop : tie.MeasureT-loop
 μ-loop file text t₀ at₀ t at = length text - at
 
--- where the sign was found
-found : (p : tie.After-place-of Inv-loop μ-loop) →
-    let l = p .before .before in
-    let t = l .before .before .before .args .text .now in
-    (l .loop .at ≤ p .place-of .result) × (p .place-of .result ≤ l .loop .at + (length t - l .loop .at))
-found p =
-    let l = p .before .before in
-    found-within 10 (l .before .before .before .args .text .now) (l .loop .at) (p .place-of .result) (p .place-of .ensures)
-
 sub-line : tie.Need-sub-line Inv-loop μ-loop
-sub-line c = omega (arith, found c)
+sub-line c = omega (arith, found-within _ _ _ _ (c .place-of .ensures))
 
 part-line-start : tie.Need-part-line-start Inv-loop μ-loop
-part-line-start c = omega (arith, found c)
+part-line-start c = omega (arith, found-within _ _ _ _ (c .place-of .ensures))
 
 part-line-end : tie.Need-part-line-end Inv-loop μ-loop
-part-line-end c = omega (arith, found c)
+part-line-end c = omega (arith, found-within _ _ _ _ (c .place-of .ensures))
 
 add-at : tie.Need-add-at Inv-loop μ-loop
-add-at c = omega (arith, found (c .before .before))
+add-at c = omega (arith, found-within _ _ _ _ (c .before .before .place-of .ensures))
 
 loop-less : tie.Need-loop-less Inv-loop μ-loop
-loop-less c = omega (arith, found (c .before .before))
+loop-less c = omega (arith, found-within _ _ _ _ (c .before .before .place-of .ensures))
 
 pub lines-spec : {M : Type 1} → statement M
 lines-spec =

@@ -1,5 +1,5 @@
 -- What is left of the text falls.
-use Prim.Native.Nat.{_+_, _-_, _≤_}
+use Prim.Native.Nat.{_-_}
 use native.Mathlib.Omega.{arith}
 use lib.ListN.{length}
 use borrow.Author.Needs.{needs}
@@ -13,29 +13,20 @@ Inv-loop text group₀ at₀ group at = Unit {0}
 abbrev μ-loop : tie.MeasureT-loop
 μ-loop text group₀ at₀ group at = length text - at
 
--- where the sign was found
-found : (p : tie.After-place-of Inv-loop μ-loop) →
-    let l = p .before .before in
-    let t = l .before .before .before .args .text .now in
-    (l .loop .at ≤ p .place-of .result) × (p .place-of .result ≤ l .loop .at + (length t - l .loop .at))
-found p =
-    let l = p .before .before in
-    found-within 32 (l .before .before .before .args .text .now) (l .loop .at) (p .place-of .result) (p .place-of .ensures)
-
 sub-heard-of : tie.Need-sub-heard-of Inv-loop μ-loop
-sub-heard-of c = omega (arith, found c)
+sub-heard-of c = omega (arith, found-within _ _ _ _ (c .place-of .ensures))
 
 part-heard-of-start : tie.Need-part-heard-of-start Inv-loop μ-loop
-part-heard-of-start c = omega (arith, found c)
+part-heard-of-start c = omega (arith, found-within _ _ _ _ (c .place-of .ensures))
 
 part-heard-of-end : tie.Need-part-heard-of-end Inv-loop μ-loop
-part-heard-of-end c = omega (arith, found c)
+part-heard-of-end c = omega (arith, found-within _ _ _ _ (c .place-of .ensures))
 
 add-at : tie.Need-add-at Inv-loop μ-loop
-add-at c = omega (arith, found (c .before .before .before .before .before .before))
+add-at c = omega (arith, found-within _ _ _ _ (c .before .before .before .before .before .before .place-of .ensures))
 
 loop-less : tie.Need-loop-less Inv-loop μ-loop
-loop-less c = omega (arith, found (c .before .before .before .before .before .before))
+loop-less c = omega (arith, found-within _ _ _ _ (c .before .before .before .before .before .before .place-of .ensures))
 
 pub group-of-spec : {M : Type 1} → statement M
 group-of-spec =

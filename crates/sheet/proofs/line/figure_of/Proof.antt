@@ -1,8 +1,6 @@
 -- `figure_of` reads a decimal number; the largest stands for all above it.
-use mathlib.Core.Path.{_≡_, sym, ap, _∙_}
+use mathlib.Core.Path.{sym, ap, _∙_}
 use native.Mathlib.Omega.{arith}
-use Rattle.arguments.specs.Figures.{decimal}
-use Rattle.arguments.specs.declared.Figure.{Figure}
 use Rattle.sheet.specs.Line.{figure, figureOf}
 use Rattle.arguments.proofs.Largest.{no-larger}
 use borrow.Author.Needs.{needs}
@@ -10,30 +8,19 @@ use Rattle.sheet.proofs.line.figure_of.Statement.{statement}
 use Rattle.sheet.proofs.line.figure_of.Tie as tie
 
 cast-t5 : tie.Need-cast-t5
-cast-t5 c =
-    let d = c .before .before .before in
-    let a = d .before .before .args in
-    let n = c .before .n .given .0 .0 in
-    let e : Figure.Number n ≡ decimal (a .text .now) 4294967295 = sym (c .before .n .given .1) ∙ d .decimal .ensures in
-    omega (arith, no-larger (a .text .now) 4294967295 n e)
+cast-t5 c = omega (arith, no-larger _ _ _ (sym (c .before .n .given .1) ∙ c .before .before .before .decimal .ensures))
 
 returns : tie.Need-returns
 unfolding figure
-returns c =
-    let d = c .before .before .before in
-    ap figureOf (sym (c .before .n .given .1)) ∙ ap figureOf (d .decimal .ensures)
+returns c = ap figureOf (sym (c .before .n .given .1) ∙ c .before .before .before .decimal .ensures)
 
 returns-2 : tie.Need-returns-2
 unfolding figure
-returns-2 c =
-    let d = c .before .before in
-    ap figureOf (sym (c .enum-told .given .1)) ∙ ap figureOf (d .decimal .ensures)
+returns-2 c = ap figureOf (sym (c .enum-told .given .1) ∙ c .before .before .decimal .ensures)
 
 returns-3 : tie.Need-returns-3
 unfolding figure
-returns-3 c =
-    let d = c .before .before in
-    ap figureOf (sym (c .enum-told2 .given .1)) ∙ ap figureOf (d .decimal .ensures)
+returns-3 c = ap figureOf (sym (c .enum-told2 .given .1) ∙ c .before .before .decimal .ensures)
 
 pub figure-of-spec : {M : Type 1} → statement M
 figure-of-spec =

@@ -5,7 +5,6 @@ use Prim.Native.Nat.{ℕ}
 use native.Mathlib.Omega.{arith}
 use borrow.Author.Needs.{needs}
 use Rattle.arguments.specs.Figures.{decimal}
-use Rattle.arguments.specs.declared.Figure.{Figure}
 use Rattle.arguments.proofs.Largest.{no-larger}
 use Rattle.vectors.specs.Lines.{column, withFigure, cellOf}
 use Rattle.vectors.proofs.cells.read.Statement.{statement}
@@ -20,12 +19,7 @@ unfolding cellOf
 returns c = simp (← c .before .begins .ensures, c .if1 .taken)
 
 cast-columns : tie.Need-cast-columns
-cast-columns c =
-    let d = c .before .before .before in
-    let line = d .before .before .before .before .before .args .line .now in
-    let n = c .before .n .given .0 .0 in
-    let e : Figure.Number n ≡ decimal (column line 0) 2047 = sym (c .before .n .given .1) ∙ figured d in
-    omega (arith, no-larger (column line 0) 2047 n e)
+cast-columns c = omega (arith, no-larger _ _ _ (sym (c .before .n .given .1) ∙ figured (c .before .before .before)))
 
 returns-2 : tie.Need-returns-2
 unfolding cellOf
