@@ -5,7 +5,7 @@ ghost use mathlib.Core.Path.{_≡_};
 ghost use Rattle.text.specs.Put.{put, came};
 ghost use Rattle.ride.specs.Says.{saysLines};
 ghost use Rattle.depot.specs.Lines.{groupLine, entryLine, sumLine, refusedLine};
-ghost use Rattle.depot.specs.Taking.{written, takeOne, takeAll};
+ghost use Rattle.depot.specs.Taking.{partLine, written, takeOne, takeAll};
 
 mod lines;
 mod records;
@@ -62,47 +62,35 @@ pub fn put_refused(number: u8, buf: &mut [u8], at: usize) -> usize
     text::put(&space[..n], buf, at)
 }
 
+// The text of a line by its part into buf from `at` on: a present group's line, or nothing.
+fn put_part(line: Line, part: Role, buf: &mut [u8], at: usize) -> usize
+    ensures { λ r. ⌜ came r (now (buf .exit)) ≡ put (partLine line part) (now (buf .entry)) at ⌝ }
+{
+    match line {
+        Line::Group(seen) => {
+            let kind = seen.kind;
+            match part {
+                Role::NoPart => at,
+                Role::Extra => put_group(seen.place, kind, part, buf, at),
+                Role::Wanted(_) => put_group(seen.place, kind, part, buf, at),
+            }
+        }
+        Line::Fault(_, _) => at,
+        Line::Missed(_) => at,
+        Line::Record(_, _) => at,
+        Line::Trace(_) => at,
+    }
+}
+
 // A line of the ride taken, and the text of a present group from `at` on.
 pub fn take_line(run: Acceptance, line: Line, buf: &mut [u8], at: usize) -> Written
     ensures { λ r. ⌜ written r (now (buf .exit)) ≡ takeOne run line (now (buf .entry)) at ⌝ }
 {
     let took = acceptance::take(run, line);
-    let after = took.state;
     let part = took.answer;
-    match line {
-        Line::Group(seen) => match part {
-            Role::NoPart => Written {
-                run: after,
-                next: at,
-            },
-            Role::Extra => {
-                let kind = seen.kind;
-                let next = put_group(seen.place, kind, part, buf, at);
-                Written { run: after, next }
-            }
-            Role::Wanted(_) => {
-                let kind = seen.kind;
-                let next = put_group(seen.place, kind, part, buf, at);
-                Written { run: after, next }
-            }
-        },
-        Line::Fault(_, _) => Written {
-            run: after,
-            next: at,
-        },
-        Line::Missed(_) => Written {
-            run: after,
-            next: at,
-        },
-        Line::Record(_, _) => Written {
-            run: after,
-            next: at,
-        },
-        Line::Trace(_) => Written {
-            run: after,
-            next: at,
-        },
-    }
+    let next = put_part(line, part, buf, at);
+    let after = took.state;
+    Written { run: after, next }
 }
 
 // The lines of one record or of the end taken in order, likewise.
