@@ -7,21 +7,12 @@ use contract.Lifetimes.{Lfts}
 use denote.Ref.{now}
 use borrow.Fn.Kinds.{Dens, endedOf}
 use denote.Triple.Clauses.{AtExit}
-use Rattle.text.specs.Put.{Put, came}
 use Rattle.ride.specs.declared.Ride.{Ride}
 use Rattle.acceptance.specs.declared.Acceptance.{Acceptance}
 use Rattle.depot.specs.declared.Written.{Written}
 use Rattle.depot.specs.declared.records.Walked.{Walked}
 use Rattle.depot.specs.Taking.{Going, written}
 use Rattle.depot.specs.Record.{Walk, walked}
-use Rattle.depot.proofs.put_group.Kinds as put-group-kinds
-use Rattle.depot.proofs.put_group.Reads as put-group-reads
-use Rattle.depot.proofs.put_entry.Kinds as put-entry-kinds
-use Rattle.depot.proofs.put_entry.Reads as put-entry-reads
-use Rattle.depot.proofs.put_sum.Kinds as put-sum-kinds
-use Rattle.depot.proofs.put_sum.Reads as put-sum-reads
-use Rattle.depot.proofs.put_refused.Kinds as put-refused-kinds
-use Rattle.depot.proofs.put_refused.Reads as put-refused-reads
 use Rattle.depot.proofs.take_line.Kinds as take-line-kinds
 use Rattle.depot.proofs.take_line.Reads as take-line-reads
 use Rattle.depot.proofs.records.accept_at.Kinds as accept-at-kinds
@@ -37,32 +28,12 @@ same-walked e = (
   ap (λ (w : Walk). w .going .text .buffer) e,
 )
 
--- A place and a buffer that came of the same text.
-same-put : {r r′ : ℕ} {x x′ : List ℕ} → came r x ≡ came r′ x′ → (r ≡ r′) × (x ≡ x′)
-same-put e = (ap (λ (v : Put). v .next) e, ap (λ (v : Put). v .buffer) e)
-
 -- A run, a place and a buffer likewise.
 same-written : {r r′ : Written} {x x′ : List ℕ} → written r x ≡ written r′ x′ → (r ≡ r′) × (x ≡ x′)
 same-written e = (
   ap₂ (λ (s : Acceptance) (n : ℕ). record { run = s; next = n }) (ap (λ (g : Going). g .run) e) (ap (λ (g : Going). g .text .next) e),
   ap (λ (g : Going). g .text .buffer) e,
 )
-
-pub put-group-determined : (κs : Lfts 1) (a : Dens κs put-group-kinds.ps) (r r′ : ℕ) (x x′ : AtExit (endedOf 1 put-group-kinds.ps put-group-kinds.r) κs)
-    → put-group-reads.Post κs a r x → put-group-reads.Post κs a r′ x′ → (r ≡ r′) × (now (x .1 .1 .1 .0) ≡ now (x′ .1 .1 .1 .0))
-put-group-determined κs a r r′ x x′ p q = same-put (p ∙ sym q)
-
-pub put-entry-determined : (κs : Lfts 1) (a : Dens κs put-entry-kinds.ps) (r r′ : ℕ) (x x′ : AtExit (endedOf 1 put-entry-kinds.ps put-entry-kinds.r) κs)
-    → put-entry-reads.Post κs a r x → put-entry-reads.Post κs a r′ x′ → (r ≡ r′) × (now (x .1 .1 .0) ≡ now (x′ .1 .1 .0))
-put-entry-determined κs a r r′ x x′ p q = same-put (p ∙ sym q)
-
-pub put-sum-determined : (κs : Lfts 1) (a : Dens κs put-sum-kinds.ps) (r r′ : ℕ) (x x′ : AtExit (endedOf 1 put-sum-kinds.ps put-sum-kinds.r) κs)
-    → put-sum-reads.Post κs a r x → put-sum-reads.Post κs a r′ x′ → (r ≡ r′) × (now (x .1 .0) ≡ now (x′ .1 .0))
-put-sum-determined κs a r r′ x x′ p q = same-put (p ∙ sym q)
-
-pub put-refused-determined : (κs : Lfts 1) (a : Dens κs put-refused-kinds.ps) (r r′ : ℕ) (x x′ : AtExit (endedOf 1 put-refused-kinds.ps put-refused-kinds.r) κs)
-    → put-refused-reads.Post κs a r x → put-refused-reads.Post κs a r′ x′ → (r ≡ r′) × (now (x .1 .0) ≡ now (x′ .1 .0))
-put-refused-determined κs a r r′ x x′ p q = same-put (p ∙ sym q)
 
 pub take-line-determined : (κs : Lfts 1) (a : Dens κs take-line-kinds.ps) (r r′ : Written) (x x′ : AtExit (endedOf 1 take-line-kinds.ps take-line-kinds.r) κs)
     → take-line-reads.Post κs a r x → take-line-reads.Post κs a r′ x′ → (r ≡ r′) × (now (x .1 .1 .0) ≡ now (x′ .1 .1 .0))

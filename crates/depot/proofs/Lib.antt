@@ -1,4 +1,2 @@
-pub mod Pieces
 pub mod Takings
 pub mod Determined
-pub mod Examples

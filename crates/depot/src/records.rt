@@ -1,12 +1,11 @@
 // One record of a ride: it is treated, and its lines are taken with their text.
 ghost use mathlib.Core.Path.{_≡_};
-ghost use Rattle.ride.specs.Says.{saysGiven, saysReply};
-ghost use Rattle.depot.specs.Taking.{written, takeAll};
+ghost use Rattle.ride.specs.Says.{saysLines, saysGiven, saysReply};
 ghost use Rattle.depot.specs.Record.{linesIn, linesOf, walked, acceptAt};
-use crate::Written;
 use crate::take_lines;
 use acceptance::Acceptance;
 use ride::Given;
+use ride::Lines;
 use ride::Reply;
 use ride::Ride;
 
@@ -17,24 +16,24 @@ pub struct Walked {
     pub next: usize,
 }
 
-// The lines of a record taken, with their text from `at` on; those of a refused one take no part.
-fn take_given(run: Acceptance, given: Given, buf: &mut [u8], at: usize) -> Written
-    ensures { λ r. ⌜ written r (now (buf .exit)) ≡ takeAll run (linesIn (saysGiven given)) (now (buf .entry)) at ⌝ }
+// The lines of a record that can take part: a refused one has none.
+fn lines_in(given: Given) -> Lines
+    ensures { λ r. ⌜ saysLines r ≡ linesIn (saysGiven given) ⌝ }
 {
     match given {
-        Given::Refused(_) => Written { run, next: at },
-        Given::Lines(lines) => take_lines(run, lines, buf, at),
+        Given::Refused(_) => Lines::None,
+        Given::Lines(lines) => lines,
     }
 }
 
-// The lines of a reply taken likewise; where there is no record there are none.
-fn take_reply(run: Acceptance, reply: Reply, buf: &mut [u8], at: usize) -> Written
-    ensures { λ r. ⌜ written r (now (buf .exit)) ≡ takeAll run (linesOf (saysReply reply)) (now (buf .entry)) at ⌝ }
+// Those of a reply; where there is no record there are none.
+fn lines_of(reply: Reply) -> Lines
+    ensures { λ r. ⌜ saysLines r ≡ linesOf (saysReply reply) ⌝ }
 {
     match reply {
-        Reply::Gap => Written { run, next: at },
-        Reply::NoRecord => Written { run, next: at },
-        Reply::Record(given) => take_given(run, given, buf, at),
+        Reply::Gap => Lines::None,
+        Reply::NoRecord => Lines::None,
+        Reply::Record(given) => lines_in(given),
     }
 }
 
@@ -51,9 +50,9 @@ pub fn accept_at(
     ensures { λ r. ⌜ walked r (now (buf .exit)) ≡ acceptAt ride run gap (now (trace .entry)) i (now (buf .entry)) at ⌝ }
 {
     let treated = ride::treat_at(ride, gap, trace, i);
-    let after = treated.ride;
     let reply = treated.reply;
-    let took = take_reply(run, reply, buf, at);
+    let took = take_lines(run, lines_of(reply), buf, at);
+    let after = treated.ride;
     let going = took.run;
     Walked {
         ride: after,

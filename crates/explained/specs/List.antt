@@ -5,6 +5,7 @@ use mathlib.Core.Bool.{Bool, _&&_}
 use mathlib.Core.List.{List, [], _∷_}
 use lib.Dec.{eqb, leb, ltb}
 use lib.ListN.{length, take}
+use Rattle.words.specs.Limits.{largest64}
 use Rattle.words.specs.Answer.{gives, pick}
 use Rattle.text.specs.Put.{placed}
 use Rattle.settings.specs.declared.Store.{Store}
@@ -21,7 +22,7 @@ use Rattle.explained.specs.Told.{stepText, Told, tellOver}
 -- Whether the record with this number is taken: its lines, at most two of at most 160 bytes, have room, and the next record's number is still
 -- below 2^64.
 abbrev pub isTaken : ℕ → ℕ → Bool
-isTaken number room = leb 320 room && ltb number 18446744073709551615
+isTaken number room = leb 320 room && ltb number largest64
 
 -- How many of some records are taken, one after the other, from a state and the first one's number, into so much room.
 unfoldable pub taken : (ℕ → ℕ) → Ride → ℕ → ℕ → List (List ℕ) → ℕ

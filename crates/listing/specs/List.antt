@@ -5,6 +5,7 @@ use mathlib.Core.Bool.{Bool, _&&_}
 use mathlib.Core.List.{List, [], _∷_, _++_}
 use lib.Dec.{eqb, leb, ltb}
 use lib.ListN.{length, take}
+use Rattle.words.specs.Limits.{largest64}
 use Rattle.words.specs.Answer.{Outcome, gives, refuses, pick}
 use Rattle.ride.specs.declared.Line.{Line}
 use Rattle.ride.specs.declared.Ride.{Ride}
@@ -23,7 +24,7 @@ textOf (l ∷ ls) = text l ++ textOf ls
 -- Whether the record with this number is taken: its lines, at most two of at most 64 bytes, have room, and the next
 -- record's number is still below 2^64.
 abbrev pub isTaken : ℕ → ℕ → Bool
-isTaken number room = leb 128 room && ltb number 18446744073709551615
+isTaken number room = leb 128 room && ltb number largest64
 
 -- How many of some records are taken, one after the other, with the gap that the rule gives for each record's odometer, from a
 -- state and the first one's number, into so much room.

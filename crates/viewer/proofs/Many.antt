@@ -8,7 +8,7 @@ use native.Mathlib.Omega.{arith}
 use borrow.Author.Tests.{lt-ltb, ltb-true, ltb-false, ne-eqb, eqb-true, eqb-false, leb-true, leb-false}
 use lib.Dec.{eqb, leb, ltb}
 use lib.ListN.{length, getD}
-use Rattle.words.specs.Answer.{gives, refuses, pick}
+use Rattle.words.specs.Answer.{Outcome, gives, refuses, pick}
 use Rattle.settings.specs.Versions.{kept}
 use Rattle.settings.specs.Store.{judged}
 use Rattle.ride.specs.declared.Ride.{Ride}
@@ -16,7 +16,7 @@ use Rattle.ride.specs.At.{recordAt}
 use Rattle.viewer.specs.declared.Stand.{Stand}
 use Rattle.viewer.specs.declared.Went.{Went}
 use Rattle.viewer.specs.Stand.{noRide, passed, returned}
-use Rattle.viewer.specs.Viewing.{done, stays, stepOf, Forward, forward, Back, back}
+use Rattle.viewer.specs.Viewing.{Done, done, stays, stepOf, Forward, forward, Back, back}
 use Rattle.viewer.specs.Going.{further, forwards, backs}
 use Rattle.viewer.specs.Says.{saysHow, saysWent}
 use Rattle.viewer.proofs.Calls.{forward-end, forward-refused, forward-step, back-none, back-done}
@@ -152,3 +152,12 @@ answer-by false times s e = sym (ap (λ (b : Back). b .answer) (backs-move times
 
 pub backs-answer : (times : ℕ) (s : Stand) → backs times s .answer ≡ pick (leb times (s .kept)) (gives done) (refuses 22)
 backs-answer times s = answer-by (eqb (pick (leb times (s .kept)) times (s .kept)) 0) times s refl
+
+-- once is one back
+once : (o : Outcome Done) (s : Stand) → _≡_ {A = Back} (further o s (record { answer = gives done; stand = s })) (record { answer = o; stand = s })
+once (gives done) s = refl
+once (refuses n) s = refl
+
+pub backs-one : (s : Stand) → backs 1 s ≡ back s
+unfolding backs
+backs-one s = once (back s .answer) (back s .stand)

@@ -1,6 +1,6 @@
 // One record forward and back, over a lent trace.
 ghost use mathlib.Core.Path.{_≡_};
-ghost use Prim.Native.Nat.{_<_, _-_, _/_};
+ghost use Prim.Native.Nat.{_<_, _/_};
 ghost use mathlib.Core.List.{[]};
 ghost use mathlib.Core.Bool.{true};
 ghost use lib.ListN.{length};
@@ -11,13 +11,14 @@ ghost use Rattle.ride.specs.At.{recordAt};
 ghost use Rattle.ride.specs.Over.{linesFor};
 ghost use Rattle.ride.specs.Says.{saysWrong, saysLines, saysGiven};
 ghost use Rattle.ride.specs.State.{noGroup};
-ghost use Rattle.viewer.specs.Stand.{oneMore, passed, returned};
+ghost use Rattle.viewer.specs.Stand.{oneMore, passed};
 ghost use Rattle.viewer.specs.Viewing.{byStep, forward, back};
 ghost use Rattle.viewer.specs.Says.{saysHow, saysWent, saysCame};
 use crate::Came;
 use crate::How;
 use crate::Stand;
 use crate::Went;
+use crate::going::backs_at;
 use ride::Given;
 use ride::Line;
 use ride::Lines;
@@ -147,39 +148,9 @@ pub fn forward_at(trace: &[u8], stand: Stand) -> Went
     }
 }
 
-// One less, and 0 at 0.
-fn one_less(n: usize) -> usize
-    ensures { λ r. ⌜ r ≡ n - 1 ⌝ }
-{
-    if n == 0 {
-        return 0;
-    }
-    n - 1
-}
-
 // One record back: 22 where no state is kept.
 pub fn back_at(stand: Stand) -> Came
     ensures { λ r. ⌜ saysCame r ≡ back stand ⌝ }
 {
-    if stand.kept == 0 {
-        return Came {
-            stand,
-            how: How::NothingKept,
-        };
-    }
-    let number = one_less(stand.number);
-    let last = stand.last;
-    let settings = stand.settings;
-    let at = number % 256;
-    let ride = last[at];
-    Came {
-        stand: Stand {
-            number,
-            kept: stand.kept - 1,
-            ride,
-            last,
-            settings,
-        },
-        how: How::Done,
-    }
+    backs_at(stand, 1)
 }
