@@ -4,27 +4,26 @@ ghost use mathlib.Core.List.{[], _∷_};
 ghost use Prim.Native.Nat.{_<_};
 ghost use Rattle.words.specs.Answer.{gives, refuses};
 ghost use Rattle.group.specs.Judge.{judge};
-ghost use Rattle.ride.specs.State.{noGroup, nothingKnown};
-ghost use Rattle.ride.specs.Closing.{linkingFrom, mainFrom, knownFrom, knownAfter, lineOf, leave};
+ghost use Rattle.ride.specs.State.{noGroup};
+ghost use Rattle.ride.specs.Closing.{knownAfter, lineOf, leave};
 ghost use Rattle.ride.specs.Step.{ended};
 ghost use Rattle.ride.specs.Says.{saysVerdict, saysClosed, saysEnded};
 use crate::Ended;
 use crate::Known;
 use crate::Line;
 use crate::Lines;
-use crate::Linking;
 use crate::Mark;
 use crate::Ride;
 use crate::Seen;
 use crate::anew::seen_anew;
 use crate::joining::no_group;
+use crate::knowing::known_from;
+use crate::knowing::nothing_known;
 use crate::shown::seen_from;
-use group::Content;
 use group::Group;
 use group::GroupJudged;
 use group::Message;
 use group::Number;
-use group::Told;
 use walk::Direction;
 use walk::Kind;
 
@@ -42,66 +41,6 @@ pub struct Verdict {
     pub fault: u8,
     pub seen: Seen,
     pub known: Known,
-}
-
-// Nothing is known.
-pub fn nothing_known() -> Known
-    ensures { λ r. ⌜ r ≡ nothingKnown ⌝ }
-{
-    Known {
-        linking: Linking::Unset,
-        main: Told::Unknown,
-        target: Told::Unknown,
-        number: Number::None,
-    }
-}
-
-// The main speed after a present signal that tells this.
-fn main_from(told: Told, before: Told) -> Told
-    ensures { λ r. ⌜ r ≡ mainFrom told before ⌝ }
-{
-    match told {
-        Told::Kmh(v) => Told::Kmh(v),
-        Told::Unknown => before,
-    }
-}
-
-// The linking that a present signal sets.
-fn linking_from(distance: u32, preset: bool, place: u32) -> Linking
-    ensures { λ r. ⌜ r ≡ linkingFrom distance preset place ⌝ }
-{
-    if preset {
-        return Linking::Unset;
-    }
-    Linking::Set {
-        distance,
-        from: place,
-    }
-}
-
-// What is known after an accepted group: a present signal sets it, all others leave it.
-fn known_from(content: Content, place: u32, number: Number, known: Known) -> Known
-    ensures { λ r. ⌜ r ≡ knownFrom content place number known ⌝ }
-{
-    match content {
-        Content::Signal {
-            distance,
-            preset,
-            main,
-            target,
-        } => {
-            let before = known.main;
-            Known {
-                linking: linking_from(distance, preset, place),
-                main: main_from(main, before),
-                target,
-                number,
-            }
-        }
-        Content::Warning { distance: _ } => known,
-        Content::Route(_) => known,
-        Content::Nothing => known,
-    }
 }
 
 // The verdict on an accepted group.

@@ -12,6 +12,7 @@ ghost use Rattle.ride.specs.Says.{saysStepped, saysEnded, saysRan};
 mod anew;
 mod closing;
 mod joining;
+mod knowing;
 mod marks;
 mod records;
 mod shown;
@@ -152,7 +153,7 @@ pub fn fresh() -> Ride
     Ride {
         odometer: 0,
         group: joining::no_group(),
-        known: closing::nothing_known(),
+        known: knowing::nothing_known(),
     }
 }
 

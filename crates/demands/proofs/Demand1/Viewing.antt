@@ -193,9 +193,7 @@ viewers-untouched = record {
   forwards-at = λ trace s times r n next c e f.
       let is = c .4 ∙ ap (λ (t : List ℕ). forwards times t s) (c .3) in
       let stopped = forwards-stopped times n trace s (sym (ap (λ (b : Back). b .answer) is) ∙ e) in
-      ap (λ (g : Forward). g .answer) (f .4 ∙ ap (λ (t : List ℕ). forward t (r .stand)) (f .3))
-      ∙ ap (λ (t : Stand). forward trace t .answer) (ap (λ (b : Back). b .stand) is)
-      ∙ stopped;
+      ap (λ (g : Forward). g .answer) (f .4 ∙ ap (λ (t : List ℕ). forward t (r .stand)) (f .3)) ∙ ap (λ (t : Stand). forward trace t .answer) (ap (λ (b : Back). b .stand) is) ∙ stopped;
   backs-at = λ s times r n next c e f.
       let stopped = backs-stopped times n s (sym (ap (λ (b : Back). b .answer) (c .1)) ∙ e) in
       ap (λ (b : Back). b .answer) (f .1) ∙ ap (λ (t : Stand). back t .answer) (ap (λ (b : Back). b .stand) (c .1)) ∙ stopped;

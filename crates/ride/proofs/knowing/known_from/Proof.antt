@@ -1,8 +1,8 @@
 -- `known_from` sets what is known from a present signal alone.
 use Rattle.ride.proofs.Cases.{known-signal}
 use borrow.Author.Needs.{needs}
-use Rattle.ride.proofs.closing.known_from.Statement.{statement}
-use Rattle.ride.proofs.closing.known_from.Tie as tie
+use Rattle.ride.proofs.knowing.known_from.Statement.{statement}
+use Rattle.ride.proofs.knowing.known_from.Tie as tie
 
 returns : tie.Need-returns
 returns c =

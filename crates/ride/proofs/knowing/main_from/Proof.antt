@@ -1,8 +1,8 @@
 -- `main_from` takes what is told, and else leaves what was.
 use Rattle.ride.proofs.Cases.{main-kmh}
 use borrow.Author.Needs.{needs}
-use Rattle.ride.proofs.closing.main_from.Statement.{statement}
-use Rattle.ride.proofs.closing.main_from.Tie as tie
+use Rattle.ride.proofs.knowing.main_from.Statement.{statement}
+use Rattle.ride.proofs.knowing.main_from.Tie as tie
 
 returns : tie.Need-returns
 returns c =

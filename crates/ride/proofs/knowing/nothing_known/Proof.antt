@@ -1,8 +1,8 @@
 -- `nothing_known` writes the fields of the definition.
 use mathlib.Core.Path.{refl}
 use Rattle.ride.specs.State.{nothingKnown}
-use Rattle.ride.proofs.closing.nothing_known.Statement.{statement}
-use Rattle.ride.proofs.closing.nothing_known.Tie as tie
+use Rattle.ride.proofs.knowing.nothing_known.Statement.{statement}
+use Rattle.ride.proofs.knowing.nothing_known.Tie as tie
 
 returns : tie.Need-returns
 unfolding nothingKnown
