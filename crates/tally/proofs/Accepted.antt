@@ -9,6 +9,7 @@ use lib.Dec.{ltb}
 use lib.ListN.{length, take, getD}
 use borrow.Author.Tests.{ltb-true, ltb-false, le-leb}
 use Rattle.words.specs.Answer.{pick}
+use Rattle.words.specs.Limits.{largest64}
 use Rattle.ride.specs.declared.Line.{Line}
 use Rattle.ride.specs.Over.{records}
 use Rattle.acceptance.specs.declared.Met.{Met}
@@ -114,19 +115,19 @@ module _ (r : Run) where
   extra : (x : Sums) → SumsUp (ended r) x → groupsIn (r .lines) < 2 ^ 64 → x .extra ≡ extraIn (r .answers)
   extra x p h =
       let are = sums-are (runOver s (r .lines)) x (in-sums x p) in
-      let room : s .extra + groupsIn (r .lines) ≤ 18446744073709551615 = omega (arith, none-extra) in
+      let room : s .extra + groupsIn (r .lines) ≤ largest64 = omega (arith, none-extra) in
       let all : runOver s (r .lines) .extra ≡ extraIn (answersTo s (r .lines)) = omega (arith, extra-over s (r .lines) room, none-extra) in
       are .4 ∙ all ∙ ap extraIn (sym answers-are)
 
   met-and-extra : (x : Sums) → SumsUp (ended r) x → groupsIn (r .lines) < 2 ^ 64 → (x .met + x .extra ≡ groupsIn (r .lines)) × (x .present ≡ groupsIn (r .lines))
   met-and-extra x p h =
       let are = sums-are (runOver s (r .lines)) x (in-sums x p) in
-      let room : s .extra + groupsIn (r .lines) ≤ 18446744073709551615 = omega (arith, none-extra) in
+      let room : s .extra + groupsIn (r .lines) ≤ largest64 = omega (arith, none-extra) in
       let all : metIn (planned (runOver s (r .lines))) + runOver s (r .lines) .extra ≡ groupsIn (r .lines) =
       omega (arith, wanted-over s (r .lines), extra-over s (r .lines) room, groups-over s (r .lines), none-extra, none-yet) in
-      let fits : metIn (planned (runOver s (r .lines))) + runOver s (r .lines) .extra ≤ 18446744073709551615 = omega arith in (
+      let fits : metIn (planned (runOver s (r .lines))) + runOver s (r .lines) .extra ≤ largest64 = omega arith in (
         omega (arith, are .1, are .4),
-        are .3 ∙ ap (λ (b : Bool). pick b (metIn (planned (runOver s (r .lines))) + runOver s (r .lines) .extra) 18446744073709551615) (le-leb _ _ fits) ∙ all,
+        are .3 ∙ ap (λ (b : Bool). pick b (metIn (planned (runOver s (r .lines))) + runOver s (r .lines) .extra) largest64) (le-leb _ _ fits) ∙ all,
       )
 
   first-is-wanted : (k i : ℕ) → k < length (r .lines) → i < entries r → claim.isFor r i k → claim.noneBefore r i k → part r k ≡ Role.Wanted i

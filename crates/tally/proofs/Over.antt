@@ -9,6 +9,7 @@ use lib.Dec.{ltb}
 use lib.ListN.{length, take, getD, set}
 use borrow.Author.Tests.{lt-ltb}
 use Rattle.words.specs.Answer.{pick}
+use Rattle.words.specs.Limits.{largest64}
 use Rattle.ride.specs.declared.Line.{Line}
 use Rattle.acceptance.specs.declared.Met.{Met}
 use Rattle.acceptance.specs.declared.Entry.{Entry}
@@ -133,23 +134,23 @@ wanted-over s (l ∷ ls) =
     (wanted-over (takeLine s l .state) ls ∙ ap (λ (m : ℕ). m + wantedIn (answersTo (takeLine s l .state) ls)) (wanted-step s l (case s l)))
 
 -- A group more is extra for each answered so, while the count has room.
-extra-step : (s : Acceptance) (l : Line) → (isGroup l ≡ true → s .extra < 18446744073709551615) → Case s l
+extra-step : (s : Acceptance) (l : Line) → (isGroup l ≡ true → s .extra < largest64) → Case s l
     → takeLine s l .state .extra ≡ pick (isExtra (takeLine s l .answer)) (suc (s .extra)) (s .extra)
 unfolding afterWanted afterExtra
 extra-step s l h (none g is) = ap (λ (t : Took). t .state .extra) is ∙ sym (ap (λ (t : Took). pick (isExtra (t .answer)) (suc (s .extra)) (s .extra)) is)
 extra-step s l h (wanted g w is) = ap (λ (t : Took). t .state .extra) is ∙ sym (ap (λ (t : Took). pick (isExtra (t .answer)) (suc (s .extra)) (s .extra)) is)
 extra-step s l h (extra g w is) =
     let more : s .extra + 1 ≡ suc (s .extra) = omega arith in
-    ap (λ (t : Took). t .state .extra) is ∙ ap (λ (b : Bool). pick b (s .extra + 1) (s .extra)) (lt-ltb (s .extra) 18446744073709551615 (h g))
+    ap (λ (t : Took). t .state .extra) is ∙ ap (λ (b : Bool). pick b (s .extra + 1) (s .extra)) (lt-ltb (s .extra) largest64 (h g))
     ∙ more ∙ sym (ap (λ (t : Took). pick (isExtra (t .answer)) (suc (s .extra)) (s .extra)) is)
 
 -- Room for all groups is room for one, and then for the others.
-room-for-one : (s : Acceptance) (l : Line) (n : ℕ) → s .extra + pick (isGroup l) (suc n) n ≤ 18446744073709551615 → isGroup l ≡ true → s .extra < 18446744073709551615
+room-for-one : (s : Acceptance) (l : Line) (n : ℕ) → s .extra + pick (isGroup l) (suc n) n ≤ largest64 → isGroup l ≡ true → s .extra < largest64
 room-for-one s l n h g =
     let is : pick (isGroup l) (suc n) n ≡ suc n = ap (λ (b : Bool). pick b (suc n) n) g in
     omega arith
 
-room-after : (s : Acceptance) (l : Line) (n : ℕ) → s .extra + pick (isGroup l) (suc n) n ≤ 18446744073709551615 → Case s l → takeLine s l .state .extra + n ≤ 18446744073709551615
+room-after : (s : Acceptance) (l : Line) (n : ℕ) → s .extra + pick (isGroup l) (suc n) n ≤ largest64 → Case s l → takeLine s l .state .extra + n ≤ largest64
 unfolding afterWanted afterExtra
 room-after s l n h (none g is) =
     let same : takeLine s l .state .extra ≡ s .extra = ap (λ (t : Took). t .state .extra) is in
@@ -162,10 +163,10 @@ room-after s l n h (wanted g w is) =
 room-after s l n h (extra g w is) =
     let one : pick (isGroup l) (suc n) n ≡ suc n = ap (λ (b : Bool). pick b (suc n) n) g in
     let more : takeLine s l .state .extra ≡ s .extra + 1 =
-    ap (λ (t : Took). t .state .extra) is ∙ ap (λ (b : Bool). pick b (s .extra + 1) (s .extra)) (lt-ltb (s .extra) 18446744073709551615 (room-for-one s l n h g)) in
+    ap (λ (t : Took). t .state .extra) is ∙ ap (λ (b : Bool). pick b (s .extra + 1) (s .extra)) (lt-ltb (s .extra) largest64 (room-for-one s l n h g)) in
     omega arith
 
-pub extra-over : (s : Acceptance) (ls : List Line) → s .extra + groupsIn ls ≤ 18446744073709551615
+pub extra-over : (s : Acceptance) (ls : List Line) → s .extra + groupsIn ls ≤ largest64
     → runOver s ls .extra ≡ s .extra + extraIn (answersTo s ls)
 unfolding runOver answersTo extraIn groupsIn
 extra-over s [] h = omega arith

@@ -8,6 +8,7 @@ use mathlib.Core.Bool.{Bool, false}
 use mathlib.Core.List.{List, [], _∷_, _++_, append-assoc}
 use lib.ListN.{length, take, drop, length-append, length-drop}
 use Rattle.words.specs.Answer.{pick}
+use Rattle.words.specs.Limits.{largest64}
 use Rattle.ride.specs.State.{freshRide}
 use Rattle.ride.specs.Step.{End, end}
 use Rattle.ride.specs.Over.{firstRecords, records, Ridden, before, rideOver}
@@ -169,13 +170,13 @@ module _ (gaps : ℕ → ℕ) (Lists : Ride → ℕ → List ℕ → List ℕ �
   -- ---- the program's blocks
 
   pub goes-on-by : (ride : Ride) (number : ℕ) (c : Call) → Whole (c .block) → 1 ≤ recordsIn (c .block) → 128 ≤ length (c .before)
-      → number < 18446744073709551615 → Lists ride number (c .block) (c .before) (c .answer) (c .after) → 1 ≤ taken (c .answer .done)
+      → number < largest64 → Lists ride number (c .block) (c .before) (c .answer) (c .after) → 1 ≤ taken (c .answer .done)
   goes-on-by ride number c whole some room small call =
       let t = takes ride number (c .block) (c .before) (c .answer) (c .after) whole call in
       omega (arith, ap taken (t .took), t .one-at-least some room small)
 
   pub at-once-by : (ride : Ride) (number : ℕ) (c : Call) → Whole (c .block) → 128 * recordsIn (c .block) ≤ length (c .before)
-      → number + recordsIn (c .block) ≤ 18446744073709551615 → Lists ride number (c .block) (c .before) (c .answer) (c .after)
+      → number + recordsIn (c .block) ≤ largest64 → Lists ride number (c .block) (c .before) (c .answer) (c .after)
       → taken (c .answer .done) ≡ recordsIn (c .block)
   at-once-by ride number c whole room small call =
       let t = takes ride number (c .block) (c .before) (c .answer) (c .after) whole call in

@@ -10,6 +10,7 @@ use lib.ListN.{length, take, drop}
 use lib.Seq.{take-all, take-at}
 use borrow.Author.Tests.{le-leb, lt-leb}
 use Rattle.words.specs.Answer.{gives, pick}
+use Rattle.words.specs.Limits.{largest64}
 use Rattle.words.proofs.Told.{told}
 use Rattle.ride.specs.State.{freshRide}
 use Rattle.ride.specs.Step.{End, end}
@@ -49,13 +50,13 @@ listing trace before =
       out = placed (allText trace) before 0;
     }
 
-all-listed : (trace before : List ℕ) → badLength trace ≡ false → recordsIn trace < 18446744073709551615 → 128 * recordsIn trace ≤ length before
+all-listed : (trace before : List ℕ) → badLength trace ≡ false → recordsIn trace < largest64 → 128 * recordsIn trace ≤ length before
     → list freshRide 40 1 trace before ≡ listing trace before
 unfolding list listOf badLength
 all-listed trace before good small enough =
     let many : length (records trace) ≡ recordsIn trace = records-length (recordsIn trace) trace in
     let fit : 128 * length (records trace) ≤ length before = subst (λ (k : ℕ). 128 * k ≤ length before) (sym many) enough in
-    let few : 1 + length (records trace) ≤ 18446744073709551615 = subst (λ (k : ℕ). 1 + k ≤ 18446744073709551615) (sym many) (omega arith) in
+    let few : 1 + length (records trace) ≤ largest64 = subst (λ (k : ℕ). 1 + k ≤ largest64) (sym many) (omega arith) in
     ap (λ (t : Bool). pick t (listTaken (λ odometer. 40) freshRide 1 (records trace) before) (unlisted freshRide 1 before 16)) (not-false (eqb (length trace % 8) 0) good)
     ∙ ap (λ (k : ℕ). listOf (λ odometer. 40) freshRide 1 k (records trace) before) (all-taken (records trace) (λ odometer. 40) freshRide 1 (length before) fit few ∙ many)
     ∙ ap (λ (rs : List (List ℕ)). whole rs) (take-all (recordsIn trace) (records trace) (subst (λ (k : ℕ). k ≤ recordsIn trace) (sym many) (omega arith)))
@@ -70,7 +71,7 @@ all-listed trace before good small enough =
         }
 
 -- What `list` answers, where all records have room.
-pub listed-so : (f : Ride) (l : Listed) (trace before after : List ℕ) → badLength trace ≡ false → recordsIn trace < 18446744073709551615
+pub listed-so : (f : Ride) (l : Listed) (trace before after : List ℕ) → badLength trace ≡ false → recordsIn trace < largest64
     → 128 * recordsIn trace ≤ length before → Fresh f → ListInto f 40 1 trace before l after
     → (l .done ≡ Done.Took (recordsIn trace) (length (allText trace))) × (l .ride ≡ ridden trace .ride)
     × (after ≡ allText trace ++ drop (length (allText trace)) before)

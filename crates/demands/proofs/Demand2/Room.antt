@@ -8,6 +8,7 @@ use mathlib.Core.List.{List, [], _∷_, _++_}
 use lib.ListN.{length, drop, length-append}
 use borrow.Author.Tests.{le-leb, lt-ltb}
 use Rattle.words.specs.Answer.{Outcome, gives, refuses, pick}
+use Rattle.words.specs.Limits.{largest64}
 use Rattle.ride.specs.Record.{Entry, checkRecord, odometerOf}
 use Rattle.ride.specs.Joining.{isBehind}
 use Rattle.group.specs.Judge.{judge}
@@ -61,7 +62,7 @@ record-short ride gap number r = go (checkRecord (ride .odometer) r)
         (missed-short (isMissed (e .odometer) (c .group) (c .known)) (Line.Missed (missedPlace (c .known .linking))))
 
 -- With room for 128 bytes a record, all are taken.
-pub all-taken : (rs : List (List ℕ)) (gaps : ℕ → ℕ) (ride : Ride) (number room : ℕ) → 128 * length rs ≤ room → number + length rs ≤ 18446744073709551615
+pub all-taken : (rs : List (List ℕ)) (gaps : ℕ → ℕ) (ride : Ride) (number room : ℕ) → 128 * length rs ≤ room → number + length rs ≤ largest64
     → taken gaps ride number room rs ≡ length rs
 unfolding taken
 all-taken [] gaps ride number room enough small = refl
@@ -70,10 +71,10 @@ all-taken (r ∷ rs) gaps ride number room enough small =
     let written : length (textOf (linesFor number (s .lines))) ≤ 128 = record-short ride (gaps (odometerOf r)) number r in
     let left : ℕ = room - length (textOf (linesFor number (s .lines))) in
     let here : 128 ≤ room = omega arith in
-    let next : number < 18446744073709551615 = omega arith in
+    let next : number < largest64 = omega arith in
     let more : 128 * length rs ≤ left = omega arith in
-    let on : suc number + length rs ≤ 18446744073709551615 = omega arith in
-    ap₂ (λ (t u : Bool). pick (t && u) (suc (taken gaps (s .ride) (suc number) left rs)) 0) (le-leb 128 room here) (lt-ltb number 18446744073709551615 next)
+    let on : suc number + length rs ≤ largest64 = omega arith in
+    ap₂ (λ (t u : Bool). pick (t && u) (suc (taken gaps (s .ride) (suc number) left rs)) 0) (le-leb 128 room here) (lt-ltb number largest64 next)
     ∙ ap suc (all-taken rs gaps (s .ride) (suc number) left more on)
 
 -- No more are taken than there are.
@@ -90,7 +91,7 @@ few-taken (r ∷ rs) gaps ride number room =
     go false k h = omega arith
 
 -- One is, where there is one and room for it.
-pub one-taken : (rs : List (List ℕ)) (gaps : ℕ → ℕ) (ride : Ride) (number room : ℕ) → 1 ≤ length rs → 128 ≤ room → number < 18446744073709551615
+pub one-taken : (rs : List (List ℕ)) (gaps : ℕ → ℕ) (ride : Ride) (number room : ℕ) → 1 ≤ length rs → 128 ≤ room → number < largest64
     → 1 ≤ taken gaps ride number room rs
 unfolding taken
 one-taken [] gaps ride number room some enough small = absurd (omega arith)
@@ -99,4 +100,4 @@ one-taken (r ∷ rs) gaps ride number room some enough small =
     let left : ℕ = room - length (textOf (linesFor number (s .lines))) in
     let more : 1 ≤ suc (taken gaps (s .ride) (suc number) left rs) = omega arith in
     subst (λ (k : ℕ). 1 ≤ k)
-    (sym (ap₂ (λ (t u : Bool). pick (t && u) (suc (taken gaps (s .ride) (suc number) left rs)) 0) (le-leb 128 room enough) (lt-ltb number 18446744073709551615 small))) more
+    (sym (ap₂ (λ (t u : Bool). pick (t && u) (suc (taken gaps (s .ride) (suc number) left rs)) 0) (le-leb 128 room enough) (lt-ltb number largest64 small))) more

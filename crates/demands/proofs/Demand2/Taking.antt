@@ -9,6 +9,7 @@ use lib.Dec.{eqb}
 use lib.ListN.{length, take, drop}
 use lib.Seq.{take-at, drop-at}
 use Rattle.words.specs.Answer.{gives, pick}
+use Rattle.words.specs.Limits.{largest64}
 use Rattle.words.proofs.Told.{told}
 use Rattle.settings.specs.declared.Store.{Store}
 use Rattle.settings.specs.Versions.{kept}
@@ -56,7 +57,7 @@ takes-by gaps ride number trace before l after is =
       one-at-least = λ some room small. one-taken (records trace) gaps ride number (length before) (subst (λ (k : ℕ). 1 ≤ k) (sym many) some) room small;
       all-with-room = λ enough small.
           all-taken (records trace) gaps ride number (length before) (subst (λ (k : ℕ). 128 * k ≤ length before) (sym many) enough)
-          (subst (λ (k : ℕ). number + k ≤ 18446744073709551615) (sym many) small)
+          (subst (λ (k : ℕ). number + k ≤ largest64) (sym many) small)
           ∙ many;
       written = ap (take (length w)) holds ∙ take-at w (drop (length w) before) (length w) refl;
       rest-stays = ap (drop (length w)) holds ∙ drop-at w (drop (length w) before) (length w) refl;

@@ -9,6 +9,7 @@ use mathlib.Core.List.{List, [], _∷_, _++_, append-nil}
 use lib.Dec.{eqb}
 use lib.ListN.{length, take, drop, replicate, length-replicate, drop-of-length-le}
 use Rattle.words.specs.Answer.{gives, pick}
+use Rattle.words.specs.Limits.{largest64}
 use Rattle.words.specs.Bits.{word}
 use Rattle.words.specs.Plain.{isCheck, covers, count, even, isCode, onwards, figure}
 use Rattle.words.specs.Code.{other, exchanged, readWord}
@@ -75,7 +76,7 @@ module _ (gaps : ℕ → ℕ) (ride : Ride) (number : ℕ) (card : List ℕ) whe
 
   -- it takes all of the card
   pub all-met : (Lists : Ride → ℕ → List ℕ → List ℕ → Listed → List ℕ → Type 0) → Taking gaps Lists → Lists ride number card room (theCall .answer) (theCall .after)
-      → Whole card → number + recordsIn card ≤ 18446744073709551615 → ByCalls Lists ride number card (theCall ∷ [])
+      → Whole card → number + recordsIn card ≤ largest64 → ByCalls Lists ride number card (theCall ∷ [])
   all-met Lists takes call whole small =
       let t = takes ride number card room (theCall .answer) (theCall .after) whole call in
       let enough : 128 * recordsIn card ≤ length room = omega (arith, length-replicate {A = ℕ} (128 * recordsIn card) 0) in
@@ -113,7 +114,7 @@ module _ (gap : ℕ) (ride : Ride) (number : ℕ) (card : List ℕ) where
     allowed-so good whole,
   )
 
-  pub listed-met : badGap gap ≡ false → Whole card → number + recordsIn card ≤ 18446744073709551615 → ByList gap ride number card (oneCall ∷ [])
+  pub listed-met : badGap gap ≡ false → Whole card → number + recordsIn card ≤ largest64 → ByList gap ride number card (oneCall ∷ [])
   listed-met good whole small =
       all-met (λ odometer. gap) ride number card (Lists gap) (takes gap good) (called good whole) whole small
 

@@ -9,6 +9,7 @@ use mathlib.Core.List.{List, [], _∷_}
 use lib.Dec.{eqb}
 use lib.ListN.{length}
 use Rattle.words.specs.Answer.{gives}
+use Rattle.words.specs.Limits.{largest64}
 use Rattle.words.specs.Bits.{bit}
 use Rattle.telegram.specs.Sync.{differing, isGood, goodPair}
 use Rattle.settings.specs.declared.Begun.{Begun}
@@ -69,7 +70,7 @@ module _ (store : Store) (ride : Ride) (number : ℕ) (card : List ℕ) (good : 
     under-taken ride store number card (underCall .before) good (not-false (eqb (length card % 8) 0) whole),
   )
 
-  pub under-met : number + recordsIn card ≤ 18446744073709551615 → ByListUnder store ride number card (underCall ∷ [])
+  pub under-met : number + recordsIn card ≤ largest64 → ByListUnder store ride number card (underCall ∷ [])
   under-met small = all-met (gapAt store) ride number card (Lists store) (takes store good) called whole small
 
 -- ---- one version, and two

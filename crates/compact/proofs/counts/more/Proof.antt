@@ -3,6 +3,7 @@ use Prim.Native.Nat.{_+_, _<_, _≤_}
 use native.Mathlib.Omega.{arith}
 use borrow.Author.Needs.{needs}
 use borrow.Author.Tests.{le-leb, lt-leb}
+use Rattle.words.specs.Limits.{largest64}
 use Rattle.compact.specs.Counting.{added}
 use Rattle.compact.proofs.counts.more.Statement.{statement}
 use Rattle.compact.proofs.counts.more.Tie as tie
@@ -11,14 +12,14 @@ returns : tie.Need-returns
 unfolding added
 returns c =
     let a = c .before .args in
-    let over : 18446744073709551615 < a .count + a .by = omega arith in
+    let over : largest64 < a .count + a .by = omega arith in
     simp (lt-leb _ _ over)
 
 returns-2 : tie.Need-returns-2
 unfolding added
 returns-2 c =
     let a = c .before .args in
-    let fits : a .count + a .by ≤ 18446744073709551615 = omega arith in
+    let fits : a .count + a .by ≤ largest64 = omega arith in
     simp (le-leb _ _ fits)
 
 pub more-spec : {M : Type 1} → statement M
