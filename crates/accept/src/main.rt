@@ -29,7 +29,10 @@ fn ride_over(store: Store, run: acceptance::Acceptance, cards: usize) {
         Found::Cards => riding::accept(store, run, cards, &lengths, &mut block),
         Found::BadLength(_) => out::write_line(Line::Trace(16)),
         Found::NoCard => usage(),
-        _ => cards::say_found(b"accept", found),
+        Found::TooMany => cards::say_found(b"accept", found),
+        Found::CannotOpen(_) => cards::say_found(b"accept", found),
+        Found::CannotRead(_) => cards::say_found(b"accept", found),
+        Found::Once(_) => cards::say_found(b"accept", found),
     }
 }
 
@@ -78,8 +81,9 @@ fn main() {
     let first = asked.first;
     let how = asked.how;
     match how {
+        How::Plain => accept(store, first),
+        How::Settings => accept(store, first),
         How::Usage => usage(),
         How::Said => {}
-        _ => accept(store, first),
     }
 }

@@ -24,7 +24,11 @@ fn list(store: Store, first: usize) {
         Found::BadLength(_) => {
             blocks::write_line(Line::Trace(16));
         }
-        _ => {}
+        Found::NoCard => {}
+        Found::TooMany => {}
+        Found::CannotOpen(_) => {}
+        Found::CannotRead(_) => {}
+        Found::Once(_) => {}
     }
 }
 
@@ -34,8 +38,9 @@ fn main() {
     let first = asked.first;
     let how = asked.how;
     match how {
+        How::Plain => list(store, first),
+        How::Settings => list(store, first),
         How::Usage => cards::say(b"checker", b"usage: checker [-s SETTINGS] CARD.."),
         How::Said => {}
-        _ => list(store, first),
     }
 }

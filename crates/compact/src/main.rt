@@ -24,7 +24,10 @@ fn go_over(store: Store, first: usize) {
         Found::Cards => blocks::write_cards(store, first, &lengths, &mut block),
         Found::BadLength(_) => cards::say(b"compact", b"refused 16"),
         Found::NoCard => usage(),
-        _ => cards::say_found(b"compact", found),
+        Found::TooMany => cards::say_found(b"compact", found),
+        Found::CannotOpen(_) => cards::say_found(b"compact", found),
+        Found::CannotRead(_) => cards::say_found(b"compact", found),
+        Found::Once(_) => cards::say_found(b"compact", found),
     }
 }
 
@@ -33,8 +36,9 @@ fn main() {
     let store = options.store;
     let how = options.how;
     match how {
+        How::Plain => go_over(store, options.first),
+        How::Settings => go_over(store, options.first),
         How::Usage => usage(),
         How::Said => {}
-        _ => go_over(store, options.first),
     }
 }

@@ -27,7 +27,10 @@ fn explain_cards(store: Store, first: usize) {
             blocks::write_line(Line::Trace(16));
         }
         Found::NoCard => usage(),
-        _ => cards::say_found(b"explain", found),
+        Found::TooMany => cards::say_found(b"explain", found),
+        Found::CannotOpen(_) => cards::say_found(b"explain", found),
+        Found::CannotRead(_) => cards::say_found(b"explain", found),
+        Found::Once(_) => cards::say_found(b"explain", found),
     }
 }
 
@@ -38,8 +41,9 @@ fn main() {
     let first = asked.first;
     let how = asked.how;
     match how {
+        How::Plain => explain_cards(store, first),
+        How::Settings => explain_cards(store, first),
         How::Usage => usage(),
         How::Said => {}
-        _ => explain_cards(store, first),
     }
 }

@@ -24,7 +24,10 @@ fn look(store: Store, first: usize) {
         Found::Cards => reading::open(store, first, &lengths),
         Found::BadLength(_) => out::refuse_trace(),
         Found::NoCard => usage(),
-        _ => cards::say_found(b"view", found),
+        Found::TooMany => cards::say_found(b"view", found),
+        Found::CannotOpen(_) => cards::say_found(b"view", found),
+        Found::CannotRead(_) => cards::say_found(b"view", found),
+        Found::Once(_) => cards::say_found(b"view", found),
     }
 }
 
@@ -34,8 +37,9 @@ fn main() {
     let first = asked.first;
     let how = asked.how;
     match how {
+        How::Plain => look(store, first),
+        How::Settings => look(store, first),
         How::Usage => usage(),
         How::Said => {}
-        _ => look(store, first),
     }
 }
