@@ -24,9 +24,9 @@ use Rattle.ride.specs.declared.Ride.{Ride}
 use Rattle.ride.specs.declared.closing.Verdict.{Verdict}
 use Rattle.ride.specs.State.{noBalise, noGroup, isOpen, nothingKnown}
 use Rattle.ride.specs.Linking.{markAt, markOf, isOverdue, missedPlace}
-use Rattle.ride.specs.Closing.{Judgement, Closing, linkingFrom, mainFrom, knownFrom, knownAfter, markFrom, firstPlace, lineOf, close, leave}
+use Rattle.ride.specs.Closing.{Closing, linkingFrom, mainFrom, knownFrom, knownAfter, markFrom, firstPlace, lineOf, close, leave}
 use Rattle.ride.specs.Step.{end, ended}
-use Rattle.ride.specs.Says.{saysVerdict}
+use Rattle.ride.specs.Inside.{Judgement, saysVerdict}
 
 -- ---- linking that is set
 

@@ -78,11 +78,6 @@ abbrev pub lineOf : Group → Linking → Outcome Message → Line
 lineOf g linking (gives m) = Line.Group (seenFrom m linking)
 lineOf g linking (refuses n) = Line.Fault (firstPlace g) n
 
--- What judging a group says: its line, and what is known then.
-pub record Judgement : Type 0 where
-  pub line : Line
-  pub known : Known
-
 -- What closing leaves: the lines it gives, the group that closed, the group that is there then, and what is known then.
 pub record Closing : Type 0 where
   pub lines : List Line

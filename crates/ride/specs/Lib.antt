@@ -8,3 +8,4 @@ pub mod At
 pub mod Over
 pub mod Under
 pub mod Says
+pub mod Inside

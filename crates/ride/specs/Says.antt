@@ -2,8 +2,7 @@
 -- Assumes nothing.
 use Prim.Native.Nat.{ℕ}
 use mathlib.Core.List.{List, [], _∷_}
-use lib.Dec.{eqb}
-use Rattle.words.specs.Answer.{Outcome, gives, refuses, pick}
+use Rattle.words.specs.Answer.{Outcome, gives, refuses}
 use Rattle.settings.specs.Says.{saysBad}
 use Rattle.ride.specs.declared.Wrong.{Wrong}
 use Rattle.ride.specs.declared.Checked.{Checked}
@@ -13,7 +12,6 @@ use Rattle.ride.specs.declared.Report.{Report}
 use Rattle.ride.specs.declared.trace.Given.{Given}
 use Rattle.ride.specs.declared.trace.Reply.{Reply}
 use Rattle.ride.specs.declared.trace.Treated.{Treated}
-use Rattle.ride.specs.declared.closing.Verdict.{Verdict}
 use Rattle.ride.specs.declared.closing.Closed.{Closed}
 use Rattle.ride.specs.declared.treating.Treating.{Treating}
 use Rattle.ride.specs.declared.Stepped.{Stepped}
@@ -21,7 +19,7 @@ use Rattle.ride.specs.declared.Ended.{Ended}
 use Rattle.ride.specs.declared.Way.{Way}
 use Rattle.ride.specs.declared.Ran.{Ran}
 use Rattle.ride.specs.Record.{Entry}
-use Rattle.ride.specs.Closing.{Judgement, Closing}
+use Rattle.ride.specs.Closing.{Closing}
 use Rattle.ride.specs.Step.{Step, End}
 use Rattle.ride.specs.At.{Standing, noRecord, treated, Treatment}
 use Rattle.ride.specs.Over.{Through, through, Run}
@@ -60,11 +58,6 @@ abbrev pub saysReply : Reply → Outcome Standing
 saysReply Reply.Gap = refuses 19
 saysReply Reply.NoRecord = gives noRecord
 saysReply (Reply.Record given) = gives (treated (saysGiven given))
-
--- What judging a group says: 0 stands for no refusal, and a refused group shows its first place.
-unfoldable pub saysVerdict : Verdict → Judgement
-saysVerdict v =
-    record { line = pick (eqb (v .fault) 0) (Line.Group (v .seen)) (Line.Fault (v .seen .place) (v .fault)); known = v .known }
 
 -- What closing leaves.
 abbrev pub saysClosed : Closed → Closing

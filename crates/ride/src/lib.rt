@@ -1,7 +1,7 @@
 // A ride over the records of a trace: the check of a record, what is known on the way, the lines that it gives.
 // Promises: every record is treated by document 01's steps 1 to 4 in order, from whatever state is lent; a refused one changes nothing.
 // Specification: specs/Record.antt, State.antt, Joining.antt, Linking.antt, Closing.antt, Step.antt, At.antt (one record of a trace),
-// Over.antt (a whole trace), Under.antt (under a store of settings), Says.antt (the answers).
+// Over.antt (a whole trace), Under.antt (under a store of settings), Says.antt (the answers), Inside.antt (an answer that no caller sees).
 ghost use mathlib.Core.Path.{_≡_};
 ghost use Rattle.ride.specs.State.{freshRide};
 ghost use Rattle.ride.specs.Step.{step, end};

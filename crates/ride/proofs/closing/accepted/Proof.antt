@@ -1,5 +1,5 @@
 -- `accepted` puts the line and what is known together.
-use Rattle.ride.specs.Says.{saysVerdict}
+use Rattle.ride.specs.Inside.{saysVerdict}
 use borrow.Author.Needs.{needs}
 use Rattle.ride.proofs.closing.accepted.Statement.{statement}
 use Rattle.ride.proofs.closing.accepted.Tie as tie

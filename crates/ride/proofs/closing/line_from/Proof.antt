@@ -1,6 +1,6 @@
 -- `line_from` goes by the number of the refusal, as the definition does.
 use borrow.Author.Tests.{eq-eqb, ne-eqb}
-use Rattle.ride.specs.Says.{saysVerdict}
+use Rattle.ride.specs.Inside.{saysVerdict}
 use borrow.Author.Needs.{needs}
 use Rattle.ride.proofs.closing.line_from.Statement.{statement}
 use Rattle.ride.proofs.closing.line_from.Tie as tie

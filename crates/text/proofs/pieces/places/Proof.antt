@@ -19,27 +19,23 @@ abbrev μ-loop : tie.MeasureT-loop
 one-more : (n : ℕ) → 10 ≤ n → n < 2 ^ 64 → length (decimal n) ≡ length (decimal (n / 10)) + 1
 one-more n h small = ap length (decimal-last n h small) ∙ simp length-append
 
+-- digits taken off in two steps are those of both
+both : (n m l l′ i j : ℕ) → length (decimal n) ≡ length (decimal m) + i → length (decimal m) ≡ length (decimal l) + j → l ≡ l′
+    → length (decimal n) ≡ length (decimal l′) + (i + j)
+both n m l l′ i j p q e =
+    let same : length (decimal l) ≡ length (decimal l′) = ap (λ (k : ℕ). length (decimal k)) e in
+    omega arith
+
 -- from a hundred on, two more than its hundredth
 two-more : (n : ℕ) → 100 ≤ n → n < 2 ^ 64 → length (decimal n) ≡ length (decimal (n / 100)) + 2
 two-more n h small =
-    let ten : 10 ≤ n / 10 = omega arith in
-    let less : n / 10 < 2 ^ 64 = omega arith in
-    let hundredth : n / 10 / 10 ≡ n / 100 = omega arith in
-    let first : length (decimal n) ≡ length (decimal (n / 10)) + 1 = one-more n (omega arith) small in
-    let second : length (decimal (n / 10)) ≡ length (decimal (n / 100)) + 1 =
-    one-more (n / 10) ten less ∙ ap (λ (k : ℕ). length (decimal k) + 1) hundredth in
-    omega arith
+    both n (n / 10) (n / 10 / 10) (n / 100) 1 1 (one-more n (omega arith) small) (one-more (n / 10) (omega arith) (omega arith)) (omega arith)
 
 loop-again : tie.Need-loop-again Inv-loop μ-loop
 loop-again c =
-    let rest = c .before .loop .rest in
-    let small : rest < 2 ^ 64 = omega arith in
-    let hundred : 100 ≤ rest / 100 = omega arith in
-    let less : rest / 100 < 2 ^ 64 = omega arith in
-    let part : rest / 100 / 100 ≡ rest / 10000 = omega arith in
-    let first : length (decimal rest) ≡ length (decimal (rest / 100)) + 2 = two-more rest (omega arith) small in
-    let second : length (decimal (rest / 100)) ≡ length (decimal (rest / 10000)) + 2 =
-    two-more (rest / 100) hundred less ∙ ap (λ (k : ℕ). length (decimal k) + 2) part in
+    let n = c .before .loop .rest in
+    let four : length (decimal n) ≡ length (decimal (n / 10000)) + 4 =
+    both n (n / 100) (n / 100 / 100) (n / 10000) 2 2 (two-more n (omega arith) (omega arith)) (two-more (n / 100) (omega arith) (omega arith)) (omega arith) in
     omega arith
 
 -- a number below ten has one digit
