@@ -46,12 +46,13 @@ fn refused_one(before: Tally, parity: Parity) -> Tally {
     }
 }
 
-// Begins the line of a difference.
+// Begins the line of a difference in a long word.
 fn begin_long(word: u16, figure: u16) {
     say::long_word(b"difference: long word ", word);
     say::number(b", read ", figure as u32);
 }
 
+// Begins that of a difference in a short one.
 fn begin_short(word: u8, figure: u8) {
     say::short_word(b"difference: short word ", word);
     say::number(b", read ", figure as u32);
