@@ -1,9 +1,9 @@
--- `block_under` asks the store for place 0, looks at the length, and else goes over the block.
+-- `compact_block` asks the store for place 0, looks at the length, and else goes over the block.
 use borrow.Author.Tests.{eq-eqb, ne-eqb}
-use Rattle.compaction.proofs.Under.{in-force, refused-with, block-refused, block-length, block-settled}
+use Rattle.compaction.proofs.Judging.{in-force, refused-with, block-refused, block-length, block-settled}
 use borrow.Author.Needs.{needs}
-use Rattle.compaction.proofs.block_under.Statement.{statement}
-use Rattle.compaction.proofs.block_under.Tie as tie
+use Rattle.compaction.proofs.compact_block.Statement.{statement}
+use Rattle.compaction.proofs.compact_block.Tie as tie
 
 returns : tie.Need-returns
 returns c =
@@ -27,8 +27,8 @@ returns-3 c =
     block-settled _ _ _ (o .over .result .waiting) (o .over .result .gap) (o .over .result .bytes) (o .over .last .1 .1 .1 .0) (held .0)
     (eq-eqb _ _ (e .if1 .left)) (o .over .ensures)
 
-pub block-under-spec : {M : Type 1} → statement M
-block-under-spec =
+pub compact-block-spec : {M : Type 1} → statement M
+compact-block-spec =
     tie.close
     (tie.spec
     (λ c κs. search needs) (λ c. search needs) (λ c. search needs) returns
