@@ -44,6 +44,18 @@ module _ (gap s t : ℕ) (pair : notSeven s t ≡ false) where
   unfolding gapAt heldAt versionsOf opened noStore heldFrom
   rule-so = refl
 
+  -- whoever judges it first refuses a gap that is not allowed with 19, and then goes by his own rules
+  by-rules : {A : Type 0} (Reading : Outcome A → Type 0) (rules : List (Rule (Outcome A))) (o : Outcome A) (k : Bool) → allowed gap ≡ k
+      → Decided Reading (storeRules (pick k (opened (firstOf gap s t)) noStore) rules) o → Decided Reading (row 19 (badGap gap) ∷ rules) o
+  unfolding opened noStore overfull startsLate
+  by-rules Reading rules o true e d = d .1 refl .1 refl .1 pair
+  by-rules Reading rules o false e d = (λ q. d .1 refl .0 refl, λ q. absurd (true-not-false (sym (bad-gap gap ∙ ap not e) ∙ q)))
+
+  pub nineteen-of : {A : Type 0} (Reading : Outcome A → Type 0) (rules : List (Rule (Outcome A))) (o : Outcome A)
+      → Decided Reading (storeRules (begin gap s t .store) rules) o → Decided Reading (row 19 (badGap gap) ∷ rules) o
+  nineteen-of Reading rules o d =
+      by-rules Reading rules o (allowed gap) refl (subst (λ (x : Store). Decided Reading (storeRules x rules) o) opened-is d)
+
   -- ---- what the contracts allow
 
   module _ (r : Begun) (c : BeginStore gap s t r) where
@@ -56,17 +68,10 @@ module _ (gap s t : ℕ) (pair : notSeven s t ≡ false) where
         let is : r .store ≡ opened (firstOf gap s t) = store-is ∙ ap (λ (b : Bool). pick b (opened (firstOf gap s t)) noStore) e in
         (ap judged is ∙ judged-so true e, ap gapAt is ∙ rule-so)
 
-    -- whoever judges it first refuses a gap that is not allowed with 19, and then goes by his own rules
-    by-rules : {A : Type 0} (Reading : Outcome A → Type 0) (rules : List (Rule (Outcome A))) (o : Outcome A) (k : Bool) → allowed gap ≡ k
-        → Decided Reading (storeRules (pick k (opened (firstOf gap s t)) noStore) rules) o → Decided Reading (row 19 (badGap gap) ∷ rules) o
-    unfolding opened noStore overfull startsLate
-    by-rules Reading rules o true e d = d .1 refl .1 refl .1 pair
-    by-rules Reading rules o false e d = (λ q. d .1 refl .0 refl, λ q. absurd (true-not-false (sym (bad-gap gap ∙ ap not e) ∙ q)))
-
     pub nineteen : {A : Type 0} (Reading : Outcome A → Type 0) (rules : List (Rule (Outcome A))) (o : Outcome A)
         → Decided Reading (storeRules (r .store) rules) o → Decided Reading (row 19 (badGap gap) ∷ rules) o
     nineteen Reading rules o d =
-        by-rules Reading rules o (allowed gap) refl (subst (λ (x : Store). Decided Reading (storeRules x rules) o) store-is d)
+        nineteen-of Reading rules o (subst (λ (x : Store). Decided Reading (storeRules x rules) o) (ap (λ (x : Change). x .store) (c .1)) d)
 
 -- the program's gap
 pub forty-so : (store : Store) → Forty store → (judged store ≡ gives kept) × (gapAt store ≡ (λ (odometer : ℕ). 40))
