@@ -16,7 +16,9 @@ use Rattle.settings.specs.At.{gapAt}
 use Rattle.settings.specs.Says.{saysBad}
 use Rattle.settings.proofs.Plain.{plain-good, plain-bad}
 use Rattle.ride.specs.declared.Ride.{Ride}
-use Rattle.compaction.specs.Compact.{untouched, smallerTrace, judgedFirst, compact}
+use Rattle.ride.specs.Over.{records}
+use Rattle.compaction.specs.Dropped.{compactOver}
+use Rattle.compaction.specs.Compact.{bytesOf, untouched, smallerTrace, judgedFirst, compact}
 use Rattle.compaction.proofs.Trace.{not-longer}
 use Rattle.words.proofs.Never.{cannot-be}
 
@@ -24,7 +26,7 @@ few-by : (o : Outcome Kept) (w : Bool) (ride : Ride) (store : Store) (trace : Li
     → gives n ≡ judgedFirst ride trace o (pick w (smallerTrace (gapAt store) ride trace) (untouched ride trace 16)) .answer → n ≤ length trace
 unfolding smallerTrace
 few-by (gives k) true ride store trace n e =
-    let is : n ≡ _ = cc in
+    let is : n ≡ length (bytesOf (compactOver (gapAt store) ride (records trace))) = cc in
     omega (arith, not-longer (gapAt store) ride trace)
 few-by (gives k) false ride store trace n e = cannot-be cc
 few-by (refuses m) w ride store trace n e = cannot-be cc

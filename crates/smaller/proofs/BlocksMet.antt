@@ -53,6 +53,6 @@ blocks-met = (
 )
 
 -- what they write, and the record that waits after them
-written-met : (written (first ∷ second ∷ []) ≡ bytesOf (marker 1000 ∷ at 1041 ∷ marker 2000 ∷ at 2101 ∷ [])) × (waitingRecord (waitsLast none (first ∷ second ∷ [])) ≡ at 2102 ∷ [])
+written-met : (written (first ∷ second ∷ []) ≡ bytesOf (marker 1000 ∷ at 1041 ∷ at 1042 ∷ at 1040 ∷ marker 2000 ∷ at 2101 ∷ [])) × (waitingRecord (waitsLast none (first ∷ second ∷ [])) ≡ at 2103 ∷ [])
 unfolding differing isGood goodPair settingsOf follows noStore versionsOf opened begin allFollow versionsInOrder judged withOne mayAdd add heldFrom heldAt gapAt balises readAll judgeRead judge noGroup nothingKnown freshRide odometerOf passedOf inOrder checkRecord join takeUp close leave closeBehind missedLines afterMissed goOn treat firstRecords isDropped settled waitsNext keptOver waitsAfter settledBlock compactBlock
 written-met = (refl, refl)

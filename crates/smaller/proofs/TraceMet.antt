@@ -1,4 +1,5 @@
--- The hypotheses of the promises are met, computed: a trace under a store of two versions, from which positions are dropped; it has lines and a refused record.
+-- The hypotheses of the promises are met, computed: a trace under a store of two versions, from which positions are dropped; it has lines and a refused
+-- record, which was the fifth and is the fourth.
 -- Assumes nothing.
 use Prim.Native.Nat.{ℕ, _/_, _%_}
 use mathlib.Core.Path.{_≡_, refl}
@@ -66,7 +67,7 @@ abbrev pub two : Store
 two = add (begin 40 0x72 0x0D .store) (record { place = 2000; gap = 100; s = 0x72; t = 0x0D }) .store
 
 abbrev pub all : List (List ℕ)
-all = marker 1000 ∷ at 1041 ∷ at 1042 ∷ at 1040 ∷ marker 2000 ∷ at 2041 ∷ at 2101 ∷ at 2102 ∷ at 2103 ∷ []
+all = marker 1000 ∷ at 1010 ∷ at 1041 ∷ at 1042 ∷ at 1040 ∷ marker 2000 ∷ at 2041 ∷ at 2101 ∷ at 2102 ∷ at 2103 ∷ []
 
 abbrev small : List (List ℕ)
 small = marker 1000 ∷ at 1041 ∷ at 1042 ∷ at 1040 ∷ marker 2000 ∷ at 2101 ∷ at 2103 ∷ []
@@ -97,11 +98,11 @@ steps-met : ByStep (gapAt two) freshRide (records (bytesOf all)) (steps (gapAt t
     × ByStep (gapAt two) freshRide (records (bytesOf small)) (steps (gapAt two) freshRide small)
 unfolding differing isGood goodPair settingsOf follows noStore versionsOf opened begin allFollow versionsInOrder judged withOne mayAdd add heldFrom heldAt gapAt balises readAll judgeRead judge noGroup nothingKnown freshRide odometerOf passedOf inOrder checkRecord join takeUp close leave closeBehind missedLines afterMissed goOn treat firstRecords step
 steps-met = (
-  by-step (gapAt two) freshRide all (refl, (refl, (refl, (refl, (refl, (refl, (refl, (refl, (refl, tt))))))))),
+  by-step (gapAt two) freshRide all (refl, (refl, (refl, (refl, (refl, (refl, (refl, (refl, (refl, (refl, tt)))))))))),
   by-step (gapAt two) freshRide small (refl, (refl, (refl, (refl, (refl, (refl, (refl, tt))))))),
 )
 
-lines-met : (linesFrom 1 (steps (gapAt two) freshRide all) ≡ Line.Fault 1000 10 ∷ Line.Record 4 17 ∷ Line.Fault 2000 10 ∷ [])
+lines-met : (linesFrom 1 (steps (gapAt two) freshRide all) ≡ Line.Fault 1000 10 ∷ Line.Record 5 17 ∷ Line.Fault 2000 10 ∷ [])
     × (linesFrom 1 (steps (gapAt two) freshRide small) ≡ Line.Fault 1000 10 ∷ Line.Record 4 17 ∷ Line.Fault 2000 10 ∷ [])
 unfolding differing isGood goodPair settingsOf follows noStore versionsOf opened begin allFollow versionsInOrder judged withOne mayAdd add heldFrom heldAt gapAt balises readAll judgeRead judge noGroup nothingKnown freshRide odometerOf passedOf inOrder checkRecord join takeUp close leave closeBehind missedLines afterMissed goOn treat firstRecords step
 lines-met = (refl, refl)
