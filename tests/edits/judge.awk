@@ -116,5 +116,5 @@ BEGIN {
         if (answers[p] == answers[q] && p < q) alike = alike "; " name[p] " and " name[q] " are answered by " answers[p]
         else if (index(stands[q] " ", " " answers[p] " ") && answers[p] != answers[q]) alike = alike "; " name[q] " stands in " answers[p] ", which answers for " name[p]
     }
-    if (parts > 0) print (alike == "" ? "+ " : "- ") crate "/" label ": " (alike == "" ? parts " parts, answered by different functions" : substr(alike, 3))
+    if (parts > 0) print (alike == "" ? "+ " : "- ") crate "/" label ": " (alike != "" ? substr(alike, 3) : parts == 1 ? "one part" : parts " parts, answered by different functions")
 }
