@@ -1,0 +1,5 @@
+pub mod Hearing
+pub mod Recorded
+pub mod Says
+pub mod Row
+pub mod Demand1
