@@ -206,11 +206,11 @@ pub as-in-one-buffer : AsInOneBuffer
 as-in-one-buffer =
     record {
       by-calls = λ fresh last ps l judged b w begins calls in-one listened-to judges.
-      let is = contacts-are b (bitsIn ps) w listened-to in
-      let law = by-definition fresh last ps l b begins calls in-one (small-enough b (bitsIn ps) (is-taken b 0 (bitsIn ps) w listened-to)) in (
-        law .0 ∙ ap (judgedAll b (lineS ps) (lineT ps)) (sym is) ∙ all-judged b (lineS ps) (lineT ps) judges,
-        law .1 ∙ ap cut (sym is),
-      );
+          let is = contacts-are b (bitsIn ps) w listened-to in
+          let law = by-definition fresh last ps l b begins calls in-one (small-enough b (bitsIn ps) (is-taken b 0 (bitsIn ps) w listened-to)) in (
+            law .0 ∙ ap (judgedAll b (lineS ps) (lineT ps)) (sym is) ∙ all-judged b (lineS ps) (lineT ps) judges,
+            law .1 ∙ ap cut (sym is),
+          );
       by-definition = by-definition;
     }
 

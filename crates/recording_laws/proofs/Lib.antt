@@ -3,3 +3,5 @@ pub mod Recorded
 pub mod Says
 pub mod Row
 pub mod Demand1
+mod HearingMet
+mod RecordedMet

@@ -99,6 +99,6 @@ as-a-whole =
     record {
       of-the-lead = of-the-lead;
       any-pieces = λ store pieces others records those whole also same r q.
-      of-the-lead store pieces records whole r ∙ ap (recorded store) same ∙ sym (of-the-lead store others those also q);
+          of-the-lead store pieces records whole r ∙ ap (recorded store) same ∙ sym (of-the-lead store others those also q);
       no-frame = no-frame;
     }
