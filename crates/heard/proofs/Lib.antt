@@ -14,9 +14,9 @@ mod Never
 pub mod Either
 mod Marker
 mod Sixty
-mod Row
+pub mod Row
 mod Heard
-mod Computed
+pub mod Computed
 mod Less
 mod Eleven
 mod Differ

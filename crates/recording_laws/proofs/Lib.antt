@@ -1,0 +1,8 @@
+pub mod Hearing
+pub mod Recorded
+pub mod Says
+pub mod Row
+pub mod Demand1
+mod HearingMet
+mod RecordedMet
+mod RowMet
