@@ -5,14 +5,12 @@ use mathlib.Core.Path.{_≡_, refl, sym, ap, _∙_}
 use mathlib.Core.Bool.{Bool, true, false}
 use mathlib.Core.List.{List, [], _∷_}
 use native.Mathlib.Omega.{arith}
-use borrow.Author.Tests.{lt-ltb}
 use Rattle.words.specs.Answer.{Outcome, pick}
 use Rattle.words.specs.Limits.{largest64}
 use Rattle.contact.specs.History.{after as shifted, opens as opens-now, closes as closes-now}
 use Rattle.contact.specs.Judge.{Contact}
 use Rattle.antenna.specs.declared.Sound.{Sound}
 use Rattle.antenna.specs.declared.Stand.{Stand}
-use Rattle.antenna.specs.Places.{more}
 use Rattle.antenna.specs.Sound.{begun, withBit, judged}
 use Rattle.antenna.specs.Hearing.{Step, nothing, opened, closed, hear, standing}
 use Rattle.antenna.specs.Line.{told, placed, earAfter, handsOut}
@@ -20,19 +18,8 @@ use Rattle.recording.specs.declared.Tape.{Tape}
 use Rattle.recording.specs.Kept.{recordAt}
 use Rattle.recording.specs.Recording.{afterStep}
 use Rattle.recording.specs.Contacts.{inForce, recordsFor, withoutPositions}
+use Rattle.antenna.proofs.Ends.{begun-one, longer}
 use Rattle.recording.proofs.NoPosition.{no-records, no-position, not-where}
-
-one-more : (n : ℕ) → n < largest64 → more n ≡ n + 1
-unfolding more
-one-more n h = rw (lt-ltb n largest64 h)
-
-begun-one : (s t bit : ℕ) → withBit (begun s t) bit .length ≡ 1
-unfolding withBit begun more
-begun-one s t bit = refl
-
-longer : (sound : Sound) (bit : ℕ) → withBit sound bit .length ≡ more (sound .length)
-unfolding withBit
-longer sound bit = refl
 
 module _ (lead : List ℕ) where
   -- At bit g: an open contact opened in the frame of its first bit.
@@ -68,7 +55,7 @@ module _ (lead : List ℕ) where
       record { records = closes-one (tape .opened) (g - sound .length) (sound .length) (judged sound) at; ear = refl; odometer = refl; opened-in = tt }
   from-inside tape sound g now bit false fits (low, at) =
       let small : sound .length < largest64 = omega arith in
-      let e = longer sound bit ∙ one-more (sound .length) small in
+      let e = longer sound bit small in
       let f : g + 1 - withBit sound bit .length ≡ g - sound .length = omega arith in
       record { records = no-records lead; ear = refl; odometer = refl; opened-in = (omega arith, at ∙ ap (λ (z : ℕ). inForce lead (z / 96)) (sym f)) }
 
