@@ -1,6 +1,6 @@
 // The lines of contacts that are heard piece by piece: those of `hearing`, with each start counted from the first bit of the whole line.
-// Promises: a line is written to the letter and whole, or not at all; bytes around it stay. How the line is cut into pieces makes no difference to them.
-// Specification: specs/Lines.antt (the words), specs/Laws.antt (what is promised); a text in a buffer is `text`'s specs/Put.antt.
+// Promises: a line is written to the letter and whole, or not at all; bytes around it stay.
+// Specification: specs/Lines.antt (the words); what listening in pieces comes to is crates/antenna_text_laws; a text in a buffer is `text`'s specs/Put.antt.
 ghost use mathlib.Core.Path.{_≡_};
 ghost use Rattle.text.specs.Put.{put, came};
 ghost use Rattle.antenna_text.specs.Lines.{toldLine, closedBefore};
