@@ -28,3 +28,17 @@ module _ (e : Ear) (b : List ℕ) (i n s t : ℕ) (r : Until) (said : saysUntil 
 
   pub closed-at : {f : Ear} {at length : ℕ} {judged : Judged} → r ≡ Until.Closed f at length judged → (i ≤ at) × (at < i + n)
   closed-at {f} {at} {length} {judged} is = at-bit _ (ap saysUntil is)
+
+-- Asked from bit i of n bits on: the bit after what came lies further on, and not beyond them.
+abbrev pub On : ℕ → ℕ → ℕ → Type 0
+On i n at = (at + 1 ≤ n) × (n - (at + 1) < n - i)
+
+module _ (e : Ear) (b : List ℕ) (i n s t : ℕ) (r : Until) (said : saysUntil r ≡ hearPiece e b i (n - i) s t) (low : i < n) where
+  on : (at : ℕ) → (i ≤ at) × (at < i + (n - i)) → On i n at
+  on at there = (omega (arith, there .1), omega (arith, there .0, there .1))
+
+  pub opened-on : {f : Ear} {at : ℕ} → r ≡ Until.Opened f at → On i n at
+  opened-on {f} {at} is = on at (opened-at e b i (n - i) s t r said is)
+
+  pub closed-on : {f : Ear} {at length : ℕ} {judged : Judged} → r ≡ Until.Closed f at length judged → On i n at
+  closed-on {f} {at} is = on at (closed-at e b i (n - i) s t r said is)
