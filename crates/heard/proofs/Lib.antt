@@ -14,7 +14,7 @@ mod Never
 pub mod Either
 mod Marker
 mod Sixty
-mod Row
+pub mod Row
 mod Heard
 mod Computed
 mod Less
