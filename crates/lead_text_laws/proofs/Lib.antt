@@ -1,0 +1,4 @@
+pub mod Telling
+pub mod Comes
+pub mod Room
+pub mod Live
