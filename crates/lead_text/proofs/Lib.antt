@@ -4,3 +4,4 @@ pub mod Turns
 pub mod Asked
 pub mod Ends
 pub mod Judged
+pub mod Determined
