@@ -2,3 +2,4 @@ pub mod Telling
 pub mod Comes
 pub mod Room
 pub mod Live
+pub mod LiveMet

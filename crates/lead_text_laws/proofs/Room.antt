@@ -33,7 +33,7 @@ short-by ride true =
     omega (arith, line-length (ride .group) l, ap length (one-is (ride .group) l))
 short-by ride false = omega arith
 
-end-short : (ride : Ride) → length (endText ride) ≤ 320
+pub end-short : (ride : Ride) → length (endText ride) ≤ 320
 unfolding endText end
 end-short ride = short-by ride (isOpen (ride .group))
 
