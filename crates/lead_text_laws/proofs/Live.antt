@@ -79,7 +79,7 @@ module _ (store : Store) (good : Good store) where
       let first : Tells gaps u (x .records) (take n after′) (r .underway) =
       record { text-is = o .text; ride-is = ap (λ (v : Underway). v .ride) (o .then); number-is = ap (λ (v : Underway). v .number) (o .then) } in (
         tells-on gaps u (r .underway) last (x .records) (comesAll store (start (x .tape)) pieces .records) (take n after′) text first
-        (subst (λ (q : Place). Tells gaps (r .underway) (comesAll store q pieces .records) text last) there (rest .0)),
+            (subst (λ (q : Place). Tells gaps (r .underway) (comesAll store q pieces .records) text last) there (rest .0)),
         rest .1 ∙ ap (λ (q : Place). comesAll store q pieces .tape) there,
       )
   heard-tells {u} {last} (again {piece = piece} {text = text} {pieces = pieces} before after′ r n c e on) =
@@ -103,8 +103,8 @@ module _ (store : Store) (good : Good store) where
       } in
       let whole : take k rs ++ (drop k rs ++ more) ≡ rs ++ more = sym (append-assoc (take k rs) (drop k rs) more) ∙ ap (λ (l : List (List ℕ)). l ++ more) (take-append-drop k rs) in (
         subst (λ (l : List (List ℕ)). Tells gaps u l (take n after′ ++ text) last) whole
-        (tells-on gaps u (r .underway) last (take k rs) (drop k rs ++ more) (take n after′) text first
-        (subst (λ (y : Taped). Tells gaps (r .underway) (y .records ++ comesAll store (start (y .tape)) pieces .records) text last) left (rest .0))),
+            (tells-on gaps u (r .underway) last (take k rs) (drop k rs ++ more) (take n after′) text first
+            (subst (λ (y : Taped). Tells gaps (r .underway) (y .records ++ comesAll store (start (y .tape)) pieces .records) text last) left (rest .0))),
         rest .1 ∙ ap (λ (y : Taped). comesAll store (start (y .tape)) pieces .tape) left,
       )
 
