@@ -3,3 +3,5 @@ pub mod Comes
 pub mod Room
 pub mod Live
 pub mod LiveMet
+pub mod Eights
+pub mod Explain

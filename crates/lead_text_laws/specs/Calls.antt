@@ -10,6 +10,7 @@ use borrow.Fn.Kinds.{endedOf}
 use denote.Triple.Clauses.{AtExit}
 use Rattle.settings.specs.declared.Store.{Store}
 use Rattle.ride.specs.declared.Ride.{Ride}
+use Rattle.listing.specs.declared.Listed.{Listed}
 use Rattle.lead_text.specs.declared.Underway.{Underway}
 use Rattle.lead_text.specs.declared.Written.{Written}
 use Rattle.lead_text.proofs.fresh.Kinds as fresh-kinds
@@ -18,6 +19,8 @@ use Rattle.lead_text.proofs.list_frames.Kinds as frames-kinds
 use Rattle.lead_text.proofs.list_frames.Reads as frames-reads
 use Rattle.lead_text.proofs.list_end.Kinds as end-kinds
 use Rattle.lead_text.proofs.list_end.Reads as end-reads
+use Rattle.explained.proofs.list_under.Kinds as under-kinds
+use Rattle.explained.proofs.list_under.Reads as under-reads
 use Rattle.explained.proofs.put_end.Kinds as put-kinds
 use Rattle.explained.proofs.put_end.Reads as put-reads
 
@@ -45,3 +48,10 @@ PutEnd ride before at n after =
     (κs : Lfts 1) × (buf : RefT (List ℕ)) × (e : AtExit (endedOf 1 put-kinds.ps put-kinds.r) κs)
     × (now buf ≡ before) × (now (e .1 .0) ≡ after)
     × put-reads.Post κs (ride, (buf, (at, tt))) n e
+
+-- The contract of `explained::list_under` allows the answer r for this ride, store, number and lent trace, and that the lent buffer holds `after` then.
+abbrev pub ExplainUnder : Ride → Store → ℕ → List ℕ → List ℕ → Listed → List ℕ → Type 0
+ExplainUnder ride store number trace before r after =
+    (κs : Lfts 2) × (lent : RefT (List ℕ)) × (out : RefT (List ℕ)) × (e : AtExit (endedOf 2 under-kinds.ps under-kinds.r) κs)
+    × (now lent ≡ trace) × (now out ≡ before) × (now (e .1 .1 .1 .1 .0) ≡ after)
+    × under-reads.Post κs (ride, (store, (number, (lent, (out, tt))))) r e
