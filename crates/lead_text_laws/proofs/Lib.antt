@@ -1,0 +1,7 @@
+pub mod Telling
+pub mod Comes
+pub mod Room
+pub mod Live
+pub mod LiveMet
+pub mod Eights
+pub mod Explain
