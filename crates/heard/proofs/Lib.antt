@@ -16,7 +16,7 @@ mod Marker
 mod Sixty
 pub mod Row
 mod Heard
-mod Computed
+pub mod Computed
 mod Less
 mod Eleven
 mod Differ

@@ -5,3 +5,4 @@ pub mod Row
 pub mod Demand1
 mod HearingMet
 mod RecordedMet
+mod RowMet
