@@ -12,8 +12,8 @@ slice-aggregate-over c = sym (length-take-le _ _ (c .before .before .before .pre
 
 over-requires : tie.Need-over-requires
 over-requires c κs =
-    let p = c .before .before .before .before .pre in
-    omega (arith, length-take-le _ _ (p .0), p .0, p .1)
+    let s = c .before .before .before .before in
+    omega (arith, length-take-le (s .args .count) (s .args .block .now) (s .pre .0), s .pre .0, s .pre .1)
 
 pub front-spec : {M : Type 1} → statement M
 front-spec = tie.close (tie.spec slice-aggregate-over over-requires (λ c. search needs) (λ c. search needs))
