@@ -1,8 +1,8 @@
 // The lines of a lead: frames of odometer and line in, the lines of the ride over their records out, with reasons, as text in a lent buffer.
 // A ride under way goes by value; the frames are lent in pieces of any length, and each call goes on as far as the room allows.
 // Promises: the lines are those that the crate explained writes of the records that the crate recording makes of the lead; bytes around the text stay.
-// Specification: specs/Places.antt (where a reading stands), List.antt (the listing), Says.antt (the answers), Inside.antt (one record);
-// laws: specs/Calls.antt, Live.antt.
+// Specification: specs/Places.antt (where a reading stands), List.antt (the listing), Says.antt (the answers), Inside.antt (one record); what
+// is promised of all calls together: crates/lead_text_laws/specs.
 ghost use mathlib.Core.Path.{_≡_};
 ghost use Rattle.lead_text.specs.List.{fresh, listFrames, listEnd};
 ghost use Rattle.lead_text.specs.Says.{saysWritten};

@@ -5,3 +5,4 @@ pub mod Live
 pub mod LiveMet
 pub mod Eights
 pub mod Explain
+pub mod ExplainMet

@@ -145,7 +145,7 @@ module _ (store : Store) (good : Good store) where
       let x : Taped = overLead store lead recording.fresh in
       let begins : f ≡ listing.fresh = fresh .1 in
       let comes : comesAll store (placeOf f) pieces ≡ x =
-      ap (λ (g : Underway). comesAll store (placeOf g) pieces) begins ∙ all-pieces store pieces (cut .rest) recording.fresh (cut .whole) (cut .few)
+      ap (λ (g : Underway). comesAll store (placeOf g) pieces) begins ∙ all-pieces store pieces (cut .rest) recording.fresh (cut .whole) (omega (arith, cut .few))
       ∙ ap (λ (l : List ℕ). overLead store l recording.fresh) (sym (cut .all)) in
       let first = heard-tells h in
       let tape-is : u .tape ≡ x .tape = first .1 ∙ ap (λ (y : Taped). y .tape) comes in

@@ -40,12 +40,12 @@ use Rattle.lead_text_laws.proofs.Comes.{start, comesAll}
 use Rattle.lead_text_laws.proofs.Room.{end-short}
 
 -- A lent buffer with these bytes.
-abbrev lent : List ℕ → RefT (List ℕ)
+abbrev pub lent : List ℕ → RefT (List ℕ)
 lent bytes = record { ptr = (0, 0); name = 0; now = bytes }
 
 -- ---- one call that takes all
 
-taken-all : (gaps : ℕ → ℕ) (ride : Ride) (number room : ℕ) (rs : List (List ℕ)) → 320 + length (tellOver gaps ride number rs .text) ≤ room → number + length rs ≤ largest64
+pub taken-all : (gaps : ℕ → ℕ) (ride : Ride) (number room : ℕ) (rs : List (List ℕ)) → 320 + length (tellOver gaps ride number rs .text) ≤ room → number + length rs ≤ largest64
     → taken gaps ride number room rs ≡ length rs
 unfolding taken tellOver
 taken-all gaps ride number room [] wide small = refl
