@@ -42,8 +42,9 @@ pub struct Block {
     pub size: Size,
 }
 
-// The trace without the records that are dropped, in place: 19 for the gap, 16 for the trace's length. A plain gap is a store of one version; no
-// ride looks at the sync pair.
+// The trace, in place, without the position records that were accepted, gave no line and have an accepted record after them; all bytes beyond the new
+// length as they were; the state after the trace; or 19, then 16, with nothing touched. A plain gap is a store of one version; no ride looks at the sync
+// pair.
 pub fn compact(ride: Ride, gap: u32, trace: &mut [u8]) -> Compacted
     ensures { λ r. ⌜ saysCompacted r (now (trace .exit)) ≡ compact ride gap (now (trace .entry)) ⌝ }
 {
@@ -52,7 +53,7 @@ pub fn compact(ride: Ride, gap: u32, trace: &mut [u8]) -> Compacted
     compact_under(ride, store, trace)
 }
 
-// The same under a store: the store's own refusal, then 16.
+// The same under a store, each record with the gap in force at its own odometer: the store's own refusal, then 16.
 pub fn compact_under(ride: Ride, store: Store, trace: &mut [u8]) -> Compacted
     ensures { λ r. ⌜ saysCompacted r (now (trace .exit)) ≡ compactUnder ride store (now (trace .entry)) ⌝ }
 {
@@ -74,7 +75,8 @@ pub fn compact_under(ride: Ride, store: Store, trace: &mut [u8]) -> Compacted
     }
 }
 
-// One block of a trace under a store, after what waits from the block before. Its last record waits for the next block; after the last block it is kept.
+// One block of a trace under a store, after the record that waits from the block before: what is settled as kept stands at the block's start, and the
+// last record waits for the next block (after the last block it is kept); refusals as above, with nothing touched.
 pub fn block_under(waiting: Waiting, store: Store, block: &mut [u8]) -> Block
     ensures { λ r. ⌜ saysBlock r (now (block .exit)) ≡ blockUnder waiting store (now (block .entry)) ⌝ }
 {

@@ -39,7 +39,7 @@ pub struct Listed {
     pub done: Done,
 }
 
-// The line's text and a newline into buf from `at` on; without room buf stays as it is.
+// The line's text, to the letter, and a newline into buf from `at` on, all other bytes as they were; without room nothing is written.
 pub fn put_line(line: Line, buf: &mut [u8], at: usize) -> Put
     ensures { λ r. ⌜ filled r (now (buf .exit)) ≡ put (text line) (now (buf .entry)) at ⌝ }
 {
@@ -54,7 +54,8 @@ pub fn put_line(line: Line, buf: &mut [u8], at: usize) -> Put
     Put::Next(text::put(&space[..n], buf, at))
 }
 
-// The lines of the trace's records from `number` on as text at the start of out: as many records as surely have room.
+// The lines of the trace's records from `number` on as text at the start of out, of as many records as surely have room; the state, the next number, how
+// many records and bytes; or 19, then 16, with nothing taken.
 pub fn list(ride: Ride, gap: u32, number: u64, trace: &[u8], out: &mut [u8]) -> Listed
     ensures { λ r. ⌜ saysListed r (now (out .exit)) ≡ list ride gap number (now (trace .entry)) (now (out .entry)) ⌝ }
 {
@@ -63,8 +64,8 @@ pub fn list(ride: Ride, gap: u32, number: u64, trace: &[u8], out: &mut [u8]) -> 
     list_under(ride, store, number, trace, out)
 }
 
-// The listing under a store: the store's own refusal, 16 for the trace's length, or the lines of as many records as surely have room, each
-// treated with the gap in force at its own odometer.
+// The listing under a store: the store's own refusal, then 16 for the trace's length, with nothing taken; else the lines of as many records as surely
+// have room, each treated with the gap in force at its own odometer.
 pub fn list_under(ride: Ride, store: Store, number: u64, trace: &[u8], out: &mut [u8]) -> Listed
     ensures { λ r. ⌜ saysListed r (now (out .exit)) ≡ listUnder ride store number (now (trace .entry)) (now (out .entry)) ⌝ }
 {

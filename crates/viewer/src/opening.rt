@@ -40,7 +40,7 @@ fn begins(store: Store, trace: &[u8]) -> Begun
     }
 }
 
-// Where a viewer stands that was opened over this trace under a store, and how that went.
+// Where a viewer stands that `start_under` opens over this trace, and how that went.
 pub fn start_under_at(store: Store, trace: &[u8]) -> Opened
     ensures { λ r. ⌜ saysOpened r (now (trace .entry)) ≡ startUnder store (now (trace .entry)) ⌝ }
 {
@@ -49,7 +49,7 @@ pub fn start_under_at(store: Store, trace: &[u8]) -> Opened
     Opened { stand, begun }
 }
 
-// The same with a plain gap, a store of one version; no ride looks at the sync pair.
+// Where a viewer stands that `start` opens over this trace, and how that went. A plain gap is a store of one version; no ride looks at the sync pair.
 pub fn start_at(gap: u32, trace: &[u8]) -> Opened
     ensures { λ r. ⌜ saysOpened r (now (trace .entry)) ≡ start gap (now (trace .entry)) ⌝ }
 {
