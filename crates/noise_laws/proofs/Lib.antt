@@ -1,0 +1,15 @@
+mod Flips
+mod Where
+mod Two
+mod Between
+mod Inside
+mod Every
+mod Tests
+mod Rounds
+mod Overlap
+mod Near
+mod Spread
+mod Zero
+mod Words
+mod Straddle
+mod Reading
