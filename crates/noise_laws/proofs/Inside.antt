@@ -7,17 +7,12 @@ use mathlib.Core.List.{List}
 use native.Mathlib.Omega.{arith}
 use lib.Dec.{leb, ltb}
 use borrow.Author.Tests.{le-leb, lt-leb, lt-ltb, le-ltb}
-use Rattle.words.specs.Answer.{gives, pick}
+use Rattle.words.specs.Answer.{pick}
 use Rattle.telegram.specs.Stretch.{bitAt}
-use Rattle.telegram.specs.Place.{wordsAt, isPlace}
-use Rattle.line.specs.Line.{OneBalise, Proper, sentBit, lineBit, unequal, flip, sum, flips, flipsAt}
+use Rattle.line.specs.Line.{OneBalise, sentBit, lineBit, unequal, flip, sum, flips, flipsAt}
 use Rattle.line.specs.Forty.{AtMostInForty}
 use Rattle.line.proofs.Sums.{sum-ext}
 use Rattle.line.proofs.Window.{flip-is}
-use Rattle.line.proofs.Places.{place-parts, parts-place}
-use Rattle.line.proofs.Sent.{read-as-sent}
-use Rattle.line.proofs.TooFew.{TooFew}
-use Rattle.line.proofs.Stretch.{place-sent}
 use Rattle.noise_laws.specs.Pass.{isOver, lineAt, flipped, flipsIn, NoisyPass}
 
 module _ (o : OneBalise) where
@@ -53,10 +48,3 @@ module _ (o : OneBalise) where
   pub in-stretch : (most from to : ℕ) → NoisyPass most o from to → AtMostInForty most o
   in-stretch most from to pass p low high =
       omega (arith, same-flips p low high, pass .few p (omega (arith, pass .from-low)) (omega (arith, pass .to-high)))
-
-  -- Where the stretch has too few flips for a false place, a place inside it reads the telegram sent.
-  pub inside-sent : Proper o → TooFew o → (c l p : ℕ) → o .start ≤ p → p + 40 ≤ o .start + o .len → isPlace (o .buffer) c l (o .s) (o .t) p ≡ true
-      → wordsAt (o .buffer) p ≡ gives (o .telegram)
-  inside-sent proper few c l p low high place =
-      let h = place-parts (o .buffer) c l (o .s) (o .t) p place in
-      read-as-sent o proper p (place-sent o proper few p low high (parts-place (o .buffer) (o .start) (o .len) (o .s) (o .t) p high (h .1) (h .2)))

@@ -12,4 +12,8 @@ mod Spread
 mod Zero
 mod Words
 mod Straddle
+mod Shift
+mod Inner
+mod Eighth
+mod Late
 mod Reading

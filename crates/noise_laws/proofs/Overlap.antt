@@ -19,10 +19,10 @@ use Rattle.noise_laws.proofs.Rounds.{repeats, same-sum, sum-front, spel
 use Rattle.noise_laws.proofs.Tests.{spelt, isShort, round, zs, outer, sameTest, second, swappedTest, longTest, longAll, bitsOf, joined, same-tested, swapped-tested, long-tested}
 
 -- A test under a condition that holds.
-then-so : (t x : Bool) → T (pick t x true) → t ≡ true → T x
+pub then-so : (t x : Bool) → T (pick t x true) → t ≡ true → T x
 then-so t x ok is = subst (λ (t : Bool). T (pick t x true)) is ok
 
-all-upto : (test : ℕ → Bool) (n : ℕ) → ((i : ℕ) → i < n → test i ≡ true) → upto test n ≡ true
+pub all-upto : (test : ℕ → Bool) (n : ℕ) → ((i : ℕ) → i < n → test i ≡ true) → upto test n ≡ true
 all-upto test zero all = refl
 all-upto test (suc n) all = ap₂ both (all n (omega arith)) (all-upto test n (λ i l. all i (omega arith)))
 
@@ -42,7 +42,7 @@ zs-alike f g a c n same = sum-ext (λ i. 1 - f (a + i)) (λ i. 1 - g (c + i)) n 
 pub data Comes (r : ℕ → ℕ) (d : ℕ) : Type 0 where
   many : 4 ≤ zs r 39 (d + 1) → Comes r d
   seventh : 3 ≤ zs r 39 (d + 1) → r 6 ≡ r 38 → Comes r d
-  eighth : 3 ≤ zs r 39 (d + 1) → d ≡ 8 → Comes r d
+  eighth : 3 ≤ zs r 39 (d + 1) → d ≡ 8 → ((i : ℕ) → i < 8 → r (32 + d + i) ≡ r i) → Comes r d
   nothing : 8 ≤ d → ((i : ℕ) → 8 ≤ i → i < 32 + d → r i ≡ 0) → 1 ≤ zs r (32 + d) 8 → Comes r d
 
 module _ (r : ℕ → ℕ) (bits : (i : ℕ) → r i < 2) (d : ℕ) (pos : 0 < d) (x-short : isShort (spelt r 8 8) ≡ true)
@@ -294,7 +294,7 @@ module _ (r : ℕ → ℕ) (bits : (i : ℕ) → r i < 2) (d : ℕ) (pos : 0 < d
           enough k h = omega (arith, h, second-zeroes, tail-zeroes, seven-zeroes, tail-is)
 
           by : (t : Bool) → eqb d 8 ≡ t → pick t 3 4 + zs (round w d) 24 8 ≤ zs (round w d) 31 (d - 7) + 7 → Comes r d
-          by true q h = eighth (enough 3 h) (eqb-true d 8 q)
+          by true q h = eighth (enough 3 h) (eqb-true d 8 q) last
           by false q h = many (enough 4 h)
 
           go : (t : Bool) → eqb (sum (round w d) d) 0 ≡ t → T (pick t true (leb (pick (eqb d 8) 3 4 + zs (round w d) 24 8) (zs (round w d) 31 (d - 7) + 7))) → Comes r d

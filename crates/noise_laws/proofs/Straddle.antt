@@ -25,15 +25,9 @@ use Rattle.noise_laws.proofs.Flips.{zeroes-flips, any-few}
 use Rattle.noise_laws.proofs.Inside.{one-after}
 use Rattle.noise_laws.proofs.Tests.{spelt, isShort, zs, outer}
 use Rattle.noise_laws.proofs.Overlap.{Comes, same-order, swapped}
-use Rattle.noise_laws.proofs.Words.{x-short}
+use Rattle.noise_laws.proofs.Words.{x-short, spelt-bits}
 use Rattle.noise_laws.proofs.Zero.{zeroes-sum}
 use Rattle.noise_laws.proofs.Two.{Two}
-
--- Bits of a buffer as a number.
-spelt-bits : (b : List ℕ) (p a n : ℕ) → spelt (λ i. bitAt b (p + i)) a n ≡ bitsAt b (p + a) n
-unfolding spelt bitsAt
-spelt-bits b p a zero = refl
-spelt-bits b p a (suc n) = let e : p + (a + n) ≡ p + a + n = omega arith in ap₂ (λ (u v : ℕ). u * 2 + v) (spelt-bits b p a n) (ap (bitAt b) e)
 
 module _ (o : OneBalise) (proper : Proper o) (c l : ℕ) (m : Telegram) (two : Two (o .buffer) c l (o .s) (o .t) m) where
   abbrev b : List ℕ
@@ -59,7 +53,7 @@ module _ (o : OneBalise) (proper : Proper o) (c l : ℕ) (m : Telegram) (two : T
       let f : two .q + a + i ≡ two .q + (a + i) = omega arith in
       sym (ap (bitAt b) (sym e) ∙ same-bits b b (p + a) (two .q + a) 8 same i less ∙ ap (bitAt b) f ∙ q-is (a + i))
 
-  words-again : (i : ℕ) → i < 24 → r (8 + (i + d)) ≡ r (8 + i)
+  pub words-again : (i : ℕ) → i < 24 → r (8 + (i + d)) ≡ r (8 + i)
   words-again i less = go (ltb i 8) (ltb i 16) refl refl
     where
       at : (a j : ℕ) → 8 + i ≡ a + j → r (a + j + d) ≡ r (a + j) → r (8 + (i + d)) ≡ r (8 + i)
@@ -70,7 +64,7 @@ module _ (o : OneBalise) (proper : Proper o) (c l : ℕ) (m : Telegram) (two : T
       go false true e f = let up = ltb-false i 8 e in let down = ltb-true i 16 f in at 16 (i - 8) (omega arith) (word-again 16 (two .same-y) (i - 8) (omega arith))
       go false false e f = let up = ltb-false i 16 f in at 24 (i - 16) (omega arith) (word-again 24 (two .same-z) (i - 16) (omega arith))
 
-  syncs-p : areSyncs (o .s) (o .t) (bitsAt b p 8) (bitsAt b (p + 32) 8) ≡ true
+  pub syncs-p : areSyncs (o .s) (o .t) (bitsAt b p 8) (bitsAt b (p + 32) 8) ≡ true
   syncs-p = place-parts b c l (o .s) (o .t) p (two .p-place) .1
 
   syncs-q : areSyncs (o .s) (o .t) (bitsAt b (two .q) 8) (bitsAt b (two .q + 32) 8) ≡ true
@@ -91,7 +85,7 @@ module _ (o : OneBalise) (proper : Proper o) (c l : ℕ) (m : Telegram) (two : T
   unfolding outer
   seven-differ = sum-ext (λ i. unequal (r i) (r (32 + i))) (pattern o) 8 as-pattern ∙ seven o proper
 
-  short-x : isShort (spelt r 8 8) ≡ true
+  pub short-x : isShort (spelt r 8 8) ≡ true
   unfolding wordsAt
   short-x =
       ap isShort (spelt-bits b p 8 8)

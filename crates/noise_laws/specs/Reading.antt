@@ -2,10 +2,8 @@
 -- Assumes nothing.
 use Prim.Native.Nat.{ℕ, _-_}
 use mathlib.Core.Path.{_≡_}
-use mathlib.Core.Bool.{true}
 use mathlib.Core.List.{List, [], _∷_}
 use lib.ListN.{getD}
-use Rattle.words.specs.Plain.{among}
 use Rattle.telegram.specs.declared.Telegram.{Telegram}
 use Rattle.line.specs.Line.{OneBalise, Proper}
 use Rattle.line.specs.Forty.{EqualBit}
@@ -22,11 +20,13 @@ ReadsTheSent o (contact start length then rest) =
 ReadsTheSent o quiet = Unit
 ReadsTheSent o (refused n) = Unit
 
--- The equal bits in the middle, by the order in which they are sent.
-abbrev pub middle : List ℕ
-middle = 3 ∷ 4 ∷ 5 ∷ 6 ∷ []
+-- How many flips in forty bits in a row are allowed, by the equal bit of the sync pair, from the first sent to the eighth.
+abbrev pub allowed : List ℕ
+allowed = 1 ∷ 1 ∷ 2 ∷ 3 ∷ 3 ∷ 2 ∷ 1 ∷ 1 ∷ []
 
+-- One balise is passed, at any phase, for any length. If no forty bits of the line in a row, quiet parts included, hold more flips than the pair's equal bit allows,
+-- every contact that is read as a telegram reads the one sent.
 abbrev pub NoFalseReading : Type 0
 NoFalseReading =
-    (o : OneBalise) → Proper o → (k : ℕ) → among k middle ≡ true → EqualBit o k → (from to : ℕ) → NoisyPass 2 o from to
+    (o : OneBalise) → Proper o → (k : ℕ) → EqualBit o k → (from to : ℕ) → NoisyPass (getD allowed (k - 1) 0) o from to
     → (w : Contacts) → Listened (o .buffer) from to w → ReadsTheSent o w
