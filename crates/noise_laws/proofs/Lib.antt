@@ -17,3 +17,8 @@ mod Inner
 mod Eighth
 mod Late
 mod Reading
+mod Computed
+mod FirstLines
+mod LastLines
+mod OtherLines
+mod Limits

@@ -1,2 +1,4 @@
 pub mod Pass
 pub mod Reading
+pub mod Lines
+pub mod Limits
