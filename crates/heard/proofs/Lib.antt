@@ -2,7 +2,7 @@ pub mod Counts
 pub mod Walk
 pub mod Quiet
 mod Passes
-mod Sound
+pub mod Sound
 pub mod Over
 pub mod Alike
 mod Within
@@ -13,7 +13,7 @@ pub mod Few
 mod Never
 pub mod Either
 mod Marker
-mod Sixty
+pub mod Sixty
 mod Row
 mod Heard
 pub mod Computed

@@ -3,6 +3,7 @@ mod Where
 mod Two
 mod Between
 mod Inside
+mod Clean
 mod Every
 mod Tests
 mod Rounds
@@ -11,12 +12,14 @@ mod Near
 mod Spread
 mod Zero
 mod Words
+mod Apart
 mod Straddle
 mod Shift
 mod Inner
 mod Eighth
 mod Late
 mod Reading
+mod Marker
 mod Computed
 mod FirstLines
 mod LastLines

@@ -12,9 +12,8 @@ use borrow.Author.Tests.{eq-eqb, leb-true, leb-false}
 use Rattle.words.specs.Answer.{gives}
 use Rattle.words.specs.Bits.{bit}
 use Rattle.words.specs.Plain.{among}
-use Rattle.telegram.specs.Stretch.{inside}
 use Rattle.telegram.specs.Telegram.{Received}
-use Rattle.telegram.specs.Place.{wordsAt, accepted, isPlace}
+use Rattle.telegram.specs.Place.{wordsAt, accepted, isPlace, places}
 use Rattle.telegram.specs.declared.Telegram.{Telegram}
 use Rattle.telegram.proofs.Taken.{part-taken}
 use Rattle.line.specs.Line.{OneBalise, Proper}
@@ -24,14 +23,12 @@ use Rattle.line.proofs.Places.{listed, or-left, place-parts}
 use Rattle.line.proofs.Wrong.{outer-bits}
 use Rattle.line.proofs.EqualBit.{at-equal}
 use Rattle.contact.specs.Contacts.{Contacts, contact, quiet, refused, contactsFrom, fromStart}
-use Rattle.contact.specs.declared.Judged.{Judged}
-use Rattle.heard.specs.Calls.{JudgeContact}
 use Rattle.heard.proofs.Over.{listened}
 use Rattle.noise_laws.specs.Pass.{lineAt, NoisyPass}
 use Rattle.noise_laws.specs.Reading.{ReadsTheSent, allowed, NoFalseReading}
-use Rattle.noise_laws.proofs.Where.{AllWithin, all-within}
+use Rattle.noise_laws.proofs.Where.{AllWithin, within-record}
 use Rattle.noise_laws.proofs.Between.{between}
-use Rattle.noise_laws.proofs.Two.{Two, two-alike}
+use Rattle.noise_laws.proofs.Two.{Two, of-places, two-alike}
 use Rattle.noise_laws.proofs.Tests.{zs}
 use Rattle.noise_laws.proofs.Inside.{one-before, one-after, in-stretch}
 use Rattle.noise_laws.proofs.Inner.{at-most-three, inside-reads}
@@ -39,10 +36,6 @@ use Rattle.noise_laws.proofs.Overlap.{Comes, many, seventh, eighth, not
 use Rattle.noise_laws.proofs.Zero.{zero-reads}
 use Rattle.noise_laws.proofs.Straddle.{d, r, words-again, syncs-p, missing, differ, short-x, comes, tail-few}
 use Rattle.noise_laws.proofs.Late.{late-reads}
-
--- Every contact of a record lies in it.
-within-record : (b : List ℕ) (from to : ℕ) → from ≤ to → AllWithin from to (contactsFrom b (fromStart from (to - from)))
-within-record b from to order = all-within b from to from to (λ k room less. absurd (omega arith)) (λ k room more. absurd (omega arith)) order
 
 module _ (o : OneBalise) (proper : Proper o) (most from to : ℕ) (pass : NoisyPass most o from to) (k : ℕ) (equal : EqualBit o k) (most-is : most ≡ getD allowed (k - 1) 0)
     (inner : (c l p : ℕ) → o .start ≤ p → p + 40 ≤ o .start + o .len → isPlace (o .buffer) c l (o .s) (o .t) p ≡ true → wordsAt (o .buffer) p ≡ gives (o .telegram)) where
@@ -112,26 +105,26 @@ module _ (o : OneBalise) (proper : Proper o) (most from to : ℕ) (pass : NoisyP
   same-message : (m n : Telegram) → _≡_ {A = Received} (gives m) (gives n) → m ≡ n
   same-message m n e = cc
 
-  one-reading : (c l : ℕ) → from ≤ c → c + l ≤ to → (from + 40 ≤ to → (o .start ≤ c) × (c + l ≤ o .start + o .len + 15))
-      → (a : Judged) → JudgeContact b c l (o .s) (o .t) a → (m : Telegram) (first count : ℕ) → a ≡ Judged.Read m first count → m ≡ o .telegram
-  one-reading c l low high lies a called m first count is =
-      let taken : inside b c l ≡ true = part-taken b from (to - from) c l (pass .taken) (omega arith) (omega arith) in
-      let two = two-alike b c l (o .s) (o .t) m first count (proper .pair) taken a called is in
+  -- Two places alike of one contact.
+  two-read : (c l : ℕ) → from ≤ c → c + l ≤ to → (from + 40 ≤ to → (o .start ≤ c) × (c + l ≤ o .start + o .len + 15)) → (m : Telegram) → Two b c l (o .s) (o .t) m → m ≡ o .telegram
+  two-read c l low high lies m two =
       let fits = place-parts b c l (o .s) (o .t) (two .p) (two .p-place) .0 in
       let long : from + 40 ≤ to = omega (arith, fits, two .low) in
       let over = lies long in
-      same-message m (o .telegram) (sym (two .reads) ∙ go two long (over .0) (over .1) (leb (two .p + 40) (o .start + o .len)) refl)
+      same-message m (o .telegram) (sym (two .reads) ∙ go long (over .0) (over .1) (leb (two .p + 40) (o .start + o .len)) refl)
     where
-      go : (two : Two b c l (o .s) (o .t) m) → from + 40 ≤ to → o .start ≤ c → c + l ≤ o .start + o .len + 15 → (t : Bool) → leb (two .p + 40) (o .start + o .len) ≡ t
-          → wordsAt b (two .p) ≡ gives (o .telegram)
-      go two long at-start at-end true q = inner c l (two .p) (omega (arith, at-start, two .low)) (leb-true (two .p + 40) (o .start + o .len) q) (two .p-place)
-      go two long at-start at-end false q = both-late long c l at-start at-end high m two (leb-false (two .p + 40) (o .start + o .len) q)
+      go : from + 40 ≤ to → o .start ≤ c → c + l ≤ o .start + o .len + 15 → (t : Bool) → leb (two .p + 40) (o .start + o .len) ≡ t → wordsAt b (two .p) ≡ gives (o .telegram)
+      go long at-start at-end true q = inner c l (two .p) (omega (arith, at-start, two .low)) (leb-true (two .p + 40) (o .start + o .len) q) (two .p-place)
+      go long at-start at-end false q = both-late long c l at-start at-end high m two (leb-false (two .p + 40) (o .start + o .len) q)
 
   every : (w : Contacts) → AllWithin from to w → (from + 40 ≤ to → AllWithin (o .start) (o .start + o .len + 15) w) → ReadsTheSent o w
-  every (contact c l then rest) record-wide over = (
-    one-reading c l (record-wide .0) (record-wide .1) (λ long. let h = over long in (h .0, h .1)),
-    every rest (record-wide .2) (λ long. over long .2),
-  )
+  every (contact c l then rest) record-wide over =
+      let so = two-read c l (record-wide .0) (record-wide .1) (λ long. let h = over long in (h .0, h .1)) in (
+        λ m few alike reads. so m (of-places b c l (o .s) (o .t) m (places b c l (o .s) (o .t)) refl few alike reads),
+        λ a called m first count is. so m (two-alike b c l (o .s) (o .t) m first count (proper .pair)
+            (part-taken b from (to - from) c l (pass .taken) (omega (arith, record-wide .0, record-wide .1)) (omega (arith, record-wide .0, record-wide .1))) a called is),
+        every rest (record-wide .2) (λ long. over long .2),
+      )
   every quiet record-wide over = tt
   every (refused n) record-wide over = tt
 

@@ -3,11 +3,9 @@
 use Prim.Native.Nat.{ℕ, zero, suc, _+_, _-_, _*_, _≤_, _<_}
 use mathlib.Core.Path.{_≡_, refl, sym, ap, ap₂, _∙_, subst}
 use mathlib.Core.Logic.{_⊎_, inl, inr}
-use mathlib.Core.Bool.{Bool, true, false}
+use mathlib.Core.Bool.{true}
 use mathlib.Core.List.{List}
 use native.Mathlib.Omega.{arith}
-use lib.Dec.{ltb}
-use borrow.Author.Tests.{ltb-true, ltb-false}
 use Rattle.words.specs.Answer.{gives}
 use Rattle.telegram.specs.Stretch.{bitAt, bitsAt}
 use Rattle.telegram.specs.Place.{areSyncs, wordsAt, isPlace}
@@ -15,7 +13,6 @@ use Rattle.telegram.specs.declared.Telegram.{Telegram}
 use Rattle.telegram.proofs.Window.{bit-lt, bits-lt}
 use Rattle.line.specs.Line.{OneBalise, Proper, repeated, unequal, sum}
 use Rattle.line.proofs.Sums.{sum-ext, unequal-lt, notAt, Missing, one-missing}
-use Rattle.line.proofs.Bits.{same-bits}
 use Rattle.line.proofs.Round.{pattern, seven}
 use Rattle.line.proofs.Places.{place-parts}
 use Rattle.line.proofs.Wrong.{Bytes, outer-bits, as-syncs}
@@ -28,6 +25,7 @@ use Rattle.noise_laws.proofs.Overlap.{Comes, same-order, swapped}
 use Rattle.noise_laws.proofs.Words.{x-short, spelt-bits}
 use Rattle.noise_laws.proofs.Zero.{zeroes-sum}
 use Rattle.noise_laws.proofs.Two.{Two}
+use Rattle.noise_laws.proofs.Apart as between
 
 module _ (o : OneBalise) (proper : Proper o) (c l : ℕ) (m : Telegram) (two : Two (o .buffer) c l (o .s) (o .t) m) where
   abbrev b : List ℕ
@@ -36,33 +34,17 @@ module _ (o : OneBalise) (proper : Proper o) (c l : ℕ) (m : Telegram) (two : T
   abbrev p : ℕ
   p = two .p
 
-  -- how far apart they are
   abbrev pub d : ℕ
-  d = two .q - two .p
+  d = between.d b c l (o .s) (o .t) m two
 
   abbrev pub r : ℕ → ℕ
-  r i = bitAt b (p + i)
-
-  q-is : (i : ℕ) → bitAt b (two .q + i) ≡ r (i + d)
-  q-is i = let e : two .q + i ≡ p + (i + d) = omega (arith, two .order) in ap (bitAt b) e
-
-  -- A word of the first place stands d bits on again.
-  word-again : (a : ℕ) → bitsAt b (p + a) 8 ≡ bitsAt b (two .q + a) 8 → (i : ℕ) → i < 8 → r (a + i + d) ≡ r (a + i)
-  word-again a same i less =
-      let e : p + a + i ≡ p + (a + i) = omega arith in
-      let f : two .q + a + i ≡ two .q + (a + i) = omega arith in
-      sym (ap (bitAt b) (sym e) ∙ same-bits b b (p + a) (two .q + a) 8 same i less ∙ ap (bitAt b) f ∙ q-is (a + i))
+  r = between.r b c l (o .s) (o .t) m two
 
   pub words-again : (i : ℕ) → i < 24 → r (8 + (i + d)) ≡ r (8 + i)
-  words-again i less = go (ltb i 8) (ltb i 16) refl refl
-    where
-      at : (a j : ℕ) → 8 + i ≡ a + j → r (a + j + d) ≡ r (a + j) → r (8 + (i + d)) ≡ r (8 + i)
-      at a j e h = let u : 8 + (i + d) ≡ a + j + d = omega arith in ap r u ∙ h ∙ ap r (sym e)
+  words-again = between.words-again b c l (o .s) (o .t) m two
 
-      go : (t u : Bool) → ltb i 8 ≡ t → ltb i 16 ≡ u → r (8 + (i + d)) ≡ r (8 + i)
-      go true u e f = at 8 i refl (word-again 8 (two .same-x) i (ltb-true i 8 e))
-      go false true e f = let up = ltb-false i 8 e in let down = ltb-true i 16 f in at 16 (i - 8) (omega arith) (word-again 16 (two .same-y) (i - 8) (omega arith))
-      go false false e f = let up = ltb-false i 16 f in at 24 (i - 16) (omega arith) (word-again 24 (two .same-z) (i - 16) (omega arith))
+  q-is : (i : ℕ) → bitAt b (two .q + i) ≡ r (i + d)
+  q-is = between.q-is b c l (o .s) (o .t) m two
 
   pub syncs-p : areSyncs (o .s) (o .t) (bitsAt b p 8) (bitsAt b (p + 32) 8) ≡ true
   syncs-p = place-parts b c l (o .s) (o .t) p (two .p-place) .1
@@ -98,8 +80,8 @@ module _ (o : OneBalise) (proper : Proper o) (c l : ℕ) (m : Telegram) (two : T
   bits-r i = bit-lt b (p + i)
 
   -- Where the outer bytes of both are the sync words in the same order, all bits repeat;
-  in-order : (m n : ℕ) → Bytes o proper p m n → Bytes o proper (two .q) m n → Comes r d
-  in-order m n here there = same-order r bits-r d positive short-x (missing .at) (missing .within) differ seven-differ again
+  in-order : (u v : ℕ) → Bytes o proper p u v → Bytes o proper (two .q) u v → Comes r d
+  in-order u v here there = same-order r bits-r d positive short-x (missing .at) (missing .within) differ seven-differ (between.all-again b c l (o .s) (o .t) m two first last)
     where
       first : (i : ℕ) → i < 8 → r (i + d) ≡ r i
       first i less = sym (q-is i) ∙ there i less .0 ∙ sym (here i less .0)
@@ -110,28 +92,9 @@ module _ (o : OneBalise) (proper : Proper o) (c l : ℕ) (m : Telegram) (two : T
           let f : p + 32 + i ≡ p + (32 + i) = omega arith in
           sym (ap (bitAt b) e ∙ q-is (32 + i)) ∙ there i less .1 ∙ sym (here i less .1) ∙ ap (bitAt b) f
 
-      again : (i : ℕ) → i < 40 → r (0 + (i + d)) ≡ r (0 + i)
-      again i less = go (ltb i 8) (ltb i 32) refl refl
-        where
-          from-none : (j : ℕ) → 0 + j ≡ j
-          from-none j = omega arith
-
-          at : (j k : ℕ) → i ≡ j → i + d ≡ k → r k ≡ r j → r (0 + (i + d)) ≡ r (0 + i)
-          at j k e f h = ap r (from-none (i + d) ∙ f) ∙ h ∙ sym (ap r (from-none i ∙ e))
-
-          go : (t u : Bool) → ltb i 8 ≡ t → ltb i 32 ≡ u → r (0 + (i + d)) ≡ r (0 + i)
-          go true u e f = at i (i + d) refl refl (first i (ltb-true i 8 e))
-          go false true e f =
-              let up = ltb-false i 8 e in
-              let down = ltb-true i 32 f in
-              at (8 + (i - 8)) (8 + (i - 8 + d)) (omega arith) (omega arith) (words-again (i - 8) (omega arith))
-          go false false e f =
-              let up = ltb-false i 32 f in
-              at (32 + (i - 32)) (32 + (i - 32) + d) (omega arith) (omega arith) (last (i - 32) (omega arith))
-
   -- else they are swapped.
-  crossed : (m n : ℕ) → Bytes o proper p m n → Bytes o proper (two .q) n m → d ≤ 14 → Comes r d
-  crossed m n here there top = swapped r bits-r d positive short-x (missing .at) (missing .within) differ seven-differ words-again next last top
+  crossed : (u v : ℕ) → Bytes o proper p u v → Bytes o proper (two .q) v u → d ≤ 14 → Comes r d
+  crossed u v here there top = swapped r bits-r d positive short-x (missing .at) (missing .within) differ seven-differ words-again next last top
     where
       next : (i : ℕ) → i < 8 → r (d + i) ≡ r (32 + i)
       next i less =

@@ -113,3 +113,7 @@ module _ (b : List ℕ) (from to low high : ℕ)
       go : (t : Bool) → AllWithin low high (pick t (contacts b outside sixteenOnes from (to - from)) (refused 5))
       go true = walk (to - from) outside 0 sixteenOnes from (omega arith) refl (omega arith) tt
       go false = tt
+
+-- Every contact of a record lies in it.
+pub within-record : (b : List ℕ) (from to : ℕ) → from ≤ to → AllWithin from to (contactsFrom b (fromStart from (to - from)))
+within-record b from to order = all-within b from to from to (λ k room less. absurd (omega arith)) (λ k room more. absurd (omega arith)) order

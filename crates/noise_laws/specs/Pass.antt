@@ -9,6 +9,7 @@ use lib.Dec.{leb, ltb}
 use Rattle.words.specs.Answer.{pick}
 use Rattle.telegram.specs.Stretch.{bitAt, inside}
 use Rattle.line.specs.Line.{OneBalise, sentBit, lineBit, unequal, sum}
+use Rattle.heard.specs.Pass.{Pass}
 
 -- Whether bit i of the buffer is one of the n bits from bit `start` on.
 unfoldable pub isOver : ℕ → ℕ → ℕ → Bool
@@ -37,3 +38,7 @@ pub record NoisyPass (most : ℕ) (o : OneBalise) (from to : ℕ) : Type 0 where
   pub to-high : o .start + o .len ≤ to
   pub few : InForty most (lineAt o) (o .buffer) from to
   pub taken : inside (o .buffer) from (to - from) ≡ true
+
+-- A pass without noise is one of these, with no flip.
+abbrev pub CleanToo : Type 0
+CleanToo = (o : OneBalise) (from to : ℕ) → Pass o from to → NoisyPass 0 o from to
