@@ -15,8 +15,8 @@ use Rattle.antenna.specs.declared.Until.{Until}
 use Rattle.recording.specs.declared.Tape.{Tape}
 use Rattle.recording.specs.declared.Taken.{Taken}
 use Rattle.recording.specs.declared.Ended.{Ended}
-use Rattle.contact.proofs.judge_under.Kinds as list-kinds
-use Rattle.contact.proofs.judge_under.Reads as list-reads
+use Rattle.contact.proofs.judge_under.Kinds as under-kinds
+use Rattle.contact.proofs.judge_under.Reads as under-reads
 use Rattle.antenna.proofs.fresh.Kinds as ear-kinds
 use Rattle.antenna.proofs.fresh.Reads as ear-reads
 use Rattle.antenna.proofs.hear_piece.Kinds as piece-kinds
@@ -41,8 +41,8 @@ HearPiece ear b start len s t r =
 -- The contract of `judge_under` allows the answer r for this store, odometer and stretch.
 abbrev pub JudgeUnder : Store → ℕ → List ℕ → ℕ → ℕ → JudgedUnder → Type 0
 JudgeUnder store odometer b start len r =
-    (κs : Lfts 1) × (buf : RefT (List ℕ)) × (e : AtExit (endedOf 1 list-kinds.ps list-kinds.r) κs)
-    × (now buf ≡ b) × list-reads.Post κs (store, (odometer, (buf, (start, (len, tt))))) r e
+    (κs : Lfts 1) × (buf : RefT (List ℕ)) × (e : AtExit (endedOf 1 under-kinds.ps under-kinds.r) κs)
+    × (now buf ≡ b) × under-reads.Post κs (store, (odometer, (buf, (start, (len, tt))))) r e
 
 -- The contract of `recording::fresh` allows the tape r.
 abbrev pub FreshTape : Tape → Type 0
