@@ -24,8 +24,6 @@ use Rattle.recording.proofs.NoPosition.{without-join, for-join, no-reco
 use Rattle.recording.proofs.OneBit.{OpenedIn, AfterBit, after-bit}
 
 module _ (store : Store) (lead : List ℕ) where
-  -- ---- bits
-
   abbrev toldOf : Ear → ℕ → ℕ → List Told
   toldOf ear g n = heard (lineIn lead) (sIn store lead) (tIn store lead) ear g n
 
@@ -81,8 +79,6 @@ module _ (store : Store) (lead : List ℕ) where
               (subst⁻¹ (λ (z : ℕ). Tells (afterStep tape x .tape) (overBits (lineOf lead k) s t (afterStep tape x .tape) (i + 1) n) z n) on (rest .0)),
           rest .1,
         )
-
-  -- ---- frames
 
   record Quiet (tape : Tape) (x : Taped) : Type 0 where
     records : withoutPositions (x .records) ≡ []
@@ -156,8 +152,6 @@ module _ (store : Store) (lead : List ℕ) where
       let z = overFrames store lead next (k + 1) 0 n in
       let j = join-frame tape x z (96 * k) (96 * n) (one .0) quiet (subst⁻¹ (λ (q : ℕ). Tells next z q (96 * n)) g rest) in
       subst (λ (q : ℕ). Tells tape (overFrames store lead tape k 0 (suc n)) (96 * k) q) m j
-
-  -- ---- the end
 
   last-quiet : (tape : Tape) → withoutPositions (lastPosition tape .records) ≡ []
   unfolding lastPosition

@@ -3,7 +3,10 @@ ghost use mathlib.Core.Path.{_≡_};
 ghost use Prim.Native.Nat.{ℕ, _≤_, _<_};
 ghost use Rattle.words.specs.Answer.{pick};
 ghost use Rattle.settings.specs.At.{leaves};
-ghost use Rattle.recording.specs.Recording.{noneHeld, heldAt};
+ghost use Rattle.contact.specs.Says.{saysJudged};
+ghost use Rattle.recorder.specs.Record.{bytesOf, blank};
+ghost use Rattle.recording.specs.Kept.{recordAt};
+ghost use Rattle.recording.specs.Recording.{noneHeld, heldAt, closes, positioned};
 ghost use Rattle.recording.specs.Asking.{goOn, usedUp};
 ghost use Rattle.recording.specs.Says.{went, saysTaken};
 use crate::Came;
@@ -12,7 +15,9 @@ use crate::Tape;
 use crate::frame;
 use crate::kept;
 use crate::marking;
+use antenna::Ear;
 use antenna::Until;
+use contact::Judged;
 use settings::Held;
 use settings::Store;
 
@@ -39,6 +44,7 @@ fn held_for(store: Store, held: Held, odometer: u32) -> Held
     held
 }
 
+// A record came.
 fn gave(tape: Tape, frame: usize, bit: usize, bytes: [u8; 8]) -> Taken
     ensures { λ r. ⌜ r ≡ record { tape = tape; frame = frame; bit = bit; came = Came.Record; bytes = bytes } ⌝ }
 {
@@ -49,6 +55,22 @@ fn gave(tape: Tape, frame: usize, bit: usize, bytes: [u8; 8]) -> Taken
         came: Came::Record,
         bytes,
     }
+}
+
+// The record of a contact that closed, at the odometer at which it opened.
+fn of_contact(tape: Tape, ear: Ear, frame: usize, bit: usize, judged: Judged) -> Taken
+    ensures { λ r. ⌜ r ≡ record { tape = closes tape ear; frame = frame; bit = bit; came = Came.Record; bytes = recordAt (tape .opened) (saysJudged judged) } ⌝ }
+{
+    let next = marking::closes(tape, ear);
+    gave(next, frame, bit, kept::record_at(tape.opened, judged))
+}
+
+// The record of a position, before this frame.
+fn of_position(tape: Tape, frame: usize) -> Taken
+    ensures { λ r. ⌜ r ≡ record { tape = positioned tape; frame = frame; bit = 0; came = Came.Record; bytes = bytesOf (tape .odometer) (blank 3) } ⌝ }
+{
+    let next = marking::positioned(tape);
+    gave(next, frame, 0, kept::blank_at(tape.odometer, 3))
 }
 
 // All frames are used.
@@ -64,6 +86,7 @@ fn nothing(tape: Tape, frame: usize, bit: usize) -> Taken
     }
 }
 
+// From this bit of this frame on, to the next record or the last whole frame's end.
 pub fn over(tape: Tape, store: Store, frames: &[u8], frame: usize, bit: usize) -> Taken
     ensures { λ r. ⌜ saysTaken r ≡ went (goOn store (now (frames .entry)) tape frame bit) ⌝ }
 {
@@ -73,10 +96,9 @@ pub fn over(tape: Tape, store: Store, frames: &[u8], frame: usize, bit: usize) -
     let mut k = frame;
     let mut i = bit;
     while k < n {
-        here = marking::with_odometer(
-            here,
-            frame::accepted_after(here.odometer, frame::odometer(frames, k)),
-        );
+        let given = frame::odometer(frames, k);
+        let odometer = frame::accepted_after(here.odometer, given);
+        here = marking::with_odometer(here, odometer);
         held = held_for(store, held, here.odometer);
         let now = here.ear;
         match frame::hear(now, frames, k, i, held.s, held.t) {
@@ -89,30 +111,16 @@ pub fn over(tape: Tape, store: Store, frames: &[u8], frame: usize, bit: usize) -
                 at,
                 length: _,
                 judged,
-            } => {
-                return gave(
-                    marking::closes(here, ear),
-                    k,
-                    at + 1,
-                    kept::record_at(here.opened, judged),
-                );
-            }
+            } => return of_contact(here, ear, k, at + 1, judged),
             Until::Over(ear) => {
                 here = marking::hears_on(here, ear);
                 if marking::is_due(here) {
-                    return gave(
-                        marking::positioned(here),
-                        k + 1,
-                        0,
-                        kept::blank_at(here.odometer, 3),
-                    );
+                    return of_position(here, k + 1);
                 }
                 k += 1;
                 i = 0;
             }
-            Until::Beyond => {
-                return nothing(here, k, i);
-            }
+            Until::Beyond => return nothing(here, k, i),
         }
     }
     nothing(here, k, i)

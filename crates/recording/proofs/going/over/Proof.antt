@@ -56,43 +56,43 @@ loop-again c =
     (h .before .before .before .before .before .odometer .ensures) (h .before .before .before .before .accepted-after .ensures) (h .before .before .before .with-odometer .ensures) (h .before .before .held-for .ensures) (h .hear .result) (h .hear .ensures)
     _ _ (c .before .before .ear .given .1) (c .opens .result) (c .opens .ensures)
 
-add-gave : tie.Need-add-gave Inv-loop μ-loop
-add-gave c =
-    let a = c .before .before .before .before .before .before .before .before .before .before .before .before .before .before .args in
-    let l = c .before .before .before .before .before .before .before .before .before .before .before .loop in
-    let h = c .before .before .before .before in
+add-of-contact : tie.Need-add-of-contact Inv-loop μ-loop
+add-of-contact c =
+    let a = c .before .before .before .before .before .before .before .before .before .before .before .before .before .args in
+    let l = c .before .before .before .before .before .before .before .before .before .before .loop in
+    let h = c .before .before .before in
     omega (
       arith,
       within-closed (a .store) (a .frames .now) _ _ (l .held) (l .here) (l .k) (l .i) (l .inv) (h .before .before .before .before .before .before .loop-test .taken)
           (h .before .before .before .before .before .odometer .result) (h .before .before .before .before .accepted-after .result) (h .before .before .before .with-odometer .result) (h .before .before .held-for .result)
-          (h .before .before .before .before .before .odometer .ensures) (h .before .before .before .before .accepted-after .ensures) (h .before .before .before .with-odometer .ensures) (h .before .before .held-for .ensures) (h .hear .result) (h .hear .ensures) _ _ _ _ (c .before .before .ear2 .given .1),
+          (h .before .before .before .before .before .odometer .ensures) (h .before .before .before .before .accepted-after .ensures) (h .before .before .before .with-odometer .ensures) (h .before .before .held-for .ensures) (h .hear .result) (h .hear .ensures) _ _ _ _ (c .before .ear2 .given .1),
     )
 
 returns : tie.Need-returns Inv-loop μ-loop
 returns c =
-    let a = c .before .before .before .before .before .before .before .before .before .before .before .before .before .before .before .before .args in
-    let l = c .before .before .before .before .before .before .before .before .before .before .before .before .before .loop in
-    let h = c .before .before .before .before .before .before in
+    let a = c .before .before .before .before .before .before .before .before .before .before .before .before .before .before .args in
+    let l = c .before .before .before .before .before .before .before .before .before .before .before .loop in
+    let h = c .before .before .before .before in
     let t = closed (a .store) (a .frames .now) _ _ (l .held) (l .here) (l .k) (l .i) (l .inv) (h .before .before .before .before .before .before .loop-test .taken)
     (h .before .before .before .before .before .odometer .result) (h .before .before .before .before .accepted-after .result) (h .before .before .before .with-odometer .result) (h .before .before .held-for .result)
     (h .before .before .before .before .before .odometer .ensures) (h .before .before .before .before .accepted-after .ensures) (h .before .before .before .with-odometer .ensures) (h .before .before .held-for .ensures) (h .hear .result) (h .hear .ensures)
-    _ _ _ _ (c .before .before .before .before .ear2 .given .1) (c .before .before .closes .result) (c .before .record-at .result) (c .before .before .closes .ensures) (c .before .record-at .ensures) in
-    ap saysTaken (c .gave .ensures) ∙ ap went t
+    _ _ _ _ (c .before .before .ear2 .given .1) _ _ refl refl in
+    ap saysTaken (c .of-contact .ensures) ∙ ap went t
 
-add-gave-2 : tie.Need-add-gave-2 Inv-loop μ-loop
-add-gave-2 c = omega (arith, c .before .before .before .before .before .before .before .before .before .before .before .before .before .loop-test .taken, c .before .before .before .before .before .before .before .before .before .before .before .before .before .before .loop .inv .few)
+add-of-position : tie.Need-add-of-position Inv-loop μ-loop
+add-of-position c = omega (arith, c .before .before .before .before .before .before .before .before .before .before .before .before .loop-test .taken, c .before .before .before .before .before .before .before .before .before .before .before .before .before .loop .inv .few)
 
 returns-2 : tie.Need-returns-2 Inv-loop μ-loop
 returns-2 c =
-    let a = c .before .before .before .before .before .before .before .before .before .before .before .before .before .before .before .before .before .before .before .args in
-    let l = c .before .before .before .before .before .before .before .before .before .before .before .before .before .before .before .before .loop in
-    let h = c .before .before .before .before .before .before .before .before .before in
+    let a = c .before .before .before .before .before .before .before .before .before .before .before .before .before .before .before .before .before .args in
+    let l = c .before .before .before .before .before .before .before .before .before .before .before .before .before .before .loop in
+    let h = c .before .before .before .before .before .before .before in
     let t = position (a .store) (a .frames .now) _ _ (l .held) (l .here) (l .k) (l .i) (l .inv) (h .before .before .before .before .before .before .loop-test .taken)
     (h .before .before .before .before .before .odometer .result) (h .before .before .before .before .accepted-after .result) (h .before .before .before .with-odometer .result) (h .before .before .held-for .result)
     (h .before .before .before .before .before .odometer .ensures) (h .before .before .before .before .accepted-after .ensures) (h .before .before .before .with-odometer .ensures) (h .before .before .held-for .ensures) (h .hear .result) (h .hear .ensures)
-    _ (c .before .before .before .before .before .before .before .ear3 .given .1) (c .before .before .before .before .before .hears-on .result) (c .before .before .before .before .is-due .result) (c .before .before .before .before .before .hears-on .ensures) (c .before .before .before .before .is-due .ensures) (c .before .before .before .if1 .taken)
-    (c .before .before .positioned .result) (c .before .blank-at .result) (c .before .before .positioned .ensures) (c .before .blank-at .ensures) in
-    ap saysTaken (c .gave2 .ensures) ∙ ap went t
+    _ (c .before .before .before .before .before .ear3 .given .1) (c .before .before .before .hears-on .result) (c .before .before .is-due .result) (c .before .before .before .hears-on .ensures) (c .before .before .is-due .ensures) (c .before .if1 .taken)
+    _ _ refl refl in
+    ap saysTaken (c .of-position .ensures) ∙ ap went t
 
 add-k : tie.Need-add-k Inv-loop μ-loop
 add-k c = omega (arith, c .before .before .before .before .before .before .before .before .before .before .before .before .loop-test .taken, c .before .before .before .before .before .before .before .before .before .before .before .before .before .loop .inv .few)
@@ -131,24 +131,17 @@ over-spec =
     (tie.spec
     Inv-loop
     μ-loop
-    (λ c κs. search needs)
-    loop-holds
-    (λ c κs. omega arith) (λ c κs. search needs) (λ c κs. search needs) (λ c κs. search needs) (λ c κs. omega arith) (λ c. search needs) (λ c κs. search needs)
-    add-i
+    (λ c κs. search needs) loop-holds
+    (λ c κs. omega arith) (λ c κs. search needs) (λ c κs. search needs) (λ c κs. search needs) (λ c κs. omega arith)
+    (λ c. search needs) (λ c κs. search needs) add-i
     loop-less
     loop-again
-    (λ c. search needs) (λ c κs. search needs)
-    add-gave
-    (λ c κs. search needs) (λ c κs. search needs)
-    returns
-    (λ c. search needs) (λ c κs. search needs) (λ c κs. search needs) (λ c κs. search needs)
-    add-gave-2
-    (λ c κs. search needs) (λ c κs. search needs)
-    returns-2
+    (λ c. search needs) add-of-contact
+    (λ c κs. search needs) returns
+    (λ c. search needs) (λ c κs. search needs) (λ c κs. search needs) add-of-position
+    (λ c κs. search needs) returns-2
     add-k
     loop-less-2
     loop-again-2
-    (λ c. search needs) (λ c κs. search needs)
-    returns-3
-    (λ c κs. search needs)
-    returns-4)
+    (λ c. search needs) (λ c κs. search needs) returns-3
+    (λ c κs. search needs) returns-4)
