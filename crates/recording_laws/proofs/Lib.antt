@@ -1,3 +1,4 @@
+pub mod Through
 pub mod Hearing
 pub mod Recorded
 pub mod Says
