@@ -32,7 +32,7 @@ pub fn list_one(
     requires { ⌜ at ≤ length (now out) ⌝ }
     ensures { λ r. ⌜ saysOne r (now (out .exit)) ≡ listOne (gapAt store) ride number bytes (now (out .entry)) at ⌝ }
 {
-    let listed = explained::list_under(ride, store, number, &bytes, &mut out[at..]);
+    let listed = explained::list(ride, store, number, &bytes, &mut out[at..]);
     let done = listed.done;
     let then = listed.ride;
     match done {

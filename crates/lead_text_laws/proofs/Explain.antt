@@ -23,9 +23,10 @@ use Rattle.listing.specs.declared.Listed.{Listed}
 use Rattle.listing.specs.List.{Taken, Listing}
 use Rattle.listing.specs.Says.{saysDone, saysListed}
 use Rattle.explained.specs.Told.{Told, tellOver, endText}
-use Rattle.explained.specs.List.{taken, listOf, listTaken, listUnder}
-use Rattle.explained.proofs.Under.{under-taken}
-use Rattle.lead_text_laws.specs.Calls.{ExplainUnder}
+use Rattle.explained.specs.List.{taken, listOf, listTaken}
+use Rattle.explained.specs.List as explaining
+use Rattle.explained.proofs.Judging.{list-taken}
+use Rattle.lead_text_laws.specs.Calls.{ExplainInto}
 use Rattle.lead_text_laws.specs.Live.{Good, Ended, explains, Live}
 use Rattle.lead_text_laws.specs.Explain.{Explained, none, more, traceOf, Explain}
 use Rattle.lead_text_laws.proofs.Telling.{tell-on, taken-few}
@@ -45,7 +46,7 @@ bytesIn (refuses n) = 0
 -- ---- one call
 
 module _ (store : Store) (good : Good store) (ride : Ride) (number : ℕ) (block before after : List ℕ) (l : Listed) (k n : ℕ) (whole : length block % 8 ≡ 0)
-    (c : ExplainUnder ride store number block before l after) (done : l .done ≡ Done.Took k n) where
+    (c : ExplainInto ride store number block before l after) (done : l .done ≡ Done.Took k n) where
   abbrev gaps : ℕ → ℕ
   gaps = gapAt store
 
@@ -54,8 +55,8 @@ module _ (store : Store) (good : Good store) (ride : Ride) (number : ℕ) (block
 
   says : saysListed l after ≡ listTaken gaps ride number (records block) before
   says =
-      sym (ap (saysListed l) (c .6)) ∙ c .7 ∙ ap₂ (listUnder ride store number) (c .4) (c .5)
-      ∙ sym (under-taken ride store number block before good (eq-eqb (length block % 8) 0 whole))
+      sym (ap (saysListed l) (c .6)) ∙ c .7 ∙ ap₂ (explaining.list ride store number) (c .4) (c .5)
+      ∙ sym (list-taken ride store number block before good (eq-eqb (length block % 8) 0 whole))
 
   counted : (f : Outcome Taken → ℕ) → f (gives (record { records = k; bytes = n })) ≡ f (listTaken gaps ride number (records block) before .answer)
   counted f = sym (ap (λ (d : Done). f (saysDone d)) done) ∙ ap (λ (x : Listing). f (x .answer)) says

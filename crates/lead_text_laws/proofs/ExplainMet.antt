@@ -21,8 +21,8 @@ use Rattle.listing.specs.List.{Listing}
 use Rattle.listing.specs.Says.{saysListed}
 use Rattle.explained.specs.Told.{Told, tellOver}
 use Rattle.explained.specs.List.{taken, listOf, listTaken}
-use Rattle.explained.proofs.Under.{under-taken}
-use Rattle.lead_text_laws.specs.Calls.{ExplainUnder}
+use Rattle.explained.proofs.Judging.{list-taken}
+use Rattle.lead_text_laws.specs.Calls.{ExplainInto}
 use Rattle.lead_text_laws.specs.Live.{Good}
 use Rattle.lead_text_laws.specs.Explain.{Explained, none, more}
 use Rattle.lead_text_laws.proofs.LiveMet.{lent, taken-all}
@@ -58,7 +58,7 @@ module _ (store : Store) (good : Good store) (ride : Ride) (number : ℕ) (trace
 
   explained-met : number + length rs ≤ largest64 → (text : List ℕ) × (last : Ride) × Explained store ride number trace text last
   explained-met small =
-      let c : ExplainUnder ride store number trace before answer after = (
+      let c : ExplainInto ride store number trace before answer after = (
         ([], ([], tt)),
         lent trace,
         lent before,
@@ -66,7 +66,7 @@ module _ (store : Store) (good : Good store) (ride : Ride) (number : ℕ) (trace
         refl,
         refl,
         refl,
-        all-listed small ∙ under-taken ride store number trace before good (eq-eqb (length trace % 8) 0 whole),
+        all-listed small ∙ list-taken ride store number trace before good (eq-eqb (length trace % 8) 0 whole),
       ) in
       let long : length rs * 8 ≡ length trace = omega (arith, records-length (length trace / 8) trace) in
       let gone : [] ≡ drop (length rs * 8) trace = sym (ap (λ (n : ℕ). drop n trace) long ∙ drop-length trace) in

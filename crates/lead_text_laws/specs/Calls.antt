@@ -19,8 +19,8 @@ use Rattle.lead_text.proofs.list_frames.Kinds as frames-kinds
 use Rattle.lead_text.proofs.list_frames.Reads as frames-reads
 use Rattle.lead_text.proofs.list_end.Kinds as end-kinds
 use Rattle.lead_text.proofs.list_end.Reads as end-reads
-use Rattle.explained.proofs.list_under.Kinds as under-kinds
-use Rattle.explained.proofs.list_under.Reads as under-reads
+use Rattle.explained.proofs.list.Kinds as list-kinds
+use Rattle.explained.proofs.list.Reads as list-reads
 use Rattle.explained.proofs.put_end.Kinds as put-kinds
 use Rattle.explained.proofs.put_end.Reads as put-reads
 
@@ -49,9 +49,9 @@ PutEnd ride before at n after =
     × (now buf ≡ before) × (now (e .1 .0) ≡ after)
     × put-reads.Post κs (ride, (buf, (at, tt))) n e
 
--- The contract of `explained::list_under` allows the answer r for this ride, store, number and lent trace, and that the lent buffer holds `after` then.
-abbrev pub ExplainUnder : Ride → Store → ℕ → List ℕ → List ℕ → Listed → List ℕ → Type 0
-ExplainUnder ride store number trace before r after =
-    (κs : Lfts 2) × (lent : RefT (List ℕ)) × (out : RefT (List ℕ)) × (e : AtExit (endedOf 2 under-kinds.ps under-kinds.r) κs)
+-- The contract of `explained::list` allows the answer r for this ride, store, number and lent trace, and that the lent buffer holds `after` then.
+abbrev pub ExplainInto : Ride → Store → ℕ → List ℕ → List ℕ → Listed → List ℕ → Type 0
+ExplainInto ride store number trace before r after =
+    (κs : Lfts 2) × (lent : RefT (List ℕ)) × (out : RefT (List ℕ)) × (e : AtExit (endedOf 2 list-kinds.ps list-kinds.r) κs)
     × (now lent ≡ trace) × (now out ≡ before) × (now (e .1 .1 .1 .1 .0) ≡ after)
-    × under-reads.Post κs (ride, (store, (number, (lent, (out, tt))))) r e
+    × list-reads.Post κs (ride, (store, (number, (lent, (out, tt))))) r e

@@ -12,15 +12,15 @@ use Rattle.recording.specs.Recording.{recorded}
 use Rattle.listing.specs.declared.Done.{Done}
 use Rattle.listing.specs.declared.Listed.{Listed}
 use Rattle.lead_text.specs.declared.Underway.{Underway}
-use Rattle.lead_text_laws.specs.Calls.{Fresh, ExplainUnder}
+use Rattle.lead_text_laws.specs.Calls.{Fresh, ExplainInto}
 use Rattle.lead_text_laws.specs.Live.{Good, Heard, Closed, Ended, InPieces, joined, explains}
 
--- `list_under` is called over a trace, each time with a block of whole records from the front of what is left, with the ride and from the number at which
+-- `list` is called over a trace, each time with a block of whole records from the front of what is left, with the ride and from the number at which
 -- the answer before ended, until nothing is left; every answer is one that the contract allows. From a ride and a number: the text written, and the ride at the end.
 pub data Explained (store : Store) : Ride → ℕ → List ℕ → List ℕ → Ride → Type 0 where
   none : {ride : Ride} {number : ℕ} → Explained store ride number [] [] ride
   more : {ride last : Ride} {number : ℕ} {left text : List ℕ} (block rest before after : List ℕ) (l : Listed) (k n : ℕ)
-      → left ≡ block ++ rest → length block % 8 ≡ 0 → ExplainUnder ride store number block before l after → l .done ≡ Done.Took k n
+      → left ≡ block ++ rest → length block % 8 ≡ 0 → ExplainInto ride store number block before l after → l .done ≡ Done.Took k n
       → Explained store (l .ride) (l .number) (drop (k * 8) left) text last → Explained store ride number left (take n after ++ text) last
 
 -- The trace that `record` writes of a lead: its records, byte after byte.

@@ -4,7 +4,7 @@ use mathlib.Core.Path.{_≡_, sym}
 use native.Mathlib.Omega.{arith}
 use lib.ListN.{length, take}
 use lib.Seq.{length-take-le}
-use Rattle.listing.proofs.Bounds.{list-under-within}
+use Rattle.listing.proofs.Bounds.{list-within}
 use borrow.Author.Needs.{needs}
 use Rattle.checker.proofs.blocks.write_records.Statement.{statement}
 use Rattle.checker.proofs.blocks.write_records.Tie as tie
@@ -13,15 +13,15 @@ use Rattle.checker.proofs.blocks.write_records.Tie as tie
 within : (c : tie.After-done) →
     let l = c .before .before .before .before .before in
     (c .done .given .0 .0 * 8 ≤ length (l .before .before .before .before .before .args .records .now))
-    × (c .done .given .0 .1 .0 ≤ length (l .list-under .last .1 .1 .1 .1 .0))
+    × (c .done .given .0 .1 .0 ≤ length (l .list .last .1 .1 .1 .1 .0))
 within c =
     let l = c .before .before .before .before .before in
     let s = l .before .before .before .before .before in
     let w =
-    list-under-within (s .args .from .ride) (s .args .store) (s .args .from .number) (s .args .records .now) (s .args .out .now)
-    (l .list-under .last .1 .1 .1 .1 .0) (l .list-under .result) (c .done .given .0 .0) (c .done .given .0 .1 .0)
-    (l .list-under .ensures) (c .done .given .1) (l .list-under .kept .1 .1 .1 .1 .0) in
-    (w .0, omega (arith, w .1, l .list-under .kept .1 .1 .1 .1 .0))
+    list-within (s .args .from .ride) (s .args .store) (s .args .from .number) (s .args .records .now) (s .args .out .now)
+    (l .list .last .1 .1 .1 .1 .0) (l .list .result) (c .done .given .0 .0) (c .done .given .0 .1 .0)
+    (l .list .ensures) (c .done .given .1) (l .list .kept .1 .1 .1 .1 .0) in
+    (w .0, omega (arith, w .1, l .list .kept .1 .1 .1 .1 .0))
 
 slice-reshare-prefix-write-all : tie.Need-slice-reshare-prefix-write-all
 slice-reshare-prefix-write-all c = within (c .before) .1
