@@ -29,7 +29,8 @@ use Rattle.listing.specs.declared.Listed.{Listed as Answer}
 use Rattle.listing.specs.List.{Taken, Listing}
 use Rattle.listing.specs.Says.{saysDone, saysListed}
 use Rattle.explained.specs.Told.{Told, stepText, tellOver}
-use Rattle.explained.specs.List.{isTaken, taken, listOf, listTaken, list}
+use Rattle.explained.specs.List.{isTaken, taken, listOf, listTaken}
+use Rattle.explained.specs.List as explaining
 use Rattle.explained.proofs.Judging.{list-taken}
 use Rattle.lead_text.specs.Inside.{Listed, saysOne, listOne}
 use Rattle.lead_text.specs.declared.record_lines.One.{One}
@@ -157,12 +158,12 @@ module _ (gaps : ℕ → ℕ) (ride : Ride) (number : ℕ) (r out : List ℕ) (a
   unfolding listOf
   not-refused l part n says e = cannot-be (sym (ap (λ (x : Listing). refusedIn (x .answer)) says) ∙ ap refusedIn e)
 
--- ---- what `list` says of one record
+-- ---- what `explained::list` says of one record
 
 module _ (store : Store) (ride : Ride) (number : ℕ) (r out : List ℕ) (at : ℕ) (good : judged store ≡ gives kept) (eight : length r ≡ 8) where
-  pub alone : (l : Answer) (part : List ℕ) → saysListed l part ≡ list ride store number r (midOf at (length out - at) out)
+  pub alone : (l : Answer) (part : List ℕ) → saysListed l part ≡ explaining.list ride store number r (midOf at (length out - at) out)
       → saysListed l part ≡ listTaken (gapAt store) ride number (r ∷ []) (drop at out)
   alone l part says =
       let whole : length r % 8 ≡ 0 = omega arith in
-      says ∙ ap (list ride store number r) (part-is out at) ∙ sym (list-taken ride store number r (drop at out) good (eq-eqb (length r % 8) 0 whole))
+      says ∙ ap (explaining.list ride store number r) (part-is out at) ∙ sym (list-taken ride store number r (drop at out) good (eq-eqb (length r % 8) 0 whole))
       ∙ ap (λ (rs : List (List ℕ)). listTaken (gapAt store) ride number rs (drop at out)) (only r eight)

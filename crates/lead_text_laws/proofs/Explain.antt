@@ -23,7 +23,8 @@ use Rattle.listing.specs.declared.Listed.{Listed}
 use Rattle.listing.specs.List.{Taken, Listing}
 use Rattle.listing.specs.Says.{saysDone, saysListed}
 use Rattle.explained.specs.Told.{Told, tellOver, endText}
-use Rattle.explained.specs.List.{taken, listOf, listTaken, list}
+use Rattle.explained.specs.List.{taken, listOf, listTaken}
+use Rattle.explained.specs.List as explaining
 use Rattle.explained.proofs.Judging.{list-taken}
 use Rattle.lead_text_laws.specs.Calls.{ExplainInto}
 use Rattle.lead_text_laws.specs.Live.{Good, Ended, explains, Live}
@@ -54,7 +55,7 @@ module _ (store : Store) (good : Good store) (ride : Ride) (number : ℕ) (block
 
   says : saysListed l after ≡ listTaken gaps ride number (records block) before
   says =
-      sym (ap (saysListed l) (c .6)) ∙ c .7 ∙ ap₂ (list ride store number) (c .4) (c .5)
+      sym (ap (saysListed l) (c .6)) ∙ c .7 ∙ ap₂ (explaining.list ride store number) (c .4) (c .5)
       ∙ sym (list-taken ride store number block before good (eq-eqb (length block % 8) 0 whole))
 
   counted : (f : Outcome Taken → ℕ) → f (gives (record { records = k; bytes = n })) ≡ f (listTaken gaps ride number (records block) before .answer)

@@ -7,7 +7,7 @@ use native.Mathlib.Omega.{arith}
 use lib.ListN.{length, drop}
 use Rattle.settings.specs.At.{gapAt}
 use Rattle.listing.specs.Says.{saysDone, saysListed}
-use Rattle.explained.specs.List.{listTaken, list}
+use Rattle.explained.specs.List.{listTaken}
 use Rattle.lead_text.proofs.OneMore.{alone, took, written-in, not-refused}
 use borrow.Author.Needs.{needs}
 use Rattle.lead_text.proofs.record_lines.list_one.Statement.{statement}
