@@ -28,3 +28,4 @@ mod FirstLines
 mod LastLines
 mod OtherLines
 mod Limits
+mod MarkerMet
