@@ -53,10 +53,14 @@ int main(void) {
                 bits[i] = i < before || i >= before + len ? 1 : line[j / 8] >> (7 - j % 8) & 1;
             }
             memset(flips, 0, sizeof flips);
-            for (int tries = 0; tries < n; tries++) { /* half of them near the balise's end */
-                int i = draw(2) ? (int)draw((unsigned)n) : before + len - 40 + (int)draw(60);
-                if (i < 0 || i >= n || flips[i] || !can_flip(flips, n, i, allowed[k])) continue;
-                flips[i] = 1; bits[i] ^= 1; flipped++;
+            /* Noise all over the pass, half of it near the balise's end; or in one or two bursts. */
+            for (int burst = pass % 2 ? 1 : 1 + (int)draw(2); burst > 0; burst--) {
+                int near = draw(2) ? (int)draw((unsigned)n) : before + len - 40 + (int)draw(40);
+                for (int tries = 0; tries < (pass % 2 ? n : 40); tries++) {
+                    int i = pass % 2 == 0 ? near + (int)draw(40) : draw(2) ? (int)draw((unsigned)n) : before + len - 40 + (int)draw(60);
+                    if (i < 0 || i >= n || flips[i] || !can_flip(flips, n, i, allowed[k])) continue;
+                    flips[i] = 1; bits[i] ^= 1; flipped++;
+                }
             }
             int most = 0;
             for (int a = 0; a + 40 <= n; a++) {
@@ -80,7 +84,7 @@ int main(void) {
                     other++;
                     printf("equal bit %d, %02X and %02X: %d is read as %d:", k + 1, s, t, (int)sent, (int)out[0]);
                     for (int i = 0; i < n / 8; i++) printf(" %02x", buffer[i]);
-                    putchar('\n');
+                    puts("");
                 }
             }
         }

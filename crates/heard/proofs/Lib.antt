@@ -9,14 +9,14 @@ mod Within
 mod Fair
 pub mod Below
 mod Broken
-pub mod Few
+mod Few
 mod Never
 pub mod Either
 mod Marker
 pub mod Sixty
 pub mod Row
 mod Heard
-pub mod Computed
+mod Computed
 mod Less
 mod Eleven
 mod Differ

@@ -1,7 +1,7 @@
 -- Where the line is quiet before what is passed and after it, up to three flips in forty bits open no contact before it, and none stays open for fifteen bits after it.
 -- Assumes nothing.
 use Prim.Native.Nat.{ℕ, suc, _+_, _-_, _≤_, _<_}
-use mathlib.Core.Path.{_≡_, refl, sym, ap, _∙_}
+use mathlib.Core.Path.{_≡_, refl, ap}
 use mathlib.Core.Bool.{Bool, true, false}
 use mathlib.Core.List.{List}
 use native.Mathlib.Omega.{arith}
@@ -10,7 +10,7 @@ use borrow.Author.Tests.{leb-true, leb-false}
 use Rattle.contact.specs.History.{zeroes}
 use Rattle.contact.specs.Contacts.{contactsFrom, fromStart}
 use Rattle.heard.specs.Zeroes.{zeroesIn}
-use Rattle.noise_laws.specs.Pass.{flipsIn, InForty}
+use Rattle.noise_laws.specs.Pass.{InForty}
 use Rattle.noise_laws.proofs.Flips.{zeroes-flips, any-few}
 use Rattle.noise_laws.proofs.Where.{AllWithin, history, latest-few, latest-sixteen, all-within}
 

@@ -1,6 +1,6 @@
 -- Two places alike, eight bits apart, with the sync words swapped and three flips all at their end: every word of both is the one sync word, and what the balise sent is the same words.
 -- Assumes nothing.
-use Prim.Native.Nat.{ℕ, zero, suc, _+_, _-_, _*_, _%_, _≤_, _<_}
+use Prim.Native.Nat.{ℕ, suc, _+_, _-_, _*_, _%_, _≤_, _<_}
 use mathlib.Core.Path.{_≡_, refl, sym, ap, ap₂, _∙_, subst}
 use mathlib.Core.Bool.{Bool, true, false}
 use mathlib.Core.List.{List}
@@ -11,7 +11,7 @@ use borrow.Author.Tests.{eq-eqb, eqb-true, eqb-false, ltb-true, ltb-false, le-le
 use Rattle.words.specs.Answer.{pick}
 use Rattle.words.proofs.Ranges.{both, both-left, both-right, upto, below}
 use Rattle.line.specs.Line.{unequal, sum}
-use Rattle.line.proofs.Sums.{sum-ext, sum-split, unequal-same, unequal-none, unequal-lt, notAt}
+use Rattle.line.proofs.Sums.{sum-ext, sum-split, unequal-same, unequal-none, notAt}
 use Rattle.noise_laws.specs.Reading.{allowed}
 use Rattle.noise_laws.proofs.Every.{every, listOf, of-every, at-list}
 use Rattle.noise_laws.proofs.Rounds.{spelt-alike}

@@ -1,16 +1,15 @@
 -- Flips of a line that is received in a buffer: those of a part, and those of forty bits or fewer.
 -- Assumes nothing.
 use Prim.Native.Nat.{ℕ, zero, suc, _+_, _-_, _≤_, _<_}
-use mathlib.Core.Path.{_≡_, refl, sym, ap, ap₂, _∙_}
+use mathlib.Core.Path.{_≡_, refl, ap, _∙_}
 use mathlib.Core.Bool.{Bool, true, false}
 use mathlib.Core.List.{List}
 use native.Mathlib.Omega.{arith}
 use lib.Dec.{leb}
 use borrow.Author.Tests.{leb-true, leb-false}
 use Rattle.telegram.specs.Stretch.{bitAt}
-use Rattle.telegram.proofs.Window.{bit-lt}
 use Rattle.line.specs.Line.{unequal, sum}
-use Rattle.line.proofs.Sums.{sum-part, sum-split, sum-ext, unequal-none, unequal-lt}
+use Rattle.line.proofs.Sums.{sum-part, sum-split, sum-ext, unequal-none}
 use Rattle.heard.specs.Zeroes.{zeroesIn}
 use Rattle.noise_laws.specs.Pass.{flipped, flipsIn, InForty}
 

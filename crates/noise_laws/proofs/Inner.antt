@@ -7,7 +7,7 @@ use mathlib.Core.Logic.{_⊎_, inl, inr}
 use mathlib.Core.Bool.{Bool, true, false, _||_}
 use mathlib.Core.List.{List}
 use native.Mathlib.Omega.{arith}
-use lib.Dec.{T, eqb, leb, leb→le}
+use lib.Dec.{eqb, leb, leb→le}
 use lib.ListN.{getD}
 use borrow.Author.Tests.{eqb-true}
 use Rattle.words.specs.Answer.{gives, pick}
@@ -15,12 +15,11 @@ use Rattle.words.proofs.Ranges.{upto, below}
 use Rattle.telegram.specs.Stretch.{bitAt, bitsAt, inside}
 use Rattle.telegram.specs.Telegram.{Received, telegram}
 use Rattle.telegram.specs.Place.{areSyncs, wordsAt, accepted, isPlace}
-use Rattle.telegram.specs.declared.Telegram.{Telegram}
 use Rattle.telegram.proofs.Window.{bit-lt}
 use Rattle.telegram.proofs.Taken.{part-taken}
 use Rattle.line.specs.Line.{OneBalise, Proper, repeated, sentBit, lineBit, unequal, flip, flips, flipsAt, sum}
 use Rattle.line.specs.Forty.{EqualBit, AtMostInForty}
-use Rattle.line.proofs.Sums.{sum-le, sum-ext, none-sum, unequal-lt, notAt, Missing, one-missing}
+use Rattle.line.proofs.Sums.{sum-le, none-sum, unequal-lt, notAt, Missing, one-missing}
 use Rattle.line.proofs.Telegrams.{taken}
 use Rattle.line.proofs.Round.{pattern, seven, data-sent, word-x, word-y, word-z}
 use Rattle.line.proofs.Offsets.{weigh, apart, cost}

@@ -1,15 +1,14 @@
 -- A pass and the stretch that the balise's own bits are: the line carries what the balise sends there, and the flips are the stretch's.
 -- Assumes nothing.
 use Prim.Native.Nat.{ℕ, _+_, _-_, _≤_, _<_}
-use mathlib.Core.Path.{_≡_, refl, sym, ap, ap₂, _∙_, subst}
+use mathlib.Core.Path.{_≡_, refl, sym, ap, ap₂, _∙_}
 use mathlib.Core.Bool.{Bool, true, false, _&&_}
-use mathlib.Core.List.{List}
 use native.Mathlib.Omega.{arith}
 use lib.Dec.{leb, ltb}
 use borrow.Author.Tests.{le-leb, lt-leb, lt-ltb, le-ltb}
 use Rattle.words.specs.Answer.{pick}
 use Rattle.telegram.specs.Stretch.{bitAt}
-use Rattle.line.specs.Line.{OneBalise, sentBit, lineBit, unequal, flip, sum, flips, flipsAt}
+use Rattle.line.specs.Line.{OneBalise, sentBit, lineBit, unequal, flip, flips, flipsAt}
 use Rattle.line.specs.Forty.{AtMostInForty}
 use Rattle.line.proofs.Sums.{sum-ext}
 use Rattle.line.proofs.Window.{flip-is}

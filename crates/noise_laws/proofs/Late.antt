@@ -1,21 +1,20 @@
 -- Two places alike, eight bits apart, that end in the quiet line with three zeroes there, where three flips are allowed: all flips are spent at their end, so what the balise sent stands before it.
 -- Assumes nothing.
 use Prim.Native.Nat.{ℕ, _+_, _-_, _*_, _%_, _≤_, _<_}
-use mathlib.Core.Path.{_≡_, refl, sym, ap, ap₂, _∙_, subst}
+use mathlib.Core.Path.{_≡_, sym, ap, _∙_}
 use mathlib.Core.Logic.{_⊎_, inl, inr}
 use mathlib.Core.Bool.{true}
 use mathlib.Core.List.{List}
 use native.Mathlib.Omega.{arith}
 use lib.ListN.{getD}
 use Rattle.words.specs.Answer.{gives}
-use Rattle.telegram.specs.Stretch.{bitAt, inside}
+use Rattle.telegram.specs.Stretch.{bitAt}
 use Rattle.telegram.specs.Place.{wordsAt, accepted}
 use Rattle.telegram.proofs.Window.{bit-lt}
 use Rattle.telegram.proofs.Taken.{part-taken}
 use Rattle.line.specs.Line.{OneBalise, Proper, repeated, sentBit, lineBit, unequal, sum}
 use Rattle.line.proofs.Sums.{sum-split, sum-ext, sum-none, none-sum, unequal-lt, unequal-none, unequal-same, notAt}
 use Rattle.line.proofs.Wrong.{Bytes}
-use Rattle.heard.specs.Zeroes.{zeroesIn}
 use Rattle.noise_laws.specs.Pass.{lineAt, flipped, flipsIn, NoisyPass}
 use Rattle.noise_laws.specs.Reading.{allowed}
 use Rattle.noise_laws.proofs.Flips.{flips-split, zeroes-flips}

@@ -8,6 +8,8 @@ mod Every
 mod Tests
 mod Rounds
 mod Overlap
+mod SwappedShort
+mod Swapped
 mod Near
 mod Spread
 mod Zero
@@ -19,9 +21,11 @@ mod Inner
 mod Eighth
 mod Late
 mod Reading
+mod MarkerLine
 mod Marker
 mod Computed
 mod FirstLines
 mod LastLines
 mod OtherLines
 mod Limits
+mod MarkerMet

@@ -1,15 +1,14 @@
 -- A marker with at most two flips in forty bits is never read. A place's outer bytes differ in seven bits, and over the marker every one is a flip; so a place has to end in the quiet line. Of two
 -- alike the bits would repeat, where zeroes are followed by ones.
 -- Assumes nothing.
-use Prim.Native.Nat.{ℕ, zero, suc, _+_, _-_, _%_, _≤_, _<_}
-use mathlib.Core.Path.{_≡_, refl, sym, ap, ap₂, _∙_, subst}
+use Prim.Native.Nat.{ℕ, _+_, _-_, _≤_, _<_}
+use mathlib.Core.Path.{_≡_, refl, sym, ap, _∙_, subst}
 use mathlib.Core.Logic.{_⊎_, inl, inr}
 use mathlib.Core.Bool.{Bool, true, false, _&&_}
 use mathlib.Core.List.{List}
 use native.Mathlib.Omega.{arith}
-use lib.Dec.{eqb, leb, ltb}
-use borrow.Author.Tests.{leb-true, leb-false, lt-leb, le-leb, lt-ltb, le-ltb, eqb-true}
-use Rattle.words.specs.Answer.{pick}
+use lib.Dec.{eqb, leb}
+use borrow.Author.Tests.{leb-true, leb-false, eqb-true}
 use Rattle.telegram.specs.Stretch.{bitAt, bitsAt}
 use Rattle.telegram.specs.Sync.{isGood}
 use Rattle.telegram.specs.Place.{areSyncs}
@@ -17,14 +16,14 @@ use Rattle.telegram.specs.declared.Telegram.{Telegram}
 use Rattle.telegram.proofs.Window.{bit-lt}
 use Rattle.telegram.proofs.Taken.{part-taken}
 use Rattle.line.specs.Line.{unequal, sum}
-use Rattle.line.proofs.Sums.{sum-le, sum-ext, sum-both, none-sum, unequal-same, unequal-none, unequal-lt}
+use Rattle.line.proofs.Sums.{sum-le, sum-ext, sum-both, none-sum, unequal-same}
 use Rattle.line.proofs.Bits.{same-bits, differing-bits}
 use Rattle.line.proofs.Places.{and-parts, or-parts, place-parts}
 use Rattle.contact.specs.Contacts.{Contacts, contact, quiet, refused}
 use Rattle.heard.specs.Zeroes.{zeroesIn}
 use Rattle.heard.proofs.Over.{listened}
 use Rattle.heard.proofs.Sixty.{syncs-differ}
-use Rattle.noise_laws.specs.Pass.{isOver, flipped, flipsIn}
+use Rattle.noise_laws.specs.Pass.{flipsIn}
 use Rattle.noise_laws.specs.Marker.{markerAt, NoisyMarker, NeverRead, MarkerNeverRead}
 use Rattle.noise_laws.proofs.Flips.{zeroes-flips, any-few, flips-split}
 use Rattle.noise_laws.proofs.Where.{AllWithin, within-record}
@@ -33,62 +32,11 @@ use Rattle.noise_laws.proofs.Two.{Two, two-alike}
 use Rattle.noise_laws.proofs.Apart.{d, r, q-is, all-again}
 use Rattle.noise_laws.proofs.Rounds.{repeats}
 use Rattle.noise_laws.proofs.Zero.{zeroes-sum}
-
--- Bits that differ have a one.
-differ-one : (a c : ℕ) → a < 2 → c < 2 → unequal a c ≤ a + c
-differ-one a c la lc = go (unequal a c) refl
-  where
-    go : (u : ℕ) → unequal a c ≡ u → unequal a c ≤ a + c
-    go zero is = omega arith
-    go (suc u) is =
-        let low = unequal-lt a c in
-        let ne : a ≡ c → ⊥ = λ same. (let none = unequal-same a c same in omega arith) in
-        omega arith
-
--- Bits, and those turned over.
-turned : (f : ℕ → ℕ) (n : ℕ) → ((i : ℕ) → f i < 2) → sum f n + sum (λ i. 1 - f i) n ≡ n
-unfolding sum
-turned f zero bits = refl
-turned f (suc n) bits = omega (arith, turned f n bits, bits n)
-
-same-rest : (d i : ℕ) → 0 < d → d ≤ 2 → (32 + i) % d ≡ i % d
-same-rest zero i low high = absurd (omega arith)
-same-rest (suc zero) i low high = omega arith
-same-rest (suc (suc zero)) i low high = omega arith
-same-rest (suc (suc (suc d))) i low high = absurd (omega arith)
+use Rattle.noise_laws.proofs.MarkerLine.{differ-one, turned, same-rest, one-before, one-after, ones-flips}
 
 module _ (b : List ℕ) (start len from to : ℕ) (noisy : NoisyMarker 2 b start len from to) where
   abbrev line : ℕ → ℕ
   line = markerAt start len
-
-  one-before : (i : ℕ) → i < start → line i ≡ 1
-  unfolding markerAt isOver
-  one-before i less = ap (λ (t : Bool). pick (t && ltb i (start + len)) 0 1) (lt-leb start i less)
-
-  one-after : (i : ℕ) → start + len ≤ i → line i ≡ 1
-  unfolding markerAt isOver
-  one-after i more = ap (λ (t : Bool). pick (leb start i && t) 0 1) (le-ltb i (start + len) more) ∙ go (leb start i)
-    where
-      go : (t : Bool) → _≡_ {A = ℕ} (pick (t && false) 0 1) 1
-      go true = refl
-      go false = refl
-
-  zero-over : (i : ℕ) → start ≤ i → i < start + len → line i ≡ 0
-  unfolding markerAt isOver
-  zero-over i low high = ap₂ (λ (t u : Bool). pick (t && u) 0 1) (le-leb start i low) (lt-ltb i (start + len) high)
-
-  -- Over the marker a one is a flip.
-  one-flip : (i : ℕ) → start ≤ i → i < start + len → bitAt b i ≤ flipped line b i
-  unfolding flipped
-  one-flip i low high = go (unequal (bitAt b i) (line i)) refl
-    where
-      go : (v : ℕ) → unequal (bitAt b i) (line i) ≡ v → bitAt b i ≤ unequal (bitAt b i) (line i)
-      go zero is = let same = unequal-none (bitAt b i) (line i) is in omega (arith, same, zero-over i low high)
-      go (suc v) is = let small = bit-lt b i in omega arith
-
-  ones-flips : (p n : ℕ) → start ≤ p → p + n ≤ start + len → sum (λ i. bitAt b (p + i)) n ≤ flipsIn line b p n
-  unfolding flipsIn
-  ones-flips p n low high = sum-le (λ i. bitAt b (p + i)) (λ i. flipped line b (p + i)) n (λ i l. one-flip (p + i) (omega arith) (omega arith))
 
   module _ (long : from + 40 ≤ to) (c l s t : ℕ) (good : isGood s t ≡ true) (low : start ≤ c) (high : c + l ≤ start + len + 15) (room : c + l ≤ to) (m : Telegram) (two : Two b c l s t m) where
     abbrev p : ℕ
@@ -117,7 +65,7 @@ module _ (b : List ℕ) (start len from to : ℕ) (noisy : NoisyMarker 2 b start
 
     -- Over the marker at most two of eight bits are ones.
     two-ones : (a : ℕ) → start ≤ a → a + 8 ≤ start + len → sum (λ i. bitAt b (a + i)) 8 ≤ 2
-    two-ones a up down = omega (arith, ones-flips a 8 up down, few a 8 up (omega arith) (omega (arith, noisy .to-high)))
+    two-ones a up down = omega (arith, ones-flips b start len a 8 up down, few a 8 up (omega arith) (omega (arith, noisy .to-high)))
 
     -- Seven bits of a place's outer bytes differ, so seven of them are ones.
     seven : sum (λ i. unequal (bit-of i) (bit-of (32 + i))) 8 ≡ 7
@@ -160,8 +108,8 @@ module _ (b : List ℕ) (start len from to : ℕ) (noisy : NoisyMarker 2 b start
         at-most-two =
             let f : ℕ → ℕ = λ i. bitAt b (a + i) in
             let e : a + apart ≡ start + len = omega (arith, ahead, lies) in
-            let ones = ones-flips a apart (omega (arith, lies)) (omega arith) in
-            let zeroes = zeroes-flips line b (a + apart) apart (λ i l. one-after (a + apart + i) (omega arith)) in
+            let ones = ones-flips b start len a apart (omega (arith, lies)) (omega arith) in
+            let zeroes = zeroes-flips line b (a + apart) apart (λ i l. one-after b start len (a + apart + i) (omega arith)) in
             let there = sum-ext (λ i. 1 - bitAt b (a + apart + i)) (λ i. 1 - f i) apart
             (λ i l. ap (λ (x : ℕ). 1 - x) (moved i l)) in
             let all = few a (apart + apart) (omega (arith, lies)) (omega (arith, lies)) (omega (arith, lies)) in
@@ -230,4 +178,4 @@ marker-never-read b start len from to noisy w l =
     let high = noisy .to-high in
     every b start len from to noisy w (subst (AllWithin from to) (sym (listened b from to w l)) (within-record b from to (omega arith)))
     (λ long. subst (AllWithin start (start + len + 15)) (sym (listened b from to w l))
-    (between (markerAt start len) b 2 from to start (start + len) (noisy .few) (omega arith) long (omega arith) (one-before b start len from to noisy) (one-after b start len from to noisy)))
+    (between (markerAt start len) b 2 from to start (start + len) (noisy .few) (omega arith) long (omega arith) (one-before b start len) (one-after b start len)))

@@ -18,7 +18,7 @@ use Rattle.telegram.specs.declared.Telegram.{Telegram}
 use Rattle.telegram.proofs.Taken.{part-taken}
 use Rattle.line.specs.Line.{OneBalise, Proper}
 use Rattle.line.specs.Forty.{equalBits, EqualBit}
-use Rattle.line.proofs.Sums.{unequal-none, unequal-same, notAt, Missing}
+use Rattle.line.proofs.Sums.{unequal-none, unequal-same, notAt}
 use Rattle.line.proofs.Places.{listed, or-left, place-parts}
 use Rattle.line.proofs.Wrong.{outer-bits}
 use Rattle.line.proofs.EqualBit.{at-equal}

@@ -1,27 +1,26 @@
 -- Two places alike that end in the quiet line after the balise: they overlap, and the zeroes at their end are flips.
 -- Assumes nothing.
-use Prim.Native.Nat.{ℕ, zero, suc, _+_, _-_, _*_, _≤_, _<_}
-use mathlib.Core.Path.{_≡_, refl, sym, ap, ap₂, _∙_, subst}
+use Prim.Native.Nat.{ℕ, _+_, _-_, _≤_, _<_}
+use mathlib.Core.Path.{_≡_, sym, ap, _∙_}
 use mathlib.Core.Logic.{_⊎_, inl, inr}
 use mathlib.Core.Bool.{true}
 use mathlib.Core.List.{List}
 use native.Mathlib.Omega.{arith}
-use Rattle.words.specs.Answer.{gives}
 use Rattle.telegram.specs.Stretch.{bitAt, bitsAt}
-use Rattle.telegram.specs.Place.{areSyncs, wordsAt, isPlace}
+use Rattle.telegram.specs.Place.{areSyncs, wordsAt}
 use Rattle.telegram.specs.declared.Telegram.{Telegram}
 use Rattle.telegram.proofs.Window.{bit-lt, bits-lt}
-use Rattle.line.specs.Line.{OneBalise, Proper, repeated, unequal, sum}
+use Rattle.line.specs.Line.{OneBalise, Proper, repeated, unequal}
 use Rattle.line.proofs.Sums.{sum-ext, unequal-lt, notAt, Missing, one-missing}
 use Rattle.line.proofs.Round.{pattern, seven}
 use Rattle.line.proofs.Places.{place-parts}
 use Rattle.line.proofs.Wrong.{Bytes, outer-bits, as-syncs}
-use Rattle.heard.specs.Zeroes.{zeroesIn}
-use Rattle.noise_laws.specs.Pass.{lineAt, flipsIn, NoisyPass}
+use Rattle.noise_laws.specs.Pass.{lineAt, NoisyPass}
 use Rattle.noise_laws.proofs.Flips.{zeroes-flips, any-few}
 use Rattle.noise_laws.proofs.Inside.{one-after}
 use Rattle.noise_laws.proofs.Tests.{spelt, isShort, zs, outer}
-use Rattle.noise_laws.proofs.Overlap.{Comes, same-order, swapped}
+use Rattle.noise_laws.proofs.Overlap.{Comes, same-order}
+use Rattle.noise_laws.proofs.Swapped.{swapped}
 use Rattle.noise_laws.proofs.Words.{x-short, spelt-bits}
 use Rattle.noise_laws.proofs.Zero.{zeroes-sum}
 use Rattle.noise_laws.proofs.Two.{Two}

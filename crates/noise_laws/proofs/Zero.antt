@@ -1,12 +1,12 @@
 -- Two places whose words are zeroes, and whose ends lie in the quiet line: the balise's own words have too few ones to be anything else.
 -- Assumes nothing.
-use Prim.Native.Nat.{ℕ, zero, suc, _+_, _-_, _*_, _≤_, _<_}
-use mathlib.Core.Path.{_≡_, refl, sym, ap, ap₂, _∙_, subst}
+use Prim.Native.Nat.{ℕ, zero, suc, _+_, _-_, _≤_, _<_}
+use mathlib.Core.Path.{_≡_, refl, sym, ap, ap₂, _∙_}
 use mathlib.Core.Bool.{true}
 use mathlib.Core.List.{List}
 use native.Mathlib.Omega.{arith}
 use Rattle.words.specs.Answer.{gives}
-use Rattle.telegram.specs.Stretch.{bitAt, inside}
+use Rattle.telegram.specs.Stretch.{bitAt}
 use Rattle.telegram.specs.Place.{wordsAt, accepted}
 use Rattle.telegram.proofs.Taken.{part-taken}
 use Rattle.line.specs.Line.{OneBalise, Proper, repeated, sentBit, lineBit, unequal, sum}

@@ -32,9 +32,9 @@ pub record Passed (k most : ℕ) (o : OneBalise) (r : Judged) : Type 0 where
   pub pass : NoisyPass most o from to
   pub first : (w : Contacts) → Listened (o .buffer) from to w → FirstIs o r w
 
--- With one flip more than is allowed, the balise is read as m.
+-- With one flip more than is allowed, the balise is read as m, which it did not send.
 abbrev pub OneMore : ℕ → OneBalise → Telegram → Type 0
-OneMore k o m = (first : ℕ) × (count : ℕ) × Passed k (suc (getD allowed (k - 1) 0)) o (Judged.Read m first count)
+OneMore k o m = (first : ℕ) × (count : ℕ) × Passed k (suc (getD allowed (k - 1) 0)) o (Judged.Read m first count) × (m ≡ o .telegram → ⊥)
 
 -- No larger table of what is allowed would do: for each of the eight bits, a line.
 pub record OneMoreDoesNot : Type 0 where
