@@ -55,7 +55,7 @@ wordOf word = record { number = number word; byte = hex word; name = name word }
 
 -- A place of a line that has no word.
 abbrev pub noWord : Word
-noWord = record { number = Number.Odd; byte = Byte.Odd; name = Name.Other }
+noWord = record { number = Number.Odd; byte = Byte.Is 0; name = Name.Other }
 
 -- A line without a word.
 unfoldable pub noWords : Line

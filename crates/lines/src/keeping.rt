@@ -16,7 +16,7 @@ use arguments::Byte;
 // A place of a line that has no word.
 const NO_WORD: Word = Word {
     number: Number::Odd,
-    byte: Byte::Odd,
+    byte: Byte::Is(0),
     name: Name::Other,
 };
 

@@ -16,15 +16,16 @@ use keeping::closed;
 use spelling::letter_on;
 use spelling::no_letters;
 
-// What a word is as a decimal number: a number, one above 4,294,967,295, or none.
+// What a word is as a decimal number: none, a number, or one above 4,294,967,295.
 pub enum Number {
+    Odd,
     Is(u32),
     Above,
-    Odd,
 }
 
-// What a word is as a name: one of those that a text has, or another word.
+// What a word is as a name: another word, or one of those that a text has.
 pub enum Name {
+    Other,
     Marker,
     Unreadable,
     Position,
@@ -34,7 +35,6 @@ pub enum Name {
     Annulled,
     Line,
     Route,
-    Other,
 }
 
 // What a word is: as a number, as two hex digits, as a name.
