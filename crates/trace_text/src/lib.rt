@@ -1,14 +1,19 @@
 // The records of a trace as lines of text (house), in and out: `1000 1 8 5`, `6390 12 17`, `13000 marker`, `22100 unreadable`, `6000 position`,
 // `15000 raw 04 00 00 00`.
 // Promises: every line is answered: a thing at a place, nothing, or unreadable; a thing is a record, or is refused with 2 or 3.
-// Specification: specs/Said.antt (what a line says), specs/Record.antt (its record).
+// Specification: specs/Said.antt (what a line says), specs/Record.antt (its record), specs/Thing.antt (what a record says), specs/Line.antt (its line).
 ghost use mathlib.Core.Path.{_≡_};
 ghost use Rattle.trace_text.specs.Said.{said, thing};
 ghost use Rattle.trace_text.specs.Record.{recordOf, recording};
 ghost use Rattle.trace_text.specs.Says.{saysRecorded};
+ghost use Rattle.trace_text.specs.Thing.{thingAt};
+ghost use Rattle.trace_text.specs.Line.{recordLine};
+ghost use Rattle.text.specs.Put.{put, came};
 
 mod making;
+mod putting;
 mod reading;
+mod things;
 
 use lines::Line;
 use lines::Number;
@@ -82,4 +87,29 @@ pub fn record_of(place: u32, what: What) -> Recorded
         What::Position => making::made(place, 3, 0, 0, 0),
         What::Raw { kind, x, y, z } => making::made(place, kind, x, y, z),
     }
+}
+
+// What the record at a byte of a trace says, or nothing where no whole one stands there.
+pub fn thing_at(trace: &[u8], at: usize) -> Said
+    ensures { λ r. ⌜ r ≡ thingAt (now (trace .entry)) at ⌝ }
+{
+    if trace.len() < 8 {
+        return Said::Nothing;
+    }
+    if at > trace.len() - 8 {
+        return Said::Nothing;
+    }
+    let place = things::place_of(trace[at], trace[at + 1], trace[at + 2], trace[at + 3]);
+    let what = things::thing_of(trace[at + 4], trace[at + 5], trace[at + 6], trace[at + 7]);
+    Said::Thing { place, what }
+}
+
+// The line of what lies at a place, with the number of its record, into buf from `at` on, and the place after it; without room buf stays as it is, and the
+// answer is `at`.
+pub fn put_record(number: u64, place: u32, what: What, buf: &mut [u8], at: usize) -> usize
+    ensures { λ r. ⌜ came r (now (buf .exit)) ≡ put (recordLine number place what) (now (buf .entry)) at ⌝ }
+{
+    let mut space = [0u8; 128];
+    let n = putting::put_line(number, place, what, &mut space, 0);
+    text::put(&space[..n], buf, at)
 }

@@ -1,0 +1,101 @@
+-- A word read character by character is what the word is.
+-- Assumes nothing.
+use mathlib.Core.Path.{_≡_, refl, sym, ap, _∙_}
+use mathlib.Core.Bool.{Bool, true, false, _&&_}
+use mathlib.Core.List.{List, [], _∷_}
+use Prim.Native.Nat.{ℕ, _+_, _-_, _*_, _≤_, _<_}
+use native.Mathlib.Omega.{arith}
+use lib.Dec.{leb}
+use lib.ListN.{length}
+use borrow.Author.Tests.{le-leb, lt-leb, leb-true, leb-false}
+use Rattle.words.specs.Answer.{pick}
+use Rattle.arguments.specs.Figures.{between, allDigits, continued, decimal, hex}
+use Rattle.arguments.specs.declared.Figure.{Figure}
+use Rattle.arguments.proofs.Characters.{grows}
+use Rattle.lines.specs.declared.Number.{Number}
+use Rattle.lines.specs.declared.Letters.{Letters}
+use Rattle.lines.specs.Words.{largest, numberOf, number}
+use Rattle.lines.specs.Reading.{digitOn, numberOn, letterOn, noLetters}
+
+-- A word after some characters more.
+unfoldable pub spelled : Letters → List ℕ → Letters
+spelled w [] = w
+spelled w (c ∷ cs) = spelled (letterOn w c) cs
+
+-- A number after some characters more.
+unfoldable pub numbersOn : Number → List ℕ → Number
+numbersOn n [] = n
+numbersOn n (c ∷ cs) = numbersOn (numberOn n c) cs
+
+-- What is no number stays none;
+odd-by : (b : Bool) (cs : List ℕ) → numbersOn Number.Odd cs ≡ Number.Odd → numbersOn (pick b Number.Odd Number.Odd) cs ≡ Number.Odd
+odd-by true cs e = e
+odd-by false cs e = e
+
+odd-on : (cs : List ℕ) → numbersOn Number.Odd cs ≡ Number.Odd
+unfolding numbersOn numberOn
+odd-on [] = refl
+odd-on (c ∷ cs) = odd-by (between 48 57 c) cs (odd-on cs)
+
+-- what is too large stays so as long as digits follow.
+above-by : (b : Bool) (cs : List ℕ) → numbersOn Number.Above cs ≡ pick (allDigits cs) Number.Above Number.Odd
+    → numbersOn (pick b Number.Above Number.Odd) cs ≡ pick (b && allDigits cs) Number.Above Number.Odd
+above-by true cs e = e
+above-by false cs e = odd-on cs
+
+above-on : (cs : List ℕ) → numbersOn Number.Above cs ≡ pick (allDigits cs) Number.Above Number.Odd
+unfolding numbersOn numberOn allDigits
+above-on [] = refl
+above-on (c ∷ cs) = above-by (between 48 57 c) cs (above-on cs)
+
+-- The number of a word with one character more, whatever the number of its characters.
+by-count : (a b : Bool) (x y z : Letters) (n : Number) → x .number ≡ n → y .number ≡ n → z .number ≡ n → pick a x (pick b y z) .number ≡ n
+by-count true b x y z n e f g = e
+by-count false true x y z n e f g = f
+by-count false false x y z n e f g = g
+
+same-number : (w : Letters) (c : ℕ) → letterOn w c .number ≡ numberOn (w .number) c
+unfolding letterOn
+same-number w c = by-count _ _ _ _ _ _ refl refl refl
+
+-- What a number so far and its digits come to.
+abbrev comes : ℕ → List ℕ → Number
+comes n cs = pick (allDigits cs) (pick (leb (continued n cs) largest) (Number.Is (continued n cs)) Number.Above) Number.Odd
+
+-- A digit that takes it above the largest,
+too-large : (m : ℕ) (cs : List ℕ) → largest < m → pick (allDigits cs) Number.Above Number.Odd ≡ comes m cs
+too-large m cs h = let g : m ≤ continued m cs = grows m cs in let over : largest < continued m cs = omega arith in simp (lt-leb _ _ over)
+
+digit-by : (b : Bool) (m : ℕ) (cs : List ℕ) → leb m largest ≡ b → (m ≤ largest → numbersOn (Number.Is m) cs ≡ comes m cs)
+    → numbersOn (pick b (Number.Is m) Number.Above) cs ≡ comes m cs
+digit-by true m cs e next = next (leb-true m largest e)
+digit-by false m cs e next = above-on cs ∙ too-large m cs (leb-false m largest e)
+
+-- or any other character.
+is-by : (b : Bool) (m : ℕ) (cs : List ℕ) → (m ≤ largest → numbersOn (Number.Is m) cs ≡ comes m cs)
+    → numbersOn (pick b (pick (leb m largest) (Number.Is m) Number.Above) Number.Odd) cs
+    ≡ pick (b && allDigits cs) (pick (leb (continued m cs) largest) (Number.Is (continued m cs)) Number.Above) Number.Odd
+is-by true m cs next = digit-by (leb m largest) m cs refl next
+is-by false m cs next = odd-on cs
+
+is-on : (n : ℕ) (cs : List ℕ) → n ≤ largest → numbersOn (Number.Is n) cs ≡ comes n cs
+unfolding numbersOn numberOn digitOn allDigits continued
+is-on n [] h = simp (le-leb n largest h)
+is-on n (c ∷ cs) h = is-by (between 48 57 c) (n * 10 + (c - 48)) cs (is-on (n * 10 + (c - 48)) cs)
+
+said-by : (a b : Bool) (v : ℕ) → pick a (pick b (Number.Is v) Number.Above) Number.Odd ≡ numberOf (pick a (pick b (Figure.Number v) Figure.Above) Figure.Odd)
+said-by true true v = refl
+said-by true false v = refl
+said-by false b v = refl
+
+-- A word as a number is the number that its characters make.
+pub as-number : (c : ℕ) (cs : List ℕ) → numbersOn (Number.Is 0) (c ∷ cs) ≡ number (c ∷ cs)
+unfolding number decimal
+as-number c cs =
+    is-on 0 (c ∷ cs) (omega arith) ∙ said-by (allDigits (c ∷ cs)) (leb (continued 0 (c ∷ cs)) largest) (continued 0 (c ∷ cs))
+
+-- The number of a word that is spelled.
+pub spelled-number : (w : Letters) (cs : List ℕ) → spelled w cs .number ≡ numbersOn (w .number) cs
+unfolding spelled numbersOn letterOn
+spelled-number w [] = refl
+spelled-number w (c ∷ cs) = spelled-number (letterOn w c) cs ∙ ap (λ (n : Number). numbersOn n cs) (same-number w c)
