@@ -1,4 +1,3 @@
 pub mod Text
 pub mod Words
 pub mod Reading
-pub mod Laws

@@ -1,4 +1,4 @@
--- A line read character by character, block after block. What it comes to is said in Laws.antt.
+-- A line read character by character, block after block. What it comes to is said in lines_laws.
 -- Assumes nothing.
 use Prim.Native.Nat.{ℕ, _+_, _-_, _*_}
 use mathlib.Core.Bool.{Bool, true, false, _&&_, _||_}

@@ -3,7 +3,7 @@
 // number, two hex digits, a name.
 // Promises: every text is read, block by block as at once; what is kept of a line is what its words are.
 // Specification: specs/Text.antt (lines and words), specs/Words.antt (what a word is, what is kept of a line), specs/Reading.antt (character by
-// character); laws: specs/Laws.antt.
+// character); laws: the crate lines_laws.
 ghost use mathlib.Core.Path.{_≡_};
 ghost use Rattle.lines.specs.Text.{beginning};
 ghost use Rattle.lines.specs.Reading.{fresh, nextLine};

@@ -1,3 +1,4 @@
+pub mod Determined
 pub mod Figures
 pub mod Pieces
 pub mod Standing

@@ -48,15 +48,15 @@ unfolding numbersOn numberOn allDigits
 above-on [] = refl
 above-on (c ∷ cs) = above-by (between 48 57 c) cs (above-on cs)
 
--- The number of a word with one character more, whatever the number of its characters.
-by-count : (a b : Bool) (x y z : Letters) (n : Number) → x .number ≡ n → y .number ≡ n → z .number ≡ n → pick a x (pick b y z) .number ≡ n
-by-count true b x y z n e f g = e
-by-count false true x y z n e f g = f
-by-count false false x y z n e f g = g
+-- What holds of a word with one character more, however many it has.
+pub by-count : (P : Letters → Type 0) (a b : Bool) (x y z : Letters) → P x → P y → P z → P (pick a x (pick b y z))
+by-count P true b x y z p q r = p
+by-count P false true x y z p q r = q
+by-count P false false x y z p q r = r
 
 same-number : (w : Letters) (c : ℕ) → letterOn w c .number ≡ numberOn (w .number) c
 unfolding letterOn
-same-number w c = by-count _ _ _ _ _ _ refl refl refl
+same-number w c = by-count (λ (x : Letters). x .number ≡ numberOn (w .number) c) _ _ _ _ _ refl refl refl
 
 -- What a number so far and its digits come to.
 abbrev comes : ℕ → List ℕ → Number
@@ -96,6 +96,6 @@ as-number c cs =
 
 -- The number of a word that is spelled.
 pub spelled-number : (w : Letters) (cs : List ℕ) → spelled w cs .number ≡ numbersOn (w .number) cs
-unfolding spelled numbersOn letterOn
+unfolding spelled numbersOn
 spelled-number w [] = refl
 spelled-number w (c ∷ cs) = spelled-number (letterOn w c) cs ∙ ap (λ (n : Number). numbersOn n cs) (same-number w c)

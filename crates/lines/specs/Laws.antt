@@ -1,2 +1,0 @@
--- What reading character by character comes to. Shown in proofs/Laws.antt.
--- Assumes nothing.
