@@ -20,7 +20,7 @@ use Rattle.lines.specs.Reading.{noName, lettersOn, spelledOn, named}
 -- The letters that a number has as its digits.
 unfoldable letters : ℕ → ℕ → List ℕ
 letters zero n = []
-letters (suc f) n = pick (eqb n 0) [] (letters f (n / 32) ++ (96 + n % 32 ∷ []))
+letters (suc f) n = pick (eqb n 0) [] (letters f (n / 32) ++ ((96 + n % 32) ∷ []))
 
 none : (f : ℕ) → letters f 0 ≡ []
 unfolding letters
@@ -60,7 +60,7 @@ after-one true c cs n f g is h next =
     next (n * 32 + (c - 96)) h
     ∙ ap (λ (l : List ℕ). l ++ cs) (one-more f n c (leb-true 97 c (ends .0)) (leb-true c 122 (ends .1)))
     ∙ append-assoc (letters f n) (c ∷ []) cs
-after-one false c cs n f g is h next = let no : noName < noName = rw (← stays cs) h in absurd (omega arith)
+after-one false c cs n f g is h next = let no : noName < noName = subst (λ (k : ℕ). k < noName) (stays cs) h in absurd (omega arith)
 
 -- So the letters can be had back.
 back : (cs : List ℕ) (n f g : ℕ) → g ≡ f + length cs → spelledOn n cs < noName → letters g (spelledOn n cs) ≡ letters f n ++ cs

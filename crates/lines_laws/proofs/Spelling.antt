@@ -5,9 +5,9 @@ use mathlib.Core.Bool.{Bool, true, false, _&&_}
 use mathlib.Core.List.{List, [], _∷_}
 use Prim.Native.Nat.{ℕ, _+_, _-_, _*_, _≤_, _<_}
 use native.Mathlib.Omega.{arith}
-use lib.Dec.{leb}
+use lib.Dec.{eqb, leb}
 use lib.ListN.{length}
-use borrow.Author.Tests.{le-leb, lt-leb, leb-true, leb-false}
+use borrow.Author.Tests.{le-leb, lt-leb, leb-true, leb-false, lt-ltb}
 use Rattle.words.specs.Answer.{pick}
 use Rattle.arguments.specs.Figures.{between, allDigits, continued, decimal, hex}
 use Rattle.arguments.specs.declared.Figure.{Figure}
@@ -15,7 +15,7 @@ use Rattle.arguments.proofs.Characters.{grows}
 use Rattle.lines.specs.declared.Number.{Number}
 use Rattle.lines.specs.declared.Letters.{Letters}
 use Rattle.lines.specs.Words.{largest, numberOf, number}
-use Rattle.lines.specs.Reading.{digitOn, numberOn, letterOn, noLetters}
+use Rattle.lines.specs.Reading.{digitOn, numberOn, lettersOn, letterOn, noLetters}
 
 -- A word after some characters more.
 unfoldable pub spelled : Letters → List ℕ → Letters
@@ -54,9 +54,21 @@ by-count P true b x y z p q r = p
 by-count P false true x y z p q r = q
 by-count P false false x y z p q r = r
 
-same-number : (w : Letters) (c : ℕ) → letterOn w c .number ≡ numberOn (w .number) c
+abbrev pub one : Letters → ℕ → Letters
+one w c = record { number = numberOn (w .number) c; first = c; second = w .second; count = 1; letters = lettersOn (w .letters) c }
+
+abbrev pub two : Letters → ℕ → Letters
+two w c = record { number = numberOn (w .number) c; first = w .first; second = c; count = 2; letters = lettersOn (w .letters) c }
+
+abbrev pub three : Letters → ℕ → Letters
+three w c = record { number = numberOn (w .number) c; first = w .first; second = w .second; count = 3; letters = lettersOn (w .letters) c }
+
+pub by-letter : (P : Letters → Type 0) (w : Letters) (c : ℕ) → P (one w c) → P (two w c) → P (three w c) → P (letterOn w c)
 unfolding letterOn
-same-number w c = by-count (λ (x : Letters). x .number ≡ numberOn (w .number) c) _ _ _ _ _ refl refl refl
+by-letter P w c = by-count P (eqb (w .count) 0) (eqb (w .count) 1) (one w c) (two w c) (three w c)
+
+same-number : (w : Letters) (c : ℕ) → letterOn w c .number ≡ numberOn (w .number) c
+same-number w c = by-letter (λ (x : Letters). x .number ≡ numberOn (w .number) c) w c refl refl refl
 
 -- What a number so far and its digits come to.
 abbrev comes : ℕ → List ℕ → Number
@@ -92,7 +104,11 @@ said-by false b v = refl
 pub as-number : (c : ℕ) (cs : List ℕ) → numbersOn (Number.Is 0) (c ∷ cs) ≡ number (c ∷ cs)
 unfolding number decimal
 as-number c cs =
-    is-on 0 (c ∷ cs) (omega arith) ∙ said-by (allDigits (c ∷ cs)) (leb (continued 0 (c ∷ cs)) largest) (continued 0 (c ∷ cs))
+    let v : ℕ = continued 0 (c ∷ cs) in
+    let some : 0 < length (c ∷ cs) = omega arith in
+    is-on 0 (c ∷ cs) (omega arith)
+    ∙ said-by (allDigits (c ∷ cs)) (leb v largest) v
+    ∙ ap (λ (t : Bool). numberOf (pick (t && allDigits (c ∷ cs)) (pick (leb v largest) (Figure.Number v) Figure.Above) Figure.Odd)) (sym (lt-ltb 0 (length (c ∷ cs)) some))
 
 -- The number of a word that is spelled.
 pub spelled-number : (w : Letters) (cs : List ℕ) → spelled w cs .number ≡ numbersOn (w .number) cs

@@ -20,14 +20,13 @@ use Rattle.lines.specs.declared.Reader.{Reader}
 use Rattle.lines.specs.Text.{blank, hash, upTo, onto, cut, some, wordsOf}
 use Rattle.lines.specs.Words.{number, name, wordOf, noWords, kept, keptAll, lineOf}
 use Rattle.lines.specs.Reading.{lettersOn, spelledOn, letterOn, noLetters, named, byteOf, done, closed, character, fresh}
-use Rattle.lines_laws.proofs.Spelling.{spelled, by-count, numbersOn, as-number, spelled-number}
+use Rattle.lines_laws.proofs.Spelling.{spelled, by-letter, numbersOn, as-number, spelled-number}
 use Rattle.lines_laws.proofs.Naming.{as-name}
 
 -- ---- what a word is
 
 same-letters : (w : Letters) (c : ℕ) → letterOn w c .letters ≡ lettersOn (w .letters) c
-unfolding letterOn
-same-letters w c = by-count (λ (x : Letters). x .letters ≡ lettersOn (w .letters) c) _ _ _ _ _ refl refl refl
+same-letters w c = by-letter (λ (x : Letters). x .letters ≡ lettersOn (w .letters) c) w c refl refl refl
 
 spelled-letters : (w : Letters) (cs : List ℕ) → spelled w cs .letters ≡ spelledOn (w .letters) cs
 unfolding spelled spelledOn
@@ -36,8 +35,7 @@ spelled-letters w (c ∷ cs) = spelled-letters (letterOn w c) cs ∙ ap (λ (n :
 
 -- Some characters stay some, and three stay three.
 some-on : (w : Letters) (c : ℕ) → letterOn w c .count ≡ 0 → ⊥
-unfolding letterOn
-some-on w c = by-count (λ (x : Letters). x .count ≡ 0 → ⊥) _ _ _ _ _ (λ e. omega arith) (λ e. omega arith) (λ e. omega arith)
+some-on w c = by-letter (λ (x : Letters). x .count ≡ 0 → ⊥) w c (λ e. omega arith) (λ e. omega arith) (λ e. omega arith)
 
 pub some-stay : (w : Letters) (c : ℕ) (cs : List ℕ) → spelled w (c ∷ cs) .count ≡ 0 → ⊥
 unfolding spelled

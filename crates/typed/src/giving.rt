@@ -65,7 +65,7 @@ fn of_plan(entry: Entry) -> Given {
 }
 
 // What a line gives.
-pub fn given(form: Form, line: Line) -> Given {
+pub fn of_line(form: Form, line: Line) -> Given {
     match form {
         Form::Trace => of_trace(trace_text::read(line)),
         Form::Plan => of_plan(plan_text::read(line)),

@@ -3,7 +3,7 @@ ghost use mathlib.Core.Path.{_≡_};
 ghost use Prim.Native.Nat.{_≤_};
 ghost use lib.ListN.{length};
 use crate::giving::Form;
-use crate::giving::given;
+use crate::giving::of_line;
 use libc::STDOUT_FILENO;
 use lines::Line;
 use lines::Reader;
@@ -36,7 +36,7 @@ fn more(n: u64) -> u64 {
 
 // A line taken: its bytes wait in out. A wrong one leaves everything.
 fn take(form: Form, done: Done, line: Line, reader: Reader, out: &mut [u8]) -> Done {
-    let given = given(form, line);
+    let given = of_line(form, line);
     let how = done.how;
     if given.wrong > 0 {
         return Done {

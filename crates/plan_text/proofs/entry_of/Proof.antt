@@ -7,7 +7,7 @@ use Rattle.plan_text.proofs.entry_of.Tie as tie
 
 returns : tie.Need-returns
 unfolding recordOf
-returns c = ap (λ (x : Recording). x .bytes) (c .record-of .ensures)
+returns c = ap (λ (x : Recording). x .bytes) (c .before .record-of .ensures)
 
 pub entry-of-spec : {M : Type 1} → statement M
 entry-of-spec = tie.close (tie.spec (λ c κs. search needs) returns)
