@@ -8,10 +8,10 @@ use Rattle.records.proofs.blocks.write_cards.Statement.{statement}
 use Rattle.records.proofs.blocks.write_cards.Tie as tie
 
 abbrev Inv-loop : tie.InvT-loop
-Inv-loop lengths block₀ stand₀ pass₀ turns₀ block stand pass turns = length block ≡ length block₀
+Inv-loop lengths block₀ stand₀ pass₀ turns₀ name words block stand pass turns = length block ≡ length block₀
 
 abbrev μ-loop : tie.MeasureT-loop
-μ-loop lengths block₀ stand₀ pass₀ turns₀ block stand pass turns = turns
+μ-loop lengths block₀ stand₀ pass₀ turns₀ name words block stand pass turns = turns
 
 -- what was read lies within the block
 within : (c : tie.After-next-block Inv-loop μ-loop) → c .next-block .result .read ≤ length (c .next-block .last .1 .1 .0)
