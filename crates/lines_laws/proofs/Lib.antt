@@ -1,0 +1,4 @@
+pub mod Spelling
+pub mod Naming
+pub mod Wording
+pub mod Laws

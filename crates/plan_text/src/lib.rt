@@ -1,0 +1,96 @@
+// The entries of a plan as lines of text (house): `1000 signal`, `4000 warning`, `annulled`, `line` or `route`.
+// Promises: every line is answered: an entry, nothing, or unreadable; an entry is its eight bytes.
+// Specification: specs/Entry.antt.
+ghost use mathlib.Core.Path.{_≡_};
+ghost use Rattle.trace_text.specs.Record.{bytesOf};
+ghost use Rattle.plan_text.specs.Entry.{kindOf, entered, atPlace, entry};
+ghost use Rattle.trace_text.specs.Said.{nth};
+use lines::Line;
+use lines::Name;
+use lines::Number;
+use trace_text::What;
+
+// The kind of an entry, 0 to 4, or none.
+enum Kind {
+    Is(u8),
+    Odd,
+}
+
+// What a line says: nothing, an entry at a place in dm, or it is unreadable.
+pub enum Entry {
+    Nothing,
+    At { place: u32, kind: u8 },
+    Unreadable,
+}
+
+// The kind that a name is.
+fn kind_of(name: Name) -> Kind
+    ensures { λ r. ⌜ r ≡ kindOf name ⌝ }
+{
+    match name {
+        Name::Signal => Kind::Is(0),
+        Name::Warning => Kind::Is(1),
+        Name::Annulled => Kind::Is(2),
+        Name::Line => Kind::Is(3),
+        Name::Route => Kind::Is(4),
+        Name::Other => Kind::Odd,
+        Name::Marker => Kind::Odd,
+        Name::Unreadable => Kind::Odd,
+        Name::Position => Kind::Odd,
+        Name::Raw => Kind::Odd,
+    }
+}
+
+// An entry of a kind, at its place.
+fn entered(place: u32, kind: Kind) -> Entry
+    ensures { λ r. ⌜ r ≡ entered place kind ⌝ }
+{
+    match kind {
+        Kind::Is(k) => Entry::At { place, kind: k },
+        Kind::Odd => Entry::Unreadable,
+    }
+}
+
+// What two words say: a place and a kind.
+fn two(line: Line) -> Entry
+    ensures { λ r. ⌜ r ≡ atPlace (nth line 0 .number) (kindOf (nth line 1 .name)) ⌝ }
+{
+    let words = line.words;
+    let first = words[0];
+    let second = words[1];
+    let number = first.number;
+    let name = second.name;
+    match number {
+        Number::Is(place) => entered(place, kind_of(name)),
+        Number::Above => Entry::Unreadable,
+        Number::Odd => Entry::Unreadable,
+    }
+}
+
+// What a line says.
+pub fn read(line: Line) -> Entry
+    ensures { λ r. ⌜ r ≡ entry line ⌝ }
+{
+    let count = line.count;
+    match count {
+        0 => Entry::Nothing,
+        2 => two(line),
+        _ => Entry::Unreadable,
+    }
+}
+
+// The eight bytes of an entry.
+pub fn entry_of(place: u32, kind: u8) -> [u8; 8]
+    ensures { λ r. ⌜ r ≡ bytesOf place kind 0 0 0 ⌝ }
+{
+    let made = trace_text::record_of(
+        place,
+        What::Raw {
+            kind,
+            x: 0,
+            y: 0,
+            z: 0,
+        },
+    );
+    made.bytes
+}

@@ -1,0 +1,124 @@
+// The records of the cards, block by block.
+ghost use mathlib.Core.Path.{_≡_};
+ghost use Prim.Native.Nat.{_≤_};
+ghost use lib.ListN.{length};
+use cards::How;
+use libc::STDOUT_FILENO;
+use trace_text::Said;
+
+// 8,192 bytes: 1,024 records, whose lines have 50 bytes each at most.
+pub fn room() -> [u8; 8192]
+    ensures { λ r. ⌜ 8192 ≡ length r ⌝ }
+{
+    [0; 8192]
+}
+
+// How many records were written, and whether all writes so far succeeded.
+struct Stand {
+    count: u64,
+    is_good: bool,
+}
+
+// How many bytes of lines stand in a buffer, and how many records they are of all.
+struct Lines {
+    bytes: usize,
+    count: u64,
+}
+
+// One more; a count that no trace reaches stays at the highest number.
+fn more(n: u64) -> u64 {
+    if n == u64::MAX {
+        return n;
+    }
+    n + 1
+}
+
+// The line of the record at a byte of the block, after those before it.
+fn put_at(lines: Lines, block: &[u8], at: usize, out: &mut [u8]) -> Lines {
+    let said = trace_text::thing_at(block, at);
+    let Said::Thing { place, what } = said else {
+        return lines;
+    };
+    let count = more(lines.count);
+    let bytes = trace_text::put_record(count, place, what, out, lines.bytes);
+    Lines { bytes, count }
+}
+
+// The lines of a block of records, counted on.
+fn put_block(before: u64, block: &[u8], out: &mut [u8]) -> Lines {
+    let mut lines = Lines {
+        bytes: 0,
+        count: before,
+    };
+    let mut at: usize = 0;
+    while at < block.len() {
+        lines = put_at(lines, block, at, out);
+        if block.len() - at < 8 {
+            return lines;
+        }
+        at += 8;
+    }
+    lines
+}
+
+// Writes the lines of a block.
+fn write_block(stand: Stand, block: &[u8]) -> Stand {
+    let mut out = io::large_buffer();
+    let lines = put_block(stand.count, block, &mut out);
+    let bytes = lines.bytes;
+    if bytes > 65536 {
+        return Stand {
+            count: lines.count,
+            is_good: false,
+        };
+    }
+    Stand {
+        count: lines.count,
+        is_good: io::write_all(STDOUT_FILENO, &out[..bytes]),
+    }
+}
+
+// The same for the front of a buffer, so many bytes long.
+fn write_front(stand: Stand, block: &[u8], read: usize) -> Stand
+    requires { ⌜ read ≤ length (now block) ⌝ }
+{
+    write_block(stand, &block[..read])
+}
+
+// What comes after the last block: nothing, or what failed.
+fn finish(how: How) {
+    match how {
+        How::End => {}
+        How::CannotOpen(number) => cards::cannot_open(b"records", number),
+        How::CannotRead(number) => cards::cannot_read(b"records", number),
+        How::NoRoom => {}
+        How::More => {}
+    }
+}
+
+// The lines of all records of the cards, whose lengths were kept. A proved loop has to end, and nothing says that a file does: so it counts its turns down
+// from a number that no run uses up.
+pub fn write_cards(lengths: &[u64], block: &mut [u8]) {
+    let mut stand = Stand {
+        count: 0,
+        is_good: true,
+    };
+    let mut pass = cards::begin(1);
+    let mut turns = u64::MAX;
+    while turns > 0 {
+        let got = cards::next_block(pass, lengths, block);
+        let read = got.read;
+        stand = write_front(stand, block, read);
+        if !stand.is_good {
+            cards::say(b"records", b"cannot write");
+            return;
+        }
+        let how = got.how;
+        let How::More = how else {
+            finish(how);
+            return;
+        };
+        pass = got.pass;
+        turns -= 1;
+    }
+}

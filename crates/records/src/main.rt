@@ -1,0 +1,26 @@
+// The records of the cards as lines of text, each with its number, to standard output: what `trace` reads. It rides over nothing.
+// Promises: it is safe and it ends; the lines are those of trace_text.
+// Specification: none of its own; the laws are those of the crates lines_laws and trace_text_laws, what cannot be said of a program's reads and writes
+// stands in docs/EXCEPTIONS.md.
+mod blocks;
+
+use cards::Found;
+use libc::STDOUT_FILENO;
+
+// Goes over the cards twice: once for their lengths, once for the records.
+fn main() {
+    let mut lengths = [0u64; 8192];
+    let mut block = blocks::room();
+    let found = cards::go_over(1, &mut lengths, &mut block);
+    match found {
+        Found::Cards => blocks::write_cards(&lengths, &mut block),
+        Found::BadLength(_) => {
+            io::write_all(STDOUT_FILENO, b"trace refused 16\n");
+        }
+        Found::NoCard => cards::say(b"records", b"usage: records CARD.."),
+        Found::TooMany => cards::say_found(b"records", found),
+        Found::CannotOpen(_) => cards::say_found(b"records", found),
+        Found::CannotRead(_) => cards::say_found(b"records", found),
+        Found::Once(_) => cards::say_found(b"records", found),
+    }
+}

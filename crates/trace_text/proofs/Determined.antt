@@ -1,0 +1,56 @@
+-- Each contract fixes its function's whole answer, and every byte of the buffer: any two that it allows are equal.
+-- Assumes nothing.
+use mathlib.Core.Path.{_≡_, refl, sym, ap, _∙_}
+use Prim.Native.Nat.{ℕ}
+use lib.Dec.{eqb}
+use contract.Lifetimes.{Lfts}
+use denote.Ref.{now}
+use borrow.Fn.Kinds.{Dens, endedOf}
+use denote.Triple.Clauses.{AtExit}
+use Rattle.words.specs.Answer.{Outcome, gives, refuses, pick}
+use Rattle.words.proofs.Told.{Fixed}
+use Rattle.text.specs.Put.{Put, came}
+use Rattle.trace_text.specs.Record.{Made, Recording}
+use Rattle.trace_text.specs.Says.{saysHow, saysRecorded}
+use Rattle.trace_text.specs.declared.How.{How}
+use Rattle.trace_text.specs.declared.Recorded.{Recorded}
+use Rattle.trace_text.proofs.read.Kinds as read-kinds
+use Rattle.trace_text.proofs.read.Reads as read-reads
+use Rattle.trace_text.proofs.record_of.Kinds as record-of-kinds
+use Rattle.trace_text.proofs.record_of.Reads as record-of-reads
+use Rattle.trace_text.proofs.thing_at.Kinds as thing-at-kinds
+use Rattle.trace_text.proofs.thing_at.Reads as thing-at-reads
+use Rattle.trace_text.proofs.put_record.Kinds as put-record-kinds
+use Rattle.trace_text.proofs.put_record.Reads as put-record-reads
+
+-- From what an answer says, the answer.
+abbrev pub howOf : Outcome Made → How
+howOf (gives m) = How.Made
+howOf (refuses n) = pick (eqb n 2) How.TooLarge How.Fifteen
+
+pub how-back : (h : How) → howOf (saysHow h) ≡ h
+how-back How.Made = refl
+how-back How.TooLarge = refl
+how-back How.Fifteen = refl
+
+abbrev pub recordedOf : Recording → Recorded
+recordedOf r = record { bytes = r .bytes; how = howOf (r .answer) }
+
+pub recorded-back : (r : Recorded) → recordedOf (saysRecorded r) ≡ r
+recorded-back r = ap (λ (h : How). record { bytes = r .bytes; how = h }) (how-back (r .how))
+
+pub read-determined : Fixed 0 read-kinds.ps read-kinds.r read-reads.Post
+read-determined κs a r r′ x x′ p q = p ∙ sym q
+
+pub record-of-determined : Fixed 0 record-of-kinds.ps record-of-kinds.r record-of-reads.Post
+record-of-determined κs a r r′ x x′ p q = sym (recorded-back r) ∙ ap recordedOf (p ∙ sym q) ∙ recorded-back r′
+
+pub thing-at-determined : Fixed 1 thing-at-kinds.ps thing-at-kinds.r thing-at-reads.Post
+thing-at-determined κs a r r′ x x′ p q = p ∙ sym q
+
+pub put-record-determined : (κs : Lfts 1) (a : Dens κs put-record-kinds.ps) (r r′ : ℕ)
+    (x x′ : AtExit (endedOf 1 put-record-kinds.ps put-record-kinds.r) κs)
+    → put-record-reads.Post κs a r x → put-record-reads.Post κs a r′ x′ → (r ≡ r′) × (now (x .1 .1 .1 .0) ≡ now (x′ .1 .1 .1 .0))
+put-record-determined κs a r r′ x x′ p q =
+    let same : came r (now (x .1 .1 .1 .0)) ≡ came r′ (now (x′ .1 .1 .1 .0)) = p ∙ sym q in
+    (ap (λ (v : Put). v .next) same, ap (λ (v : Put). v .buffer) same)

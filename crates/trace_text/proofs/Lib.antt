@@ -1,0 +1,4 @@
+pub mod Determined
+pub mod Figures
+pub mod Pieces
+pub mod Standing

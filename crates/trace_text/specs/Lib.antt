@@ -1,0 +1,5 @@
+pub mod Said
+pub mod Record
+pub mod Says
+pub mod Thing
+pub mod Line

@@ -1,0 +1,72 @@
+// What is typed in a file, a line for each thing, made into bytes on standard output, for the programs `trace` and `plan`.
+// `run(program, form)` takes the file that the first argument names and goes over it twice: once for what is wrong, which is said on standard error in one
+// line (`trace: line 3 unreadable`, `trace: line 3 refused 2`, `plan: refused 26`), once for the bytes.
+// Promises: it is safe and it ends, in the same memory for a file of any size; what a line says and its bytes are those of trace_text and plan_text. What is
+// read or written stands outside contracts: docs/EXCEPTIONS.md.
+mod giving;
+mod going;
+mod telling;
+
+use cards::Found;
+pub use giving::Form;
+use going::Done;
+use going::How;
+use libc::SEEK_SET;
+
+// The argument of the file.
+const FILE: usize = 1;
+
+// Says what a pass found, and answers whether all was well.
+fn is_well(program: &[u8], done: Done) -> bool {
+    let how = done.how;
+    match how {
+        How::Whole => {}
+        How::CannotRead => {
+            cards::cannot_read(program, FILE);
+            return false;
+        }
+        How::CannotWrite => {
+            cards::say(program, b"cannot write");
+            return false;
+        }
+    }
+    if done.wrong > 0 {
+        telling::say_line(program, done.number, done.wrong);
+        return false;
+    }
+    true
+}
+
+// Goes over the open file twice.
+fn twice(program: &[u8], form: Form, fd: i32) {
+    let first = going::pass(form, fd, false);
+    let things = first.things;
+    if !is_well(program, first) {
+        return;
+    }
+    if giving::are_too_many(form, things) {
+        cards::say(program, b"refused 26");
+        return;
+    }
+    if libc::lseek(fd, 0, SEEK_SET) != 0 {
+        cards::say_found(program, Found::Once(FILE));
+        return;
+    }
+    let second = going::pass(form, fd, true);
+    is_well(program, second);
+}
+
+// The file named, made into bytes.
+pub fn run(program: &[u8], form: Form) {
+    if os::arg_count() != 2 {
+        telling::usage(program, form);
+        return;
+    }
+    let fd = cards::open_card(FILE);
+    if fd < 0 {
+        cards::cannot_open(program, FILE);
+        return;
+    }
+    twice(program, form, fd);
+    libc::close(fd);
+}
