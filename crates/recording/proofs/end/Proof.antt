@@ -3,14 +3,15 @@
 use Rattle.recording.specs.Says.{closing}
 use mathlib.Core.Path.{sym, ap, _∙_}
 use Rattle.recording.specs.Asking.{finish}
-use Rattle.recording.proofs.Endings.{last-one}
+use Rattle.recording.proofs.Endings.{last-one, cut-one}
 use borrow.Author.Needs.{needs}
 use Rattle.recording.proofs.end.Statement.{statement}
 use Rattle.recording.proofs.end.Tie as tie
 
 returns : tie.Need-returns
-unfolding finish
-returns c = rw (c .before .before .enum-told .given .1) (cc)
+returns c =
+    let a = c .before .before .before .before .before .args in
+    ap closing (cut-one (a .tape) (c .before .cut .result) (c .blank-at .result) _ (c .before .before .enum-told .given .1) (c .before .cut .ensures) (c .blank-at .ensures))
 
 returns-2 : tie.Need-returns-2
 returns-2 c =
