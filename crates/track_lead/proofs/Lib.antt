@@ -1,0 +1,3 @@
+pub mod Ones
+pub mod Taking
+pub mod Blocks
