@@ -1,0 +1,2 @@
+-- What reading character by character comes to. Shown in proofs/Laws.antt.
+-- Assumes nothing.
