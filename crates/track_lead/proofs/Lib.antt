@@ -1,3 +1,6 @@
 pub mod Ones
 pub mod Taking
 pub mod Blocks
+pub mod Latest
+pub mod Run
+pub mod TheLead

@@ -14,7 +14,7 @@ use Rattle.track_lead.specs.Sent.{lineIn}
 
 -- At the first frame of a way, where nothing is sent yet.
 unfoldable pub begin : Way → ℕ → ℕ → ℕ → Feed
-begin way n s t = record { n = n; s = s; t = t; place = from way; nth = 0; thing = Thing.Nothing; since = 3 }
+begin way n s t = record { n = n; s = s; t = t; place = from way; nth = 0; thing = Thing.Nothing; since = 0 }
 
 -- A thing begins with the next frame.
 unfoldable pub passes : Feed → Thing → Feed

@@ -102,7 +102,7 @@ pub fn begin(way: Way, n: u32, s: u8, t: u8) -> Feed
         place: going::from(way),
         nth: 0,
         thing: Thing::Nothing,
-        since: 3,
+        since: 0,
     }
 }
 

@@ -12,7 +12,7 @@ returns : tie.Need-returns
 unfolding begin
 returns c =
     let a = c .before .args in
-    ap (λ (place : ℕ). record { n = a .n; s = a .s; t = a .t; place = place; nth = 0; thing = Thing.Nothing; since = 3 }) (c .from .ensures)
+    ap (λ (place : ℕ). record { n = a .n; s = a .s; t = a .t; place = place; nth = 0; thing = Thing.Nothing; since = 0 }) (c .from .ensures)
 
 pub begin-spec : {M : Type 1} → statement M
 begin-spec = tie.close (tie.spec (λ c κs. search needs) returns)

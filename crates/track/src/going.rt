@@ -1,0 +1,195 @@
+// The text, block by block and line by line, gone over twice.
+ghost use Prim.Native.Nat.{_≤_};
+ghost use lib.ListN.{length};
+use crate::call::Call;
+use crate::saying;
+use crate::taking;
+use crate::taking::How;
+use crate::taking::Stand;
+use lines::Reader;
+
+// A pass in the middle of a text: how it stands, the reader of its line, and whether that line has begun.
+struct Middle {
+    stand: Stand,
+    reader: Reader,
+    begun: bool,
+}
+
+// Whether a pass goes on.
+fn goes_on(how: How) -> bool {
+    match how {
+        How::On => true,
+        How::Unreadable => false,
+        How::TooLarge => false,
+        How::Fifteen => false,
+        How::TooHigh => false,
+        How::Below => false,
+        How::TooNear => false,
+        How::CannotWrite => false,
+    }
+}
+
+// The lines of a block from a place on; what is left of the last one stays with the reader.
+fn block(middle: Middle, text: &[u8], from: usize, out: &mut [u8]) -> Middle {
+    let mut stand = middle.stand;
+    let mut reader = middle.reader;
+    let mut begun = middle.begun;
+    let mut i = from;
+    let mut turns = text.len();
+    while turns > 0 {
+        let how = stand.how;
+        if (i >= text.len()) | !goes_on(how) {
+            turns = 0;
+        } else {
+            let got = lines::next_line(reader, text, i);
+            let line = got.line;
+            reader = got.reader;
+            i = got.next;
+            begun = !got.ends;
+            if got.ends {
+                stand = taking::take(stand, line, out);
+            }
+            turns -= 1;
+        }
+    }
+    Middle {
+        stand,
+        reader,
+        begun,
+    }
+}
+
+// The front of a buffer, so many bytes long, from a place on.
+fn front(middle: Middle, text: &[u8], count: usize, from: usize, out: &mut [u8]) -> Middle
+    requires { ⌜ count ≤ length (now text) ⌝ }
+{
+    block(middle, &text[..count], from, out)
+}
+
+// What stands after the last line end is a line too, unless it is empty.
+fn last(middle: Middle, out: &mut [u8]) -> Stand {
+    let stand = middle.stand;
+    let reader = middle.reader;
+    let how = stand.how;
+    if !middle.begun | !goes_on(how) {
+        return stand;
+    }
+    let got = lines::next_line(reader, b"", 0);
+    let line = got.line;
+    taking::take(stand, line, out)
+}
+
+// A pass over the open text, and whether all of it could be read.
+struct Passed {
+    stand: Stand,
+    is_read: bool,
+}
+
+// All lines of the open text. It counts its turns down from a number that no text uses up.
+fn over(fd: i32, stand: Stand, text: &mut [u8], out: &mut [u8]) -> Passed {
+    let mut middle = Middle {
+        stand,
+        reader: lines::fresh(),
+        begun: false,
+    };
+    let mut is_first = true;
+    let mut turns = u64::MAX;
+    while turns > 0 {
+        let got = cards::fill(fd, text);
+        if got.failed {
+            let stand = middle.stand;
+            return Passed {
+                stand,
+                is_read: false,
+            };
+        }
+        let count = got.count;
+        if count == 0 {
+            return Passed {
+                stand: last(middle, out),
+                is_read: true,
+            };
+        }
+        middle = front(middle, text, count, from(is_first, text), out);
+        is_first = false;
+        turns -= 1;
+    }
+    let stand = middle.stand;
+    Passed {
+        stand,
+        is_read: false,
+    }
+}
+
+// Where a block's text begins: the first may have a byte order mark.
+fn from(is_first: bool, text: &[u8]) -> usize {
+    if is_first {
+        return lines::begin(text);
+    }
+    0
+}
+
+// One pass over the text that argument 1 names; what was wrong is said.
+fn pass(stand: Stand, text: &mut [u8], out: &mut [u8]) -> Stand {
+    let fd = cards::open_card(1);
+    if fd < 0 {
+        cards::cannot_open(b"track", 1);
+        return with_failure(stand);
+    }
+    let passed = over(fd, stand, text, out);
+    libc::close(fd);
+    let after = passed.stand;
+    if !passed.is_read {
+        cards::cannot_read(b"track", 1);
+        return with_failure(after);
+    }
+    let how = after.how;
+    saying::say(after.lines, how);
+    after
+}
+
+// A pass that does not go on, of which all is said.
+fn with_failure(stand: Stand) -> Stand {
+    let way = stand.way;
+    let feed = stand.feed;
+    Stand {
+        writes: stand.writes,
+        lines: stand.lines,
+        way,
+        feed,
+        how: How::CannotWrite,
+    }
+}
+
+// Once for what is refused, once for the frames; then the frames up to the way's end.
+pub fn twice(call: Call, text: &mut [u8], out: &mut [u8]) {
+    let fresh = track_lead::fresh();
+    let begun = Stand {
+        writes: false,
+        lines: 0,
+        way: fresh,
+        feed: track_lead::begin(fresh, call.n, call.s, call.t),
+        how: How::On,
+    };
+    let judged = pass(begun, text, out);
+    let found = judged.how;
+    if !goes_on(found) {
+        return;
+    }
+    let way = judged.way;
+    let ready = Stand {
+        writes: true,
+        lines: 0,
+        way,
+        feed: track_lead::begin(way, call.n, call.s, call.t),
+        how: How::On,
+    };
+    let written = pass(ready, text, out);
+    let then = written.how;
+    if !goes_on(then) {
+        return;
+    }
+    let ended = taking::write_to(written, track_lead::until(way), out);
+    let end = ended.how;
+    saying::say(0, end);
+}

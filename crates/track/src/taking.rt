@@ -1,0 +1,147 @@
+// One line of the text, in the first pass and in the second.
+use libc::STDOUT_FILENO;
+use lines::Line;
+use track_lead::Feed;
+use track_lead::Taken;
+use track_lead::Thing;
+use track_lead::Way;
+use track_text::Read;
+
+// How a pass stands: it goes on, or a line is not taken, or a write failed.
+pub enum How {
+    On,
+    Unreadable,
+    TooLarge,
+    Fifteen,
+    TooHigh,
+    Below,
+    TooNear,
+    CannotWrite,
+}
+
+// A pass over the text: whether it writes (the second does), how many lines came, the way, the feed, and how it stands.
+pub struct Stand {
+    pub writes: bool,
+    pub lines: u64,
+    pub way: Way,
+    pub feed: Feed,
+    pub how: How,
+}
+
+// The same pass, standing so.
+fn with_how(stand: Stand, how: How) -> Stand {
+    let way = stand.way;
+    let feed = stand.feed;
+    Stand {
+        writes: stand.writes,
+        lines: stand.lines,
+        way,
+        feed,
+        how,
+    }
+}
+
+// The first bytes of some; no success where there are fewer.
+fn write(bytes: &[u8], count: usize) -> bool {
+    if count > bytes.len() {
+        return false;
+    }
+    io::write_all(STDOUT_FILENO, &bytes[..count])
+}
+
+// All frames before the decimetre `to`, block after block up to one that is empty. It counts its turns down from a number that no lead uses up.
+pub fn write_to(stand: Stand, to: u32, out: &mut [u8]) -> Stand {
+    let mut feed = stand.feed;
+    let mut turns = u64::MAX;
+    while turns > 0 {
+        let wrote = track_lead::write(feed, to, out);
+        let count = wrote.count;
+        feed = wrote.feed;
+        if count == 0 {
+            turns = 0;
+        } else {
+            if !write(out, count) {
+                return with_how(stand, How::CannotWrite);
+            }
+            turns -= 1;
+        }
+    }
+    let way = stand.way;
+    Stand {
+        writes: stand.writes,
+        lines: stand.lines,
+        way,
+        feed,
+        how: How::On,
+    }
+}
+
+// A thing at its place, in the second pass: all frames before it, then it passes. A position passes nothing.
+fn feed_to(stand: Stand, place: u32, thing: Thing, out: &mut [u8]) -> Stand {
+    if let Thing::Nothing = thing {
+        return stand;
+    }
+    let there = write_to(stand, place, out);
+    let way = there.way;
+    let how = there.how;
+    let feed = there.feed;
+    Stand {
+        writes: there.writes,
+        lines: there.lines,
+        way,
+        feed: track_lead::passes(feed, thing),
+        how,
+    }
+}
+
+// A thing at its place, in the first pass: the way after it.
+fn judge(stand: Stand, place: u32, thing: Thing) -> Stand {
+    let way = stand.way;
+    match track_lead::take(way, place, thing) {
+        Taken::On(next) => {
+            let feed = stand.feed;
+            Stand {
+                writes: stand.writes,
+                lines: stand.lines,
+                way: next,
+                feed,
+                how: How::On,
+            }
+        }
+        Taken::TooHigh => with_how(stand, How::TooHigh),
+        Taken::Below => with_how(stand, How::Below),
+        Taken::TooNear => with_how(stand, How::TooNear),
+    }
+}
+
+// The pass with one line more counted.
+fn counted(stand: Stand) -> Stand {
+    let way = stand.way;
+    let feed = stand.feed;
+    let how = stand.how;
+    Stand {
+        writes: stand.writes,
+        lines: std::num::wrapping_add_u64(stand.lines, 1),
+        way,
+        feed,
+        how,
+    }
+}
+
+// The pass after a line.
+pub fn take(before: Stand, line: Line, out: &mut [u8]) -> Stand {
+    let stand = counted(before);
+    match track_text::read(line) {
+        Read::Nothing => stand,
+        Read::At { place, thing } => {
+            if stand.writes {
+                feed_to(stand, place, thing, out)
+            } else {
+                judge(stand, place, thing)
+            }
+        }
+        Read::Unreadable => with_how(stand, How::Unreadable),
+        Read::TooLarge => with_how(stand, How::TooLarge),
+        Read::Fifteen => with_how(stand, How::Fifteen),
+    }
+}
