@@ -15,7 +15,7 @@ pub mod Either
 pub mod Marker
 pub mod Sixty
 pub mod Row
-mod Heard
+pub mod Heard
 pub mod Computed
 mod Less
 mod Eleven

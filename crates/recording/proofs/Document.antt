@@ -87,7 +87,7 @@ accepted-low true c last given e h = h
 accepted-low false true last given e h = h
 accepted-low false false last given e h = ltb-false 4000000000 given e
 
-never-high : (lead : List ℕ) (k : ℕ) → before lead k ≤ 4000000000
+pub never-high : (lead : List ℕ) (k : ℕ) → before lead k ≤ 4000000000
 unfolding before acceptedAfter
 never-high lead zero = omega arith
 never-high lead (suc k) = accepted-low (ltb 4000000000 (odometerOf lead k)) (ltb (odometerOf lead k) (before lead k)) (before lead k) (odometerOf lead k) refl (never-high lead k)

@@ -1,140 +1,31 @@
--- No record of a recorded trace is refused: a tape's last record is not above the odometer at which its open contact opened, and that not above the
--- odometer in force.
+-- No record of a recorded trace is refused: every bit, every frame and the end keep a tape steady.
 -- Assumes nothing.
-use Prim.Native.Nat.{ℕ, zero, suc, _+_, _-_, _*_, _/_, _%_, _≤_, _<_}
-use mathlib.Core.Path.{_≡_, refl, sym, ap, _∙_, subst, subst⁻¹}
+use Prim.Native.Nat.{ℕ, zero, suc, _+_, _-_, _≤_}
+use mathlib.Core.Path.{_≡_, refl, ap, _∙_, subst, subst⁻¹}
 use mathlib.Core.Bool.{Bool, true, false}
-use mathlib.Core.List.{List, [], _∷_, _++_}
+use mathlib.Core.List.{List}
 use native.Mathlib.Omega.{arith}
-use lib.Dec.{ltb, leb}
-use borrow.Author.Tests.{le-ltb, ltb-true, ltb-false, leb-true}
-use Rattle.words.specs.Answer.{Outcome, gives, refuses, then, pick}
+use lib.Dec.{ltb}
+use borrow.Author.Tests.{ltb-false}
+use Rattle.words.specs.Answer.{pick}
 use Rattle.words.proofs.Never.{cannot-be}
 use Rattle.telegram.specs.Stretch.{bitAt}
-use Rattle.telegram.specs.declared.Telegram.{Telegram}
 use Rattle.settings.specs.declared.Store.{Store}
-use Rattle.contact.specs.Judge.{Contact, read, marker}
-use Rattle.contact.specs.declared.Judged.{Judged}
-use Rattle.writer.specs.Words.{Words, spell}
 use Rattle.antenna.specs.declared.Stand.{Stand}
 use Rattle.antenna.specs.declared.Ear.{Ear}
 use Rattle.antenna.specs.Hearing.{Step, nothing, opened, closed, hear}
 use Rattle.antenna.specs.Hearing as hearing
 use Rattle.antenna.specs.Sound.{begun, withBit, judged}
 use Rattle.contact.specs.History.{after, opens as opens-now, closes as closes-now}
-use Rattle.recorder.specs.Record.{Content, telegramOf, informed, contentOf, bytesOf, blank, atOdometer, recordOf}
-use Rattle.ride.specs.Record.{odometerOf, passedOf, inOrder, checkRecord}
+use Rattle.recorder.specs.Record.{bytesOf, blank}
 use Rattle.recording.specs.declared.Last.{Last}
 use Rattle.recording.specs.declared.Tape.{Tape}
 use Rattle.recording.specs.Frame.{lineOf, odometerOf as frameOdometer, acceptedAfter}
-use Rattle.recording.specs.Kept.{orUnreadable, recordAt}
-use Rattle.recording.specs.Recording.{fresh, Taped, silent, andThen, hearsOn, opens, closes, positioned, cut, afterStep, overBits, isDue, dueIn, tenAbove, position, afterFrame, heldAt, inFrame, itsBits, overFrames, framesOf, overLead, isAbove, lastPosition, cutIn, theEnd, recorded}
-use Rattle.recording.specs.Rising.{Accepted, AllAccepted, NoneRefused}
-
--- ---- one record
-
-four : (n : ℕ) → ((n / 16777216 * 256 + n / 65536 % 256) * 256 + n / 256 % 256) * 256 + n % 256 ≡ n
-four n =
-    let a : n / 16777216 * 256 + n / 65536 % 256 ≡ n / 65536 = omega arith in
-    let b : n / 65536 * 256 + n / 256 % 256 ≡ n / 256 = omega arith in
-    let c : n / 256 * 256 + n % 256 ≡ n = omega arith in
-    ap (λ (x : ℕ). (x * 256 + n / 256 % 256) * 256 + n % 256) a ∙ ap (λ (x : ℕ). x * 256 + n % 256) b ∙ c
-
-odometer-kept : (odometer : ℕ) (c : Content) → odometerOf (bytesOf odometer c) ≡ odometer
-unfolding odometerOf
-odometer-kept odometer c = four odometer
-
--- A record at an odometer, that is accepted after any odometer not above it.
-record Made (odometer : ℕ) (r : List ℕ) : Type 0 where
-  at : odometerOf r ≡ odometer
-  order : inOrder r ≡ true
-
-made : (odometer : ℕ) (c : Content) → inOrder (bytesOf odometer c) ≡ true → Made odometer (bytesOf odometer c)
-made odometer c order = record { at = odometer-kept odometer c; order = order }
-
-blank-made : (odometer : ℕ) → Made odometer (bytesOf odometer (blank 1)) × Made odometer (bytesOf odometer (blank 2)) × Made odometer (bytesOf odometer (blank 3))
-unfolding inOrder
-blank-made odometer = (made odometer (blank 1) refl, made odometer (blank 2) refl, made odometer (blank 3) refl)
-
-words-made : (odometer x y z : ℕ) → Made odometer (bytesOf odometer (record { kind = 0; x = x; y = y; z = z }))
-unfolding inOrder
-words-made odometer x y z = made odometer (record { kind = 0; x = x; y = y; z = z }) refl
-
-at-odometer : (odometer x y z : ℕ) (b : Bool) → Made odometer (orUnreadable odometer (pick b (refuses 18) (gives (bytesOf odometer (record { kind = 0; x = x; y = y; z = z })))))
-at-odometer odometer x y z true = blank-made odometer .1
-at-odometer odometer x y z false = words-made odometer x y z
-
-spelt-made : (odometer : ℕ) (w : Outcome Words) → Made odometer (orUnreadable odometer (then (informed w) (atOdometer odometer)))
-unfolding atOdometer
-spelt-made odometer (gives w) = at-odometer odometer (w .x) (w .y) (w .z) (ltb 4000000000 odometer)
-spelt-made odometer (refuses n) = blank-made odometer .1
-
-contact-made : (odometer : ℕ) (o : Outcome Contact) → Made odometer (recordAt odometer o)
-unfolding recordOf contentOf
-contact-made odometer (gives (read (gives m) first count)) = spelt-made odometer (spell (telegramOf m))
-contact-made odometer (gives (read (refuses bad) first count)) = blank-made odometer .1
-contact-made odometer (gives marker) = blank-made odometer .0
-contact-made odometer (refuses n) = blank-made odometer .1
-
-accepts : (last odometer : ℕ) (r : List ℕ) → Made odometer r → last ≤ odometer → odometer ≤ 4000000000 → Accepted last r
-unfolding checkRecord
-accepts last odometer r m low high =
-    let e = m .at in
-    let up : odometerOf r ≤ 4000000000 = omega arith in
-    let down : last ≤ odometerOf r = omega arith in
-    record { accepted = simp (m .order, le-ltb 4000000000 (odometerOf r) up, le-ltb (odometerOf r) last down); not-below = down; not-above = up }
-
--- ---- a tape
-
-abbrev lastOf : Last → ℕ
-lastOf Last.Never = 0
-lastOf (Last.At place) = place
-
--- An open contact opened at or after the last record, and not after the odometer in force.
-abbrev OpenWithin : Stand → Tape → Type 0
-OpenWithin Stand.Outside tape = Unit
-OpenWithin (Stand.Inside sound) tape = (lastOf (tape .last) ≤ tape .opened) × (tape .opened ≤ tape .odometer)
-
-record Steady (tape : Tape) : Type 0 where
-  high : tape .odometer ≤ 4000000000
-  last : lastOf (tape .last) ≤ tape .odometer
-  opened : OpenWithin (tape .ear .stand) tape
-
--- The odometer of the last of some records.
-abbrev final : ℕ → List (List ℕ) → ℕ
-final last [] = last
-final last (r ∷ rs) = final (odometerOf r) rs
-
--- What comes of a steady tape: accepted records, of which the last is the tape's, and a steady tape.
-record Rises (from : Tape) (x : Taped) : Type 0 where
-  steady : Steady (x .tape)
-  all : AllAccepted (lastOf (from .last)) (x .records)
-  ends : final (lastOf (from .last)) (x .records) ≡ lastOf (x .tape .last)
-
-all-join : (last : ℕ) (rs qs : List (List ℕ)) → AllAccepted last rs → AllAccepted (final last rs) qs → AllAccepted last (rs ++ qs)
-all-join last [] qs a b = b
-all-join last (r ∷ rs) qs (one, a) b = (one, all-join (odometerOf r) rs qs a b)
-
-final-join : (last : ℕ) (rs qs : List (List ℕ)) → final last (rs ++ qs) ≡ final (final last rs) qs
-final-join last [] qs = refl
-final-join last (r ∷ rs) qs = final-join (odometerOf r) rs qs
-
-rises-then : (from : Tape) (x : Taped) (f : Tape → Taped) → Rises from x → ((t : Tape) → Steady t → Rises t (f t)) → Rises from (andThen x f)
-rises-then from x f a on =
-    let b = on (x .tape) (a .steady) in
-    record {
-      steady = b .steady;
-      all = all-join (lastOf (from .last)) (x .records) (f (x .tape) .records) (a .all) (subst⁻¹ (λ (z : ℕ). AllAccepted z (f (x .tape) .records)) (a .ends) (b .all));
-      ends = final-join (lastOf (from .last)) (x .records) (f (x .tape) .records) ∙ ap (λ (z : ℕ). final z (f (x .tape) .records)) (a .ends) ∙ b .ends;
-    }
-
-rises-silent : (from next : Tape) → next .last ≡ from .last → Steady next → Rises from (silent next)
-rises-silent from next e s = record { steady = s; all = tt; ends = ap lastOf (sym e) }
-
-rises-one : (from next : Tape) (odometer : ℕ) (r : List ℕ) → Made odometer r → lastOf (from .last) ≤ odometer → odometer ≤ 4000000000 → next .last ≡ Last.At odometer → Steady next
-    → Rises from (record { tape = next; records = r ∷ [] })
-rises-one from next odometer r m low high e s =
-    record { steady = s; all = (accepts (lastOf (from .last)) odometer r m low high, tt); ends = m .at ∙ ap lastOf (sym e) }
+use Rattle.recording.specs.Kept.{recordAt}
+use Rattle.recording.specs.Recording.{fresh, silent, andThen, hearsOn, opens, closes, positioned, cut, afterStep, overBits, isDue, dueIn, position, afterFrame, heldAt, inFrame, itsBits, overFrames, framesOf, overLead, isAbove, lastPosition, cutIn, theEnd, recorded}
+use Rattle.recording.specs.Rising.{AllAccepted, NoneRefused}
+use Rattle.recording.proofs.Accepting.{blank-made, contact-made}
+use Rattle.recording.proofs.Steady.{lastOf, final, OpenWithin, Steady, Rises, all-join, final-join, rises-then, rises-silent, rises-one}
 
 -- ---- a bit, by where the ear stands before and after it
 

@@ -1,5 +1,5 @@
 -- "Each gives one record, when it closes, at the odometer of the frame in which its first bit lies; that is 'the odometer given with it', whose sync
--- pair judges it (M-111)" (issue N1): the records of a trace that are not positions are, in order, one for each contact of the line, and one more
+-- pair judges it (M-111)" (recording, house): the records of a trace that are not positions are, in order, one for each contact of the line, and one more
 -- where the lead ends inside a contact.
 -- Assumes nothing.
 use Prim.Native.Nat.{ℕ, zero, suc, _+_, _-_, _*_, _/_, _%_, _^_, _<_}

@@ -1,4 +1,4 @@
--- The records of a lead (issue N1, "Recording"): "The contacts of the line are document 01's, from sixteen ones on. Each gives one record, when it
+-- The records of a lead (recording, house): "The contacts of the line are document 01's, from sixteen ones on. Each gives one record, when it
 -- closes, at the odometer of the frame in which its first bit lies; that is 'the odometer given with it', whose sync pair judges it (M-111)."
 -- Assumes nothing.
 use Prim.Native.Nat.{ℕ, zero, suc, _+_, _-_, _/_}
@@ -74,7 +74,7 @@ unfoldable pub overBits : List ℕ → ℕ → ℕ → Tape → ℕ → ℕ → 
 overBits b s t tape i zero = silent tape
 overBits b s t tape i (suc n) = andThen (afterStep tape (hear (tape .ear) (bitAt b i) s t)) λ next. overBits b s t next (i + 1) n
 
--- "After each frame, if no contact is open and no record was written yet or the odometer is at least 10 above the last record's: a position
+-- "After each frame, if no contact is open and (no record was written yet, or the odometer is at least 10 above the last record's): a position
 -- record."
 abbrev pub tenAbove : Last → ℕ → Bool
 tenAbove Last.Never odometer = true
@@ -127,7 +127,7 @@ overLead store lead tape = overFrames store lead tape 0 0 (framesOf lead)
 
 -- ---- the end
 
--- "or with 9 (still open where the lead ends): kind 2"
+-- "or with 9 (still open where the lead ends, however long): kind 2"
 abbrev pub cutIn : Stand → Tape → Taped
 cutIn (Stand.Inside sound) tape = record { tape = cut tape; records = bytesOf (tape .opened) (blank 2) ∷ [] }
 cutIn Stand.Outside tape = silent tape

@@ -1,4 +1,4 @@
--- "So odometers never fall, and no record of a recorded trace is ever refused" (issue N1): each record is accepted by `check_record` after the one
+-- "So odometers never fall, and no record of a recorded trace is ever refused" (recording, house): each record is accepted by `check_record` after the one
 -- before it, the first after odometer 0.
 -- Assumes nothing.
 use Prim.Native.Nat.{ℕ, _≤_}

@@ -1,7 +1,8 @@
-// A tape at the two leads of the bench (issue N1, "The lead" and "Recording"): frames of odometer and line in, records of a trace out, in constant
-// memory. A tape goes by value; frames are lent in pieces of any length, and each call goes on until the next record is due.
+// A tape at the two leads of the bench (docs/LEAD.md, "The lead" and "Recording", house): frames of odometer and line in, records of a trace out, in
+// constant memory. A tape goes by value; frames are lent in pieces of any length, and each call goes on until the next record is due.
+// Promises: one record for each contact of the line, at its odometer, with position records between; no record is ever refused.
 // Specification: specs/Frame.antt (a frame), specs/Kept.antt (a contact's record), specs/Recording.antt (the records of a lead),
-// specs/Asking.antt (one record at a time), specs/Says.antt (the answers), specs/Laws.antt (what is promised).
+// specs/Asking.antt (one record at a time), specs/Says.antt (the answers); what is promised: specs/Laws.antt, Rising.antt, Contacts.antt, Document.antt.
 ghost use mathlib.Core.Path.{_≡_};
 ghost use Rattle.recording.specs.Recording.{fresh};
 ghost use Rattle.recording.specs.Asking.{goOn, finish};

@@ -1,3 +1,5 @@
+-- The twelve bytes of line are lent as a piece of their own; above bit 96 nothing is left.
+-- Assumes nothing.
 use Prim.Native.Nat.{_+_, _-_, _*_}
 use mathlib.Core.Path.{_≡_}
 use native.Mathlib.Omega.{arith}
@@ -7,48 +9,11 @@ use Rattle.recording.proofs.Frames.{in-frame}
 use borrow.Author.Needs.{needs}
 use Rattle.recording.proofs.frame.hear.Statement.{statement}
 use Rattle.recording.proofs.frame.hear.Tie as tie
-use Rattle.recording.proofs.frame.hear.Reads as reads
-use Rattle.recording.proofs.frame.hear.Lts as lts
-use Rattle.antenna.proofs.hear_piece.Reads as hear-piece-reads
 
--- src/frame.rt:47:9
 returns : tie.Need-returns
 unfolding first
 returns c = let n : 96 - c .before .before .args .from ≡ 0 = omega arith in rw n
 
--- src/frame.rt:49:13
-mul-a : tie.Need-mul-a
-mul-a c = search needs
-
--- src/frame.rt:49:13
-add-a : tie.Need-add-a
-add-a c = search needs
-
--- src/frame.rt:50:13
-mul-e : tie.Need-mul-e
-mul-e c = search needs
-
--- src/frame.rt:50:13
-add-e : tie.Need-add-e
-add-e c = search needs
-
--- src/frame.rt:51:30
-sub-hear-piece : tie.Need-sub-hear-piece
-sub-hear-piece c = search needs
-
--- src/frame.rt:51:30
-part-hear-piece-start : tie.Need-part-hear-piece-start
-part-hear-piece-start c = search needs
-
--- src/frame.rt:51:30
-part-hear-piece-end : tie.Need-part-hear-piece-end
-part-hear-piece-end c = search needs
-
--- src/frame.rt:51:5
-hear-piece-requires : tie.Need-hear-piece-requires
-hear-piece-requires c κs = search needs
-
--- src/frame.rt:42:1
 returns-2 : tie.Need-returns-2
 unfolding hearPiece lineOf
 returns-2 c = let a = c .before .before .before .before .args in
@@ -61,12 +26,6 @@ hear-spec =
     tie.close
     (tie.spec
     returns
-    mul-a
-    add-a
-    mul-e
-    add-e
-    sub-hear-piece
-    part-hear-piece-start
-    part-hear-piece-end
-    hear-piece-requires
+    (λ c. search needs) (λ c. search needs) (λ c. search needs) (λ c. search needs) (λ c. search needs) (λ c. search needs) (λ c. search needs)
+    (λ c κs. search needs)
     returns-2)
