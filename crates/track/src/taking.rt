@@ -5,7 +5,7 @@ use track_lead::Feed;
 use track_lead::Taken;
 use track_lead::Thing;
 use track_lead::Way;
-use track_text::Read;
+use track_text::Entry;
 
 // How a pass stands: it goes on, or a line is not taken, or a write failed.
 pub enum How {
@@ -132,16 +132,16 @@ fn counted(stand: Stand) -> Stand {
 pub fn take(before: Stand, line: Line, out: &mut [u8]) -> Stand {
     let stand = counted(before);
     match track_text::read(line) {
-        Read::Nothing => stand,
-        Read::At { place, thing } => {
+        Entry::Nothing => stand,
+        Entry::At { place, thing } => {
             if stand.writes {
                 feed_to(stand, place, thing, out)
             } else {
                 judge(stand, place, thing)
             }
         }
-        Read::Unreadable => with_how(stand, How::Unreadable),
-        Read::TooLarge => with_how(stand, How::TooLarge),
-        Read::Fifteen => with_how(stand, How::Fifteen),
+        Entry::Unreadable => with_how(stand, How::Unreadable),
+        Entry::TooLarge => with_how(stand, How::TooLarge),
+        Entry::Fifteen => with_how(stand, How::Fifteen),
     }
 }

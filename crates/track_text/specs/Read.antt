@@ -9,26 +9,26 @@ use Rattle.trace_text.specs.declared.What.{What}
 use Rattle.trace_text.specs.declared.Said.{Said}
 use Rattle.trace_text.specs.Said.{said}
 use Rattle.track_lead.specs.declared.Thing.{Thing}
-use Rattle.track_text.specs.declared.Read.{Read}
+use Rattle.track_text.specs.declared.Entry.{Entry}
 
 -- A balise at its place by the words that it sends; "figure to write above 15 or above 2,047" is 2, "a short word of a telegram reads 15" is 3.
-abbrev pub balise : ℕ → Outcome Words → Read
-balise place (gives w) = Read.At place (Thing.Balise (w .x) (w .y) (w .z))
-balise place (refuses n) = pick (eqb n 2) Read.TooLarge Read.Fifteen
+abbrev pub balise : ℕ → Outcome Words → Entry
+balise place (gives w) = Entry.At place (Thing.Balise (w .x) (w .y) (w .z))
+balise place (refuses n) = pick (eqb n 2) Entry.TooLarge Entry.Fifteen
 
 -- What lies at a place.
-abbrev pub thingAt : ℕ → What → Read
+abbrev pub thingAt : ℕ → What → Entry
 thingAt place (What.Balise x y z) = balise place (spell (asked x y z))
-thingAt place What.Marker = Read.At place Thing.Marker
-thingAt place What.Unreadable = Read.At place Thing.Unreadable
-thingAt place What.Position = Read.At place Thing.Nothing
-thingAt place (What.Raw kind x y z) = Read.Unreadable
+thingAt place What.Marker = Entry.At place Thing.Marker
+thingAt place What.Unreadable = Entry.At place Thing.Unreadable
+thingAt place What.Position = Entry.At place Thing.Nothing
+thingAt place (What.Raw kind x y z) = Entry.Unreadable
 
 -- The line.
-abbrev pub readSaid : Said → Read
-readSaid Said.Nothing = Read.Nothing
+abbrev pub readSaid : Said → Entry
+readSaid Said.Nothing = Entry.Nothing
 readSaid (Said.Thing place what) = thingAt place what
-readSaid Said.Unreadable = Read.Unreadable
+readSaid Said.Unreadable = Entry.Unreadable
 
-unfoldable pub read : Line → Read
+unfoldable pub read : Line → Entry
 read line = readSaid (said line)

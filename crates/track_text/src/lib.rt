@@ -12,7 +12,7 @@ use track_lead::Thing;
 use writer::Spelt;
 
 // What a line says: nothing, a thing at a place in dm, or why it is none.
-pub enum Read {
+pub enum Entry {
     Nothing,
     At { place: u32, thing: Thing },
     Unreadable,
@@ -21,35 +21,35 @@ pub enum Read {
 }
 
 // A balise of these figures at its place.
-fn balise(place: u32, x: u8, y: u16, z: u8) -> Read
+fn balise(place: u32, x: u8, y: u16, z: u8) -> Entry
     ensures { λ r. ⌜ r ≡ balise place (spell (asked x y z)) ⌝ }
 {
     let spelt = writer::spell(x, y, z);
     match spelt {
-        Spelt::Words { x: a, y: b, z: c } => Read::At {
+        Spelt::Words { x: a, y: b, z: c } => Entry::At {
             place,
             thing: Thing::Balise { x: a, y: b, z: c },
         },
-        Spelt::TooLarge => Read::TooLarge,
-        Spelt::Fifteen => Read::Fifteen,
+        Spelt::TooLarge => Entry::TooLarge,
+        Spelt::Fifteen => Entry::Fifteen,
     }
 }
 
 // What lies at a place.
-fn thing_at(place: u32, what: What) -> Read
+fn thing_at(place: u32, what: What) -> Entry
     ensures { λ r. ⌜ r ≡ thingAt place what ⌝ }
 {
     match what {
         What::Balise { x, y, z } => balise(place, x, y, z),
-        What::Marker => Read::At {
+        What::Marker => Entry::At {
             place,
             thing: Thing::Marker,
         },
-        What::Unreadable => Read::At {
+        What::Unreadable => Entry::At {
             place,
             thing: Thing::Unreadable,
         },
-        What::Position => Read::At {
+        What::Position => Entry::At {
             place,
             thing: Thing::Nothing,
         },
@@ -58,23 +58,23 @@ fn thing_at(place: u32, what: What) -> Read
             x: _,
             y: _,
             z: _,
-        } => Read::Unreadable,
+        } => Entry::Unreadable,
     }
 }
 
 // What was said, as a line of a track.
-fn read_said(said: Said) -> Read
+fn read_said(said: Said) -> Entry
     ensures { λ r. ⌜ r ≡ readSaid said ⌝ }
 {
     match said {
-        Said::Nothing => Read::Nothing,
+        Said::Nothing => Entry::Nothing,
         Said::Thing { place, what } => thing_at(place, what),
-        Said::Unreadable => Read::Unreadable,
+        Said::Unreadable => Entry::Unreadable,
     }
 }
 
 // What a line of the text says.
-pub fn read(line: Line) -> Read
+pub fn read(line: Line) -> Entry
     ensures { λ r. ⌜ r ≡ read line ⌝ }
 {
     read_said(trace_text::read(line))
