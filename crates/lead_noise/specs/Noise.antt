@@ -1,4 +1,4 @@
--- A lead with noise on its line (issue N2): "each bit of the line flips with a chance of N in a million ..., odometers stay, and so do bytes after
+-- A lead with noise on its line (docs/LEAD.md): "each bit of the line flips with a chance of N in a million ..., odometers stay, and so do bytes after
 -- the last whole frame."
 -- Assumes nothing.
 use Prim.Native.Nat.{ℕ, zero, suc, _+_, _-_, _*_, _/_, _%_}

@@ -1,13 +1,13 @@
 -- What is unreadable: 55 hex, so zeroes and ones in turn. One contact opens and closes over it, and it is refused with 8.
 -- Assumes nothing.
 use Prim.Native.Nat.{ℕ, zero, suc, _+_, _-_, _*_, _%_, _≤_, _<_}
-use mathlib.Core.Path.{_≡_, refl, sym, ap, ap₂, _∙_}
+use mathlib.Core.Path.{_≡_, refl, sym, ap, ap₂, _∙_, subst}
 use mathlib.Core.Bool.{Bool, true, false}
 use mathlib.Core.List.{List}
 use native.Mathlib.Omega.{arith}
 use lib.Dec.{eqb, leb, ltb}
 use lib.ListN.{length}
-use borrow.Author.Tests.{ltb-true, ltb-false, eq-eqb, eqb-false}
+use borrow.Author.Tests.{ltb-true, ltb-false, eq-eqb}
 use Rattle.words.specs.Answer.{Outcome, gives, refuses, pick}
 use Rattle.telegram.specs.Stretch.{bitAt, bitsAt, inside}
 use Rattle.telegram.specs.Sync.{differing, isGood}
@@ -29,20 +29,24 @@ alike : (x y v : ℕ) → x ≡ y → unequal x y ≤ 1 - v
 unfolding unequal
 alike x y v same = simp (eq-eqb _ _ same) (omega arith)
 
-with-one : (x y v : ℕ) → x ≡ v → y ≡ 1 → v < 2 → unequal x y ≤ 1 - v
+most : (x y : ℕ) → unequal x y ≤ 1
 unfolding unequal
-with-one x y v is one low = go (eqb x y) refl
+most x y = go (eqb x y)
   where
-    go : (t : Bool) → eqb x y ≡ t → pick t 0 1 ≤ 1 - v
-    go true e = omega arith
-    go false e = by (ltb v 1) refl
-      where
-        by : (c : Bool) → ltb v 1 ≡ c → 1 ≤ 1 - v
-        by true l = let less = ltb-true v 1 l in omega arith
-        by false l = let more = ltb-false v 1 l in absurd (eqb-false x y e (is ∙ sym one-is ∙ sym one))
-          where
-            one-is : 1 ≡ v
-            one-is = let more = ltb-false v 1 l in omega arith
+    go : (t : Bool) → pick t 0 1 ≤ 1
+    go true = omega arith
+    go false = omega arith
+
+with-one : (x y v : ℕ) → x ≡ v → y ≡ 1 → v < 2 → unequal x y ≤ 1 - v
+with-one x y zero is one low = omega (arith, most x y)
+with-one x y (suc zero) is one low = alike x y 1 (is ∙ sym one)
+with-one x y (suc (suc v)) is one low = absurd (omega arith)
+
+small-sum : (u v w : ℕ) → u ≤ 1 - w % 2 → v ≤ 1 - (w + 1) % 2 → u + v ≤ 1
+small-sum u v w a c = omega arith
+
+four-pairs : (a b c d e f g h : ℕ) → a + b ≤ 1 → c + d ≤ 1 → e + f ≤ 1 → g + h ≤ 1 → 0 + a + b + c + d + e + f + g + h ≤ 4
+four-pairs a b c d e f g h k l m n = omega arith
 
 module _ (b : List ℕ) (start : ℕ) (turns : (i : ℕ) → i < 96 → bitAt b (start + i) ≡ i % 2) (quiet-after : (k : ℕ) → k < 12 → bitAt b (start + 96 + k) ≡ 1) where
   -- Of two bits in a row one is a zero.
@@ -69,36 +73,45 @@ module _ (b : List ℕ) (start : ℕ) (turns : (i : ℕ) → i < 96 → bitAt b 
   -- ---- its contact, from bit o of it on and with e of the ones after it
 
   module _ (o e : ℕ) (o-low : o ≤ 15) (e-low : e ≤ 11) (s t : ℕ) (good : isGood s t ≡ true) where
-    -- Two bytes 32 bits apart differ in four bits at most.
-    unlike : (p i : ℕ) → start ≤ p → p + 40 ≤ start + 107 → i < 8 → unequal (bitAt b (p + i)) (bitAt b (p + 32 + i)) ≤ 1 - (p - start + i) % 2
-    unlike p i low high less = go (ltb (p + 32 + i) (start + 96)) refl
+    -- Two bytes 32 bits apart, of which the first begins at bit q, differ in four bits at most: where the second has a one for the first's zero.
+    unlike : (p q i : ℕ) → p ≡ start + q → q + 40 ≤ 107 → i < 8 → unequal (bitAt b (p + i)) (bitAt b (p + 32 + i)) ≤ 1 - (q + i) % 2
+    unlike p q i is high less = go (ltb (q + 32 + i) 96) refl
       where
-        q : ℕ
-        q = p - start + i
+        near : bitAt b (p + i) ≡ (q + i) % 2
+        near = let f : p + i ≡ start + (q + i) = omega arith in ap (bitAt b) f ∙ turns (q + i) (omega arith)
 
-        near : bitAt b (p + i) ≡ q % 2
-        near = let f : p + i ≡ start + q = omega arith in ap (bitAt b) f ∙ turns q (omega arith)
-
-        go : (x : Bool) → ltb (p + 32 + i) (start + 96) ≡ x → unequal (bitAt b (p + i)) (bitAt b (p + 32 + i)) ≤ 1 - q % 2
-        go true is =
-            let l = ltb-true (p + 32 + i) (start + 96) is in
-            let f : p + 32 + i ≡ start + (q + 32) = omega arith in
-            let far : bitAt b (p + 32 + i) ≡ (q + 32) % 2 = ap (bitAt b) f ∙ turns (q + 32) (omega arith) in
-            let same : (q + 32) % 2 ≡ q % 2 = omega arith in
-            alike (bitAt b (p + i)) (bitAt b (p + 32 + i)) (q % 2) (near ∙ sym (far ∙ same))
-        go false is =
-            let h = ltb-false (p + 32 + i) (start + 96) is in
-            let k = p + 32 + i - (start + 96) in
+        go : (x : Bool) → ltb (q + 32 + i) 96 ≡ x → unequal (bitAt b (p + i)) (bitAt b (p + 32 + i)) ≤ 1 - (q + i) % 2
+        go true e =
+            let l = ltb-true (q + 32 + i) 96 e in
+            let f : p + 32 + i ≡ start + (q + 32 + i) = omega arith in
+            let far : bitAt b (p + 32 + i) ≡ (q + 32 + i) % 2 = ap (bitAt b) f ∙ turns (q + 32 + i) l in
+            let same : (q + 32 + i) % 2 ≡ (q + i) % 2 = omega arith in
+            alike (bitAt b (p + i)) (bitAt b (p + 32 + i)) ((q + i) % 2) (near ∙ sym (far ∙ same))
+        go false e =
+            let h = ltb-false (q + 32 + i) 96 e in
+            let k = q + 32 + i - 96 in
             let f : p + 32 + i ≡ start + 96 + k = omega arith in
             let far : bitAt b (p + 32 + i) ≡ 1 = ap (bitAt b) f ∙ quiet-after k (omega arith) in
-            with-one (bitAt b (p + i)) (bitAt b (p + 32 + i)) (q % 2) near far (omega arith)
+            with-one (bitAt b (p + i)) (bitAt b (p + 32 + i)) ((q + i) % 2) near far (omega arith)
+
+    -- Of two bits in a row one at most.
+    one-of-two : (p q i : ℕ) → p ≡ start + q → q + 40 ≤ 107 → i + 1 < 8
+        → unequal (bitAt b (p + i)) (bitAt b (p + 32 + i)) + unequal (bitAt b (p + (i + 1))) (bitAt b (p + 32 + (i + 1))) ≤ 1
+    one-of-two p q i is high less =
+        small-sum (unequal (bitAt b (p + i)) (bitAt b (p + 32 + i))) (unequal (bitAt b (p + (i + 1))) (bitAt b (p + 32 + (i + 1)))) (q + i)
+        (unlike p q i is high (omega arith)) (let e : q + (i + 1) ≡ q + i + 1 = omega arith in subst (λ (v : ℕ). unequal (bitAt b (p + (i + 1))) (bitAt b (p + 32 + (i + 1))) ≤ 1 - v % 2) e (unlike p q (i + 1) is high (omega arith)))
 
     few-differ : (p : ℕ) → start ≤ p → p + 40 ≤ start + 107 → sum (λ i. unequal (bitAt b (p + i)) (bitAt b (p + 32 + i))) 8 ≤ 4
     unfolding sum
     few-differ p low high =
-        let d = p - start in
-        let u : (i : ℕ) → i < 8 → unequal (bitAt b (p + i)) (bitAt b (p + 32 + i)) ≤ 1 - (d + i) % 2 = λ i l. unlike p i low high l in
-        omega (arith, u 0 (omega arith), u 1 (omega arith), u 2 (omega arith), u 3 (omega arith), u 4 (omega arith), u 5 (omega arith), u 6 (omega arith), u 7 (omega arith))
+        let q = p - start in
+        let is : p ≡ start + q = omega arith in
+        let within : q + 40 ≤ 107 = omega arith in
+        four-pairs (unequal (bitAt b (p + 0)) (bitAt b (p + 32 + 0))) (unequal (bitAt b (p + 1)) (bitAt b (p + 32 + 1)))
+        (unequal (bitAt b (p + 2)) (bitAt b (p + 32 + 2))) (unequal (bitAt b (p + 3)) (bitAt b (p + 32 + 3)))
+        (unequal (bitAt b (p + 4)) (bitAt b (p + 32 + 4))) (unequal (bitAt b (p + 5)) (bitAt b (p + 32 + 5)))
+        (unequal (bitAt b (p + 6)) (bitAt b (p + 32 + 6))) (unequal (bitAt b (p + 7)) (bitAt b (p + 32 + 7)))
+        (one-of-two p q 0 is within (omega arith)) (one-of-two p q 2 is within (omega arith)) (one-of-two p q 4 is within (omega arith)) (one-of-two p q 6 is within (omega arith))
 
     no-place : (p : ℕ) → start + o ≤ p → isPlace b (start + o) (96 + e - o) s t p ≡ true → ⊥
     no-place p low is =

@@ -12,6 +12,16 @@ use Rattle.track_lead.specs.Sent.{lineIn}
 use Rattle.track_lead.specs.Lead.{Item, Over, latest, nothing, lineAt, odometerAt, frameAt, framesAt}
 use Rattle.track_lead.proofs.Ones.{line-long}
 
+-- A number below 2^32 from its four bytes.
+whole-again : (o : ℕ) → o < 4294967296 → ((o / 16777216 % 256 * 256 + o / 65536 % 256) * 256 + o / 256 % 256) * 256 + o % 256 ≡ o
+whole-again o small =
+    let a = o / 256 in
+    let b = o / 65536 in
+    let first : o / 16777216 % 256 * 256 + b % 256 ≡ b = omega arith in
+    let second : b * 256 + a % 256 ≡ a = omega arith in
+    let third : a * 256 + o % 256 ≡ o = omega arith in
+    ap (λ (v : ℕ). (v * 256 + a % 256) * 256 + o % 256) first ∙ ap (λ (v : ℕ). v * 256 + o % 256) second ∙ third
+
 module _ (n s t begin : ℕ) (items : List Item) where
   pub line-is-long : (k : ℕ) → length (lineAt n s t begin items k) ≡ 12
   unfolding lineAt
@@ -75,7 +85,4 @@ module _ (n s t begin : ℕ) (items : List Item) where
       let third : getD lead (16 * k + 3) 0 ≡ o % 256 = byte-at m k 3 low in
       ap₂ (λ (a b : ℕ). ((a * 256 + b) * 256 + getD lead (16 * k + 2) 0) * 256 + getD lead (16 * k + 3) 0) zeroth first
       ∙ ap₂ (λ (a b : ℕ). ((o / 16777216 % 256 * 256 + o / 65536 % 256) * 256 + a) * 256 + b) second third
-      ∙ whole o small
-    where
-      whole : (o : ℕ) → o < 4294967296 → ((o / 16777216 % 256 * 256 + o / 65536 % 256) * 256 + o / 256 % 256) * 256 + o % 256 ≡ o
-      whole o small = omega arith
+      ∙ whole-again o small

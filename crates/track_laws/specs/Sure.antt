@@ -37,16 +37,17 @@ pub record Heard (s t x y z : ℕ) : Type 0 where
   pub valid : telegram x y z ≡ gives says
   pub audible : Audible (passedAt [] 0 0 s t x y z says)
 
-abbrev pub SureThing : ℕ → ℕ → Thing → Type 0
-SureThing s t (Thing.Balise x y z) = Heard s t x y z
-SureThing s t Thing.Marker = Unit
-SureThing s t Thing.Unreadable = Unit
-SureThing s t Thing.Nothing = Unit
+-- A thing that is sure to be heard: an audible balise, a marker, what is unreadable. The way goes on for three decimetres after its place.
+abbrev pub SureThing : ℕ → ℕ → ℕ → Thing → Type 0
+SureThing s t place (Thing.Balise x y z) = Heard s t x y z × (place + 3 ≤ highest)
+SureThing s t place Thing.Marker = place + 3 ≤ highest
+SureThing s t place Thing.Unreadable = place + 3 ≤ highest
+SureThing s t place Thing.Nothing = Unit
 
--- Every line of the text; its last frames lie before the highest place.
+-- Every line of the text.
 abbrev pub Sure : ℕ → ℕ → List Item → Type 0
 Sure s t [] = Unit
-Sure s t (item ∷ items) = SureThing s t (item .thing) × (item .place + 3 ≤ highest) × Sure s t items
+Sure s t (item ∷ items) = SureThing s t (item .place) (item .thing) × Sure s t items
 
 -- The records of the text, positions left out: kind 0 with the words sent, 1 for a marker, 2 for what is unreadable.
 abbrev pub withItem : ℕ → Thing → List (List ℕ) → List (List ℕ)

@@ -4,3 +4,5 @@ pub mod Blocks
 pub mod Latest
 pub mod Run
 pub mod TheLead
+pub mod Determined
+pub mod Examples

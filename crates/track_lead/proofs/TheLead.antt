@@ -156,6 +156,7 @@ pub record Reaches (items : List Item) (way : Way) : Type 0 where
   pub rising : Rising (from way) (way .last) items
   pub ends : way .last ≤ until way
   pub low : until way ≤ highest + 1
+  pub until-is : until way ≡ min (way .last + 10) highest + 1
 
 first-after : (place : ℕ) (thing : Thing) → way-specs.after fresh place thing .first ≡ Mark.At place
 unfolding way-specs.after fresh
@@ -212,6 +213,7 @@ reaches item items way is =
       rising = (omega (arith, from-is), all .rising .1);
       ends = omega (arith, until-is, low);
       low = omega (arith, until-is);
+      until-is = until-is;
     }
 
 pub feeds-the-lead : FeedsTheLead

@@ -1,5 +1,5 @@
 -- The frames of a lead, one after the other: sixteen bytes each, "bytes 0 to 3: the odometer in dm, high byte first", "bytes 4 to 15: the next 96 bits
--- of the line" (issue N1); "N frames for each dm" (issue N2).
+-- of the line" (docs/LEAD.md, "The lead"); "N frames for each dm" (docs/LEAD.md).
 -- Assumes nothing.
 use Prim.Native.Nat.{ℕ, zero, suc, _+_, _-_, _*_, _/_, _%_}
 use mathlib.Core.List.{List, [], _∷_, _++_}

@@ -1,4 +1,4 @@
--- What is sent on the way (issue N2, `track`): "a balise is sent over three frames beginning with S at its place's first frame, a marker (zeroes) and what
+-- What is sent on the way (docs/LEAD.md, "A track"): "a balise is sent over three frames beginning with S at its place's first frame, a marker (zeroes) and what
 -- is unreadable (55 hex) over one, ones elsewhere".
 -- Assumes nothing.
 use Prim.Native.Nat.{ℕ, _*_}

@@ -1,4 +1,4 @@
--- What a line of a track's text says (issue N2, `track`): a thing at its place; "`raw` is unreadable here"; "in a line: unreadable, 2, 3".
+-- What a line of a track's text says (docs/LEAD.md, "A track"): a thing at its place; "`raw` is unreadable here"; "in a line: unreadable, 2, 3".
 -- Assumes nothing.
 use Prim.Native.Nat.{ℕ}
 use lib.Dec.{eqb}
