@@ -6,6 +6,7 @@ use crate::saying;
 use crate::taking;
 use crate::taking::How;
 use crate::taking::Stand;
+use lines::Got;
 use lines::Reader;
 
 // A pass in the middle of a text: how it stands, the reader of its line, and whether that line has begun.
@@ -23,7 +24,7 @@ fn goes_on(how: How) -> bool {
         How::TooLarge => false,
         How::Fifteen => false,
         How::TooHigh => false,
-        How::Below => false,
+        How::Lower => false,
         How::TooNear => false,
         How::CannotWrite => false,
     }
@@ -31,31 +32,38 @@ fn goes_on(how: How) -> bool {
 
 // The lines of a block from a place on; what is left of the last one stays with the reader.
 fn block(middle: Middle, text: &[u8], from: usize, out: &mut [u8]) -> Middle {
-    let mut stand = middle.stand;
-    let mut reader = middle.reader;
-    let mut begun = middle.begun;
+    let mut here = middle;
     let mut i = from;
     let mut turns = text.len();
     while turns > 0 {
-        let how = stand.how;
-        if (i >= text.len()) | !goes_on(how) {
-            turns = 0;
-        } else {
-            let got = lines::next_line(reader, text, i);
-            let line = got.line;
-            reader = got.reader;
-            i = got.next;
-            begun = !got.ends;
-            if got.ends {
-                stand = taking::take(stand, line, out);
-            }
-            turns -= 1;
+        if (i >= text.len()) | !goes_on_with(here) {
+            return here;
         }
+        let reader = here.reader;
+        let got = lines::next_line(reader, text, i);
+        i = got.next;
+        here = after_line(here, got, out);
+        turns -= 1;
     }
+    here
+}
+
+// Whether the pass goes on.
+fn goes_on_with(middle: Middle) -> bool {
+    let stand = middle.stand;
+    let how = stand.how;
+    goes_on(how)
+}
+
+// After what a block gave of a line.
+fn after_line(middle: Middle, got: Got, out: &mut [u8]) -> Middle {
+    let stand = middle.stand;
+    let line = got.line;
+    let reader = got.reader;
     Middle {
-        stand,
+        stand: taking::take_whole(stand, got.ends, line, out),
         reader,
-        begun,
+        begun: !got.ends,
     }
 }
 

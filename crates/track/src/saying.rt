@@ -20,7 +20,7 @@ pub fn say(line: u64, how: How) {
         How::TooLarge => say_line(line, b" refused 2\n"),
         How::Fifteen => say_line(line, b" refused 3\n"),
         How::TooHigh => say_line(line, b" refused 18\n"),
-        How::Below => say_line(line, b" refused 17\n"),
+        How::Lower => say_line(line, b" refused 17\n"),
         How::TooNear => say_line(line, b" too near\n"),
         How::CannotWrite => cards::say(b"track", b"cannot write"),
     }

@@ -14,7 +14,7 @@ pub enum How {
     TooLarge,
     Fifteen,
     TooHigh,
-    Below,
+    Lower,
     TooNear,
     CannotWrite,
 }
@@ -49,31 +49,36 @@ fn write(bytes: &[u8], count: usize) -> bool {
     io::write_all(STDOUT_FILENO, &bytes[..count])
 }
 
+// The same pass with this feed.
+fn with_feed(stand: Stand, feed: Feed) -> Stand {
+    let way = stand.way;
+    let how = stand.how;
+    Stand {
+        writes: stand.writes,
+        lines: stand.lines,
+        way,
+        feed,
+        how,
+    }
+}
+
 // All frames before the decimetre `to`, block after block up to one that is empty. It counts its turns down from a number that no lead uses up.
 pub fn write_to(stand: Stand, to: u32, out: &mut [u8]) -> Stand {
     let mut feed = stand.feed;
     let mut turns = u64::MAX;
     while turns > 0 {
         let wrote = track_lead::write(feed, to, out);
-        let count = wrote.count;
         feed = wrote.feed;
+        let count = wrote.count;
         if count == 0 {
-            turns = 0;
-        } else {
-            if !write(out, count) {
-                return with_how(stand, How::CannotWrite);
-            }
-            turns -= 1;
+            return with_feed(stand, feed);
         }
+        if !write(out, count) {
+            return with_how(stand, How::CannotWrite);
+        }
+        turns -= 1;
     }
-    let way = stand.way;
-    Stand {
-        writes: stand.writes,
-        lines: stand.lines,
-        way,
-        feed,
-        how: How::On,
-    }
+    with_feed(stand, feed)
 }
 
 // A thing at its place, in the second pass: all frames before it, then it passes. A position passes nothing.
@@ -82,16 +87,8 @@ fn feed_to(stand: Stand, place: u32, thing: Thing, out: &mut [u8]) -> Stand {
         return stand;
     }
     let there = write_to(stand, place, out);
-    let way = there.way;
-    let how = there.how;
     let feed = there.feed;
-    Stand {
-        writes: there.writes,
-        lines: there.lines,
-        way,
-        feed: track_lead::passes(feed, thing),
-        how,
-    }
+    with_feed(there, track_lead::passes(feed, thing))
 }
 
 // A thing at its place, in the first pass: the way after it.
@@ -109,7 +106,7 @@ fn judge(stand: Stand, place: u32, thing: Thing) -> Stand {
             }
         }
         Taken::TooHigh => with_how(stand, How::TooHigh),
-        Taken::Below => with_how(stand, How::Below),
+        Taken::Lower => with_how(stand, How::Lower),
         Taken::TooNear => with_how(stand, How::TooNear),
     }
 }
@@ -126,6 +123,14 @@ fn counted(stand: Stand) -> Stand {
         feed,
         how,
     }
+}
+
+// The pass after a line that ends; else as it was.
+pub fn take_whole(stand: Stand, ends: bool, line: Line, out: &mut [u8]) -> Stand {
+    if ends {
+        return take(stand, line, out);
+    }
+    stand
 }
 
 // The pass after a line.

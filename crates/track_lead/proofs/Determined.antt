@@ -35,7 +35,7 @@ fresh-determined κs a x y at-x at-y p q = p ∙ sym q
 
 -- From what an answer says, the answer.
 abbrev takenBad : Bad → Taken
-takenBad (refused n) = pick (eqb n 18) Taken.TooHigh Taken.Below
+takenBad (refused n) = pick (eqb n 18) Taken.TooHigh Taken.Lower
 takenBad tooNear = Taken.TooNear
 
 abbrev takenOf : Answer Bad Way → Taken
@@ -45,7 +45,7 @@ takenOf (refuses bad) = takenBad bad
 taken-back : (r : Taken) → takenOf (saysTaken r) ≡ r
 taken-back (Taken.On way) = refl
 taken-back Taken.TooHigh = refl
-taken-back Taken.Below = refl
+taken-back Taken.Lower = refl
 taken-back Taken.TooNear = refl
 
 pub take-determined : Fixed 0 take-kinds.ps take-kinds.r take-reads.Post

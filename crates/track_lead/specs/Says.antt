@@ -9,5 +9,5 @@ use Rattle.track_lead.specs.Way.{Bad, refused, tooNear}
 abbrev pub saysTaken : Taken → Answer Bad Way
 saysTaken (Taken.On way) = gives way
 saysTaken Taken.TooHigh = refuses (refused 18)
-saysTaken Taken.Below = refuses (refused 17)
+saysTaken Taken.Lower = refuses (refused 17)
 saysTaken Taken.TooNear = refuses tooNear

@@ -71,7 +71,7 @@ pub fn take(way: Way, place: u32, thing: Thing) -> Taken
         return Taken::TooHigh;
     }
     if place < way.last {
-        return Taken::Below;
+        return Taken::Lower;
     }
     let before = way.thing;
     if is_sent(thing) & is_near(before, place) {

@@ -37,7 +37,7 @@ pub struct Way {
 pub enum Taken {
     On(Way),
     TooHigh,
-    Below,
+    Lower,
     TooNear,
 }
 
