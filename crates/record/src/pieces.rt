@@ -1,8 +1,8 @@
 // A lead, piece by piece.
 use crate::out;
-use settings::Store;
 use recording::Came;
 use recording::Tape;
+use settings::Store;
 
 // The records of a piece; the tape after it.
 fn piece(tape: Tape, store: Store, block: &[u8]) -> Tape {

@@ -181,10 +181,11 @@ module _ (n s t begin : ℕ) (all : List Item) (some : 0 < n) (m : ℕ) (store :
       → (st : Step b s t h i (96 * firstFrame n begin (item .place)) long end (item .place) bytes) → Done rest (st .next) (st .later) → recordsOf (item ∷ rest) ≡ bytes ∷ recordsOf rest
       → Done (item ∷ rest) i h
   unfolding recordsFor judgedAll
-  with-step item rest i h long bytes after-begin room st on is =
-      (ap (λ (w : Contacts). recordsFor lead (judgedAll b (sIn store lead) (tIn store lead) w)) (st .is)
-      ∙ ap₂ (λ (r : List ℕ) (rs : List (List ℕ)). r ∷ rs) (kept-there (item .place) (st .skipped) (st .len) bytes after-begin (omega arith) (st .in-first) (st .kept)) (on .0) ∙ sym is,
-      ap cut (st .is) ∙ on .1)
+  with-step item rest i h long bytes after-begin room st on is = (
+    ap (λ (w : Contacts). recordsFor lead (judgedAll b (sIn store lead) (tIn store lead) w)) (st .is)
+        ∙ ap₂ (λ (r : List ℕ) (rs : List (List ℕ)). r ∷ rs) (kept-there (item .place) (st .skipped) (st .len) bytes after-begin (omega arith) (st .in-first) (st .kept)) (on .0) ∙ sym is,
+    ap cut (st .is) ∙ on .1,
+  )
 
   -- Where the chain stands after a thing.
   module _ (item : Item) (rest : List Item) (over : Over) (i : ℕ) (here : Here (item ∷ rest) over i) (is-sent : isSent (item .thing) ≡ true)

@@ -92,13 +92,7 @@ fn from_of(first: Mark) -> u32
 {
     match first {
         Mark::Never => 0,
-        Mark::At(place) => {
-            if place < 10 {
-                0
-            } else {
-                place - 10
-            }
-        }
+        Mark::At(place) => { if place < 10 { 0 } else { place - 10 } }
     }
 }
 

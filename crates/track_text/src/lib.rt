@@ -4,7 +4,6 @@
 ghost use mathlib.Core.Path.{_≡_};
 ghost use Rattle.track_text.specs.Read.{thingAt, readSaid, read, balise};
 ghost use Rattle.writer.specs.Words.{asked, spell};
-
 use lines::Line;
 use trace_text::Said;
 use trace_text::What;
