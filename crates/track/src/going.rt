@@ -31,7 +31,7 @@ fn goes_on(how: How) -> bool {
 }
 
 // The lines of a block from a place on; what is left of the last one stays with the reader.
-fn block(middle: Middle, text: &[u8], from: usize, out: &mut [u8]) -> Middle {
+fn block(middle: Middle, text: &[u8], from: usize, room: &mut [u8]) -> Middle {
     let mut here = middle;
     let mut i = from;
     let mut turns = text.len();
@@ -42,7 +42,7 @@ fn block(middle: Middle, text: &[u8], from: usize, out: &mut [u8]) -> Middle {
         let reader = here.reader;
         let got = lines::next_line(reader, text, i);
         i = got.next;
-        here = after_line(here, got, out);
+        here = after_line(here, got, room);
         turns -= 1;
     }
     here
@@ -56,26 +56,26 @@ fn goes_on_with(middle: Middle) -> bool {
 }
 
 // After what a block gave of a line.
-fn after_line(middle: Middle, got: Got, out: &mut [u8]) -> Middle {
+fn after_line(middle: Middle, got: Got, room: &mut [u8]) -> Middle {
     let stand = middle.stand;
     let line = got.line;
     let reader = got.reader;
     Middle {
-        stand: taking::take_whole(stand, got.ends, line, out),
+        stand: taking::take_whole(stand, got.ends, line, room),
         reader,
         begun: !got.ends,
     }
 }
 
 // The front of a buffer, so many bytes long, from a place on.
-fn front(middle: Middle, text: &[u8], count: usize, from: usize, out: &mut [u8]) -> Middle
+fn front(middle: Middle, text: &[u8], count: usize, from: usize, room: &mut [u8]) -> Middle
     requires { ⌜ count ≤ length (now text) ⌝ }
 {
-    block(middle, &text[..count], from, out)
+    block(middle, &text[..count], from, room)
 }
 
 // What stands after the last line end is a line too, unless it is empty.
-fn last(middle: Middle, out: &mut [u8]) -> Stand {
+fn last(middle: Middle, room: &mut [u8]) -> Stand {
     let stand = middle.stand;
     let reader = middle.reader;
     let how = stand.how;
@@ -84,7 +84,7 @@ fn last(middle: Middle, out: &mut [u8]) -> Stand {
     }
     let got = lines::next_line(reader, b"", 0);
     let line = got.line;
-    taking::take(stand, line, out)
+    taking::take(stand, line, room)
 }
 
 // A pass over the open text, and whether all of it could be read.
@@ -94,7 +94,7 @@ struct Passed {
 }
 
 // All lines of the open text. It counts its turns down from a number that no text uses up.
-fn over(fd: i32, stand: Stand, text: &mut [u8], out: &mut [u8]) -> Passed {
+fn over(fd: i32, stand: Stand, text: &mut [u8], room: &mut [u8]) -> Passed {
     let mut middle = Middle {
         stand,
         reader: lines::fresh(),
@@ -114,11 +114,11 @@ fn over(fd: i32, stand: Stand, text: &mut [u8], out: &mut [u8]) -> Passed {
         let count = got.count;
         if count == 0 {
             return Passed {
-                stand: last(middle, out),
+                stand: last(middle, room),
                 is_read: true,
             };
         }
-        middle = front(middle, text, count, from(is_first, text), out);
+        middle = front(middle, text, count, from(is_first, text), room);
         is_first = false;
         turns -= 1;
     }
@@ -138,13 +138,13 @@ fn from(is_first: bool, text: &[u8]) -> usize {
 }
 
 // One pass over the text that argument 1 names; what was wrong is said.
-fn pass(stand: Stand, text: &mut [u8], out: &mut [u8]) -> Stand {
+fn pass(stand: Stand, text: &mut [u8], room: &mut [u8]) -> Stand {
     let fd = cards::open_card(1);
     if fd < 0 {
         cards::cannot_open(b"track", 1);
         return with_failure(stand);
     }
-    let passed = over(fd, stand, text, out);
+    let passed = over(fd, stand, text, room);
     libc::close(fd);
     let after = passed.stand;
     if !passed.is_read {
@@ -170,7 +170,7 @@ fn with_failure(stand: Stand) -> Stand {
 }
 
 // Once for what is refused, once for the frames; then the frames up to the way's end.
-pub fn twice(call: Call, text: &mut [u8], out: &mut [u8]) {
+pub fn twice(call: Call, text: &mut [u8], room: &mut [u8]) {
     let fresh = track_lead::fresh();
     let begun = Stand {
         writes: false,
@@ -179,7 +179,7 @@ pub fn twice(call: Call, text: &mut [u8], out: &mut [u8]) {
         feed: track_lead::begin(fresh, call.n, call.s, call.t),
         how: How::On,
     };
-    let judged = pass(begun, text, out);
+    let judged = pass(begun, text, room);
     let found = judged.how;
     if !goes_on(found) {
         return;
@@ -192,12 +192,12 @@ pub fn twice(call: Call, text: &mut [u8], out: &mut [u8]) {
         feed: track_lead::begin(way, call.n, call.s, call.t),
         how: How::On,
     };
-    let written = pass(ready, text, out);
+    let written = pass(ready, text, room);
     let then = written.how;
     if !goes_on(then) {
         return;
     }
-    let ended = taking::write_to(written, track_lead::until(way), out);
+    let ended = taking::write_to(written, track_lead::until(way), room);
     let end = ended.how;
     saying::say(0, end);
 }

@@ -4,6 +4,7 @@
 // writes stands in docs/EXCEPTIONS.md.
 mod call;
 mod going;
+mod out;
 mod saying;
 mod taking;
 

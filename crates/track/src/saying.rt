@@ -1,4 +1,5 @@
 // What is said on standard error of a text that is refused.
+use crate::out;
 use crate::taking::How;
 use libc::STDERR_FILENO;
 
@@ -7,9 +8,7 @@ fn say_line(line: u64, words: &[u8]) {
     let mut text = [0u8; 64];
     let first = text::put_number(b"track: line ", line, &mut text, 0);
     let second = text::put(words, &mut text, first);
-    if second <= 64 {
-        io::write_all(STDERR_FILENO, &text[..second]);
-    }
+    out::write(STDERR_FILENO, &text, second);
 }
 
 // Why the line with this number is not taken; of a pass that goes on, nothing.

@@ -1,4 +1,5 @@
 // One line of the text, in the first pass and in the second.
+use crate::out;
 use libc::STDOUT_FILENO;
 use lines::Line;
 use track_lead::Feed;
@@ -41,14 +42,6 @@ fn with_how(stand: Stand, how: How) -> Stand {
     }
 }
 
-// The first bytes of some; no success where there are fewer.
-fn write(bytes: &[u8], count: usize) -> bool {
-    if count > bytes.len() {
-        return false;
-    }
-    io::write_all(STDOUT_FILENO, &bytes[..count])
-}
-
 // The same pass with this feed.
 fn with_feed(stand: Stand, feed: Feed) -> Stand {
     let way = stand.way;
@@ -63,17 +56,17 @@ fn with_feed(stand: Stand, feed: Feed) -> Stand {
 }
 
 // All frames before the decimetre `to`, block after block up to one that is empty. It counts its turns down from a number that no lead uses up.
-pub fn write_to(stand: Stand, to: u32, out: &mut [u8]) -> Stand {
+pub fn write_to(stand: Stand, to: u32, room: &mut [u8]) -> Stand {
     let mut feed = stand.feed;
     let mut turns = u64::MAX;
     while turns > 0 {
-        let wrote = track_lead::write(feed, to, out);
+        let wrote = track_lead::write(feed, to, room);
         feed = wrote.feed;
         let count = wrote.count;
         if count == 0 {
             return with_feed(stand, feed);
         }
-        if !write(out, count) {
+        if !out::write(STDOUT_FILENO, room, count) {
             return with_how(stand, How::CannotWrite);
         }
         turns -= 1;
@@ -82,11 +75,11 @@ pub fn write_to(stand: Stand, to: u32, out: &mut [u8]) -> Stand {
 }
 
 // A thing at its place, in the second pass: all frames before it, then it passes. A position passes nothing.
-fn feed_to(stand: Stand, place: u32, thing: Thing, out: &mut [u8]) -> Stand {
+fn feed_to(stand: Stand, place: u32, thing: Thing, room: &mut [u8]) -> Stand {
     if let Thing::Nothing = thing {
         return stand;
     }
-    let there = write_to(stand, place, out);
+    let there = write_to(stand, place, room);
     let feed = there.feed;
     with_feed(there, track_lead::passes(feed, thing))
 }
@@ -126,21 +119,21 @@ fn counted(stand: Stand) -> Stand {
 }
 
 // The pass after a line that ends; else as it was.
-pub fn take_whole(stand: Stand, ends: bool, line: Line, out: &mut [u8]) -> Stand {
+pub fn take_whole(stand: Stand, ends: bool, line: Line, room: &mut [u8]) -> Stand {
     if ends {
-        return take(stand, line, out);
+        return take(stand, line, room);
     }
     stand
 }
 
 // The pass after a line.
-pub fn take(before: Stand, line: Line, out: &mut [u8]) -> Stand {
+pub fn take(before: Stand, line: Line, room: &mut [u8]) -> Stand {
     let stand = counted(before);
     match track_text::read(line) {
         Entry::Nothing => stand,
         Entry::At { place, thing } => {
             if stand.writes {
-                feed_to(stand, place, thing, out)
+                feed_to(stand, place, thing, room)
             } else {
                 judge(stand, place, thing)
             }
