@@ -16,7 +16,7 @@ pub enum Asked {
 }
 
 // How many frames, or none.
-enum Rate {
+enum Frames {
     Is(u32),
     Odd,
 }
@@ -32,25 +32,25 @@ fn word(k: usize) -> Byte {
 }
 
 // The frames to a decimetre: argument 4, 1 to 1,000; 1 if it is not given.
-fn rate() -> Rate {
+fn rate() -> Frames {
     if os::arg_count() == 4 {
-        return Rate::Is(1);
+        return Frames::Is(1);
     }
     let mut text = io::buffer();
     let length = os::arg(4, &mut text);
     if os::errno() != 0 {
-        return Rate::Odd;
+        return Frames::Odd;
     }
     let Figure::Number(n) = arguments::decimal(&text[..length], 1000) else {
-        return Rate::Odd;
+        return Frames::Odd;
     };
     if n > 1000 {
-        return Rate::Odd;
+        return Frames::Odd;
     }
     if n == 0 {
-        return Rate::Odd;
+        return Frames::Odd;
     }
-    Rate::Is(n as u32)
+    Frames::Is(n as u32)
 }
 
 // The whole call.
@@ -65,7 +65,7 @@ pub fn arguments() -> Asked {
     let Byte::Is(t) = word(3) else {
         return Asked::Odd;
     };
-    let Rate::Is(n) = rate() else {
+    let Frames::Is(n) = rate() else {
         return Asked::Odd;
     };
     Asked::For(Call { s, t, n })

@@ -6,4 +6,4 @@ pub mod Steps
 pub mod Chain
 pub mod WholeWay
 pub mod Noise
-pub mod Met
+pub mod TextMet

@@ -1,26 +1,27 @@
 -- A text that meets the hypotheses: a balise, a marker and something unreadable, four decimetres apart, with 72 and 0D hex.
 -- Assumes nothing.
 use Prim.Native.Nat.{ℕ, _≤_}
-use mathlib.Core.Path.{_≡_, refl}
+use mathlib.Core.Path.{_≡_, refl, ap}
 use mathlib.Core.List.{List, [], _∷_}
 use native.Mathlib.Omega.{arith}
 use borrow.Author.Tests.{le-ltb}
-use Rattle.words.specs.Answer.{gives}
+use Rattle.words.specs.Answer.{Outcome, gives}
 use Rattle.words.specs.Bits.{word}
 use Rattle.words.specs.Plain.{isCheck, covers, count, even, isCode, onwards, figure}
 use Rattle.words.specs.Code.{other, exchanged, readWord}
-use Rattle.telegram.specs.Sync.{differing, isGood}
+use Rattle.telegram.specs.Sync.{differing, isGood, goodPair}
 use Rattle.telegram.specs.Telegram.{shortWord, longWord, telegram}
 use Rattle.telegram.specs.declared.Telegram.{Telegram}
 use Rattle.line.specs.Line.{sentBit}
 use Rattle.settings.specs.declared.Store.{Store}
-use Rattle.settings.specs.Versions.{settingsOf}
+use Rattle.settings.specs.Versions.{kept, settingsOf}
+use Rattle.settings.specs.declared.Held.{Held}
 use Rattle.settings.specs.Store as stores
 use Rattle.settings.specs.At as at
 use Rattle.heard.specs.Zeroes.{zeroesSent}
 use Rattle.heard.specs.Heard.{endsInFourOnes}
 use Rattle.heard.proofs.Either.{audible-computed}
-use Rattle.recording.specs.Recording.{heldAt, recorded}
+use Rattle.recording.specs.Recording.{noneHeld, heldAt, recorded}
 use Rattle.recording.specs.Contacts.{withoutPositions}
 use Rattle.track_lead.specs.declared.Thing.{Thing}
 use Rattle.track_lead.specs.declared.Mark.{Mark}
@@ -64,9 +65,21 @@ sure = ((heard, omega arith), (omega arith, (omega arith, tt)))
 abbrev store : Store
 store = stores.opened (stores.firstOf 40 0x72 0x0d)
 
+good-store : stores.judged store ≡ gives kept
+unfolding stores.judged stores.inOrder stores.allFollow stores.versionsOf stores.opened stores.noStore settingsOf goodPair isGood differing
+good-store = refl
+
+held-there : (place : ℕ) → at.heldAt store place ≡ record { gap = 40; s = 0x72; t = 0x0d; from = 0; until = 4000000001 }
+unfolding at.heldAt at.heldFrom stores.versionsOf stores.opened stores.noStore
+held-there place = refl
+
+answers : (place : ℕ) → place ≤ 4000000000 → at.asked store place ≡ gives (record { gap = 40; s = 0x72; t = 0x0d; from = 0; until = 4000000001 })
+unfolding at.asked
+answers place low = simp (good-store, le-ltb 4000000000 place low, held-there place)
+
 throughout : Throughout store 0x72 0x0d
-unfolding heldAt at.hold at.asked at.heldAt at.heldFrom stores.judged stores.inOrder stores.allFollow stores.versionsOf stores.opened stores.noStore settingsOf isGood differing
-throughout place low = simp (le-ltb 4000000000 place low) (refl, refl)
+unfolding heldAt at.hold
+throughout place low = (ap (λ (o : Outcome Held). at.heldOr noneHeld o .s) (answers place low), ap (λ (o : Outcome Held). at.heldOr noneHeld o .t) (answers place low))
 
 pub met : withoutPositions (recorded store (leadOf 1 0x72 0x0d way text)) ≡ recordsOf text
 met = whole-way 1 0x72 0x0d text way store (omega arith) (omega arith) is-taken pair sure throughout
