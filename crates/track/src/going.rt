@@ -8,6 +8,7 @@ use crate::taking::How;
 use crate::taking::Stand;
 use lines::Got;
 use lines::Reader;
+use track_lead::Way;
 
 // A pass in the middle of a text: how it stands, the reader of its line, and whether that line has begun.
 struct Middle {
@@ -169,35 +170,46 @@ fn with_failure(stand: Stand) -> Stand {
     }
 }
 
-// Once for what is refused, once for the frames; then the frames up to the way's end.
-pub fn twice(call: Call, text: &mut [u8], room: &mut [u8]) {
-    let fresh = track_lead::fresh();
-    let begun = Stand {
-        writes: false,
-        lines: 0,
-        way: fresh,
-        feed: track_lead::begin(fresh, call.n, call.s, call.t),
-        how: How::On,
-    };
-    let judged = pass(begun, text, room);
-    let found = judged.how;
-    if !goes_on(found) {
-        return;
-    }
-    let way = judged.way;
-    let ready = Stand {
-        writes: true,
+// A pass at the text's beginning, over a way that is known so far.
+fn begun(call: Call, way: Way, writes: bool) -> Stand {
+    Stand {
+        writes,
         lines: 0,
         way,
         feed: track_lead::begin(way, call.n, call.s, call.t),
         how: How::On,
-    };
-    let written = pass(ready, text, room);
-    let then = written.how;
-    if !goes_on(then) {
+    }
+}
+
+// Whether a pass stands well.
+fn is_well(stand: Stand) -> bool {
+    let how = stand.how;
+    goes_on(how)
+}
+
+// The frames up to the way's end, after the last thing.
+fn finish(stand: Stand, room: &mut [u8]) {
+    if !is_well(stand) {
         return;
     }
-    let ended = taking::write_to(written, track_lead::until(way), room);
+    let way = stand.way;
+    let ended = taking::write_to(stand, track_lead::until(way), room);
     let end = ended.how;
     saying::say(0, end);
+}
+
+// The second pass: the frames.
+fn feed(call: Call, way: Way, text: &mut [u8], room: &mut [u8]) {
+    let written = pass(begun(call, way, true), text, room);
+    finish(written, room);
+}
+
+// Once for what is refused, once for the frames.
+pub fn twice(call: Call, text: &mut [u8], room: &mut [u8]) {
+    let judged = pass(begun(call, track_lead::fresh(), false), text, room);
+    if !is_well(judged) {
+        return;
+    }
+    let way = judged.way;
+    feed(call, way, text, room);
 }
