@@ -1,10 +1,10 @@
--- `write` writes no more than the line has.
+-- `write` writes no more bytes than there are.
 use mathlib.Core.Path.{sym}
 use native.Mathlib.Omega.{arith}
 use lib.Seq.{length-take-le}
 use borrow.Author.Needs.{needs}
-use Rattle.asked.proofs.write.Statement.{statement}
-use Rattle.asked.proofs.write.Tie as tie
+use Rattle.console.proofs.lines.write.Statement.{statement}
+use Rattle.console.proofs.lines.write.Tie as tie
 
 slice-aggregate-write-all : tie.Need-slice-aggregate-write-all
 slice-aggregate-write-all c = sym (length-take-le _ _ (omega arith))
@@ -13,5 +13,5 @@ pub write-spec : {M : Type 1} → statement M
 write-spec =
     tie.close
     (tie.spec
-    slice-aggregate-write-all
-    (λ c κs. search needs) (λ c. search needs) (λ c. search needs))
+    (λ c. search needs) slice-aggregate-write-all
+    (λ c κs. search needs) (λ c. search needs))
