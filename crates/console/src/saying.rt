@@ -51,8 +51,8 @@ pub fn cannot_write(program: &[u8]) {
     fail(program, b"cannot write");
 }
 
-// `PROGRAM: NAME is no WHAT: ARGUMENT`.
-fn wrong(program: &[u8], name: &[u8], what: &[u8], number: usize) {
+// `PROGRAM: NAME is no WHAT: ARGUMENT`, as in `balise: Z is no figure: 0x72`.
+pub fn wrong(program: &[u8], name: &[u8], what: &[u8], number: usize) {
     io::write_all(STDERR_FILENO, program);
     io::write_all(STDERR_FILENO, b": ");
     io::write_all(STDERR_FILENO, name);
@@ -69,16 +69,6 @@ fn say_argument(what: &[u8], number: usize) {
     io::write_all(STDERR_FILENO, b": ");
     io::write_all(STDERR_FILENO, &text[..length]);
     io::write_all(STDERR_FILENO, b"\n");
-}
-
-// `PROGRAM: Z is no figure: 0x72`.
-pub fn no_figure(program: &[u8], name: &[u8], number: usize) {
-    wrong(program, name, b"figure", number);
-}
-
-// `PROGRAM: S is no word of two hex digits: 0x72`.
-pub fn no_word(program: &[u8], name: &[u8], number: usize) {
-    wrong(program, name, b"word of two hex digits", number);
 }
 
 // `PROGRAM: refused 2: WORDS`, for a program whose result is bytes.
