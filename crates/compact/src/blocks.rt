@@ -59,6 +59,11 @@ fn write_last(stand: Stand) {
         counts::say(stand.records, counts::more(stand.kept, 1));
         return;
     }
+    cannot_write();
+}
+
+// That a write failed.
+fn cannot_write() {
     console::cannot_write(b"compact");
 }
 
@@ -94,7 +99,7 @@ pub fn write_cards(store: Store, first: usize, lengths: &[u64], block: &mut [u8]
         let read = got.read;
         stand = write_front(stand, store, block, read);
         if !stand.is_good {
-            console::cannot_write(b"compact");
+            cannot_write();
             return;
         }
         let how = got.how;
