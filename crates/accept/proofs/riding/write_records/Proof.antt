@@ -18,15 +18,15 @@ loop-holds c = (omega arith, refl, refl)
 
 add-i : tie.Need-add-i Inv-loop μ-loop
 add-i c =
-    let t = c .before .before .before .before .before .before .before .before .before in
-    let s = t .before .before .before .before .before .before .before in
+    let t = c .before .before .before .before .before .before .before .before .before .before in
+    let s = t .before .before .before .before .before .before .before .before in
     let good = s .good in
     let below = t .loop-test .taken in
     omega arith
 
 loop-again : tie.Need-loop-again Inv-loop μ-loop
 loop-again c =
-    let w = c .before .before .before .before in
+    let w = c .before .before .before .before .before in
     let l = w .before .before .before .before .before .before in
     (omega arith, w .accept-at .kept .1 .1 .1 .1 .1 .1 .0 ∙ l .loop .inv .1, refl)
 
