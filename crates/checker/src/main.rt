@@ -1,8 +1,7 @@
 // The listing of a ride from the cards that are named, in their order: document 01's lines, and nothing else. With `-s SETTINGS` before the cards the ride
 // goes by the settings of that file, else by document 01's gap.
 // Promises: it is safe and it ends; the lines are those of the crates listing and ride, block by block and card by card.
-// Specification: none of its own; what its calls of `list_under` come to is crates/demands/specs/Sections.antt (a plain gap) and SectionsUnder.antt (a
-// store), what cannot be said of a program's reads and writes stands in docs/EXCEPTIONS.md.
+// Specification: none of its own; what its calls of `list` come to is crates/demands/specs/Sections.antt, what cannot be said of a program's reads and writes stands in docs/EXCEPTIONS.md.
 mod blocks;
 
 use asked::How;

@@ -1,4 +1,4 @@
-// The records of the cards, block by block: in through `block_under`, what is kept out to standard output.
+// The records of the cards, block by block: in through `compact_block`, what is kept out to standard output.
 ghost use Prim.Native.Nat.{_≤_};
 ghost use lib.ListN.{length};
 use crate::counts;
@@ -20,7 +20,7 @@ struct Stand {
 fn write_block(from: Stand, store: Store, block: &mut [u8]) -> Stand {
     let waiting = from.waiting;
     let records = counts::more(from.records, block.len() / 8);
-    let done = compaction::block_under(waiting, store, block);
+    let done = compaction::compact_block(waiting, store, block);
     let then = done.waiting;
     let size = done.size;
     let Size::Bytes(bytes) = size else {

@@ -19,10 +19,8 @@ use Rattle.compaction.specs.Compact.{Compaction, Settling}
 use Rattle.compaction.specs.Says.{saysSize, saysCompacted, saysBlock}
 use Rattle.compaction.proofs.compact.Kinds as compact-kinds
 use Rattle.compaction.proofs.compact.Reads as compact-reads
-use Rattle.compaction.proofs.compact_under.Kinds as under-kinds
-use Rattle.compaction.proofs.compact_under.Reads as under-reads
-use Rattle.compaction.proofs.block_under.Kinds as block-kinds
-use Rattle.compaction.proofs.block_under.Reads as block-reads
+use Rattle.compaction.proofs.compact_block.Kinds as block-kinds
+use Rattle.compaction.proofs.compact_block.Reads as block-reads
 
 -- From what an answer says, the answer.
 abbrev pub sizeOf : Outcome ℕ → Size
@@ -59,14 +57,9 @@ pub compact-determined : (κs : Lfts 1) (a : Dens κs compact-kinds.ps) (r r′ 
     → compact-reads.Post κs a r x → compact-reads.Post κs a r′ x′ → (r ≡ r′) × (now (x .1 .1 .0) ≡ now (x′ .1 .1 .0))
 compact-determined κs a r r′ x x′ p q = same-compaction r r′ (now (x .1 .1 .0)) (now (x′ .1 .1 .0)) (p ∙ sym q)
 
-pub compact-under-determined : (κs : Lfts 1) (a : Dens κs under-kinds.ps) (r r′ : Compacted)
-    (x x′ : AtExit (endedOf 1 under-kinds.ps under-kinds.r) κs)
-    → under-reads.Post κs a r x → under-reads.Post κs a r′ x′ → (r ≡ r′) × (now (x .1 .1 .0) ≡ now (x′ .1 .1 .0))
-compact-under-determined κs a r r′ x x′ p q = same-compaction r r′ (now (x .1 .1 .0)) (now (x′ .1 .1 .0)) (p ∙ sym q)
-
-pub block-under-determined : (κs : Lfts 1) (a : Dens κs block-kinds.ps) (r r′ : Block)
+pub compact-block-determined : (κs : Lfts 1) (a : Dens κs block-kinds.ps) (r r′ : Block)
     (x x′ : AtExit (endedOf 1 block-kinds.ps block-kinds.r) κs)
     → block-reads.Post κs a r x → block-reads.Post κs a r′ x′ → (r ≡ r′) × (now (x .1 .1 .0) ≡ now (x′ .1 .1 .0))
-block-under-determined κs a r r′ x x′ p q =
+compact-block-determined κs a r r′ x x′ p q =
     let same : saysBlock r (now (x .1 .1 .0)) ≡ saysBlock r′ (now (x′ .1 .1 .0)) = p ∙ sym q in
     (sym (block-back r (now (x .1 .1 .0))) ∙ ap blockOf same ∙ block-back r′ (now (x′ .1 .1 .0)), ap (λ (s : Settling). s .buffer) same)

@@ -7,6 +7,6 @@ pub mod Walk
 pub mod Blocks
 pub mod Last
 pub mod Trace
-pub mod Under
+pub mod Judging
 pub mod Determined
 pub mod Examples

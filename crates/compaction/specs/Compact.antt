@@ -1,5 +1,5 @@
 -- A trace made smaller in place (document 02, M-107): "The result says the new length; bytes beyond it stay. Refusals: 19, then 16 for a
--- bad trace length." The same under a store (M-111): "M-107, M-108 and M-109 hold with one fixed store on both sides."
+-- bad trace length." The settings are a store (M-111): "M-107, M-108 and M-109 hold with one fixed store on both sides."
 -- Assumes nothing.
 use Prim.Native.Nat.{ℕ, _%_}
 use mathlib.Core.List.{List, [], _∷_, _++_}
@@ -11,7 +11,6 @@ use Rattle.settings.specs.Versions.{Kept}
 use Rattle.settings.specs.Store.{judged}
 use Rattle.settings.specs.At.{gapAt}
 use Rattle.ride.specs.declared.Ride.{Ride}
-use Rattle.ride.specs.Joining.{allowed}
 use Rattle.ride.specs.Over.{records, rideOver}
 use Rattle.compaction.specs.declared.Waiting.{Waiting}
 use Rattle.compaction.specs.Dropped.{compactOver}
@@ -44,21 +43,15 @@ smallerTrace gaps ride trace =
     let bytes : List ℕ = bytesOf (compactOver gaps ride (records trace)) in
     record { answer = gives (length bytes); ride = rideOver gaps ride 1 (records trace) .ride; buffer = onto bytes trace }
 
--- Compacting a trace from a state: "gap outside 1 to 200" is 19, "trace length not a multiple of 8" is 16; else what is kept.
-unfoldable pub compact : Ride → ℕ → List ℕ → Compaction
-compact ride gap trace =
-    pick (allowed gap)
-    (pick (eqb (length trace % 8) 0) (smallerTrace (λ odometer. gap) ride trace) (untouched ride trace 16))
-    (untouched ride trace 19)
-
--- Under a store: the store's own refusal decides first.
+-- The settings' own refusal decides first (of a gap, 19).
 abbrev pub judgedFirst : Ride → List ℕ → Outcome Kept → Compaction → Compaction
 judgedFirst ride trace (gives k) compaction = compaction
 judgedFirst ride trace (refuses n) compaction = untouched ride trace n
 
--- Compacting a trace under a store: its own refusal, then 16; else what is kept in the ride with the gap in force at each record's odometer.
-unfoldable pub compactUnder : Ride → Store → List ℕ → Compaction
-compactUnder ride store trace =
+-- Compacting a trace from a state: the settings' own refusal, then "trace length not a multiple of 8" is 16; else what is kept in the ride with the
+-- gap in force at each record's odometer.
+unfoldable pub compact : Ride → Store → List ℕ → Compaction
+compact ride store trace =
     judgedFirst ride trace (judged store)
     (pick (eqb (length trace % 8) 0) (smallerTrace (gapAt store) ride trace) (untouched ride trace 16))
 
@@ -80,13 +73,13 @@ settledBlock gaps w block =
     let bytes : List ℕ = bytesOf (keptOver gaps w (records block)) in
     record { answer = gives (length bytes); waiting = waitsAfter gaps w (records block); buffer = onto bytes block }
 
--- The store's own refusal decides first.
+-- The settings' own refusal decides first.
 abbrev pub blockFirst : Waiting → List ℕ → Outcome Kept → Settling → Settling
 blockFirst w block (gives k) settling = settling
 blockFirst w block (refuses n) settling = unsettled w block n
 
--- A block under a store, after what waits from the block before: refusals as for a whole trace.
-unfoldable pub blockUnder : Waiting → Store → List ℕ → Settling
-blockUnder w store block =
+-- A block, after what waits from the block before: refusals as for a whole trace.
+unfoldable pub compactBlock : Waiting → Store → List ℕ → Settling
+compactBlock w store block =
     blockFirst w block (judged store)
     (pick (eqb (length block % 8) 0) (settledBlock (gapAt store) w block) (unsettled w block 16))

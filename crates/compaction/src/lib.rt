@@ -3,7 +3,7 @@
 // Specification: specs/Dropped.antt (which records are dropped), Compact.antt (a trace, and one in blocks), Blocks.antt (what waits between two blocks),
 // Smaller.antt (what is promised of the records that are kept), Says.antt (the answers).
 ghost use mathlib.Core.Path.{_≡_};
-ghost use Rattle.compaction.specs.Compact.{compact, compactUnder, blockUnder};
+ghost use Rattle.compaction.specs.Compact.{compact, compactBlock};
 ghost use Rattle.compaction.specs.Says.{saysCompacted, saysBlock};
 
 mod copying;
@@ -23,7 +23,7 @@ pub struct Waiting {
     pub waits: bool,
 }
 
-// How many bytes are kept; or why nothing is done: for the settings (a plain gap: 19) or the trace's length (16).
+// How many bytes are kept; or why nothing is done: for the settings (their number) or the trace's length (16).
 pub enum Size {
     Bytes(usize),
     Settings(Bad),
@@ -42,19 +42,9 @@ pub struct Block {
     pub size: Size,
 }
 
-// The trace without the records that are dropped, in place: 19 for the gap, 16 for the trace's length. A plain gap is a store of one version; no
-// ride looks at the sync pair.
-pub fn compact(ride: Ride, gap: u32, trace: &mut [u8]) -> Compacted
-    ensures { λ r. ⌜ saysCompacted r (now (trace .exit)) ≡ compact ride gap (now (trace .entry)) ⌝ }
-{
-    let begun = settings::begin(gap, 0x00, 0x7F);
-    let store = begun.store;
-    compact_under(ride, store, trace)
-}
-
-// The same under a store: the store's own refusal, then 16.
-pub fn compact_under(ride: Ride, store: Store, trace: &mut [u8]) -> Compacted
-    ensures { λ r. ⌜ saysCompacted r (now (trace .exit)) ≡ compactUnder ride store (now (trace .entry)) ⌝ }
+// The trace without the records that are dropped, in place: the settings' own refusal, then 16 for the trace's length.
+pub fn compact(ride: Ride, store: Store, trace: &mut [u8]) -> Compacted
+    ensures { λ r. ⌜ saysCompacted r (now (trace .exit)) ≡ compact ride store (now (trace .entry)) ⌝ }
 {
     let asked = settings::at(store, 0);
     match asked {
@@ -74,9 +64,9 @@ pub fn compact_under(ride: Ride, store: Store, trace: &mut [u8]) -> Compacted
     }
 }
 
-// One block of a trace under a store, after what waits from the block before. Its last record waits for the next block; after the last block it is kept.
-pub fn block_under(waiting: Waiting, store: Store, block: &mut [u8]) -> Block
-    ensures { λ r. ⌜ saysBlock r (now (block .exit)) ≡ blockUnder waiting store (now (block .entry)) ⌝ }
+// One block of a trace, after what waits from the block before. Its last record waits for the next block; after the last block it is kept.
+pub fn compact_block(waiting: Waiting, store: Store, block: &mut [u8]) -> Block
+    ensures { λ r. ⌜ saysBlock r (now (block .exit)) ≡ compactBlock waiting store (now (block .entry)) ⌝ }
 {
     let asked = settings::at(store, 0);
     match asked {

@@ -6,5 +6,4 @@ pub mod Writing
 pub mod OddOrEven
 pub mod FalsePlaces
 pub mod SyncNoise
-pub mod OneVersion
-pub mod SectionsUnder
+pub mod PlainGap

@@ -2,3 +2,4 @@
 pub mod Rules
 pub mod Fits
 pub mod Spelled
+pub mod OneVersion

@@ -9,14 +9,14 @@ pub mod Answers
 pub mod Distances
 pub mod Balises
 pub mod Groups
+pub mod StoreRules
 pub mod Rides
 pub mod Treats
+pub mod Explaining
 pub mod Listings
 pub mod Compacting
 pub mod Writes
 pub mod Bare
-pub mod StoreRules
-pub mod Explaining
 pub mod Stores
 pub mod ManyCalls
 pub mod Viewing
@@ -35,7 +35,7 @@ use Rattle.ride.specs.Step.{Step}
 use Rattle.ride.specs.At.{Treatment}
 use Rattle.ride.specs.Over.{Run, run}
 use Rattle.listing.specs.List.{Listing, list}
-use Rattle.compaction.specs.Compact.{Compaction, compact, compactUnder, Settling, blockUnder}
+use Rattle.compaction.specs.Compact.{Compaction, compact, Settling, compactBlock}
 use Rattle.demands.specs.Demand1.{Demand1}
 use Rattle.demands.proofs.Demand1.Refusals.{reading, writing, pairing, lying, wording, finding, surveying}
 use Rattle.demands.proofs.Demand1.Writes.{writing-test}
@@ -45,7 +45,8 @@ use Rattle.demands.proofs.Demand1.Groups.{fitting-to, grouping}
 use Rattle.demands.proofs.Demand1.Rides.{checking, stepping, running}
 use Rattle.demands.proofs.Demand1.Treats.{treated-is, treating}
 use Rattle.demands.proofs.Demand1.Listings.{listing}
-use Rattle.demands.proofs.Demand1.Compacting.{compacting, compacting-under, settling-under}
+use Rattle.demands.proofs.Demand1.Compacting.{compacting, settling}
+use Rattle.demands.proofs.Demand1.Explaining.{explained-so}
 use Rattle.demands.proofs.Demand1.Stores.{stores-decided}
 use Rattle.demands.proofs.Demand1.Viewing.{viewers-decided}
 use Rattle.demands.proofs.Demand1.Plans.{plans-decided}
@@ -73,19 +74,17 @@ demand1 = record {
   check-record = λ ride bytes r c. rw (c .1) (checking ride bytes);
   step = λ ride gap bytes r c. let e = ap (λ (s : Step). s .lines) (c .1) in rw e (stepping ride gap bytes);
   treat-at = λ ride gap trace i r c. let e = ap (λ (t : Treatment). t .reply) (treated-is ride gap trace i r c) in rw e (treating ride gap trace i);
-  run = λ ride gap trace r c. let e = ap (λ (s : Run). s .answer) (c .4 ∙ ap (λ (v : List ℕ). run ride gap v) (c .3)) in rw e (running ride gap trace);
-  list = λ ride gap number trace before r after c.
-      let e = ap (λ (l : Listing). l .answer) (c .7 ∙ ap₂ (λ (v w : List ℕ). list ride gap number v w) (c .4) (c .5)) in
-      rw e (listing ride gap number trace before);
-  compact = λ ride gap before r after c.
-      let e = ap (λ (x : Compaction). x .answer) (c .5 ∙ ap (compact ride gap) (c .3)) in
-      rw e (compacting ride gap before);
-  compact-under = λ ride store before r after c.
-      let e = ap (λ (x : Compaction). x .answer) (c .5 ∙ ap (compactUnder ride store) (c .3)) in
-      rw e (compacting-under ride store before);
-  block-under = λ w store before r after c.
-      let e = ap (λ (x : Settling). x .answer) (c .5 ∙ ap (blockUnder w store) (c .3)) in
-      rw e (settling-under w store before);
+  run = λ ride store trace r c. let e = ap (λ (s : Run). s .answer) (c .4 ∙ ap (run ride store) (c .3)) in rw e (running ride store trace);
+  list = λ ride store number trace before r after c.
+      let e = ap (λ (l : Listing). l .answer) (c .7 ∙ ap₂ (λ (v w : List ℕ). list ride store number v w) (c .4) (c .5)) in
+      rw e (listing ride store number trace before);
+  explain = explained-so;
+  compact = λ ride store before r after c.
+      let e = ap (λ (x : Compaction). x .answer) (c .5 ∙ ap (compact ride store) (c .3)) in
+      rw e (compacting ride store before);
+  block = λ w store before r after c.
+      let e = ap (λ (x : Settling). x .answer) (c .5 ∙ ap (compactBlock w store) (c .3)) in
+      rw e (settling w store before);
   stores = stores-decided;
   viewers = viewers-decided;
   plans = plans-decided;

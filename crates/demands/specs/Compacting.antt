@@ -1,4 +1,4 @@
--- What the contracts of `compact`, `compact_under` and `block_under` allow (see Contracts.antt).
+-- What the contracts of `compact` and `compact_block` allow (see Contracts.antt).
 -- Assumes nothing.
 use Prim.Native.Nat.{ℕ}
 use mathlib.Core.Path.{_≡_}
@@ -14,26 +14,18 @@ use Rattle.compaction.specs.declared.Compacted.{Compacted}
 use Rattle.compaction.specs.declared.Block.{Block}
 use Rattle.compaction.proofs.compact.Kinds as compact-kinds
 use Rattle.compaction.proofs.compact.Reads as compact-reads
-use Rattle.compaction.proofs.compact_under.Kinds as under-kinds
-use Rattle.compaction.proofs.compact_under.Reads as under-reads
-use Rattle.compaction.proofs.block_under.Kinds as block-kinds
-use Rattle.compaction.proofs.block_under.Reads as block-reads
+use Rattle.compaction.proofs.compact_block.Kinds as block-kinds
+use Rattle.compaction.proofs.compact_block.Reads as block-reads
 
--- The contract of `compact` allows the answer r after this ride, with this gap, and that the lent trace, which was `before`, is `after` then.
-abbrev pub CompactIn : Ride → ℕ → List ℕ → Compacted → List ℕ → Type 0
-CompactIn ride gap before r after =
+-- The contract of `compact` allows the answer r after this ride, under this store, and that the lent trace, which was `before`, is `after` then.
+abbrev pub CompactIn : Ride → Store → List ℕ → Compacted → List ℕ → Type 0
+CompactIn ride store before r after =
     (κs : Lfts 1) × (lent : RefT (List ℕ)) × (e : AtExit (endedOf 1 compact-kinds.ps compact-kinds.r) κs)
-    × (now lent ≡ before) × (now (e .1 .1 .0) ≡ after) × compact-reads.Post κs (ride, (gap, (lent, tt))) r e
+    × (now lent ≡ before) × (now (e .1 .1 .0) ≡ after) × compact-reads.Post κs (ride, (store, (lent, tt))) r e
 
--- The contract of `compact_under` allows the same, under this store.
-abbrev pub CompactUnder : Ride → Store → List ℕ → Compacted → List ℕ → Type 0
-CompactUnder ride store before r after =
-    (κs : Lfts 1) × (lent : RefT (List ℕ)) × (e : AtExit (endedOf 1 under-kinds.ps under-kinds.r) κs)
-    × (now lent ≡ before) × (now (e .1 .1 .0) ≡ after) × under-reads.Post κs (ride, (store, (lent, tt))) r e
-
--- The contract of `block_under` allows the answer r after what waits, under this store, and that the lent block, which was `before`, is
+-- The contract of `compact_block` allows the answer r after what waits, under this store, and that the lent block, which was `before`, is
 -- `after` then.
-abbrev pub BlockUnder : Waiting → Store → List ℕ → Block → List ℕ → Type 0
-BlockUnder w store before r after =
+abbrev pub BlockIn : Waiting → Store → List ℕ → Block → List ℕ → Type 0
+BlockIn w store before r after =
     (κs : Lfts 1) × (lent : RefT (List ℕ)) × (e : AtExit (endedOf 1 block-kinds.ps block-kinds.r) κs)
     × (now lent ≡ before) × (now (e .1 .1 .0) ≡ after) × block-reads.Post κs (w, (store, (lent, tt))) r e

@@ -58,11 +58,11 @@ use Rattle.compaction.specs.declared.Block.{Block}
 use Rattle.listing.specs.Says.{saysDone}
 use Rattle.listing.specs.declared.Listed.{Listed}
 use Rattle.demands.specs.Rules.{rowOf, row, Decided, Given, Is}
-use Rattle.demands.specs.Table.{notCode, above, notSeven, beyond, noRow, noDistance, badGap, badLength}
+use Rattle.demands.specs.Table.{notCode, above, notSeven, beyond, noRow, noDistance, badGap}
 use Rattle.demands.specs.Contracts.{ReadShort, WriteShort, ReadLong, WriteLong, GoodPair, InsideBuffer, ReadTelegram, Find, Survey, Write, Begin, NextContact, JudgeContact, FitRow, Distance, JudgeGroup, CheckRecord, StepOf, TreatAt, RunOver, ListInto}
-use Rattle.demands.specs.Compacting.{CompactIn, CompactUnder, BlockUnder}
-use Rattle.demands.specs.Lists.{telegramRules, findRules, surveyRules, writeRules, nextRules, judgeRules, groupRules, recordRules, stepRules, runRules, findReads, surveyReads, JudgeReads, NextReads}
-use Rattle.demands.specs.Stores.{storeRules, StoresDecided}
+use Rattle.demands.specs.Compacting.{CompactIn, BlockIn}
+use Rattle.demands.specs.Lists.{telegramRules, findRules, surveyRules, writeRules, nextRules, judgeRules, groupRules, recordRules, stepRules, findReads, surveyReads, JudgeReads, NextReads}
+use Rattle.demands.specs.Stores.{ExplainInto, traceRules, StoresDecided}
 use Rattle.demands.specs.Viewing.{ViewersDecided}
 use Rattle.demands.specs.Plans.{PlansDecided}
 pub use Rattle.demands.specs.Untouched.{Bare, Untouched}
@@ -99,16 +99,17 @@ pub record Demand1 : Type 0 where
   -- what stands at an index is no refusal of the call: no record, or one that is treated as by `step` (`treats` of specs/Ride.antt)
   pub treat-at : (ride : Ride) (gap : ℕ) (trace : List ℕ) (i : ℕ) (r : Treated) → TreatAt ride gap trace i r
       → Decided Given (row 19 (badGap gap) ∷ []) (saysTreated r .reply)
-  pub run : (ride : Ride) (gap : ℕ) (trace : List ℕ) (r : Ran) → RunOver ride gap trace r → Decided (Is through) (runRules gap trace) (saysRan r .answer)
-  pub list : (ride : Ride) (gap number : ℕ) (trace before : List ℕ) (r : Listed) (after : List ℕ) → ListInto ride gap number trace before r after
-      → Decided Given (runRules gap trace) (saysDone (r .done))
-  pub compact : (ride : Ride) (gap : ℕ) (before : List ℕ) (r : Compacted) (after : List ℕ) → CompactIn ride gap before r after
-      → Decided Given (runRules gap before) (saysSize (r .size))
-  pub compact-under : (ride : Ride) (store : Store) (before : List ℕ) (r : Compacted) (after : List ℕ) → CompactUnder ride store before r after
-      → Decided Given (storeRules store (row 16 (badLength before) ∷ [])) (saysSize (r .size))
-  pub block-under : (w : Waiting) (store : Store) (before : List ℕ) (r : Block) (after : List ℕ) → BlockUnder w store before r after
-      → Decided Given (storeRules store (row 16 (badLength before) ∷ [])) (saysSize (r .size))
-  -- the functions that make a store of settings or take one
+  -- whoever goes over a trace under settings: their own refusals, then 16
+  pub run : (ride : Ride) (store : Store) (trace : List ℕ) (r : Ran) → RunOver ride store trace r → Decided (Is through) (traceRules store trace) (saysRan r .answer)
+  pub list : (ride : Ride) (store : Store) (number : ℕ) (trace before : List ℕ) (r : Listed) (after : List ℕ) → ListInto ride store number trace before r after
+      → Decided Given (traceRules store trace) (saysDone (r .done))
+  pub explain : (ride : Ride) (store : Store) (number : ℕ) (trace before : List ℕ) (r : Listed) (after : List ℕ) → ExplainInto ride store number trace before r after
+      → Decided Given (traceRules store trace) (saysDone (r .done))
+  pub compact : (ride : Ride) (store : Store) (before : List ℕ) (r : Compacted) (after : List ℕ) → CompactIn ride store before r after
+      → Decided Given (traceRules store before) (saysSize (r .size))
+  pub block : (w : Waiting) (store : Store) (before : List ℕ) (r : Block) (after : List ℕ) → BlockIn w store before r after
+      → Decided Given (traceRules store before) (saysSize (r .size))
+  -- the functions that make a store of settings or ask one
   pub stores : StoresDecided
   -- a viewer's `start`, `forward` and `back` (M-108)
   pub viewers : ViewersDecided

@@ -16,8 +16,9 @@ pub mod Cases
 pub mod RowCases
 pub mod Ride
 pub mod Output
+pub mod ListCalls
 pub mod Sections
-pub mod SectionsUnder
+pub mod PlainGap
 pub mod Calls
 pub mod Said
 pub mod Demand2

@@ -12,6 +12,9 @@ use Rattle.walk.specs.declared.Direction.{Direction}
 use Rattle.walk.specs.declared.Kind.{Kind}
 use Rattle.group.specs.declared.Number.{Number}
 use Rattle.group.specs.declared.Told.{Told}
+use Rattle.settings.specs.declared.Begun.{Begun}
+use Rattle.settings.specs.declared.Store.{Store}
+use Rattle.settings.specs.At.{gapAt}
 use Rattle.ride.specs.State.{freshRide}
 use Rattle.ride.specs.Step.{end}
 use Rattle.ride.specs.Over.{records, Ridden, rideOver}
@@ -28,8 +31,18 @@ use Rattle.listing.specs.List.{textOf}
 use Rattle.listing.specs.declared.Done.{Done}
 use Rattle.listing.specs.declared.Listed.{Listed}
 use Rattle.listing.specs.declared.Put.{Put}
-use Rattle.demands.specs.Table.{badLength, badGap}
+use Rattle.demands.specs.Table.{badLength, notSeven}
 use Rattle.demands.specs.Contracts.{Fresh, EndOf, RunOver, PutLine, ListInto}
+use Rattle.demands.specs.Stores.{BeginStore, Good}
+
+-- "The program's gap is 40": a store that `begin` opened with it and any good pair.
+pub record Forty (store : Store) : Type 0 where
+  pub s : ℕ
+  pub t : ℕ
+  pub begun : Begun
+  pub pair : notSeven s t ≡ false
+  pub opened : BeginStore 40 s t begun
+  pub is : begun .store ≡ store
 
 -- The ride over all records of a trace, from a fresh ride: "The program's gap is 40."
 abbrev pub ridden : List ℕ → Ridden
@@ -98,11 +111,11 @@ pub record Written : Type 0 where
   -- document 01's lines, to the letter
   pub quotes : AllQuoted quoted
   -- `list` takes records and writes their lines
-  pub takes : (ride : Ride) (gap number : ℕ) (trace before : List ℕ) (l : Listed) (after : List ℕ) → badGap gap ≡ false → badLength trace ≡ false
-      → ListInto ride gap number trace before l after → Takes (λ odometer. gap) ride number trace before l after
-  -- with room for 128 bytes a record it takes them all, and with the lines of `end` its bytes are the output
-  pub whole : (f : Ride) (l : Listed) (e : Ended) (trace before after : List ℕ) → badLength trace ≡ false → recordsIn trace < largest64
-      → 128 * recordsIn trace ≤ length before → Fresh f → ListInto f 40 1 trace before l after → EndOf (l .ride) e
+  pub takes : (ride : Ride) (store : Store) (number : ℕ) (trace before : List ℕ) (l : Listed) (after : List ℕ) → Good store → badLength trace ≡ false
+      → ListInto ride store number trace before l after → Takes (gapAt store) ride number trace before l after
+  -- with room for 128 bytes a record it takes them all, and with the lines of `end` its bytes are the output, under a store of the program's gap
+  pub whole : (store : Store) (f : Ride) (l : Listed) (e : Ended) (trace before after : List ℕ) → Forty store → badLength trace ≡ false → recordsIn trace < largest64
+      → 128 * recordsIn trace ≤ length before → Fresh f → ListInto f store 1 trace before l after → EndOf (l .ride) e
       → (bytes : ℕ) × (l .done ≡ Done.Took (recordsIn trace) bytes) × (take bytes after ++ textOf (saysLines (e .lines)) ≡ output trace)
   -- for a bad trace length the output is the one line
   pub refused : (trace : List ℕ) → badLength trace ≡ true → output trace ≡ text (Line.Trace 16)
@@ -123,10 +136,11 @@ itsLines = codes "1000 present signal first\n5800 missed\n"
 -- signal has no number balise, so the number is none.
 pub record OneRide : Type 0 where
   pub writes : output oneRide ≡ itsLines
-  pub known : (f : Ride) (r : Ran) → Fresh f → RunOver f 40 oneRide r
+  pub known : (store : Store) (f : Ride) (r : Ran) → Forty store → Fresh f → RunOver f store oneRide r
       → (r .ride .known .main ≡ Told.Kmh 130) × (r .ride .known .target ≡ Told.Kmh 80) × (r .ride .known .linking ≡ Linking.Unset)
       × (r .ride .known .number ≡ Number.None)
   -- all its bytes come from `list`, and the end adds none
-  pub listed : (f : Ride) (l : Listed) (before after : List ℕ) → Fresh f → 384 ≤ length before → ListInto f 40 1 oneRide before l after
-      → after ≡ itsLines ++ drop (length itsLines) before
-  pub no-more : (f : Ride) (r : Ran) (e : Ended) → Fresh f → RunOver f 40 oneRide r → EndOf (r .ride) e → saysLines (e .lines) ≡ []
+  pub listed : (store : Store) (f : Ride) (l : Listed) (before after : List ℕ) → Forty store → Fresh f → 384 ≤ length before
+      → ListInto f store 1 oneRide before l after → after ≡ itsLines ++ drop (length itsLines) before
+  pub no-more : (store : Store) (f : Ride) (r : Ran) (e : Ended) → Forty store → Fresh f → RunOver f store oneRide r → EndOf (r .ride) e
+      → saysLines (e .lines) ≡ []

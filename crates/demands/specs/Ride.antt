@@ -13,7 +13,10 @@ use Rattle.walk.specs.declared.Kind.{Kind}
 use Rattle.group.specs.declared.Message.{Message}
 use Rattle.group.specs.declared.Number.{Number}
 use Rattle.group.specs.declared.Told.{Told}
+use Rattle.settings.specs.declared.Store.{Store}
+use Rattle.settings.specs.At.{gapAt}
 use Rattle.ride.specs.State.{noGroup, isOpen}
+use Rattle.ride.specs.Record.{odometerOf}
 use Rattle.ride.specs.Joining.{takeUp}
 use Rattle.words.specs.Answer.{gives}
 use Rattle.ride.specs.At.{recordAt, noRecord, byStep, stays}
@@ -29,6 +32,7 @@ use Rattle.ride.specs.declared.Stepped.{Stepped}
 use Rattle.ride.specs.declared.trace.Treated.{Treated}
 use Rattle.demands.specs.Table.{badLength, badGap}
 use Rattle.demands.specs.Contracts.{Fresh, StepOf, TreatAt, EndOf, RunOver, JudgeGroup}
+use Rattle.demands.specs.Stores.{Good}
 use Rattle.demands.specs.Steps.{OneStep, Accepts, LeavesBehind, StaysOpen, NoneOpen, before, after, Gives}
 
 -- The message of a present signal.
@@ -116,7 +120,7 @@ pub record Riding : Type 0 where
       → StepOf ride gap (recordAt trace i) s → TreatAt ride gap trace i t → saysTreated t ≡ byStep (saysStepped s)
   pub treats-none : (ride : Ride) (gap : ℕ) (trace : List ℕ) (i : ℕ) (t : Treated) → badGap gap ≡ false → length trace / 8 ≤ i
       → TreatAt ride gap trace i t → saysTreated t ≡ stays ride (gives noRecord)
-  -- a run is step after step, from any state: that of the first record, and the run over the rest
-  pub runs : (ride : Ride) (gap : ℕ) (bytes rest : List ℕ) (s : Stepped) (q q′ : Ran) → length bytes ≡ 8 → badLength rest ≡ false
-      → StepOf ride gap bytes s → RunOver ride gap (bytes ++ rest) q → RunOver (s .ride) gap rest q′ → saysRan q ≡ saysRan q′
-  pub runs-none : (ride : Ride) (gap : ℕ) (q : Ran) → badGap gap ≡ false → RunOver ride gap [] q → q .ride ≡ ride
+  -- a run is step after step, from any state: that of the first record, with the gap in force at its odometer, and the run over the rest
+  pub runs : (ride : Ride) (store : Store) (bytes rest : List ℕ) (s : Stepped) (q q′ : Ran) → length bytes ≡ 8 → badLength rest ≡ false → Good store
+      → StepOf ride (gapAt store (odometerOf bytes)) bytes s → RunOver ride store (bytes ++ rest) q → RunOver (s .ride) store rest q′ → saysRan q ≡ saysRan q′
+  pub runs-none : (ride : Ride) (store : Store) (q : Ran) → RunOver ride store [] q → q .ride ≡ ride

@@ -14,6 +14,7 @@ use Rattle.group.specs.declared.Group.{Group}
 use Rattle.group.specs.declared.Measured.{Measured}
 use Rattle.group.specs.declared.Told.{Told}
 use Rattle.group.specs.declared.GroupJudged.{GroupJudged}
+use Rattle.settings.specs.declared.Store.{Store}
 use Rattle.ride.specs.declared.Ride.{Ride}
 use Rattle.ride.specs.declared.Checked.{Checked}
 use Rattle.ride.specs.declared.Stepped.{Stepped}
@@ -89,11 +90,11 @@ TreatAt ride gap trace i r =
 abbrev pub EndOf : Ride → Ended → Type 0
 EndOf ride r = (e : AtExit (endedOf 0 end-kinds.ps end-kinds.r) tt) × end-reads.Post tt (ride, tt) r e
 
--- The contract of `run` allows the answer r for this trace after this ride, with this gap.
-abbrev pub RunOver : Ride → ℕ → List ℕ → Ran → Type 0
-RunOver ride gap trace r =
+-- The contract of `run` allows the answer r for this trace after this ride, under this store.
+abbrev pub RunOver : Ride → Store → List ℕ → Ran → Type 0
+RunOver ride store trace r =
     (κs : Lfts 1) × (lent : RefT (List ℕ)) × (e : AtExit (endedOf 1 run-kinds.ps run-kinds.r) κs)
-    × (now lent ≡ trace) × run-reads.Post κs (ride, (gap, (lent, tt))) r e
+    × (now lent ≡ trace) × run-reads.Post κs (ride, (store, (lent, tt))) r e
 
 -- The contract of `put_line` allows the answer r for this line at this place, and that the lent buffer, which held `before`,
 -- holds `after` then.
@@ -103,8 +104,8 @@ PutLine line before at r after =
     × (now lent ≡ before) × (now (e .1 .0) ≡ after) × put-line-reads.Post κs (line, (lent, (at, tt))) r e
 
 -- The contract of `list` allows the answer r for this trace, and that the lent buffer, which held `before`, holds `after` then.
-abbrev pub ListInto : Ride → ℕ → ℕ → List ℕ → List ℕ → Listed → List ℕ → Type 0
-ListInto ride gap number trace before r after =
+abbrev pub ListInto : Ride → Store → ℕ → List ℕ → List ℕ → Listed → List ℕ → Type 0
+ListInto ride store number trace before r after =
     (κs : Lfts 2) × (lent : RefT (List ℕ)) × (out : RefT (List ℕ)) × (e : AtExit (endedOf 2 list-kinds.ps list-kinds.r) κs)
     × (now lent ≡ trace) × (now out ≡ before) × (now (e .1 .1 .1 .1 .0) ≡ after)
-    × list-reads.Post κs (ride, (gap, (number, (lent, (out, tt))))) r e
+    × list-reads.Post κs (ride, (store, (number, (lent, (out, tt))))) r e

@@ -2,15 +2,17 @@
 -- first ended must equal riding the two joined, lines included, with record numbers counted on. Joining three cards either way is the
 -- same, and an empty card changes nothing. This holds for whole 8-byte records and without the call that ends a ride."
 -- A card is its bytes. `run` rides it and answers the state after it; `step`, record after record, gives its lines as data; `list`,
--- block after block, writes them as text. Each law is claimed of all three, from any state.
+-- block after block, writes them as text. Each law is claimed of all three, from any state and with one fixed store on both sides (M-111).
 -- Assumes nothing.
 use Prim.Native.Nat.{ℕ, suc, _+_, _*_, _≤_, _<_}
 use mathlib.Core.Path.{_≡_}
 use mathlib.Core.Bool.{Bool, false, _||_}
 use mathlib.Core.List.{List, [], _∷_, _++_}
-use lib.ListN.{length, take, drop}
+use lib.ListN.{length}
 use Rattle.words.specs.Answer.{pick}
 use Rattle.words.specs.Limits.{largest64}
+use Rattle.settings.specs.declared.Store.{Store}
+use Rattle.settings.specs.At.{gapAt}
 use Rattle.ride.specs.Record.{odometerOf}
 use Rattle.ride.specs.State.{freshRide}
 use Rattle.ride.specs.Step.{end}
@@ -23,15 +25,11 @@ use Rattle.ride.specs.declared.Ride.{Ride}
 use Rattle.ride.specs.declared.Stepped.{Stepped}
 use Rattle.listing.specs.Text.{text}
 use Rattle.listing.specs.List.{textOf}
-use Rattle.listing.specs.declared.Done.{Done}
-use Rattle.listing.specs.declared.Listed.{Listed}
-use Rattle.demands.specs.Table.{badLength, badGap}
+use Rattle.demands.specs.Table.{badLength}
 use Rattle.demands.specs.Contracts.{Fresh, StepOf, EndOf, RunOver, ListInto}
-use Rattle.demands.specs.Output.{output, recordsIn}
-
--- "whole 8-byte records"
-abbrev pub Whole : List ℕ → Type 0
-Whole card = badLength card ≡ false
+use Rattle.demands.specs.Stores.{Good}
+use Rattle.demands.specs.Output.{output, recordsIn, Forty}
+pub use Rattle.demands.specs.ListCalls.{Whole, Call, taken, bytesOf, Lent, ByCalls, ByList, textFrom, afterCalls, numberAfter}
 
 -- ---- by `step`
 
@@ -53,70 +51,18 @@ abbrev pub afterSteps : Ride → List Stepped → Ride
 afterSteps ride [] = ride
 afterSteps ride (s ∷ ss) = afterSteps (s .ride) ss
 
--- ---- by `list`
-
--- One call of `list`: the block that it is lent, the lent buffer before it, what it answers, and the buffer after it.
-pub record Call : Type 0 where
-  pub block : List ℕ
-  pub before : List ℕ
-  pub answer : Listed
-  pub after : List ℕ
-
--- How many records a call took, and how many bytes it wrote; a refused one none.
-abbrev pub taken : Done → ℕ
-taken (Done.Took records bytes) = records
-taken (Done.Settings bad) = 0
-taken Done.Length = 0
-
-abbrev pub bytesOf : Done → ℕ
-bytesOf (Done.Took records bytes) = bytes
-bytesOf (Done.Settings bad) = 0
-bytesOf Done.Length = 0
-
--- A call is lent a block of whole records from the front of what is left, long or short, and a buffer of any length.
-pub record Lent (left : List ℕ) (c : Call) : Type 0 where
-  pub rest : List ℕ
-  pub front : left ≡ c .block ++ rest
-  pub whole : Whole (c .block)
-
--- These are calls over a trace of a function that lists, from a state and the first record's number: each goes on where the one before
--- ended, with what that one did not take, until nothing is left. `Lists` is what the function's contract allows.
-abbrev pub ByCalls : (Ride → ℕ → List ℕ → List ℕ → Listed → List ℕ → Type 0) → Ride → ℕ → List ℕ → List Call → Type 0
-ByCalls Lists ride number left [] = left ≡ []
-ByCalls Lists ride number left (c ∷ cs) =
-    Lent left c × Lists ride number (c .block) (c .before) (c .answer) (c .after)
-    × ByCalls Lists (c .answer .ride) (c .answer .number) (drop (taken (c .answer .done) * 8) left) cs
-
--- Calls of `list` with a gap.
-abbrev pub ByList : ℕ → Ride → ℕ → List ℕ → List Call → Type 0
-ByList gap = ByCalls λ ride number block before answer after. ListInto ride gap number block before answer after
-
--- The texts that they write, one after the other.
-abbrev pub textFrom : List Call → List ℕ
-textFrom [] = []
-textFrom (c ∷ cs) = take (bytesOf (c .answer .done)) (c .after) ++ textFrom cs
-
--- The state after them, and the next record's number.
-abbrev pub afterCalls : Ride → List Call → Ride
-afterCalls ride [] = ride
-afterCalls ride (c ∷ cs) = afterCalls (c .answer .ride) cs
-
-abbrev pub numberAfter : ℕ → List Call → ℕ
-numberAfter number [] = number
-numberAfter number (c ∷ cs) = numberAfter (c .answer .number) cs
-
 -- ---- 1. the laws of two cards
 
 -- "Riding the first card and then the second from where the first ended must equal riding the two joined, lines included, with record
 -- numbers counted on."
 pub record TwoCards : Type 0 where
-  pub by-run : (ride : Ride) (gap : ℕ) (a b : List ℕ) (p q both : Ran) → Whole a → Whole b
-      → RunOver ride gap a p → RunOver (p .ride) gap b q → RunOver ride gap (a ++ b) both → both ≡ q
+  pub by-run : (ride : Ride) (store : Store) (a b : List ℕ) (p q both : Ran) → Whole a → Whole b
+      → RunOver ride store a p → RunOver (p .ride) store b q → RunOver ride store (a ++ b) both → both ≡ q
   pub by-step : (gaps : ℕ → ℕ) (ride : Ride) (number : ℕ) (a b : List ℕ) (p q both : List Stepped) → Whole a → Whole b
       → ByStep gaps ride (records a) p → ByStep gaps (afterSteps ride p) (records b) q → ByStep gaps ride (records (a ++ b)) both
       → (linesFrom number both ≡ linesFrom number p ++ linesFrom (number + recordsIn a) q) × (afterSteps ride both ≡ afterSteps (afterSteps ride p) q)
-  pub by-list : (ride : Ride) (gap number : ℕ) (a b : List ℕ) (p q both : List Call) → badGap gap ≡ false → Whole a → Whole b
-      → ByList gap ride number a p → ByList gap (afterCalls ride p) (number + recordsIn a) b q → ByList gap ride number (a ++ b) both
+  pub by-list : (ride : Ride) (store : Store) (number : ℕ) (a b : List ℕ) (p q both : List Call) → Good store → Whole a → Whole b
+      → ByList store ride number a p → ByList store (afterCalls ride p) (number + recordsIn a) b q → ByList store ride number (a ++ b) both
       → (textFrom both ≡ textFrom p ++ textFrom q) × (afterCalls ride both ≡ afterCalls (afterCalls ride p) q)
       × (numberAfter number both ≡ numberAfter (number + recordsIn a) q)
 
@@ -124,26 +70,26 @@ pub record TwoCards : Type 0 where
 
 -- "Joining three cards either way is the same": two joined and then the third, or the first and then the other two joined.
 pub record ThreeCards : Type 0 where
-  pub by-run : (ride : Ride) (gap : ℕ) (a b c : List ℕ) (ab last a′ bc : Ran) → Whole a → Whole b → Whole c
-      → RunOver ride gap (a ++ b) ab → RunOver (ab .ride) gap c last → RunOver ride gap a a′ → RunOver (a′ .ride) gap (b ++ c) bc → last ≡ bc
+  pub by-run : (ride : Ride) (store : Store) (a b c : List ℕ) (ab last a′ bc : Ran) → Whole a → Whole b → Whole c
+      → RunOver ride store (a ++ b) ab → RunOver (ab .ride) store c last → RunOver ride store a a′ → RunOver (a′ .ride) store (b ++ c) bc → last ≡ bc
   pub by-step : (gaps : ℕ → ℕ) (ride : Ride) (number : ℕ) (a b c : List ℕ) (ab last a′ bc : List Stepped) → Whole a → Whole b → Whole c
       → ByStep gaps ride (records (a ++ b)) ab → ByStep gaps (afterSteps ride ab) (records c) last
       → ByStep gaps ride (records a) a′ → ByStep gaps (afterSteps ride a′) (records (b ++ c)) bc
       → (linesFrom number ab ++ linesFrom (number + recordsIn (a ++ b)) last ≡ linesFrom number a′ ++ linesFrom (number + recordsIn a) bc)
       × (afterSteps (afterSteps ride ab) last ≡ afterSteps (afterSteps ride a′) bc)
-  pub by-list : (ride : Ride) (gap number : ℕ) (a b c : List ℕ) (ab last a′ bc : List Call) → badGap gap ≡ false → Whole a → Whole b → Whole c
-      → ByList gap ride number (a ++ b) ab → ByList gap (afterCalls ride ab) (number + recordsIn (a ++ b)) c last
-      → ByList gap ride number a a′ → ByList gap (afterCalls ride a′) (number + recordsIn a) (b ++ c) bc
+  pub by-list : (ride : Ride) (store : Store) (number : ℕ) (a b c : List ℕ) (ab last a′ bc : List Call) → Good store → Whole a → Whole b → Whole c
+      → ByList store ride number (a ++ b) ab → ByList store (afterCalls ride ab) (number + recordsIn (a ++ b)) c last
+      → ByList store ride number a a′ → ByList store (afterCalls ride a′) (number + recordsIn a) (b ++ c) bc
       → (textFrom ab ++ textFrom last ≡ textFrom a′ ++ textFrom bc) × (afterCalls (afterCalls ride ab) last ≡ afterCalls (afterCalls ride a′) bc)
 
 -- ---- 3. an empty card
 
 -- "an empty card changes nothing": from any state, so before, between or after others.
 pub record EmptyCard : Type 0 where
-  pub by-run : (ride : Ride) (gap : ℕ) (q : Ran) → RunOver ride gap [] q → q .ride ≡ ride
+  pub by-run : (ride : Ride) (store : Store) (q : Ran) → RunOver ride store [] q → q .ride ≡ ride
   pub by-step : (gaps : ℕ → ℕ) (ride : Ride) (number : ℕ) (q : List Stepped) → ByStep gaps ride (records []) q
       → (linesFrom number q ≡ []) × (afterSteps ride q ≡ ride)
-  pub by-list : (ride : Ride) (gap number : ℕ) (q : List Call) → badGap gap ≡ false → ByList gap ride number [] q
+  pub by-list : (ride : Ride) (store : Store) (number : ℕ) (q : List Call) → Good store → ByList store ride number [] q
       → (textFrom q ≡ []) × (afterCalls ride q ≡ ride) × (numberAfter number q ≡ number)
 
 -- ---- 4. the program's blocks
@@ -165,27 +111,33 @@ outputBy gaps cards =
     let all : Ridden = rideOver gaps freshRide 1 (records (joined cards)) in
     pick (anyBad cards) (text (Line.Trace 16)) (textOf (all .lines ++ end (all .ride) .lines))
 
+-- Under a store: each record "with the gap in force at its own odometer".
+abbrev pub outputUnder : Store → List (List ℕ) → List ℕ
+outputUnder store cards = outputBy (gapAt store) cards
+
 -- "The program's gap is 40."
 abbrev pub outputOf : List (List ℕ) → List ℕ
 outputOf cards = outputBy (λ odometer. 40) cards
 
 -- Whatever blocks `list` is called with, and whatever room it has, the texts put one after the other are the text of the whole.
 pub record Blocks : Type 0 where
-  pub whole : (ride : Ride) (gap number : ℕ) (trace : List ℕ) (calls : List Call) → badGap gap ≡ false → ByList gap ride number trace calls
-      → (textFrom calls ≡ textOf (rideOver (λ odometer. gap) ride number (records trace) .lines))
-      × (afterCalls ride calls ≡ rideOver (λ odometer. gap) ride number (records trace) .ride)
+  pub whole : (ride : Ride) (store : Store) (number : ℕ) (trace : List ℕ) (calls : List Call) → Good store → ByList store ride number trace calls
+      → (textFrom calls ≡ textOf (rideOver (gapAt store) ride number (records trace) .lines))
+      × (afterCalls ride calls ≡ rideOver (gapAt store) ride number (records trace) .ride)
       × (numberAfter number calls ≡ number + recordsIn trace)
   -- so long as it has room for one record, a call takes one, so that the calls come to an end
-  pub goes-on : (ride : Ride) (gap number : ℕ) (c : Call) → badGap gap ≡ false → Whole (c .block) → 1 ≤ recordsIn (c .block)
+  pub goes-on : (ride : Ride) (store : Store) (number : ℕ) (c : Call) → Good store → Whole (c .block) → 1 ≤ recordsIn (c .block)
       → 128 ≤ length (c .before) → number < largest64
-      → ListInto ride gap number (c .block) (c .before) (c .answer) (c .after) → 1 ≤ taken (c .answer .done)
+      → ListInto ride store number (c .block) (c .before) (c .answer) (c .after) → 1 ≤ taken (c .answer .done)
   -- with room for 128 bytes a record it takes the whole block
-  pub all-at-once : (ride : Ride) (gap number : ℕ) (c : Call) → badGap gap ≡ false → Whole (c .block)
+  pub all-at-once : (ride : Ride) (store : Store) (number : ℕ) (c : Call) → Good store → Whole (c .block)
       → 128 * recordsIn (c .block) ≤ length (c .before) → number + recordsIn (c .block) ≤ largest64
-      → ListInto ride gap number (c .block) (c .before) (c .answer) (c .after) → taken (c .answer .done) ≡ recordsIn (c .block)
-  -- the cards from a fresh ride with the program's gap, the first record with the number 1, and then the end: what the program writes
-  pub program : (f : Ride) (cards : List (List ℕ)) (calls : List Call) (e : Ended) → anyBad cards ≡ false → Fresh f
-      → ByList 40 f 1 (joined cards) calls → EndOf (afterCalls f calls) e → textFrom calls ++ textOf (saysLines (e .lines)) ≡ outputOf cards
+      → ListInto ride store number (c .block) (c .before) (c .answer) (c .after) → taken (c .answer .done) ≡ recordsIn (c .block)
+  -- the cards from a fresh ride, the first record with the number 1, and then the end: what the program writes
+  pub program : (store : Store) (f : Ride) (cards : List (List ℕ)) (calls : List Call) (e : Ended) → Good store → anyBad cards ≡ false → Fresh f
+      → ByList store f 1 (joined cards) calls → EndOf (afterCalls f calls) e → textFrom calls ++ textOf (saysLines (e .lines)) ≡ outputUnder store cards
+  -- without settings the gap is 40, as document 01 says
+  pub forty : (store : Store) (cards : List (List ℕ)) → Forty store → Good store × (outputUnder store cards ≡ outputOf cards)
   -- one card: as document 01 says
   pub one-card : (card : List ℕ) → outputOf (card ∷ []) ≡ output card
 

@@ -18,16 +18,12 @@ use Rattle.settings.specs.declared.Begun.{Begun}
 use Rattle.settings.specs.declared.Added.{Added}
 use Rattle.settings.specs.declared.Asked.{Asked}
 use Rattle.settings.specs.Versions.{kept}
-use Rattle.settings.specs.Store.{lastPlace}
+use Rattle.settings.specs.Store.{judged, lastPlace}
 use Rattle.settings.specs.At.{heldAt}
 use Rattle.settings.specs.Says.{saysVerdict, saysAsked}
 use Rattle.contact.specs.Says.{saysJudgedUnder}
 use Rattle.contact.specs.declared.JudgedUnder.{JudgedUnder}
-use Rattle.ride.specs.Over.{through}
-use Rattle.ride.specs.Says.{saysRan}
 use Rattle.ride.specs.declared.Ride.{Ride}
-use Rattle.ride.specs.declared.Ran.{Ran}
-use Rattle.listing.specs.Says.{saysDone}
 use Rattle.listing.specs.declared.Listed.{Listed}
 use Rattle.settings.proofs.begin.Kinds as begin-kinds
 use Rattle.settings.proofs.begin.Reads as begin-reads
@@ -37,12 +33,8 @@ use Rattle.settings.proofs.at.Kinds as at-kinds
 use Rattle.settings.proofs.at.Reads as at-reads
 use Rattle.contact.proofs.judge_under.Kinds as judge-kinds
 use Rattle.contact.proofs.judge_under.Reads as judge-reads
-use Rattle.ride.proofs.run_under.Kinds as run-kinds
-use Rattle.ride.proofs.run_under.Reads as run-reads
-use Rattle.listing.proofs.list_under.Kinds as list-kinds
-use Rattle.listing.proofs.list_under.Reads as list-reads
-use Rattle.explained.proofs.list_under.Kinds as explained-kinds
-use Rattle.explained.proofs.list_under.Reads as explained-reads
+use Rattle.explained.proofs.list.Kinds as explained-kinds
+use Rattle.explained.proofs.list.Reads as explained-reads
 use Rattle.demands.specs.Table.{notSeven, badLength, badGap}
 use Rattle.demands.specs.Table02.{tooHigh, notAbove, startsLate, full, overfull}
 use Rattle.demands.specs.Rules.{Rule, row, Decided, Given, Is}
@@ -68,25 +60,17 @@ JudgeUnder store odometer b start len r =
     (κs : Lfts 1) × (buf : RefT (List ℕ)) × (e : AtExit (endedOf 1 judge-kinds.ps judge-kinds.r) κs)
     × (now buf ≡ b) × judge-reads.Post κs (store, (odometer, (buf, (start, (len, tt))))) r e
 
--- The contract of `run_under` allows the answer r for this trace after this ride.
-abbrev pub RunUnder : Ride → Store → List ℕ → Ran → Type 0
-RunUnder ride store trace r =
-    (κs : Lfts 1) × (lent : RefT (List ℕ)) × (e : AtExit (endedOf 1 run-kinds.ps run-kinds.r) κs)
-    × (now lent ≡ trace) × run-reads.Post κs (ride, (store, (lent, tt))) r e
-
--- The contract of `list_under` allows the answer r for this trace, and that the lent buffer, which held `before`, holds `after` then.
-abbrev pub ListUnder : Ride → Store → ℕ → List ℕ → List ℕ → Listed → List ℕ → Type 0
-ListUnder ride store number trace before r after =
-    (κs : Lfts 2) × (lent : RefT (List ℕ)) × (out : RefT (List ℕ)) × (e : AtExit (endedOf 2 list-kinds.ps list-kinds.r) κs)
-    × (now lent ≡ trace) × (now out ≡ before) × (now (e .1 .1 .1 .1 .0) ≡ after)
-    × list-reads.Post κs (ride, (store, (number, (lent, (out, tt))))) r e
-
--- The contract of `explained::list_under`, which tells reasons too, allows the answer r, and that the lent buffer holds `after` then.
-abbrev pub ExplainUnder : Ride → Store → ℕ → List ℕ → List ℕ → Listed → List ℕ → Type 0
-ExplainUnder ride store number trace before r after =
+-- The contract of `explained::list`, which tells reasons too, allows the answer r for this trace, and that the lent buffer, which held `before`, holds
+-- `after` then.
+abbrev pub ExplainInto : Ride → Store → ℕ → List ℕ → List ℕ → Listed → List ℕ → Type 0
+ExplainInto ride store number trace before r after =
     (κs : Lfts 2) × (lent : RefT (List ℕ)) × (out : RefT (List ℕ)) × (e : AtExit (endedOf 2 explained-kinds.ps explained-kinds.r) κs)
     × (now lent ≡ trace) × (now out ≡ before) × (now (e .1 .1 .1 .1 .0) ≡ after)
     × explained-reads.Post κs (ride, (store, (number, (lent, (out, tt))))) r e
+
+-- A store that is judged good, as every one that `begin` and `add` made is.
+abbrev pub Good : Store → Type 0
+Good store = judged store ≡ gives kept
 
 -- ---- the lists
 
@@ -108,9 +92,13 @@ abbrev pub orderRules : {A : Type 0} → List Version → List (Rule (Outcome A)
 orderRules [] rules = row 19 true ∷ []
 orderRules (v ∷ vs) rules = row 24 (startsLate (v .place)) ∷ settingsRules v (laterRules 0 vs rules)
 
--- A lent store, judged first, as opening it and adding version by version would; then the function's own rules.
+-- A lent store, judged first: 25 for a count above 32, then its versions in turn; then the function's own rules.
 abbrev pub storeRules : {A : Type 0} → Store → List (Rule (Outcome A)) → List (Rule (Outcome A))
 storeRules store rules = row 25 (overfull (store .count)) ∷ orderRules (take (store .count) (store .versions)) rules
+
+-- Who rides a trace under a store: the store's own refusals, then 16.
+abbrev pub traceRules : {A : Type 0} → Store → List ℕ → List (Rule (Outcome A))
+traceRules store trace = storeRules store (row 16 (badLength trace) ∷ [])
 
 -- ---- demand 1
 
@@ -126,21 +114,8 @@ pub record StoresDecided : Type 0 where
       → Decided (JudgeReads b start len (heldAt store odometer .s) (heldAt store odometer .t))
       (storeRules store (row 18 (tooHigh odometer) ∷ judgeRules b start len (heldAt store odometer .s) (heldAt store odometer .t)))
       (saysJudgedUnder r)
-  pub run-under : (ride : Ride) (store : Store) (trace : List ℕ) (r : Ran) → RunUnder ride store trace r
-      → Decided (Is through) (storeRules store (row 16 (badLength trace) ∷ [])) (saysRan r .answer)
-  pub list-under : (ride : Ride) (store : Store) (number : ℕ) (trace before : List ℕ) (r : Listed) (after : List ℕ)
-      → ListUnder ride store number trace before r after → Decided Given (storeRules store (row 16 (badLength trace) ∷ [])) (saysDone (r .done))
-  pub explain-under : (ride : Ride) (store : Store) (number : ℕ) (trace before : List ℕ) (r : Listed) (after : List ℕ)
-      → ExplainUnder ride store number trace before r after → Decided Given (storeRules store (row 16 (badLength trace) ∷ [])) (saysDone (r .done))
 
--- "the store is unchanged", and so are the ride, the number and the lent buffer; a store that is not opened is none.
+-- "the store is unchanged"; a store that is not opened is none.
 pub record StoresUntouched : Type 0 where
   pub begin : (gap s t : ℕ) (r : Begun) (n : ℕ) → BeginStore gap s t r → saysVerdict (r .verdict) ≡ refuses n → r .store .count ≡ 0
   pub add : (store : Store) (v : Version) (r : Added) (n : ℕ) → AddVersion store v r → saysVerdict (r .verdict) ≡ refuses n → r .store ≡ store
-  pub run-under : (ride : Ride) (store : Store) (trace : List ℕ) (r : Ran) (n : ℕ) → RunUnder ride store trace r → saysRan r .answer ≡ refuses n → r .ride ≡ ride
-  pub list-under : (ride : Ride) (store : Store) (number : ℕ) (trace before : List ℕ) (r : Listed) (after : List ℕ) (n : ℕ)
-      → ListUnder ride store number trace before r after → saysDone (r .done) ≡ refuses n
-      → (r .ride ≡ ride) × (r .number ≡ number) × (after ≡ before)
-  pub explain-under : (ride : Ride) (store : Store) (number : ℕ) (trace before : List ℕ) (r : Listed) (after : List ℕ) (n : ℕ)
-      → ExplainUnder ride store number trace before r after → saysDone (r .done) ≡ refuses n
-      → (r .ride ≡ ride) × (r .number ≡ number) × (after ≡ before)

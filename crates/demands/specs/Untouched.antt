@@ -36,9 +36,9 @@ use Rattle.listing.specs.Says.{saysDone}
 use Rattle.listing.specs.declared.Put.{Put}
 use Rattle.listing.specs.declared.Listed.{Listed}
 use Rattle.demands.specs.Contracts.{Write, JudgeGroup, StepOf, TreatAt, EndOf, RunOver, PutLine, ListInto}
-use Rattle.demands.specs.Compacting.{CompactIn, CompactUnder, BlockUnder}
+use Rattle.demands.specs.Compacting.{CompactIn, BlockIn}
 use Rattle.demands.specs.Steps.{OneStep, LeavesBehind}
-use Rattle.demands.specs.Stores.{StoresUntouched}
+use Rattle.demands.specs.Stores.{ExplainInto, StoresUntouched}
 use Rattle.demands.specs.Viewing.{ViewersUntouched}
 use Rattle.demands.specs.Plans.{PlansUntouched}
 
@@ -57,21 +57,22 @@ pub record Untouched : Type 0 where
       → saysStepped r .lines ≡ refuses n → (r .ride ≡ ride) × (r .closed ≡ noGroup)
   pub treat-at : (ride : Ride) (gap : ℕ) (trace : List ℕ) (i : ℕ) (r : Treated) (n : ℕ) → TreatAt ride gap trace i r
       → saysTreated r .reply ≡ refuses n → (r .ride ≡ ride) × (r .closed ≡ noGroup)
-  pub run : (ride : Ride) (gap : ℕ) (trace : List ℕ) (r : Ran) (n : ℕ) → RunOver ride gap trace r → saysRan r .answer ≡ refuses n → r .ride ≡ ride
+  pub run : (ride : Ride) (store : Store) (trace : List ℕ) (r : Ran) (n : ℕ) → RunOver ride store trace r → saysRan r .answer ≡ refuses n → r .ride ≡ ride
   -- so does a refused listing, which leaves the number and the lent buffer too; a line without room leaves the buffer
-  pub list : (ride : Ride) (gap number : ℕ) (trace before : List ℕ) (r : Listed) (after : List ℕ) (n : ℕ)
-      → ListInto ride gap number trace before r after → saysDone (r .done) ≡ refuses n
+  pub list : (ride : Ride) (store : Store) (number : ℕ) (trace before : List ℕ) (r : Listed) (after : List ℕ) (n : ℕ)
+      → ListInto ride store number trace before r after → saysDone (r .done) ≡ refuses n
+      → (r .ride ≡ ride) × (r .number ≡ number) × (after ≡ before)
+  pub explain : (ride : Ride) (store : Store) (number : ℕ) (trace before : List ℕ) (r : Listed) (after : List ℕ) (n : ℕ)
+      → ExplainInto ride store number trace before r after → saysDone (r .done) ≡ refuses n
       → (r .ride ≡ ride) × (r .number ≡ number) × (after ≡ before)
   pub put-line : (line : Line) (before : List ℕ) (at : ℕ) (r : Put) (after : List ℕ) → PutLine line before at r after
       → r ≡ Put.NoRoom → after ≡ before
   -- so does a refused writing
   pub write : (x y z s t n : ℕ) (before : List ℕ) (r : Written) (after : List ℕ) (k : ℕ) → Write x y z s t n before r after → saysAnswer r ≡ refuses k → after ≡ before
   -- so does a refused compaction, of a trace or of a block of it
-  pub compact : (ride : Ride) (gap : ℕ) (before : List ℕ) (r : Compacted) (after : List ℕ) (n : ℕ) → CompactIn ride gap before r after
+  pub compact : (ride : Ride) (store : Store) (before : List ℕ) (r : Compacted) (after : List ℕ) (n : ℕ) → CompactIn ride store before r after
       → saysSize (r .size) ≡ refuses n → (r .ride ≡ ride) × (after ≡ before)
-  pub compact-under : (ride : Ride) (store : Store) (before : List ℕ) (r : Compacted) (after : List ℕ) (n : ℕ) → CompactUnder ride store before r after
-      → saysSize (r .size) ≡ refuses n → (r .ride ≡ ride) × (after ≡ before)
-  pub block-under : (w : Waiting) (store : Store) (before : List ℕ) (r : Block) (after : List ℕ) (n : ℕ) → BlockUnder w store before r after
+  pub block : (w : Waiting) (store : Store) (before : List ℕ) (r : Block) (after : List ℕ) (n : ℕ) → BlockIn w store before r after
       → saysSize (r .size) ≡ refuses n → (r .waiting ≡ w) × (after ≡ before)
   -- "but for the group refusals": a group that is left behind and refused with n, 10 to 13 or 15, gives the fault line, is handed out as
   -- the one that closed, and leaves nothing known and no group but what the record itself takes up
@@ -119,7 +120,7 @@ pub record Untouched : Type 0 where
   pub judged-under : Bare saysJudgedUnder
   pub viewer-opened : Bare saysOpened
   pub viewer-moved : Bare saysHow
-  -- the functions that make a store of settings or take one
+  -- the functions that make a store of settings
   pub stores : StoresUntouched
   -- a viewer's calls
   pub viewers : ViewersUntouched

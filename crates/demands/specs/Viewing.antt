@@ -25,11 +25,9 @@ use Rattle.viewer.specs.declared.Forwarded.{Forwarded}
 use Rattle.viewer.specs.declared.Backed.{Backed}
 use Rattle.viewer.specs.Viewing.{Done, done}
 use Rattle.viewer.specs.Says.{saysBegun, saysHow}
-use Rattle.viewer.specs.Laws.{Starts, StartsUnder, Forwards, Backs}
+use Rattle.viewer.specs.Laws.{Starts, Forwards, Backs}
 use Rattle.viewer.proofs.start_at.Kinds as start-kinds
 use Rattle.viewer.proofs.start_at.Reads as start-reads
-use Rattle.viewer.proofs.start_under_at.Kinds as under-kinds
-use Rattle.viewer.proofs.start_under_at.Reads as under-reads
 use Rattle.viewer.proofs.forward_at.Kinds as forward-kinds
 use Rattle.viewer.proofs.forward_at.Reads as forward-reads
 use Rattle.viewer.proofs.back_at.Kinds as back-kinds
@@ -38,24 +36,17 @@ use Rattle.viewer.proofs.forwards_at.Kinds as forwards-kinds
 use Rattle.viewer.proofs.forwards_at.Reads as forwards-reads
 use Rattle.viewer.proofs.backs_at.Kinds as backs-kinds
 use Rattle.viewer.proofs.backs_at.Reads as backs-reads
-use Rattle.demands.specs.Table.{badLength}
 use Rattle.demands.specs.Rules.{Rule, row, Decided, Is}
-use Rattle.demands.specs.Lists.{runRules, forwardRules, backRules}
-use Rattle.demands.specs.Stores.{storeRules}
+use Rattle.demands.specs.Lists.{forwardRules, backRules}
+use Rattle.demands.specs.Stores.{storeRules, traceRules}
 
 -- ---- what the contracts allow
 
--- The contract of `start_at` allows the answer r for this gap and trace.
-abbrev pub StartAt : ℕ → List ℕ → Opened → Type 0
-StartAt gap trace r =
+-- The contract of `start_at` allows the answer r for this store and trace.
+abbrev pub StartAt : Store → List ℕ → Opened → Type 0
+StartAt store trace r =
     (κs : Lfts 1) × (lent : RefT (List ℕ)) × (e : AtExit (endedOf 1 start-kinds.ps start-kinds.r) κs)
-    × (now lent ≡ trace) × start-reads.Post κs (gap, (lent, tt)) r e
-
--- The contract of `start_under_at` allows it for this store and trace.
-abbrev pub StartUnderAt : Store → List ℕ → Opened → Type 0
-StartUnderAt store trace r =
-    (κs : Lfts 1) × (lent : RefT (List ℕ)) × (e : AtExit (endedOf 1 under-kinds.ps under-kinds.r) κs)
-    × (now lent ≡ trace) × under-reads.Post κs (store, (lent, tt)) r e
+    × (now lent ≡ trace) × start-reads.Post κs (store, (lent, tt)) r e
 
 -- The contract of `forward_at` allows the answer r for this trace, from where a viewer stands.
 abbrev pub ForwardAt : List ℕ → Stand → Went → Type 0
@@ -89,18 +80,16 @@ forwardsRules trace s (suc more) =
 abbrev pub backsRules : ℕ → ℕ → List (Rule (Outcome Done))
 backsRules kept times = row 22 (ltb kept times) ∷ []
 
--- Opening: 19, 16, or under a store its own refusals and then 16. Back: 22. Forward: 23; a viewer that no call made may hold settings that are refused,
+-- Opening: the settings' own refusals (of a gap, 19), then 16. Back: 22. Forward: 23; a viewer that no call made may hold settings that are refused,
 -- and then forward at a record is refused with their number.
 pub record ViewersDecided : Type 0 where
-  pub start : (gap : ℕ) (trace : RefT (List ℕ)) (r : Started) → Starts gap trace r → Decided (Is done) (runRules gap (now trace)) (saysBegun (r .begun))
-  pub start-under : (store : Store) (trace : RefT (List ℕ)) (r : Started) → StartsUnder store trace r
-      → Decided (Is done) (storeRules store (row 16 (badLength (now trace)) ∷ [])) (saysBegun (r .begun))
+  pub start : (store : Store) (trace : RefT (List ℕ)) (r : Started) → Starts store trace r
+      → Decided (Is done) (traceRules store (now trace)) (saysBegun (r .begun))
   pub forward : (v : Viewer) (r : Forwarded) → Forwards v r
       → Decided (Is done) (forwardRules (now (v .trace)) (v .stand .number) (storeRules (v .stand .settings) [])) (saysHow (r .how))
   pub back : (v : Viewer) (r : Backed) → Backs v r → Decided (Is done) (backRules (v .stand .kept)) (saysHow (r .how))
-  pub start-at : (gap : ℕ) (trace : List ℕ) (r : Opened) → StartAt gap trace r → Decided (Is done) (runRules gap trace) (saysBegun (r .begun))
-  pub start-under-at : (store : Store) (trace : List ℕ) (r : Opened) → StartUnderAt store trace r
-      → Decided (Is done) (storeRules store (row 16 (badLength trace) ∷ [])) (saysBegun (r .begun))
+  pub start-at : (store : Store) (trace : List ℕ) (r : Opened) → StartAt store trace r
+      → Decided (Is done) (traceRules store trace) (saysBegun (r .begun))
   pub forward-at : (trace : List ℕ) (s : Stand) (r : Went) → ForwardAt trace s r
       → Decided (Is done) (forwardRules trace (s .number) (storeRules (s .settings) [])) (saysHow (r .how))
   pub back-at : (s : Stand) (r : Came) → BackAt s r → Decided (Is done) (backRules (s .kept)) (saysHow (r .how))
@@ -110,16 +99,12 @@ pub record ViewersDecided : Type 0 where
 -- What a refusal leaves: "both leave the viewer unchanged", and a refused forward gives no line and closes no group. A refused opening answers a viewer over an
 -- empty slice, with nothing kept: forward is 23 there, and back 22.
 pub record ViewersUntouched : Type 0 where
-  pub start : (gap : ℕ) (trace : RefT (List ℕ)) (r : Started) (n : ℕ) → Starts gap trace r → saysBegun (r .begun) ≡ refuses n
-      → (now (r .viewer .trace) ≡ []) × (r .viewer .stand .number ≡ 0) × (r .viewer .stand .kept ≡ 0)
-  pub start-under : (store : Store) (trace : RefT (List ℕ)) (r : Started) (n : ℕ) → StartsUnder store trace r → saysBegun (r .begun) ≡ refuses n
+  pub start : (store : Store) (trace : RefT (List ℕ)) (r : Started) (n : ℕ) → Starts store trace r → saysBegun (r .begun) ≡ refuses n
       → (now (r .viewer .trace) ≡ []) × (r .viewer .stand .number ≡ 0) × (r .viewer .stand .kept ≡ 0)
   pub forward : (v : Viewer) (r : Forwarded) (n : ℕ) → Forwards v r → saysHow (r .how) ≡ refuses n
       → (r .viewer ≡ v) × (r .lines ≡ Lines.None) × (r .closed ≡ noGroup)
   pub back : (v : Viewer) (r : Backed) (n : ℕ) → Backs v r → saysHow (r .how) ≡ refuses n → r .viewer ≡ v
-  pub start-at : (gap : ℕ) (trace : List ℕ) (r : Opened) (n : ℕ) → StartAt gap trace r → saysBegun (r .begun) ≡ refuses n
-      → (r .stand .number ≡ 0) × (r .stand .kept ≡ 0)
-  pub start-under-at : (store : Store) (trace : List ℕ) (r : Opened) (n : ℕ) → StartUnderAt store trace r → saysBegun (r .begun) ≡ refuses n
+  pub start-at : (store : Store) (trace : List ℕ) (r : Opened) (n : ℕ) → StartAt store trace r → saysBegun (r .begun) ≡ refuses n
       → (r .stand .number ≡ 0) × (r .stand .kept ≡ 0)
   pub forward-at : (trace : List ℕ) (s : Stand) (r : Went) (n : ℕ) → ForwardAt trace s r → saysHow (r .how) ≡ refuses n
       → (r .stand ≡ s) × (r .lines ≡ Lines.None) × (r .closed ≡ noGroup)

@@ -1,4 +1,4 @@
-// The records of the cards, block by block: in through `list_under`, out to standard output.
+// The records of the cards, block by block: in through `list`, out to standard output.
 ghost use mathlib.Core.Path.{_≡_};
 ghost use lib.ListN.{length};
 use cards::How;
@@ -34,10 +34,10 @@ pub fn refuse_trace() {
     }
 }
 
-// Lists the records and writes their lines. Where out has 320 bytes for each of them, one call of `list_under` takes them all.
+// Lists the records and writes their lines. Where out has 320 bytes for each of them, one call of `list` takes them all.
 fn write_records(from: Stand, store: Store, records: &[u8], out: &mut [u8]) -> Stand {
     let ride = from.ride;
-    let listed = explained::list_under(ride, store, from.number, records, out);
+    let listed = explained::list(ride, store, from.number, records, out);
     let done = listed.done;
     let after = listed.ride;
     let number = listed.number;

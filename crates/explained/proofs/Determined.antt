@@ -12,15 +12,15 @@ use Rattle.listing.specs.declared.Listed.{Listed}
 use Rattle.listing.specs.List.{Listing}
 use Rattle.listing.specs.Says.{saysListed}
 use Rattle.listing.proofs.Determined.{listedOf, listed-back}
-use Rattle.explained.proofs.list_under.Kinds as list-under-kinds
-use Rattle.explained.proofs.list_under.Reads as list-under-reads
+use Rattle.explained.proofs.list.Kinds as list-kinds
+use Rattle.explained.proofs.list.Reads as list-reads
 use Rattle.explained.proofs.put_end.Kinds as put-end-kinds
 use Rattle.explained.proofs.put_end.Reads as put-end-reads
 
-pub list-under-determined : (κs : Lfts 2) (a : Dens κs list-under-kinds.ps) (r r′ : Listed)
-    (x x′ : AtExit (endedOf 2 list-under-kinds.ps list-under-kinds.r) κs)
-    → list-under-reads.Post κs a r x → list-under-reads.Post κs a r′ x′ → (r ≡ r′) × (now (x .1 .1 .1 .1 .0) ≡ now (x′ .1 .1 .1 .1 .0))
-list-under-determined κs a r r′ x x′ p q =
+pub list-determined : (κs : Lfts 2) (a : Dens κs list-kinds.ps) (r r′ : Listed)
+    (x x′ : AtExit (endedOf 2 list-kinds.ps list-kinds.r) κs)
+    → list-reads.Post κs a r x → list-reads.Post κs a r′ x′ → (r ≡ r′) × (now (x .1 .1 .1 .1 .0) ≡ now (x′ .1 .1 .1 .1 .0))
+list-determined κs a r r′ x x′ p q =
     let same : saysListed r (now (x .1 .1 .1 .1 .0)) ≡ saysListed r′ (now (x′ .1 .1 .1 .1 .0)) = p ∙ sym q in (
       sym (listed-back r (now (x .1 .1 .1 .1 .0))) ∙ ap listedOf same ∙ listed-back r′ (now (x′ .1 .1 .1 .1 .0)),
       ap (λ (l : Listing). l .out) same,

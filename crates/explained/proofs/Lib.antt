@@ -1,5 +1,5 @@
 pub mod Texts
 pub mod Turns
-pub mod Under
+pub mod Judging
 pub mod Alike
 pub mod Determined

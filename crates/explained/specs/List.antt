@@ -15,8 +15,7 @@ use Rattle.ride.specs.declared.Ride.{Ride}
 use Rattle.ride.specs.Record.{odometerOf}
 use Rattle.ride.specs.Step.{Step, treat}
 use Rattle.ride.specs.Over.{records}
-use Rattle.listing.specs.List.{Listing, unlisted}
-use Rattle.listing.specs.Under.{judgedFirst}
+use Rattle.listing.specs.List.{Listing, unlisted, judgedFirst}
 use Rattle.explained.specs.Told.{stepText, Told, tellOver}
 
 -- Whether the record with this number is taken: its lines, at most two of at most 160 bytes, have room, and the next record's number is still
@@ -49,8 +48,8 @@ listTaken gaps ride number rs out = listOf gaps ride number (taken gaps ride num
 
 -- The listing of a trace under a store of settings, from the record with this number on: the store's own refusal, then "trace length not
 -- a multiple of 8" is 16; else as many records as are taken into the buffer, each with the gap in force at its own odometer.
-unfoldable pub listUnder : Ride → Store → ℕ → List ℕ → List ℕ → Listing
-listUnder ride store number trace out =
+unfoldable pub list : Ride → Store → ℕ → List ℕ → List ℕ → Listing
+list ride store number trace out =
     judgedFirst ride number out (judged store)
     (pick (eqb (length trace % 8) 0)
     (listTaken (gapAt store) ride number (records trace) out)

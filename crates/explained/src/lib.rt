@@ -5,7 +5,7 @@ ghost use mathlib.Core.Path.{_≡_};
 ghost use Rattle.text.specs.Put.{put, came};
 ghost use Rattle.listing.specs.Says.{saysListed};
 ghost use Rattle.explained.specs.Told.{endText};
-ghost use Rattle.explained.specs.List.{listUnder};
+ghost use Rattle.explained.specs.List.{list};
 
 mod lines;
 mod records;
@@ -18,8 +18,8 @@ use settings::Store;
 
 // The text of the trace's records from `number` on, each with the gap in force at its odometer, at the start of out: as many records as
 // surely have room, 320 bytes each.
-pub fn list_under(ride: Ride, store: Store, number: u64, trace: &[u8], out: &mut [u8]) -> Listed
-    ensures { λ r. ⌜ saysListed r (now (out .exit)) ≡ listUnder ride store number (now (trace .entry)) (now (out .entry)) ⌝ }
+pub fn list(ride: Ride, store: Store, number: u64, trace: &[u8], out: &mut [u8]) -> Listed
+    ensures { λ r. ⌜ saysListed r (now (out .exit)) ≡ list ride store number (now (trace .entry)) (now (out .entry)) ⌝ }
 {
     let asked = settings::at(store, 0);
     match asked {

@@ -1,6 +1,7 @@
 -- Demand 1 holds for the face for C: each contract hands over what is returned of a specification, and demands has how that one is decided.
 -- Assumes nothing.
 use mathlib.Core.Path.{_≡_, refl, sym, ap, ap₂, subst, _∙_}
+use mathlib.Core.Bool.{false}
 use mathlib.Core.List.{List, [], _∷_}
 use Prim.Native.Nat.{ℕ, _+_, _*_}
 use lib.IntN.{ℤ, pos}
@@ -18,11 +19,14 @@ use Rattle.group.specs.Distance.{distance}
 use Rattle.writer.specs.Write.{Writing, onto, write}
 use Rattle.abi.specs.Face.{returned, left, itself, asOne, told, whyNumber, foundNumber, foundPut}
 use Rattle.abi.specs.Contacts.{searchIn, begunNumber, begunPut, nextNumber, nextPut, nextMoved, judgedNumber, judgedPut}
+use Rattle.telegram.specs.Sync.{differing, isGood}
+use Rattle.settings.specs.Store.{plain}
 use Rattle.ride.specs.State.{freshRide}
 use Rattle.compaction.specs.Compact.{compact}
 use Rattle.demands.specs.Rules.{Rule, rowOf, row, Decided, Given, Is}
-use Rattle.demands.specs.Table.{notCode, above, beyond, noDistance}
+use Rattle.demands.specs.Table.{notCode, above, beyond, noDistance, notSeven, badLength}
 use Rattle.demands.specs.Lists.{telegramRules, findRules, writeRules, nextRules, judgeRules, runRules, findReads, JudgeReads, NextReads}
+use Rattle.demands.proofs.Common.OneVersion.{nineteen-of}
 use Rattle.demands.proofs.Demand1.Compacting.{compacting, compact-untouched}
 use Rattle.demands.proofs.Demand1.Refusals.{reading, writing, wording, finding}
 use Rattle.demands.proofs.Demand1.Writes.{writing-test, write-untouched}
@@ -35,6 +39,11 @@ use Rattle.face.proofs.Carried.{decided-told, left-as-it-was, is-refusa
 decided-of : {A : Type 0} (tell : A → ℤ) (Reading : A → Type 0) (rules : List (Rule A)) (o : A) {r : ℤ} → r ≡ tell o → Decided Reading rules o
     → DecidedAs tell Reading rules r
 decided-of tell Reading rules o {r} e d = subst (DecidedAs tell Reading rules) (sym e) (decided-told tell Reading rules o d)
+
+-- the pair of a plain gap
+pair-so : notSeven 0x00 0x7F ≡ false
+unfolding notSeven isGood differing
+pair-so = refl
 
 pub demand1 : Demand1
 demand1 = record {
@@ -69,8 +78,8 @@ demand1 = record {
       c .5 .0 ∙ ap (λ (v : List ℕ). returned itself (write x y z s t n v .answer)) (c .3) in
       decided-of (returned itself) (Is (4 * n + 1)) (writeRules x y z s t n before) (write x y z s t n before .answer) e (writing-test x y z s t n before);
   compact = λ gap before r after c.
-      let e : r ≡ returned itself (compact freshRide gap before .answer) = c .5 .0 ∙ ap (λ (v : List ℕ). returned itself (compact freshRide gap v .answer)) (c .3) in
-      decided-of (returned itself) Given (runRules gap before) (compact freshRide gap before .answer) e (compacting freshRide gap before);
+      let e : r ≡ returned itself (compact freshRide (plain gap) before .answer) = c .5 .0 ∙ ap (λ (v : List ℕ). returned itself (compact freshRide (plain gap) v .answer)) (c .3) in
+      decided-of (returned itself) Given (runRules gap before) (compact freshRide (plain gap) before .answer) e (nineteen-of gap 0x00 0x7F pair-so Given (row 16 (badLength before) ∷ []) (compact freshRide (plain gap) before .answer) (compacting freshRide (plain gap) before));
 }
 
 -- A lent array after a call that refuses, from what the contract leaves in it.
@@ -105,8 +114,8 @@ untouched = record {
       let q : (k : ℕ) × (write x y z s t n before .answer ≡ refuses k) = is-refusal itself (write x y z s t n before .answer) (subst Refused e refused) in
       l ∙ write-untouched x y z s t n before (q .0) (q .1);
   compact = λ gap before r after c refused.
-      let e : r ≡ returned itself (compact freshRide gap before .answer) = c .5 .0 ∙ ap (λ (v : List ℕ). returned itself (compact freshRide gap v .answer)) (c .3) in
-      let l : after ≡ compact freshRide gap before .buffer = sym (c .4) ∙ c .5 .1 ∙ ap (λ (v : List ℕ). compact freshRide gap v .buffer) (c .3) in
-      let q : (k : ℕ) × (compact freshRide gap before .answer ≡ refuses k) = is-refusal itself (compact freshRide gap before .answer) (subst Refused e refused) in
-      l ∙ compact-untouched freshRide gap before (q .0) (q .1) .1;
+      let e : r ≡ returned itself (compact freshRide (plain gap) before .answer) = c .5 .0 ∙ ap (λ (v : List ℕ). returned itself (compact freshRide (plain gap) v .answer)) (c .3) in
+      let l : after ≡ compact freshRide (plain gap) before .buffer = sym (c .4) ∙ c .5 .1 ∙ ap (λ (v : List ℕ). compact freshRide (plain gap) v .buffer) (c .3) in
+      let q : (k : ℕ) × (compact freshRide (plain gap) before .answer ≡ refuses k) = is-refusal itself (compact freshRide (plain gap) before .answer) (subst Refused e refused) in
+      l ∙ compact-untouched freshRide (plain gap) before (q .0) (q .1) .1;
 }

@@ -13,7 +13,7 @@ use borrow.Author.Tests.{leb-true}
 use Rattle.words.specs.Answer.{Outcome, gives, refuses, pick}
 use Rattle.settings.specs.declared.Store.{Store}
 use Rattle.settings.specs.Versions.{Kept, kept}
-use Rattle.settings.specs.Store.{plain, judged}
+use Rattle.settings.specs.Store.{judged}
 use Rattle.settings.specs.At.{gapAt}
 use Rattle.ride.specs.declared.Ride.{Ride}
 use Rattle.ride.specs.Record.{odometerOf}
@@ -24,10 +24,8 @@ use Rattle.listing.specs.declared.Put.{Put}
 use Rattle.listing.specs.declared.Done.{Done}
 use Rattle.listing.specs.declared.Listed.{Listed}
 use Rattle.listing.specs.Put.{Filled, filled, placed, put}
-use Rattle.listing.specs.List.{textOf, isTaken, taken, Taken, Listing, listOf, unlisted, list}
-use Rattle.listing.specs.Under.{judgedFirst, listUnder}
+use Rattle.listing.specs.List.{textOf, isTaken, taken, Taken, Listing, listOf, unlisted, judgedFirst, list}
 use Rattle.listing.specs.Says.{saysDone, saysListed}
-use Rattle.listing.proofs.Plain.{plain-list}
 use Rattle.words.proofs.Never.{cannot-be}
 
 -- a text that was put lies within the buffer
@@ -86,7 +84,7 @@ listed-by false gaps ride number n out x rs r k bytes e is same =
     let z : _≡_ {A = ℕ} 0 1 = cc in
     absurd (omega arith)
 
--- and under a store
+-- after the settings
 under-by : (o : Outcome Kept) (d : Bool) (gaps : ℕ → ℕ) (ride : Ride) (number n : ℕ) (out x : List ℕ) (rs : List (List ℕ)) (r : Listed) (k bytes : ℕ)
     → saysListed r x ≡ judgedFirst ride number out o (pick d (listOf gaps ride number n rs out) (unlisted ride number out 16))
     → r .done ≡ Done.Took k bytes → length x ≡ length out → (k ≡ n) × (bytes ≤ length out)
@@ -96,16 +94,11 @@ under-by (refuses m) d gaps ride number n out x rs r k bytes e is same =
     let z : _≡_ {A = ℕ} 0 1 = cc in
     absurd (omega arith)
 
-pub list-under-within : (ride : Ride) (store : Store) (number : ℕ) (trace out x : List ℕ) (r : Listed) (k bytes : ℕ) → saysListed r x ≡ listUnder ride store number trace out
+pub list-within : (ride : Ride) (store : Store) (number : ℕ) (trace out x : List ℕ) (r : Listed) (k bytes : ℕ) → saysListed r x ≡ list ride store number trace out
     → r .done ≡ Done.Took k bytes → length x ≡ length out → (k * 8 ≤ length trace) × (bytes ≤ length out)
-unfolding listUnder
-list-under-within ride store number trace out x r k bytes e is same =
+unfolding list
+list-within ride store number trace out x r k bytes e is same =
     let n : ℕ = taken (gapAt store) ride number (length out) (records trace) in
     let within = under-by (judged store) (eqb (length trace % 8) 0) (gapAt store) ride number n out x (records trace) r k bytes e is same in
     let all : n ≤ length (records trace) = taken-within (gapAt store) ride number (length out) (records trace) in
     (omega (arith, records-length (length trace / 8) trace, within .0), within .1)
-
-pub list-within : (ride : Ride) (gap number : ℕ) (trace out x : List ℕ) (r : Listed) (k bytes : ℕ) → saysListed r x ≡ list ride gap number trace out
-    → r .done ≡ Done.Took k bytes → length x ≡ length out → (k * 8 ≤ length trace) × (bytes ≤ length out)
-list-within ride gap number trace out x r k bytes e is same =
-    list-under-within ride (plain gap) number trace out x r k bytes (e ∙ sym (plain-list ride gap number trace out)) is same

@@ -22,8 +22,6 @@ use Rattle.listing.proofs.put_line.Kinds as put-line-kinds
 use Rattle.listing.proofs.put_line.Reads as put-line-reads
 use Rattle.listing.proofs.list.Kinds as list-kinds
 use Rattle.listing.proofs.list.Reads as list-reads
-use Rattle.listing.proofs.list_under.Kinds as list-under-kinds
-use Rattle.listing.proofs.list_under.Reads as list-under-reads
 
 -- From what an answer says, the answer.
 abbrev pub doneOf : Outcome Taken → Done
@@ -56,15 +54,6 @@ pub list-determined : (κs : Lfts 2) (a : Dens κs list-kinds.ps) (r r′ : List
     (x x′ : AtExit (endedOf 2 list-kinds.ps list-kinds.r) κs)
     → list-reads.Post κs a r x → list-reads.Post κs a r′ x′ → (r ≡ r′) × (now (x .1 .1 .1 .1 .0) ≡ now (x′ .1 .1 .1 .1 .0))
 list-determined κs a r r′ x x′ p q =
-    let same : saysListed r (now (x .1 .1 .1 .1 .0)) ≡ saysListed r′ (now (x′ .1 .1 .1 .1 .0)) = p ∙ sym q in (
-      sym (listed-back r (now (x .1 .1 .1 .1 .0))) ∙ ap listedOf same ∙ listed-back r′ (now (x′ .1 .1 .1 .1 .0)),
-      ap (λ (l : Listing). l .out) same,
-    )
-
-pub list-under-determined : (κs : Lfts 2) (a : Dens κs list-under-kinds.ps) (r r′ : Listed)
-    (x x′ : AtExit (endedOf 2 list-under-kinds.ps list-under-kinds.r) κs)
-    → list-under-reads.Post κs a r x → list-under-reads.Post κs a r′ x′ → (r ≡ r′) × (now (x .1 .1 .1 .1 .0) ≡ now (x′ .1 .1 .1 .1 .0))
-list-under-determined κs a r r′ x x′ p q =
     let same : saysListed r (now (x .1 .1 .1 .1 .0)) ≡ saysListed r′ (now (x′ .1 .1 .1 .1 .0)) = p ∙ sym q in (
       sym (listed-back r (now (x .1 .1 .1 .1 .0))) ∙ ap listedOf same ∙ listed-back r′ (now (x′ .1 .1 .1 .1 .0)),
       ap (λ (l : Listing). l .out) same,

@@ -4,7 +4,7 @@ pub mod Words
 pub mod Longest
 pub mod Texts
 pub mod Turns
-pub mod Plain
+pub mod Judging
 pub mod Bounds
 pub mod Examples
 pub mod Determined

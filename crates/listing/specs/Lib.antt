@@ -1,5 +1,4 @@
 pub mod Text
 pub mod Put
 pub mod List
-pub mod Under
 pub mod Says

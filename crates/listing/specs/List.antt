@@ -7,9 +7,12 @@ use lib.Dec.{eqb, leb, ltb}
 use lib.ListN.{length, take}
 use Rattle.words.specs.Limits.{largest64}
 use Rattle.words.specs.Answer.{Outcome, gives, refuses, pick}
+use Rattle.settings.specs.declared.Store.{Store}
+use Rattle.settings.specs.Versions.{Kept}
+use Rattle.settings.specs.Store.{judged}
+use Rattle.settings.specs.At.{gapAt}
 use Rattle.ride.specs.declared.Line.{Line}
 use Rattle.ride.specs.declared.Ride.{Ride}
-use Rattle.ride.specs.Joining.{allowed}
 use Rattle.ride.specs.Record.{odometerOf}
 use Rattle.ride.specs.Step.{Step, treat}
 use Rattle.ride.specs.Over.{records, linesFor, Ridden, rideOver}
@@ -68,12 +71,16 @@ listTaken gaps ride number rs out = listOf gaps ride number (taken gaps ride num
 abbrev pub unlisted : Ride → ℕ → List ℕ → ℕ → Listing
 unlisted ride number out n = record { answer = refuses n; ride = ride; number = number; out = out }
 
--- The listing of a trace from the record with this number on: "gap outside 1 to 200" is 19, "trace length not a multiple of
--- 8" is 16, each "before any record"; else as many records as are taken into the buffer.
-unfoldable pub list : Ride → ℕ → ℕ → List ℕ → List ℕ → Listing
-list ride gap number trace out =
-    pick (allowed gap)
+-- The settings are judged first: their refusal (of a gap, 19) decides, takes nothing and leaves the buffer.
+abbrev pub judgedFirst : Ride → ℕ → List ℕ → Outcome Kept → Listing → Listing
+judgedFirst ride number out (gives k) listing = listing
+judgedFirst ride number out (refuses n) listing = unlisted ride number out n
+
+-- The listing of a trace from the record with this number on: the settings' own refusal, then "trace length not a multiple of 8" is 16, each
+-- "before any record"; else as many records as are taken into the buffer, each treated "with the gap in force at its own odometer" (M-111).
+unfoldable pub list : Ride → Store → ℕ → List ℕ → List ℕ → Listing
+list ride store number trace out =
+    judgedFirst ride number out (judged store)
     (pick (eqb (length trace % 8) 0)
-    (listTaken (λ odometer. gap) ride number (records trace) out)
+    (listTaken (gapAt store) ride number (records trace) out)
     (unlisted ride number out 16))
-    (unlisted ride number out 19)

@@ -1,12 +1,10 @@
 // Lines as text in a lent buffer, and the listing of a trace.
 // Promises: a line is written with document 01's words to the letter; a listing is the text of the ride's lines; bytes around it stay.
-// Specification: specs/Text.antt (the words), Put.antt (a text in a buffer), List.antt (the listing), Under.antt (under a store
-// of settings), Says.antt (the answers).
+// Specification: specs/Text.antt (the words), Put.antt (a text in a buffer), List.antt (the listing), Says.antt (the answers).
 ghost use mathlib.Core.Path.{_≡_};
 ghost use Rattle.listing.specs.Text.{text};
 ghost use Rattle.listing.specs.Put.{put, filled};
 ghost use Rattle.listing.specs.List.{list};
-ghost use Rattle.listing.specs.Under.{listUnder};
 ghost use Rattle.listing.specs.Says.{saysListed};
 
 mod lines;
@@ -24,8 +22,8 @@ pub enum Put {
     NoRoom,
 }
 
-// How a listing went: so many records taken and bytes written, or refused for the settings (a plain gap:
-// 19) or the trace's length (16).
+// How a listing went: so many records taken and bytes written, or refused for the settings (their
+// number) or the trace's length (16).
 pub enum Done {
     Took { records: usize, bytes: usize },
     Settings(Bad),
@@ -54,19 +52,10 @@ pub fn put_line(line: Line, buf: &mut [u8], at: usize) -> Put
     Put::Next(text::put(&space[..n], buf, at))
 }
 
-// The lines of the trace's records from `number` on as text at the start of out: as many records as surely have room.
-pub fn list(ride: Ride, gap: u32, number: u64, trace: &[u8], out: &mut [u8]) -> Listed
-    ensures { λ r. ⌜ saysListed r (now (out .exit)) ≡ list ride gap number (now (trace .entry)) (now (out .entry)) ⌝ }
-{
-    let begun = settings::begin(gap, 0x00, 0x7F);
-    let store = begun.store;
-    list_under(ride, store, number, trace, out)
-}
-
-// The listing under a store: the store's own refusal, 16 for the trace's length, or the lines of as many records as surely have room, each
-// treated with the gap in force at its own odometer.
-pub fn list_under(ride: Ride, store: Store, number: u64, trace: &[u8], out: &mut [u8]) -> Listed
-    ensures { λ r. ⌜ saysListed r (now (out .exit)) ≡ listUnder ride store number (now (trace .entry)) (now (out .entry)) ⌝ }
+// The lines of the trace's records from `number` on as text at the start of out: the settings' own refusal, 16 for the trace's length, or as many
+// records as surely have room, each treated with the gap in force at its own odometer.
+pub fn list(ride: Ride, store: Store, number: u64, trace: &[u8], out: &mut [u8]) -> Listed
+    ensures { λ r. ⌜ saysListed r (now (out .exit)) ≡ list ride store number (now (trace .entry)) (now (out .entry)) ⌝ }
 {
     let asked = settings::at(store, 0);
     match asked {

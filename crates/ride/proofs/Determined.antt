@@ -38,8 +38,6 @@ use Rattle.ride.proofs.end.Kinds as end-kinds
 use Rattle.ride.proofs.end.Reads as end-reads
 use Rattle.ride.proofs.run.Kinds as run-kinds
 use Rattle.ride.proofs.run.Reads as run-reads
-use Rattle.ride.proofs.run_under.Kinds as run-under-kinds
-use Rattle.ride.proofs.run_under.Reads as run-under-reads
 use Rattle.ride.proofs.trace.odometer_at.Kinds as odometer-at-kinds
 use Rattle.ride.proofs.trace.odometer_at.Reads as odometer-at-reads
 use Rattle.words.proofs.Told.{Fixed}
@@ -154,9 +152,6 @@ end-determined κs a r r′ x x′ p q = sym (ended-back r) ∙ ap endedOf′ (p
 
 pub run-determined : Fixed 1 run-kinds.ps run-kinds.r run-reads.Post
 run-determined κs a r r′ x x′ p q = sym (ran-back r) ∙ ap ranOf (p ∙ sym q) ∙ ran-back r′
-
-pub run-under-determined : Fixed 1 run-under-kinds.ps run-under-kinds.r run-under-reads.Post
-run-under-determined κs a r r′ x x′ p q = sym (ran-back r) ∙ ap ranOf (p ∙ sym q) ∙ ran-back r′
 
 pub odometer-at-determined : Fixed 1 odometer-at-kinds.ps odometer-at-kinds.r odometer-at-reads.Post
 odometer-at-determined κs a r r′ x x′ p q = p ∙ sym q

@@ -1,4 +1,4 @@
--- Rides under a store: what is held treats each record as the gap in force at its own odometer does; a plain gap is a store of one version.
+-- Rides under settings: what is held treats each record as the gap in force at its own odometer does.
 -- Assumes nothing.
 use Prim.Native.Nat.{ℕ, suc, _/_, _%_, _≤_, _<_}
 use mathlib.Core.Path.{_≡_, refl, ap, sym, _∙_}
@@ -12,17 +12,14 @@ use Rattle.settings.specs.declared.Version.{Version}
 use Rattle.settings.specs.declared.Store.{Store}
 use Rattle.settings.specs.declared.Held.{Held}
 use Rattle.settings.specs.Versions.{highest, Kept, kept}
-use Rattle.settings.specs.Store.{versionsOf, plain, judged}
+use Rattle.settings.specs.Store.{versionsOf, judged}
 use Rattle.settings.specs.At.{heldFrom, heldAmong, heldAt, gapAt, heldFor}
 use Rattle.settings.proofs.Holding.{Holding, holding-at, keeps, held-is}
-use Rattle.settings.proofs.Plain.{plain-good, plain-bad, plain-gap}
 use Rattle.ride.specs.declared.Ride.{Ride}
 use Rattle.ride.specs.Record.{Entry, odometerOf, passedOf, inOrder, checkRecord}
-use Rattle.ride.specs.Joining.{allowed}
 use Rattle.ride.specs.Step.{Step, refuseOr, treat}
 use Rattle.ride.specs.At.{recordAt, odometerAt}
-use Rattle.ride.specs.Over.{records, linesFor, Ridden, before, rideOver, through, Run, run}
-use Rattle.ride.specs.Under.{judgedFirst, runUnder}
+use Rattle.ride.specs.Over.{records, linesFor, before, rideOver, through, Run, run}
 use Rattle.words.proofs.Never.{cannot-be}
 
 -- ---- the odometer at an index
@@ -123,31 +120,17 @@ same-rule gaps others e ride number (r ∷ rs) =
 
 -- ---- the whole trace
 
-pub under-refused : (ride : Ride) (store : Store) (trace : List ℕ) (n : ℕ) → judged store ≡ refuses n
-    → _≡_ {A = Run} (record { answer = refuses n; ride = ride }) (runUnder ride store trace)
-unfolding runUnder
-under-refused ride store trace n e = rw e
+pub run-refused : (ride : Ride) (store : Store) (trace : List ℕ) (n : ℕ) → judged store ≡ refuses n
+    → _≡_ {A = Run} (record { answer = refuses n; ride = ride }) (run ride store trace)
+unfolding run
+run-refused ride store trace n e = rw e
 
-pub under-length : (ride : Ride) (store : Store) (trace : List ℕ) → judged store ≡ gives kept → eqb (length trace % 8) 0 ≡ false
-    → _≡_ {A = Run} (record { answer = refuses 16; ride = ride }) (runUnder ride store trace)
-unfolding runUnder
-under-length ride store trace e h = rw (e, h)
+pub run-length : (ride : Ride) (store : Store) (trace : List ℕ) → judged store ≡ gives kept → eqb (length trace % 8) 0 ≡ false
+    → _≡_ {A = Run} (record { answer = refuses 16; ride = ride }) (run ride store trace)
+unfolding run
+run-length ride store trace e h = rw (e, h)
 
-pub under-through : (ride : Ride) (store : Store) (trace : List ℕ) → judged store ≡ gives kept → eqb (length trace % 8) 0 ≡ true
-    → _≡_ {A = Run} (record { answer = gives through; ride = rideOver (gapAt store) ride 1 (records trace) .ride }) (runUnder ride store trace)
-unfolding runUnder
-under-through ride store trace e h = rw (e, h)
-
--- ---- a plain gap
-
-plain-by : (b : Bool) (ride : Ride) (gap : ℕ) (trace : List ℕ) → allowed gap ≡ b → runUnder ride (plain gap) trace ≡ run ride gap trace
-unfolding runUnder run
-plain-by true ride gap trace e =
-    rw (plain-good gap e, e)
-    (ap (λ (s : Ride). pick {A = Run} (eqb (length trace % 8) 0) (record { answer = gives through; ride = s }) (record { answer = refuses 16; ride = ride }))
-    (ap (λ (x : Ridden). x .ride) (same-rule (gapAt (plain gap)) (λ odometer. gap) (λ o. plain-gap gap o e) ride 1 (records trace))))
-plain-by false ride gap trace e = rw (plain-bad gap e, e)
-
--- A store of one version rides as its plain gap does.
-pub plain-run : (ride : Ride) (gap : ℕ) (trace : List ℕ) → runUnder ride (plain gap) trace ≡ run ride gap trace
-plain-run ride gap trace = plain-by (allowed gap) ride gap trace refl
+pub run-through : (ride : Ride) (store : Store) (trace : List ℕ) → judged store ≡ gives kept → eqb (length trace % 8) 0 ≡ true
+    → _≡_ {A = Run} (record { answer = gives through; ride = rideOver (gapAt store) ride 1 (records trace) .ride }) (run ride store trace)
+unfolding run
+run-through ride store trace e h = rw (e, h)

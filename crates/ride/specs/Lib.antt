@@ -6,6 +6,5 @@ pub mod Closing
 pub mod Step
 pub mod At
 pub mod Over
-pub mod Under
 pub mod Says
 pub mod Inside

@@ -5,10 +5,13 @@ use mathlib.Core.List.{List, [], _∷_, _++_}
 use lib.Dec.{eqb}
 use lib.ListN.{length, take, drop}
 use Rattle.words.specs.Answer.{Outcome, gives, refuses, pick}
+use Rattle.settings.specs.declared.Store.{Store}
+use Rattle.settings.specs.Versions.{Kept}
+use Rattle.settings.specs.Store.{judged}
+use Rattle.settings.specs.At.{gapAt}
 use Rattle.ride.specs.declared.Line.{Line}
 use Rattle.ride.specs.declared.Ride.{Ride}
 use Rattle.ride.specs.Record.{odometerOf}
-use Rattle.ride.specs.Joining.{allowed}
 use Rattle.ride.specs.Step.{Step, treat}
 
 -- The first n records of a trace: "records of one fixed size, no header: 8 bytes".
@@ -35,8 +38,7 @@ abbrev pub before : List Line → Ridden → Ridden
 before lines rest = record { lines = lines ++ rest .lines; ride = rest .ride }
 
 -- The ride over some records, the first of which has this number: each record is treated in the state that the one before left, with
--- the gap that a rule gives for its odometer. The rule is one gap for all (`run`, below) or the gap that a store of settings has in force
--- there (`runUnder` of specs/Under.antt), so that both rides are this one.
+-- the gap that a rule gives for its odometer: one gap for all, or the gap that a store of settings has in force there.
 unfoldable pub rideOver : (ℕ → ℕ) → Ride → ℕ → List (List ℕ) → Ridden
 rideOver gaps ride number [] = record { lines = []; ride = ride }
 rideOver gaps ride number (r ∷ rs) =
@@ -52,12 +54,16 @@ pub record Run : Type 0 where
   pub answer : Outcome Through
   pub ride : Ride
 
--- The run over a whole trace: "gap outside 1 to 200" is 19, "trace length not a multiple of 8" is 16, each "before any
--- record"; else the state after all records.
-unfoldable pub run : Ride → ℕ → List ℕ → Run
-run ride gap trace =
-    pick (allowed gap)
+-- The settings are judged first: their refusal (of a gap, 19) decides, and leaves the state.
+abbrev pub judgedFirst : Ride → Outcome Kept → Run → Run
+judgedFirst ride (gives k) run = run
+judgedFirst ride (refuses n) run = record { answer = refuses n; ride = ride }
+
+-- The run over a whole trace: the settings' own refusal, then "trace length not a multiple of 8" is 16, each "before any record"; else the
+-- state after all records, each treated "with the gap in force at its own odometer" (document 02, M-111).
+unfoldable pub run : Ride → Store → List ℕ → Run
+run ride store trace =
+    judgedFirst ride (judged store)
     (pick (eqb (length trace % 8) 0)
-    (record { answer = gives through; ride = rideOver (λ odometer. gap) ride 1 (records trace) .ride })
+    (record { answer = gives through; ride = rideOver (gapAt store) ride 1 (records trace) .ride })
     (record { answer = refuses 16; ride = ride }))
-    (record { answer = refuses 19; ride = ride })

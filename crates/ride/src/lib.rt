@@ -1,12 +1,11 @@
 // A ride over the records of a trace: the check of a record, what is known on the way, the lines that it gives.
 // Promises: every record is treated by document 01's steps 1 to 4 in order, from whatever state is lent; a refused one changes nothing.
 // Specification: specs/Record.antt, State.antt, Joining.antt, Linking.antt, Closing.antt, Step.antt, At.antt (one record of a trace),
-// Over.antt (a whole trace), Under.antt (under a store of settings), Says.antt (the answers), Inside.antt (an answer that no caller sees).
+// Over.antt (a whole trace), Says.antt (the answers), Inside.antt (an answer that no caller sees).
 ghost use mathlib.Core.Path.{_≡_};
 ghost use Rattle.ride.specs.State.{freshRide};
 ghost use Rattle.ride.specs.Step.{step, end};
 ghost use Rattle.ride.specs.Over.{run};
-ghost use Rattle.ride.specs.Under.{runUnder};
 ghost use Rattle.ride.specs.Says.{saysStepped, saysEnded, saysRan};
 
 mod anew;
@@ -133,7 +132,7 @@ pub struct Ended {
     pub lines: Lines,
 }
 
-// How a run over a trace went: through all records, or refused for its settings (a plain gap: 19) or the trace's length (16).
+// How a run over a trace went: through all records, or refused for the settings (their number) or the trace's length (16).
 pub enum Way {
     Through,
     Settings(Bad),
@@ -185,19 +184,9 @@ pub fn end(ride: Ride) -> Ended
     closing::at_end(ride.odometer, closing::leave(group, known))
 }
 
-// The ride over a whole trace: 19 for the gap, 16 for the trace's length, or the state after all its records. A plain gap is a store of one
-// version; no ride looks at the sync pair.
-pub fn run(ride: Ride, gap: u32, trace: &[u8]) -> Ran
-    ensures { λ r. ⌜ saysRan r ≡ run ride gap (now (trace .entry)) ⌝ }
-{
-    let begun = settings::begin(gap, 0x00, 0x7F);
-    let store = begun.store;
-    run_under(ride, store, trace)
-}
-
-// The ride over a whole trace under a store: the store's own refusal, 16 for the trace's length, or the state after all its records.
-pub fn run_under(ride: Ride, store: Store, trace: &[u8]) -> Ran
-    ensures { λ r. ⌜ saysRan r ≡ runUnder ride store (now (trace .entry)) ⌝ }
+// The ride over a whole trace: the settings' own refusal, 16 for the trace's length, or the state after all its records.
+pub fn run(ride: Ride, store: Store, trace: &[u8]) -> Ran
+    ensures { λ r. ⌜ saysRan r ≡ run ride store (now (trace .entry)) ⌝ }
 {
     let asked = settings::at(store, 0);
     match asked {

@@ -17,7 +17,7 @@ use Rattle.ride.specs.Over.{firstRecords, records}
 use Rattle.ride.proofs.Cutting.{join-records}
 use Rattle.compaction.specs.Dropped.{compactOver}
 use Rattle.compaction.specs.Blocks.{waitingRecord, keptOver, waitsAfter}
-use Rattle.compaction.specs.Compact.{bytesOf, onto, Settling, settledBlock, blockUnder}
+use Rattle.compaction.specs.Compact.{bytesOf, onto, Settling, settledBlock, compactBlock}
 use Rattle.compaction.specs.Says.{saysSize, saysBlock}
 use Rattle.compaction.specs.declared.Size.{Size}
 use Rattle.compaction.specs.declared.Block.{Block}
@@ -26,7 +26,7 @@ use Rattle.compaction.specs.declared.Waiting.{Waiting}
 use Rattle.compaction.proofs.Walk.{bytes-join, kept-on, waits-on}
 use Rattle.compaction.proofs.Blocks.{whole}
 use Rattle.compaction.proofs.Determined as compaction-is
-use Rattle.demands.specs.Compacting.{CompactUnder, BlockUnder}
+use Rattle.demands.specs.Compacting.{CompactIn, BlockIn}
 use Rattle.demands.specs.Sections.{Whole}
 use Rattle.demands.proofs.Beside.Cards.{eights}
 use Rattle.smaller.specs.Blocks.{Call, bytesIn, ByBlocks, written, waitsLast, InBlocks}
@@ -42,14 +42,14 @@ in-bytes : (s : Size) (n : ℕ) → saysSize s ≡ gives n → bytesIn s ≡ n
 in-bytes s n e = ap bytesIn (sym (compaction-is.size-back s) ∙ ap compaction-is.sizeOf e)
 
 one-block : (store : Store) (w : Waiting) (block : List ℕ) (answer : Block) (after : List ℕ) → judged store ≡ gives kept → length block % 8 ≡ 0
-    → BlockUnder w store block answer after → OneBlock (gapAt store) w block answer after
-unfolding blockUnder settledBlock
+    → BlockIn w store block answer after → OneBlock (gapAt store) w block answer after
+unfolding compactBlock settledBlock
 one-block store w block answer after good eight c =
     let bytes : List ℕ = bytesOf (keptOver (gapAt store) w (records block)) in
     let ok : eqb (length block % 8) 0 ≡ true = eq-eqb (length block % 8) 0 eight in
-    let is : blockUnder w store block ≡ settledBlock (gapAt store) w block = rw (good, ok) in
+    let is : compactBlock w store block ≡ settledBlock (gapAt store) w block = rw (good, ok) in
     let says : saysBlock answer after ≡ settledBlock (gapAt store) w block =
-    ap (λ (b : List ℕ). saysBlock answer b) (sym (c .4)) ∙ c .5 ∙ ap (blockUnder w store) (c .3) ∙ is in
+    ap (λ (b : List ℕ). saysBlock answer b) (sym (c .4)) ∙ c .5 ∙ ap (compactBlock w store) (c .3) ∙ is in
     let many : bytesIn (answer .size) ≡ length bytes = in-bytes (answer .size) (length bytes) (ap (λ (s : Settling). s .answer) says) in
     record {
       keeps = ap₂ (λ (n : ℕ) (b : List ℕ). take n b) many (ap (λ (s : Settling). s .buffer) says) ∙ take-at bytes (drop (length bytes) block) (length bytes) refl;
@@ -79,7 +79,7 @@ all-blocks store w left (c ∷ cs) good b =
     )
 
 whole-so : (store : Store) (w : Waiting) (trace : List ℕ) (calls : List Call) (c : Compacted) (after : List ℕ) (n : ℕ) → w .waits ≡ false
-    → ByBlocks store w trace calls → CompactUnder (w .ride) store trace c after → c .size ≡ Size.Bytes n
+    → ByBlocks store w trace calls → CompactIn (w .ride) store trace c after → c .size ≡ Size.Bytes n
     → written calls ++ bytesOf (waitingRecord (waitsLast w calls)) ≡ take n after
 whole-so store w trace calls c after n none b h e =
     let gaps : ℕ → ℕ = gapAt store in

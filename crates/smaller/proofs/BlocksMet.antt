@@ -20,13 +20,13 @@ use Rattle.ride.specs.Step.{closeBehind, missedLines, afterMissed, goOn, treat}
 use Rattle.ride.specs.Over.{firstRecords}
 use Rattle.compaction.specs.Dropped.{isDropped}
 use Rattle.compaction.specs.Blocks.{waitingRecord, settled, waitsNext, keptOver, waitsAfter}
-use Rattle.compaction.specs.Compact.{bytesOf, settledBlock, blockUnder}
+use Rattle.compaction.specs.Compact.{bytesOf, settledBlock, compactBlock}
 use Rattle.compaction.specs.declared.Waiting.{Waiting}
 use Rattle.compaction.proofs.Determined as compaction-is
 use Rattle.demands.specs.Table.{badLength}
 use Rattle.demands.proofs.Witness.CallsMet.{lent}
 use Rattle.smaller.specs.Blocks.{Call, ByBlocks, written, waitsLast}
-use Rattle.smaller.proofs.TraceMet.{at, marker, two, allUnder}
+use Rattle.smaller.proofs.TraceMet.{at, marker, two, all}
 
 -- at first none waits
 abbrev none : Waiting
@@ -34,18 +34,18 @@ none = record { ride = freshRide; bytes = replicate 8 0; waits = false }
 
 -- what the contract's own right side says
 abbrev call : Waiting → List ℕ → Call
-call w block = record { block = block; answer = compaction-is.blockOf (blockUnder w two block); after = blockUnder w two block .buffer }
+call w block = record { block = block; answer = compaction-is.blockOf (compactBlock w two block); after = compactBlock w two block .buffer }
 
 abbrev first : Call
-first = call none (take 24 (bytesOf allUnder))
+first = call none (take 24 (bytesOf all))
 
 abbrev second : Call
-second = call (first .answer .waiting) (drop 24 (bytesOf allUnder))
+second = call (first .answer .waiting) (drop 24 (bytesOf all))
 
-blocks-met : ByBlocks two none (bytesOf allUnder) (first ∷ second ∷ [])
-unfolding differing isGood goodPair settingsOf follows noStore versionsOf opened begin allFollow versionsInOrder judged withOne mayAdd add heldFrom heldAt gapAt balises readAll judgeRead judge noGroup nothingKnown freshRide odometerOf passedOf inOrder checkRecord join takeUp close leave closeBehind missedLines afterMissed goOn treat firstRecords isDropped settled waitsNext keptOver waitsAfter settledBlock blockUnder badLength
+blocks-met : ByBlocks two none (bytesOf all) (first ∷ second ∷ [])
+unfolding differing isGood goodPair settingsOf follows noStore versionsOf opened begin allFollow versionsInOrder judged withOne mayAdd add heldFrom heldAt gapAt balises readAll judgeRead judge noGroup nothingKnown freshRide odometerOf passedOf inOrder checkRecord join takeUp close leave closeBehind missedLines afterMissed goOn treat firstRecords isDropped settled waitsNext keptOver waitsAfter settledBlock compactBlock badLength
 blocks-met = (
-  drop 24 (bytesOf allUnder),
+  drop 24 (bytesOf all),
   refl,
   refl,
   (([], tt), lent (first .block), (none, (two, (lent (first .after), tt))), refl, refl, refl),
@@ -53,6 +53,6 @@ blocks-met = (
 )
 
 -- what they write, and the record that waits after them
-written-met : (written (first ∷ second ∷ []) ≡ bytesOf (marker 1000 ∷ at 1041 ∷ marker 2000 ∷ at 2101 ∷ [])) × (waitingRecord (waitsLast none (first ∷ second ∷ [])) ≡ at 2102 ∷ [])
-unfolding differing isGood goodPair settingsOf follows noStore versionsOf opened begin allFollow versionsInOrder judged withOne mayAdd add heldFrom heldAt gapAt balises readAll judgeRead judge noGroup nothingKnown freshRide odometerOf passedOf inOrder checkRecord join takeUp close leave closeBehind missedLines afterMissed goOn treat firstRecords isDropped settled waitsNext keptOver waitsAfter settledBlock blockUnder
+written-met : (written (first ∷ second ∷ []) ≡ bytesOf (marker 1000 ∷ at 1041 ∷ at 1042 ∷ at 1040 ∷ marker 2000 ∷ at 2101 ∷ [])) × (waitingRecord (waitsLast none (first ∷ second ∷ [])) ≡ at 2103 ∷ [])
+unfolding differing isGood goodPair settingsOf follows noStore versionsOf opened begin allFollow versionsInOrder judged withOne mayAdd add heldFrom heldAt gapAt balises readAll judgeRead judge noGroup nothingKnown freshRide odometerOf passedOf inOrder checkRecord join takeUp close leave closeBehind missedLines afterMissed goOn treat firstRecords isDropped settled waitsNext keptOver waitsAfter settledBlock compactBlock
 written-met = (refl, refl)

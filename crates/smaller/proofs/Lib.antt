@@ -1,4 +1,5 @@
 pub mod Made
+pub mod Missing
 pub mod Trace
 pub mod Blocks
 pub mod TraceMet

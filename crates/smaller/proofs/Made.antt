@@ -26,7 +26,7 @@ use Rattle.ride.specs.Says.{saysStepped}
 use Rattle.ride.proofs.Steps.{step-allowed}
 use Rattle.compaction.specs.Dropped.{compactOver}
 use Rattle.compaction.specs.Smaller.{Smaller}
-use Rattle.compaction.specs.Compact.{bytesOf, onto, Compaction, untouched, smallerTrace, compact, judgedFirst, compactUnder}
+use Rattle.compaction.specs.Compact.{bytesOf, onto, Compaction, untouched, smallerTrace, judgedFirst, compact}
 use Rattle.compaction.proofs.Walk.{beyond}
 use Rattle.compaction.proofs.Trace.{new-records}
 use Rattle.compaction.proofs.Smaller.{smaller}
@@ -45,17 +45,6 @@ pub record Was (gaps : ℕ → ℕ) (ride : Ride) (trace : List ℕ) (made : Com
   pub whole : length trace % 8 ≡ 0
   pub is : made ≡ smallerTrace gaps ride trace
 
-pub was-plain : (ride : Ride) (gap : ℕ) (trace : List ℕ) (n : ℕ) → compact ride gap trace .answer ≡ gives n → Was (λ odometer. gap) ride trace (compact ride gap trace)
-unfolding compact
-was-plain ride gap trace n e = go (allowed gap) (eqb (length trace % 8) 0) refl refl e
-  where
-    go : (a w : Bool) → allowed gap ≡ a → eqb (length trace % 8) 0 ≡ w
-        → pick a (pick w (smallerTrace (λ odometer. gap) ride trace) (untouched ride trace 16)) (untouched ride trace 19) .answer ≡ gives n
-        → Was (λ odometer. gap) ride trace (pick a (pick w (smallerTrace (λ odometer. gap) ride trace) (untouched ride trace 16)) (untouched ride trace 19))
-    go true true a w h = record { good = λ o. a; whole = eqb-true (length trace % 8) 0 w; is = refl }
-    go true false a w h = never h
-    go false w a w′ h = never h
-
 same-kept : (k : Kept) → k ≡ kept
 same-kept kept = refl
 
@@ -63,10 +52,10 @@ gap-good : (store : Store) → judged store ≡ gives kept → (o : ℕ) → all
 unfolding gapAt
 gap-good store h o = holding-at store o h .gap
 
-pub was-under : (ride : Ride) (store : Store) (trace : List ℕ) (n : ℕ) → compactUnder ride store trace .answer ≡ gives n
-    → Was (gapAt store) ride trace (compactUnder ride store trace) × (judged store ≡ gives kept)
-unfolding compactUnder
-was-under ride store trace n e = go (judged store) (eqb (length trace % 8) 0) refl refl e
+pub was-made : (ride : Ride) (store : Store) (trace : List ℕ) (n : ℕ) → compact ride store trace .answer ≡ gives n
+    → Was (gapAt store) ride trace (compact ride store trace) × (judged store ≡ gives kept)
+unfolding compact
+was-made ride store trace n e = go (judged store) (eqb (length trace % 8) 0) refl refl e
   where
     go : (o : Outcome Kept) (w : Bool) → judged store ≡ o → eqb (length trace % 8) 0 ≡ w
         → judgedFirst ride trace o (pick w (smallerTrace (gapAt store) ride trace) (untouched ride trace 16)) .answer ≡ gives n

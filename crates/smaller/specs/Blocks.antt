@@ -13,10 +13,10 @@ use Rattle.compaction.specs.declared.Size.{Size}
 use Rattle.compaction.specs.declared.Block.{Block}
 use Rattle.compaction.specs.declared.Compacted.{Compacted}
 use Rattle.compaction.specs.declared.Waiting.{Waiting}
-use Rattle.demands.specs.Compacting.{CompactUnder, BlockUnder}
+use Rattle.demands.specs.Compacting.{CompactIn, BlockIn}
 use Rattle.demands.specs.Sections.{Whole}
 
--- One call of `block_under`: the block that it is lent, what it answers, and the block then.
+-- One call of `compact_block`: the block that it is lent, what it answers, and the block then.
 pub record Call : Type 0 where
   pub block : List ℕ
   pub answer : Block
@@ -28,12 +28,12 @@ bytesIn (Size.Bytes n) = n
 bytesIn (Size.Settings bad) = 0
 bytesIn Size.Length = 0
 
--- These are calls of `block_under` over a trace, under one store: each is lent a block of whole records, long or short, from the front of what is
+-- These are calls of `compact_block` over a trace, under one store: each is lent a block of whole records, long or short, from the front of what is
 -- left, and goes on with what waits after the one before, until nothing is left.
 abbrev pub ByBlocks : Store → Waiting → List ℕ → List Call → Type 0
 ByBlocks store w left [] = left ≡ []
 ByBlocks store w left (c ∷ cs) =
-    (rest : List ℕ) × (left ≡ c .block ++ rest) × Whole (c .block) × BlockUnder w store (c .block) (c .answer) (c .after)
+    (rest : List ℕ) × (left ≡ c .block ++ rest) × Whole (c .block) × BlockIn w store (c .block) (c .answer) (c .after)
     × ByBlocks store (c .answer .waiting) rest cs
 
 -- The bytes that they keep, one block's after the other's.
@@ -49,5 +49,5 @@ waitsLast w (c ∷ cs) = waitsLast (c .answer .waiting) cs
 -- Where none waits at first, and the whole trace compacts to n bytes, the blocks and the last record are those bytes.
 pub record InBlocks : Type 0 where
   pub whole : (store : Store) (w : Waiting) (trace : List ℕ) (calls : List Call) (c : Compacted) (after : List ℕ) (n : ℕ) → w .waits ≡ false
-      → ByBlocks store w trace calls → CompactUnder (w .ride) store trace c after → c .size ≡ Size.Bytes n
+      → ByBlocks store w trace calls → CompactIn (w .ride) store trace c after → c .size ≡ Size.Bytes n
       → written calls ++ bytesOf (waitingRecord (waitsLast w calls)) ≡ take n after

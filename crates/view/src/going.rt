@@ -30,7 +30,7 @@ fn end_of(number: usize, to: usize) -> usize
 
 // Writes the lines of some records, the first with this number, in this state; the state after them.
 fn write_block(ride: Ride, store: Store, number: u64, records: &[u8], out: &mut [u8]) -> Ride {
-    let listed = listing::list_under(ride, store, number, records, out);
+    let listed = listing::list(ride, store, number, records, out);
     let done = listed.done;
     let after = listed.ride;
     let Done::Took { records: _, bytes } = done else {

@@ -72,7 +72,7 @@ fn is_quit(command: Command) -> bool {
 
 // A viewer of the trace under these settings.
 pub fn hold(store: Store, trace: &[u8]) {
-    let opened = viewer::start_under_at(store, trace);
+    let opened = viewer::start_at(store, trace);
     let stand = opened.stand;
     let begun = opened.begun;
     let Begun::Open = begun else {

@@ -1,4 +1,4 @@
--- What the walks of `start` and `start_under` share: the answer and its types, what a slice owns, and that what is made has its type.
+-- What the walk of `start` rests on: the answer and its types, what a slice owns, and that what is made has its type.
 -- Assumes nothing.
 use mathlib.Core.Path.{_≡_, refl, ap, _∙_, subst}
 use Prim.Native.Nat.{ℕ}

@@ -14,19 +14,19 @@ use Rattle.settings.specs.Store.{judged}
 use Rattle.ride.specs.At.{recordAt}
 use Rattle.viewer.specs.declared.Stand.{Stand}
 use Rattle.viewer.specs.Stand.{opened, returned}
-use Rattle.viewer.specs.Viewing.{done, Start, unopened, startUnder, stays, byStep, stepOf, forward, Back, back}
+use Rattle.viewer.specs.Viewing.{done, Start, unopened, start, stays, byStep, stepOf, forward, Back, back}
 
-pub open-refused : (store : Store) (trace : List ℕ) (n : ℕ) → judged store ≡ refuses n → unopened store n ≡ startUnder store trace
-unfolding startUnder
+pub open-refused : (store : Store) (trace : List ℕ) (n : ℕ) → judged store ≡ refuses n → unopened store n ≡ start store trace
+unfolding start
 open-refused store trace n e = rw e
 
-pub open-length : (store : Store) (trace : List ℕ) → judged store ≡ gives kept → eqb (length trace % 8) 0 ≡ false → unopened store 16 ≡ startUnder store trace
-unfolding startUnder
+pub open-length : (store : Store) (trace : List ℕ) → judged store ≡ gives kept → eqb (length trace % 8) 0 ≡ false → unopened store 16 ≡ start store trace
+unfolding start
 open-length store trace e h = rw (e, h)
 
 pub open-done : (store : Store) (trace : List ℕ) → judged store ≡ gives kept → eqb (length trace % 8) 0 ≡ true
-    → _≡_ {A = Start} (record { answer = gives done; trace = trace; stand = opened store }) (startUnder store trace)
-unfolding startUnder
+    → _≡_ {A = Start} (record { answer = gives done; trace = trace; stand = opened store }) (start store trace)
+unfolding start
 open-done store trace e h = rw (e, h)
 
 pub forward-end : (trace : List ℕ) (s : Stand) → length trace / 8 ≤ s .number → stays s 23 ≡ forward trace s

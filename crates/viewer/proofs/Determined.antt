@@ -23,11 +23,9 @@ use Rattle.viewer.specs.declared.Forwarded.{Forwarded}
 use Rattle.viewer.specs.declared.Backed.{Backed}
 use Rattle.viewer.specs.Viewing.{Done, Start, Forward, Back}
 use Rattle.viewer.specs.Says.{saysBegun, saysHow, saysOpened, saysWent, saysCame, Over, saysForwarded, saysBacked, saysStarted}
-use Rattle.viewer.specs.Laws.{Starts, StartsUnder, Forwards, Backs}
+use Rattle.viewer.specs.Laws.{Starts, Forwards, Backs}
 use Rattle.viewer.proofs.opening.start_at.Kinds as start-at-kinds
 use Rattle.viewer.proofs.opening.start_at.Reads as start-at-reads
-use Rattle.viewer.proofs.opening.start_under_at.Kinds as start-under-at-kinds
-use Rattle.viewer.proofs.opening.start_under_at.Reads as start-under-at-reads
 use Rattle.viewer.proofs.moving.forward_at.Kinds as forward-at-kinds
 use Rattle.viewer.proofs.moving.forward_at.Reads as forward-at-reads
 use Rattle.viewer.proofs.moving.back_at.Kinds as back-at-kinds
@@ -93,9 +91,6 @@ came-back c = ap (λ (h : How). record { stand = c .stand; how = h }) (how-back 
 pub start-at-determined : Fixed 1 start-at-kinds.ps start-at-kinds.r start-at-reads.Post
 start-at-determined κs a r r′ x x′ p q = sym (opened-back [] r) ∙ ap openedOf (p ∙ sym q) ∙ opened-back [] r′
 
-pub start-under-at-determined : Fixed 1 start-under-at-kinds.ps start-under-at-kinds.r start-under-at-reads.Post
-start-under-at-determined κs a r r′ x x′ p q = sym (opened-back [] r) ∙ ap openedOf (p ∙ sym q) ∙ opened-back [] r′
-
 pub forward-at-determined : Fixed 1 forward-at-kinds.ps forward-at-kinds.r forward-at-reads.Post
 forward-at-determined κs a r r′ x x′ p q = sym (went-back r) ∙ ap wentOf (p ∙ sym q) ∙ went-back r′
 
@@ -126,11 +121,8 @@ alike r r′ e = record {
   trace = ap (λ (s : Start). s .trace) e;
 }
 
-pub start-determined : (gap : ℕ) (trace : RefT (List ℕ)) (r r′ : Started) → Starts gap trace r → Starts gap trace r′ → Alike r r′
-start-determined gap trace r r′ p q = alike r r′ (p ∙ sym q)
-
-pub start-under-determined : (store : Store) (trace : RefT (List ℕ)) (r r′ : Started) → StartsUnder store trace r → StartsUnder store trace r′ → Alike r r′
-start-under-determined store trace r r′ p q = alike r r′ (p ∙ sym q)
+pub start-determined : (store : Store) (trace : RefT (List ℕ)) (r r′ : Started) → Starts store trace r → Starts store trace r′ → Alike r r′
+start-determined store trace r r′ p q = alike r r′ (p ∙ sym q)
 
 abbrev forwardedOf : Over Forward → Forwarded
 forwardedOf o =

@@ -1,5 +1,5 @@
 -- A viewer over two records, the second of which is refused, computed: one back too many, two forward, one too many, and one back. So the
--- hypotheses of `Viewing` are met, with a plain gap and under a store, and those of `ManyAtOnce`.
+-- hypotheses of `Viewing` are met, and those of `ManyAtOnce`.
 -- Assumes nothing.
 use Prim.Native.Nat.{ℕ, _+_}
 use mathlib.Core.Path.{_≡_, refl, sym, ap, _∙_}
@@ -66,7 +66,7 @@ s3 = returned s2
 abbrev started : Started
 started = record { viewer = at s0; begun = Begun.Open }
 
-starts : Starts 40 lent started
+starts : Starts (plain 40) lent started
 starts = open-done (plain 40) bytes (plain-good 40 refl) refl
 
 -- ---- back: nothing is kept
@@ -143,11 +143,8 @@ where-it-stands : (s3 .number ≡ 1) × (s3 .kept ≡ 1)
 unfolding opened passed returned
 where-it-stands = (refl, refl)
 
-plain-met : Views (λ odometer. 40) bytes calls (at s3)
-plain-met = viewing .plainly-set 40 lent started calls (at s3) starts refl lead
-
-store-met : Views (gapAt (plain 40)) bytes calls (at s3)
-store-met = viewing .under-a-store (plain 40) lent started calls (at s3) starts refl lead
+met : Views (gapAt (plain 40)) bytes calls (at s3)
+met = viewing .after-any (plain 40) lent started calls (at s3) starts refl lead
 
 -- ---- many at once: three forwards, one too many, come to where two lead; and the lines of the two
 

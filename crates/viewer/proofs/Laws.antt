@@ -10,23 +10,21 @@ use denote.Ref.{RefT, now}
 use Rattle.words.specs.Answer.{Outcome, gives, refuses, pick}
 use Rattle.settings.specs.declared.Store.{Store}
 use Rattle.settings.specs.Versions.{allowed, Kept, kept}
-use Rattle.settings.specs.Store.{plain, judged}
+use Rattle.settings.specs.Store.{judged}
 use Rattle.settings.specs.At.{gapAt}
-use Rattle.settings.proofs.Plain.{plain-bad, plain-gap}
 use Rattle.ride.specs.State.{freshRide}
 use Rattle.ride.specs.Record.{odometerOf}
 use Rattle.ride.specs.Step.{treat}
 use Rattle.ride.specs.At.{recordAt}
 use Rattle.ride.specs.Over.{records, Ridden}
-use Rattle.ride.proofs.Under.{same-rule}
 use Rattle.viewer.specs.declared.Begun.{Begun}
 use Rattle.viewer.specs.declared.Viewer.{Viewer}
 use Rattle.viewer.specs.declared.Started.{Started}
 use Rattle.viewer.specs.Stand.{opened}
-use Rattle.viewer.specs.Viewing.{Done, done, Start, startUnder, Forward, forward, Back}
+use Rattle.viewer.specs.Viewing.{Done, done, Start, start, Forward, forward, Back}
 use Rattle.viewer.specs.Says.{Over, saysBegun}
 use Rattle.viewer.specs.History.{Plain, first, goForth, Call, forth, back, called, plainly, straight}
-use Rattle.viewer.specs.Laws.{Starts, StartsUnder, Lead, Shows, Views, Viewing}
+use Rattle.viewer.specs.Laws.{Starts, Lead, Shows, Views, Viewing}
 use Rattle.viewer.proofs.Straight.{Held, first-held, plainly-held}
 use Rattle.viewer.proofs.Ring.{Alike, opened-alike, called-alike}
 use Rattle.words.proofs.Never.{cannot-be}
@@ -52,30 +50,27 @@ lead-alike store trace (back ∷ cs) v w p held good h l =
 never : (A : Type 0) (n : ℕ) → _≡_ {A = Outcome Done} (gives done) (refuses n) → A
 never A n e = cannot-be cc
 
-never′ : (A : Type 0) → _≡_ {A = Outcome Kept} (gives kept) (refuses 19) → A
-never′ A e = cannot-be cc
-
 -- a viewer that is not refused has good settings, the whole trace, and stands at the first record
 pub record Opens (store : Store) (trace : List ℕ) : Type 0 where
   pub good : judged store ≡ gives kept
-  pub held : startUnder store trace .trace ≡ trace
-  pub stand : startUnder store trace .stand ≡ opened store
+  pub held : start store trace .trace ≡ trace
+  pub stand : start store trace .stand ≡ opened store
 
 one-kept : (k : Kept) → k ≡ kept
 one-kept kept = refl
 
 opens-by : (o : Outcome Kept) (d : Bool) (store : Store) (trace : List ℕ) → judged store ≡ o → eqb (length trace % 8) 0 ≡ d
-    → gives done ≡ startUnder store trace .answer → Opens store trace
-unfolding startUnder
+    → gives done ≡ start store trace .answer → Opens store trace
+unfolding start
 opens-by (gives k) true store trace e h o = record { good = e ∙ ap gives (one-kept k); held = rw (e, h); stand = rw (e, h) }
 opens-by (gives k) false store trace e h o = never _ 16 (rw (e, h) at o)
 opens-by (refuses n) d store trace e h o = never _ n (rw e at o)
 
-opens : (store : Store) (trace : RefT (List ℕ)) (r : Started) → StartsUnder store trace r → r .begun ≡ Begun.Open → Opens store (now trace)
+opens : (store : Store) (trace : RefT (List ℕ)) (r : Started) → Starts store trace r → r .begun ≡ Begun.Open → Opens store (now trace)
 opens store trace r s b =
     opens-by (judged store) (eqb (length (now trace) % 8) 0) store (now trace) refl refl (ap saysBegun (sym b) ∙ ap (λ (x : Start). x .answer) s)
 
-views : (store : Store) (trace : RefT (List ℕ)) (r : Started) (cs : List Call) (w : Viewer) → StartsUnder store trace r → r .begun ≡ Begun.Open → Lead cs (r .viewer) w
+views : (store : Store) (trace : RefT (List ℕ)) (r : Started) (cs : List Call) (w : Viewer) → Starts store trace r → r .begun ≡ Begun.Open → Lead cs (r .viewer) w
     → Views (gapAt store) (now trace) cs w
 views store trace r cs w s b l =
     let o = opens store trace r s b in
@@ -87,36 +82,5 @@ views store trace r cs w s b l =
       as-straight = a .ride ∙ plainly-held (gapAt store) (now trace) cs first (first-held (gapAt store) (now trace)) .here ∙ ap (straight (gapAt store) (now trace)) (sym (a .number));
     }
 
--- ---- a plain gap: the rule of its store gives it everywhere
-
-called-as : (gaps others : ℕ → ℕ) → ((o : ℕ) → gaps o ≡ others o) → (trace : List ℕ) (c : Call) (p : Plain) → called gaps trace c p ≡ called others trace c p
-unfolding goForth
-called-as gaps others e trace forth p =
-    ap
-    (λ (g : ℕ). pick (ltb (p .number) (length trace / 8))
-    (record { number = p .number + 1; history = take 256 (p .ride ∷ p .history); ride = treat (p .ride) g (recordAt trace (p .number)) .ride })
-    p)
-    (e (odometerOf (recordAt trace (p .number))))
-called-as gaps others e trace back p = refl
-
-plainly-as : (gaps others : ℕ → ℕ) → ((o : ℕ) → gaps o ≡ others o) → (trace : List ℕ) (cs : List Call) (p : Plain) → plainly gaps trace cs p ≡ plainly others trace cs p
-plainly-as gaps others e trace [] p = refl
-plainly-as gaps others e trace (c ∷ cs) p = plainly-as gaps others e trace cs (called gaps trace c p) ∙ ap (plainly others trace cs) (called-as gaps others e trace c p)
-
-gap-by : (b : Bool) (gap : ℕ) → allowed gap ≡ b → judged (plain gap) ≡ gives kept → allowed gap ≡ true
-gap-by true gap e good = e
-gap-by false gap e good = never′ _ (sym good ∙ plain-bad gap e)
-
-plain-views : (gap : ℕ) (trace : RefT (List ℕ)) (r : Started) (cs : List Call) (w : Viewer) → Starts gap trace r → r .begun ≡ Begun.Open → Lead cs (r .viewer) w
-    → Views (λ odometer. gap) (now trace) cs w
-plain-views gap trace r cs w s b l =
-    let v = views (plain gap) trace r cs w s b l in
-    let good = gap-by (allowed gap) gap refl (opens (plain gap) trace r s b .good) in
-    let same : (o : ℕ) → gapAt (plain gap) o ≡ gap = λ o. plain-gap gap o good in
-    record {
-      shows = subst (Shows w) (plainly-as (gapAt (plain gap)) (λ odometer. gap) same (now trace) cs first) (v .shows);
-      as-straight = v .as-straight ∙ ap (λ (x : Ridden). x .ride) (same-rule (gapAt (plain gap)) (λ odometer. gap) same freshRide 1 (take (w .stand .number) (records (now trace))));
-    }
-
 pub viewing : Viewing
-viewing = record { plainly-set = plain-views; under-a-store = views }
+viewing = record { after-any = views }

@@ -1,4 +1,4 @@
--- What the generated contracts of `start`, `start_under`, `forward` and `back` ensure of an answer is what specs/Laws.antt says of it. Of a function that takes or
+-- What the generated contracts of `start`, `forward` and `back` ensure of an answer is what specs/Laws.antt says of it. Of a function that takes or
 -- hands out a struct with a slice the kit states the contract as a formula over what is lent (`ensured`), not as a relation of plain values: so the tie is an entailment.
 -- Assumes nothing.
 use Prim.Native.Nat.{ℕ}
@@ -18,20 +18,15 @@ use Rattle.viewer.specs.declared.Viewer.{Viewer}
 use Rattle.viewer.specs.declared.Started.{Started}
 use Rattle.viewer.specs.declared.Forwarded.{Forwarded}
 use Rattle.viewer.specs.declared.Backed.{Backed}
-use Rattle.viewer.specs.Laws.{Starts, StartsUnder, Forwards, Backs}
+use Rattle.viewer.specs.Laws.{Starts, Forwards, Backs}
 use Rattle.viewer.proofs.start as start
-use Rattle.viewer.proofs.start_under as start_under
 use Rattle.viewer.proofs.forward as forward
 use Rattle.viewer.proofs.back as back
 
 module _ {M : Type 1} (𝓤 : URA M) (H : Heap 𝓤) (A : Atoms 𝓤) (mem : Memory → SProp 𝓤) (run : Routine → Fun 𝓤) (κ : Lft) where
-  pub start-ensures : (gap : ℕ) (trace : RefT (List ℕ)) (r : Started)
-      → ent 𝓤 (ensured 𝓤 H A start.ended (start.clauses 𝓤 H A mem run) (κ, tt) (gap, (trace, tt)) tt r) (fact 𝓤 (Starts gap trace r))
-  start-ensures gap trace r = exE 𝓤 _ (λ ws. snd∗ 𝓤 (sem 𝓤 H A (lasts start.ended (κ, tt) (gap, (trace, tt)) ws)) (fact 𝓤 (Starts gap trace r)))
-
-  pub start-under-ensures : (store : Store) (trace : RefT (List ℕ)) (r : Started)
-      → ent 𝓤 (ensured 𝓤 H A start_under.ended (start_under.clauses 𝓤 H A mem run) (κ, tt) (store, (trace, tt)) tt r) (fact 𝓤 (StartsUnder store trace r))
-  start-under-ensures store trace r = exE 𝓤 _ (λ ws. snd∗ 𝓤 (sem 𝓤 H A (lasts start_under.ended (κ, tt) (store, (trace, tt)) ws)) (fact 𝓤 (StartsUnder store trace r)))
+  pub start-ensures : (store : Store) (trace : RefT (List ℕ)) (r : Started)
+      → ent 𝓤 (ensured 𝓤 H A start.ended (start.clauses 𝓤 H A mem run) (κ, tt) (store, (trace, tt)) tt r) (fact 𝓤 (Starts store trace r))
+  start-ensures store trace r = exE 𝓤 _ (λ ws. snd∗ 𝓤 (sem 𝓤 H A (lasts start.ended (κ, tt) (store, (trace, tt)) ws)) (fact 𝓤 (Starts store trace r)))
 
   pub forward-ensures : (v : Viewer) (r : Forwarded)
       → ent 𝓤 (ensured 𝓤 H A forward.ended (forward.clauses 𝓤 H A mem run) (κ, tt) (v, tt) tt r) (fact 𝓤 (Forwards v r))

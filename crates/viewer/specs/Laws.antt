@@ -18,7 +18,7 @@ use Rattle.viewer.specs.declared.Viewer.{Viewer}
 use Rattle.viewer.specs.declared.Started.{Started}
 use Rattle.viewer.specs.declared.Forwarded.{Forwarded}
 use Rattle.viewer.specs.declared.Backed.{Backed}
-use Rattle.viewer.specs.Viewing.{done, start, startUnder, forward, back as goesBack}
+use Rattle.viewer.specs.Viewing.{done, start, forward, back as goesBack}
 use Rattle.viewer.specs.Says.{over, saysHow, saysStarted, saysForwarded, saysBacked}
 use Rattle.viewer.specs.Going.{forwards, backs, linesPassed}
 use Rattle.viewer.specs.History.{Plain, first, Call, forth, back, plainly, straight}
@@ -26,11 +26,8 @@ use Rattle.viewer.specs.History.{Plain, first, Call, forth, back, plainl
 -- What the contracts allow: `start` answers r, `forward` and `back` of a viewer answer r. The kit states the contract of a function that takes or hands out a struct
 -- with a slice as a formula over what is lent, and a crate's own specs/ cannot name it: so the clauses stand here again, and proofs/Tied.antt shows that the contracts
 -- ensure them.
-abbrev pub Starts : ℕ → RefT (List ℕ) → Started → Type 0
-Starts gap trace r = saysStarted r ≡ start gap (now trace)
-
-abbrev pub StartsUnder : Store → RefT (List ℕ) → Started → Type 0
-StartsUnder store trace r = saysStarted r ≡ startUnder store (now trace)
+abbrev pub Starts : Store → RefT (List ℕ) → Started → Type 0
+Starts store trace r = saysStarted r ≡ start store (now trace)
 
 abbrev pub Forwards : Viewer → Forwarded → Type 0
 Forwards v r = saysForwarded r ≡ over (v .trace) (forward (now (v .trace)) (v .stand))
@@ -58,12 +55,9 @@ pub record Views (gaps : ℕ → ℕ) (trace : List ℕ) (cs : List Call) (w : V
   pub as-straight : w .stand .ride ≡ straight gaps trace (w .stand .number)
 
 pub record Viewing : Type 0 where
-  -- after any calls, with a plain gap
-  pub plainly-set : (gap : ℕ) (trace : RefT (List ℕ)) (r : Started) (cs : List Call) (w : Viewer)
-      → Starts gap trace r → r .begun ≡ Begun.Open → Lead cs (r .viewer) w → Views (λ odometer. gap) (now trace) cs w
-  -- and under one fixed store (M-111): each record with the gap in force at its own odometer
-  pub under-a-store : (store : Store) (trace : RefT (List ℕ)) (r : Started) (cs : List Call) (w : Viewer)
-      → StartsUnder store trace r → r .begun ≡ Begun.Open → Lead cs (r .viewer) w → Views (gapAt store) (now trace) cs w
+  -- after any calls, under one fixed store (M-111): each record with the gap in force at its own odometer
+  pub after-any : (store : Store) (trace : RefT (List ℕ)) (r : Started) (cs : List Call) (w : Viewer)
+      → Starts store trace r → r .begun ≡ Begun.Open → Lead cs (r .viewer) w → Views (gapAt store) (now trace) cs w
 
 -- When a call is refused, and what that leaves: "22 for back exactly if the kept count is 0; 23 for forward exactly at the end; both leave the
 -- viewer unchanged." The conditions stand here a second time. A viewer whose settings are good is refused nothing else.

@@ -7,7 +7,7 @@ use lib.ListN.{length}
 use Rattle.words.specs.Answer.{Outcome, gives, refuses, pick}
 use Rattle.settings.specs.declared.Store.{Store}
 use Rattle.settings.specs.Versions.{Kept}
-use Rattle.settings.specs.Store.{plain, judged}
+use Rattle.settings.specs.Store.{judged}
 use Rattle.settings.specs.At.{gapAt}
 use Rattle.group.specs.declared.Group.{Group}
 use Rattle.ride.specs.declared.Line.{Line}
@@ -41,13 +41,10 @@ opens store trace (gives k) =
     (unopened store 16)
 opens store trace (refuses n) = unopened store n
 
--- Opening under a store of settings (M-111): the store's own refusal, then 16 for the trace's length.
-unfoldable pub startUnder : Store → List ℕ → Start
-startUnder store trace = opens store trace (judged store)
-
--- "A viewer opens at the first record with a fresh ride; 19, then 16 refuse it." A plain gap is a store of one version.
-abbrev pub start : ℕ → List ℕ → Start
-start gap trace = startUnder (plain gap) trace
+-- "A viewer opens at the first record with a fresh ride; 19, then 16 refuse it": the settings' own refusal (of a gap, 19), then 16 for the trace's
+-- length.
+unfoldable pub start : Store → List ℕ → Start
+start store trace = opens store trace (judged store)
 
 -- What going forward answers: that it was done, or the number of its refusal; the lines that the record gave; the group that closed; where
 -- the viewer stands then.

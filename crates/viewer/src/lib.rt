@@ -3,7 +3,7 @@
 // Specification: specs/Stand.antt (where it stands, and the last 256 states), Viewing.antt (the calls), Going.antt (many at once), Says.antt (the
 // answers); what is promised: Laws.antt.
 ghost use mathlib.Core.Path.{_≡_};
-ghost use Rattle.viewer.specs.Viewing.{start, startUnder, forward, back};
+ghost use Rattle.viewer.specs.Viewing.{start, forward, back};
 ghost use Rattle.viewer.specs.Says.{over, saysStarted, saysForwarded, saysBacked};
 
 mod going;
@@ -17,7 +17,6 @@ use group::Group;
 pub use moving::back_at;
 pub use moving::forward_at;
 pub use opening::start_at;
-pub use opening::start_under_at;
 use ride::Lines;
 use ride::Ride;
 use settings::Bad;
@@ -33,7 +32,7 @@ pub struct Stand {
     pub settings: Store,
 }
 
-// How opening went: done, or refused for the settings (a plain gap: 19) or the trace's length (16).
+// How opening went: done, or refused for the settings (their number) or the trace's length (16).
 pub enum Begun {
     Open,
     Settings(Bad),
@@ -94,28 +93,12 @@ pub struct Backed<'a> {
     pub how: How,
 }
 
-// Opens a viewer at the first record: 19, then 16 refuse it.
-pub fn start<'a>(gap: u32, trace: &'a [u8]) -> Started<'a>
-    ensures { λ r. ⌜ saysStarted r ≡ start gap (now (trace .entry)) ⌝ }
+// Opens a viewer at the first record, with a fresh ride: the settings' own refusal, then 16.
+pub fn start<'a>(store: Store, trace: &'a [u8]) -> Started<'a>
+    ensures { λ r. ⌜ saysStarted r ≡ start store (now (trace .entry)) ⌝ }
 {
-    let opened = start_at(gap, trace);
-    let seen = opening::seen(gap, trace);
-    let viewer = Viewer {
-        trace: seen,
-        stand: opened.stand,
-    };
-    Started {
-        viewer,
-        begun: opened.begun,
-    }
-}
-
-// Opens a viewer under a store of settings: the store's own refusal, then 16.
-pub fn start_under<'a>(store: Store, trace: &'a [u8]) -> Started<'a>
-    ensures { λ r. ⌜ saysStarted r ≡ startUnder store (now (trace .entry)) ⌝ }
-{
-    let opened = start_under_at(store, trace);
-    let seen = opening::seen_under(store, trace);
+    let opened = start_at(store, trace);
+    let seen = opening::seen(store, trace);
     let viewer = Viewer {
         trace: seen,
         stand: opened.stand,

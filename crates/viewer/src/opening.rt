@@ -1,7 +1,7 @@
 // Opening a viewer over a lent trace.
 ghost use mathlib.Core.Path.{_≡_};
 ghost use Rattle.viewer.specs.Stand.{opened};
-ghost use Rattle.viewer.specs.Viewing.{start, startUnder};
+ghost use Rattle.viewer.specs.Viewing.{start};
 ghost use Rattle.viewer.specs.Says.{saysBegun, saysOpened};
 use crate::Begun;
 use crate::Opened;
@@ -26,7 +26,7 @@ fn fresh(store: Store) -> Stand
 
 // Whether a viewer opens: the settings' own refusal, then 16.
 fn begins(store: Store, trace: &[u8]) -> Begun
-    ensures { λ r. ⌜ saysBegun r ≡ startUnder store (now (trace .entry)) .answer ⌝ }
+    ensures { λ r. ⌜ saysBegun r ≡ start store (now (trace .entry)) .answer ⌝ }
 {
     let asked = settings::at(store, 0);
     match asked {
@@ -40,27 +40,18 @@ fn begins(store: Store, trace: &[u8]) -> Begun
     }
 }
 
-// Where a viewer stands that was opened over this trace under a store, and how that went.
-pub fn start_under_at(store: Store, trace: &[u8]) -> Opened
-    ensures { λ r. ⌜ saysOpened r (now (trace .entry)) ≡ startUnder store (now (trace .entry)) ⌝ }
+// Where a viewer stands that was opened over this trace, and how that went.
+pub fn start_at(store: Store, trace: &[u8]) -> Opened
+    ensures { λ r. ⌜ saysOpened r (now (trace .entry)) ≡ start store (now (trace .entry)) ⌝ }
 {
     let begun = begins(store, trace);
     let stand = fresh(store);
     Opened { stand, begun }
 }
 
-// The same with a plain gap, a store of one version; no ride looks at the sync pair.
-pub fn start_at(gap: u32, trace: &[u8]) -> Opened
-    ensures { λ r. ⌜ saysOpened r (now (trace .entry)) ≡ start gap (now (trace .entry)) ⌝ }
-{
-    let begun = settings::begin(gap, 0x00, 0x7F);
-    let store = begun.store;
-    start_under_at(store, trace)
-}
-
 // What of the trace the viewer holds: all of it, or nothing where it is refused.
-pub fn seen_under<'a>(store: Store, trace: &'a [u8]) -> &'a [u8]
-    ensures { λ r. ⌜ now r ≡ startUnder store (now (trace .entry)) .trace ⌝ }
+pub fn seen<'a>(store: Store, trace: &'a [u8]) -> &'a [u8]
+    ensures { λ r. ⌜ now r ≡ start store (now (trace .entry)) .trace ⌝ }
 {
     let asked = settings::at(store, 0);
     let Asked::InForce(_) = asked else {
@@ -70,13 +61,4 @@ pub fn seen_under<'a>(store: Store, trace: &'a [u8]) -> &'a [u8]
         return &trace[0..0];
     }
     trace
-}
-
-// The same with a plain gap.
-pub fn seen<'a>(gap: u32, trace: &'a [u8]) -> &'a [u8]
-    ensures { λ r. ⌜ now r ≡ start gap (now (trace .entry)) .trace ⌝ }
-{
-    let begun = settings::begin(gap, 0x00, 0x7F);
-    let store = begun.store;
-    seen_under(store, trace)
 }

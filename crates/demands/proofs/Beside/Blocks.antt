@@ -1,4 +1,4 @@
--- Cards by a function that lists, `list` or `list_under`: whatever blocks it is called with, each call goes on with the records that the
+-- Cards by a function that lists: whatever blocks it is called with, each call goes on with the records that the
 -- ones before did not take.
 -- Assumes nothing.
 use Prim.Native.Nat.{ℕ, _+_, _*_, _/_, _≤_, _<_}

@@ -9,11 +9,14 @@ use mathlib.Core.List.{List, [], _∷_, _++_, append-assoc}
 use lib.Dec.{eqb}
 use lib.ListN.{length, length-append}
 use borrow.Author.Tests.{eq-eqb, eqb-true}
-use Rattle.words.specs.Answer.{gives, pick}
+use Rattle.words.specs.Answer.{Outcome, gives, refuses}
 use Rattle.words.proofs.Told.{told}
+use Rattle.settings.specs.declared.Store.{Store}
+use Rattle.settings.specs.Versions.{Kept}
+use Rattle.settings.specs.Store.{judged}
+use Rattle.settings.specs.At.{gapAt}
 use Rattle.ride.specs.Record.{odometerOf}
-use Rattle.ride.specs.Joining.{allowed}
-use Rattle.ride.specs.Over.{firstRecords, records, linesFor, Ridden, rideOver, through, Run, run}
+use Rattle.ride.specs.Over.{firstRecords, records, linesFor, Ridden, through, Run, judgedFirst, run}
 use Rattle.ride.specs.Says.{saysStepped, saysRan}
 use Rattle.ride.specs.declared.Line.{Line}
 use Rattle.ride.specs.declared.Ran.{Ran}
@@ -27,7 +30,7 @@ use Rattle.demands.specs.Contracts.{RunOver}
 use Rattle.demands.specs.Output.{recordsIn}
 use Rattle.demands.specs.Sections.{Whole, ByStep, linesFrom, afterSteps}
 use Rattle.demands.proofs.Common.Rules.{not-false}
-use Rattle.demands.proofs.Demand2.Runs.{over, kept, good-run, ran}
+use Rattle.demands.proofs.Demand2.Runs.{over, good-run, ran}
 
 -- ---- whole records
 
@@ -44,53 +47,45 @@ whole-join a b p q =
 -- ---- by `run`
 
 -- a run over a card of whole records
-good : (ride : Ride) (gap : ℕ) (card : List ℕ) → Whole card → run ride gap card ≡ pick (allowed gap) (over ride gap card) (kept ride)
-good ride gap card whole = good-run ride gap card (eq-eqb (length card % 8) 0 (eights card whole))
+good : (ride : Ride) (store : Store) (card : List ℕ) → Whole card → run ride store card ≡ judgedFirst ride (judged store) (over ride store card)
+good ride store card whole = good-run ride store card (eq-eqb (length card % 8) 0 (eights card whole))
 
-pub run-joined : (ride : Ride) (gap : ℕ) (a b : List ℕ) → Whole a → Whole b → run ride gap (a ++ b) ≡ run (run ride gap a .ride) gap b
-run-joined ride gap a b p q =
-    good ride gap (a ++ b) (whole-join a b p q) ∙ go (allowed gap)
-    ∙ ap (λ (r : Run). pick (allowed gap) (over (r .ride) gap b) (kept (r .ride))) (sym (good ride gap a p))
-    ∙ sym (good (run ride gap a .ride) gap b q)
-  where
-    go : (t : Bool)
-        → pick t (over ride gap (a ++ b)) (kept ride)
-        ≡ pick t (over (pick t (over ride gap a) (kept ride) .ride) gap b) (kept (pick t (over ride gap a) (kept ride) .ride))
-    go true =
-        ap (λ (r : Ride). record { answer = gives through; ride = r })
-        (ap (λ (x : Ridden). x .ride) (ride-joined (λ odometer. gap) ride 1 a b (eights a p))
-        ∙ unnumbered (λ odometer. gap) (over ride gap a .ride) (1 + length a / 8) 1 (records b))
-    go false = refl
+joined-by : (o : Outcome Kept) (ride : Ride) (store : Store) (a b : List ℕ) → Whole a
+    → judgedFirst ride o (over ride store (a ++ b))
+    ≡ judgedFirst (judgedFirst ride o (over ride store a) .ride) o (over (judgedFirst ride o (over ride store a) .ride) store b)
+joined-by (gives k) ride store a b whole =
+    ap (λ (r : Ride). record { answer = gives through; ride = r })
+    (ap (λ (x : Ridden). x .ride) (ride-joined (gapAt store) ride 1 a b (eights a whole))
+    ∙ unnumbered (gapAt store) (over ride store a .ride) (1 + length a / 8) 1 (records b))
+joined-by (refuses n) ride store a b whole = refl
+
+run-joined : (ride : Ride) (store : Store) (a b : List ℕ) → Whole a → Whole b → run ride store (a ++ b) ≡ run (run ride store a .ride) store b
+run-joined ride store a b p q =
+    good ride store (a ++ b) (whole-join a b p q) ∙ joined-by (judged store) ride store a b p
+    ∙ ap (λ (r : Run). judgedFirst (r .ride) (judged store) (over (r .ride) store b)) (sym (good ride store a p))
+    ∙ sym (good (run ride store a .ride) store b q)
 
 -- two runs that say the same are the same
 same-run : (o : Run) (p q : Ran) → saysRan p ≡ o → saysRan q ≡ o → p ≡ q
 same-run o p q e f = told saysRan ride-is.ranOf ride-is.ran-back p q e f
 
 -- a run on from where another ended
-ran-on : (ride : Ride) (gap : ℕ) (a b : List ℕ) (p q : Ran) → Whole a → Whole b → RunOver ride gap a p → RunOver (p .ride) gap b q
-    → saysRan q ≡ run ride gap (a ++ b)
-ran-on ride gap a b p q v w c d =
-    ran (p .ride) gap b q d ∙ ap (λ (r : Run). run (r .ride) gap b) (ran ride gap a p c) ∙ sym (run-joined ride gap a b v w)
+ran-on : (ride : Ride) (store : Store) (a b : List ℕ) (p q : Ran) → Whole a → Whole b → RunOver ride store a p → RunOver (p .ride) store b q
+    → saysRan q ≡ run ride store (a ++ b)
+ran-on ride store a b p q v w c d =
+    ran (p .ride) store b q d ∙ ap (λ (r : Run). run (r .ride) store b) (ran ride store a p c) ∙ sym (run-joined ride store a b v w)
 
-pub two-by-run : (ride : Ride) (gap : ℕ) (a b : List ℕ) (p q both : Ran) → Whole a → Whole b
-    → RunOver ride gap a p → RunOver (p .ride) gap b q → RunOver ride gap (a ++ b) both → both ≡ q
-two-by-run ride gap a b p q both v w c d e =
-    same-run (run ride gap (a ++ b)) both q (ran ride gap (a ++ b) both e) (ran-on ride gap a b p q v w c d)
+pub two-by-run : (ride : Ride) (store : Store) (a b : List ℕ) (p q both : Ran) → Whole a → Whole b
+    → RunOver ride store a p → RunOver (p .ride) store b q → RunOver ride store (a ++ b) both → both ≡ q
+two-by-run ride store a b p q both v w c d e =
+    same-run (run ride store (a ++ b)) both q (ran ride store (a ++ b) both e) (ran-on ride store a b p q v w c d)
 
-pub three-by-run : (ride : Ride) (gap : ℕ) (a b c : List ℕ) (ab last a′ bc : Ran) → Whole a → Whole b → Whole c
-    → RunOver ride gap (a ++ b) ab → RunOver (ab .ride) gap c last → RunOver ride gap a a′ → RunOver (a′ .ride) gap (b ++ c) bc → last ≡ bc
-three-by-run ride gap a b c ab last a′ bc u v w p q r s =
-    same-run (run ride gap (a ++ (b ++ c))) last bc
-    (ran-on ride gap (a ++ b) c ab last (whole-join a b u v) w p q ∙ ap (run ride gap) (append-assoc a b c))
-    (ran-on ride gap a (b ++ c) a′ bc u (whole-join b c v w) r s)
-
-pub empty-by-run : (ride : Ride) (gap : ℕ) (q : Ran) → RunOver ride gap [] q → q .ride ≡ ride
-unfolding badLength rideOver firstRecords
-empty-by-run ride gap q c = ap (λ (r : Run). r .ride) (ran ride gap [] q c ∙ good ride gap [] refl) ∙ go (allowed gap)
-  where
-    go : (t : Bool) → pick t (over ride gap []) (kept ride) .ride ≡ ride
-    go true = refl
-    go false = refl
+pub three-by-run : (ride : Ride) (store : Store) (a b c : List ℕ) (ab last a′ bc : Ran) → Whole a → Whole b → Whole c
+    → RunOver ride store (a ++ b) ab → RunOver (ab .ride) store c last → RunOver ride store a a′ → RunOver (a′ .ride) store (b ++ c) bc → last ≡ bc
+three-by-run ride store a b c ab last a′ bc u v w p q r s =
+    same-run (run ride store (a ++ (b ++ c))) last bc
+    (ran-on ride store (a ++ b) c ab last (whole-join a b u v) w p q ∙ ap (run ride store) (append-assoc a b c))
+    (ran-on ride store a (b ++ c) a′ bc u (whole-join b c v w) r s)
 
 -- ---- by `step`
 

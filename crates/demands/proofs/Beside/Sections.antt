@@ -5,6 +5,8 @@ use mathlib.Core.Path.{_≡_, refl, ap, ap₂, _∙_}
 use mathlib.Core.Bool.{Bool, true, false, _||_}
 use mathlib.Core.List.{List, [], _∷_, _++_, append-nil}
 use Rattle.words.specs.Answer.{pick}
+use Rattle.settings.specs.declared.Store.{Store}
+use Rattle.settings.specs.At.{gapAt}
 use Rattle.ride.specs.Step.{end}
 use Rattle.ride.specs.declared.Line.{Line}
 use Rattle.ride.specs.declared.Ride.{Ride}
@@ -12,24 +14,27 @@ use Rattle.listing.specs.Text.{text}
 use Rattle.listing.specs.List.{textOf}
 use Rattle.listing.specs.declared.Listed.{Listed}
 use Rattle.listing.proofs.Texts.{text-one}
-use Rattle.demands.specs.Table.{badLength, badGap}
+use Rattle.demands.specs.Table.{badLength}
 use Rattle.demands.specs.Contracts.{ListInto}
+use Rattle.demands.specs.Stores.{Good}
 use Rattle.demands.specs.Output.{ridden, output}
 use Rattle.demands.specs.Sections.{outputBy, outputOf, Blocks, Sections}
+use Rattle.demands.proofs.Common.OneVersion.{forty-so}
+use Rattle.demands.proofs.Demand2.Runs.{runs-nowhere}
 use Rattle.demands.proofs.Demand2.Taking.{takes-so}
-use Rattle.demands.proofs.Beside.Cards.{two-by-run, three-by-run, empty-by-run, two-by-step, three-by-step, empty-by-step}
+use Rattle.demands.proofs.Beside.Cards.{two-by-run, three-by-run, two-by-step, three-by-step, empty-by-step}
 use Rattle.demands.proofs.Beside.Blocks.{Taking, comes, two-by-calls, three-by-calls, empty-by-calls, goes-on-by, at-once-by, program-by}
 
 -- the lines of the records and of the end, as text
 abbrev whole : List ℕ → List ℕ
 whole trace = textOf (ridden trace .lines ++ end (ridden trace .ride) .lines)
 
--- what `list` with a gap allows, and what it comes to with a good one
-abbrev pub Lists : ℕ → Ride → ℕ → List ℕ → List ℕ → Listed → List ℕ → Type 0
-Lists gap ride number block before answer after = ListInto ride gap number block before answer after
+-- what `list` allows, and what it comes to with a good store
+abbrev pub Lists : Store → Ride → ℕ → List ℕ → List ℕ → Listed → List ℕ → Type 0
+Lists store ride number block before answer after = ListInto ride store number block before answer after
 
-pub takes : (gap : ℕ) → badGap gap ≡ false → Taking (λ odometer. gap) (Lists gap)
-takes gap good ride number trace before l after whole c = takes-so ride gap number trace before l after good whole c
+pub takes : (store : Store) → Good store → Taking (gapAt store) (Lists store)
+takes store good ride number trace before l after whole c = takes-so ride store number trace before l after good whole c
 
 one-card-so : (card : List ℕ) → outputOf (card ∷ []) ≡ output card
 unfolding outputBy output
@@ -42,12 +47,12 @@ one-card-so card =
     or-false false = refl
 
 blocks : Blocks
-unfolding badGap
 blocks = record {
-  whole = λ ride gap number trace calls good c. let e = comes (λ odometer. gap) (Lists gap) (takes gap good) ride number trace calls c in (e .text, e .after, e .next);
-  goes-on = λ ride gap number c good. goes-on-by (λ odometer. gap) (Lists gap) (takes gap good) ride number c;
-  all-at-once = λ ride gap number c good. at-once-by (λ odometer. gap) (Lists gap) (takes gap good) ride number c;
-  program = program-by (λ odometer. 40) (Lists 40) (takes 40 refl);
+  whole = λ ride store number trace calls good c. let e = comes (gapAt store) (Lists store) (takes store good) ride number trace calls c in (e .text, e .after, e .next);
+  goes-on = λ ride store number c good. goes-on-by (gapAt store) (Lists store) (takes store good) ride number c;
+  all-at-once = λ ride store number c good. at-once-by (gapAt store) (Lists store) (takes store good) ride number c;
+  program = λ store f cards calls e good. program-by (gapAt store) (Lists store) (takes store good) f cards calls e;
+  forty = λ store cards f. let gap = forty-so store f in (gap .0, ap (λ (gaps : ℕ → ℕ). outputBy gaps cards) (gap .1));
   one-card = one-card-so;
 }
 
@@ -56,17 +61,17 @@ sections = record {
   two = record {
     by-run = two-by-run;
     by-step = two-by-step;
-    by-list = λ ride gap number a b p q both good. two-by-calls (λ odometer. gap) (Lists gap) (takes gap good) ride number a b p q both;
+    by-list = λ ride store number a b p q both good. two-by-calls (gapAt store) (Lists store) (takes store good) ride number a b p q both;
   };
   three = record {
     by-run = three-by-run;
     by-step = three-by-step;
-    by-list = λ ride gap number a b c ab last a′ bc good. three-by-calls (λ odometer. gap) (Lists gap) (takes gap good) ride number a b c ab last a′ bc;
+    by-list = λ ride store number a b c ab last a′ bc good. three-by-calls (gapAt store) (Lists store) (takes store good) ride number a b c ab last a′ bc;
   };
   empty = record {
-    by-run = empty-by-run;
+    by-run = runs-nowhere;
     by-step = empty-by-step;
-    by-list = λ ride gap number q good. empty-by-calls (λ odometer. gap) (Lists gap) (takes gap good) ride number q;
+    by-list = λ ride store number q good. empty-by-calls (gapAt store) (Lists store) (takes store good) ride number q;
   };
   blocks = blocks;
 }

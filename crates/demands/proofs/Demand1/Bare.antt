@@ -34,10 +34,11 @@ use Rattle.demands.proofs.Demand1.Treats.{treat-untouched}
 use Rattle.demands.proofs.Demand2.Steps.{group-refused, end-refused}
 use Rattle.demands.proofs.Demand1.Writes.{write-untouched}
 use Rattle.demands.proofs.Demand1.Listings.{list-untouched, put-untouched}
-use Rattle.demands.proofs.Demand1.Compacting.{compact-untouched, under-untouched, block-untouched}
+use Rattle.demands.proofs.Demand1.Compacting.{compact-untouched, block-untouched}
 use Rattle.compaction.specs.Says.{saysSize}
-use Rattle.compaction.specs.Compact.{Compaction, compact, compactUnder, Settling, blockUnder}
+use Rattle.compaction.specs.Compact.{Compaction, compact, Settling, compactBlock}
 use Rattle.compaction.proofs.Determined as compaction-is
+use Rattle.demands.proofs.Demand1.Explaining.{explained-left}
 use Rattle.demands.proofs.Demand1.Stores.{stores-untouched}
 use Rattle.viewer.specs.Says.{saysBegun as saysOpened, saysHow}
 use Rattle.viewer.proofs.Determined as viewer-is
@@ -50,32 +51,26 @@ untouched = record {
       let kept = step-untouched ride gap bytes n (sym (ap (λ (s : Step). s .lines) (c .1)) ∙ e) in
       (ap (λ (s : Step). s .ride) (c .1) ∙ kept .0, ap (λ (s : Step). s .closed) (c .1) ∙ kept .1);
   treat-at = treat-untouched;
-  run = λ ride gap trace r n c e.
-      let is = c .4 ∙ ap (λ (v : List ℕ). run ride gap v) (c .3) in
-      ap (λ (s : Run). s .ride) is ∙ run-untouched ride gap trace n (sym (ap (λ (s : Run). s .answer) is) ∙ e);
-  list = λ ride gap number trace before r after n c e.
-      let is = c .7 ∙ ap₂ (λ (v w : List ℕ). list ride gap number v w) (c .4) (c .5) in
-      let kept = list-untouched ride gap number trace before n (sym (ap (λ (l : Listing). l .answer) is) ∙ e) in (
-        ap (λ (l : Listing). l .ride) is ∙ kept .0,
-        ap (λ (l : Listing). l .number) is ∙ kept .1,
-        sym (c .6) ∙ ap (λ (l : Listing). l .out) is ∙ kept .2,
-      );
+  run = λ ride store trace r n c e.
+      let is = c .4 ∙ ap (run ride store) (c .3) in
+      ap (λ (s : Run). s .ride) is ∙ run-untouched ride store trace n (sym (ap (λ (s : Run). s .answer) is) ∙ e);
+  list = λ ride store number trace before r after n c e.
+      let is = c .7 ∙ ap₂ (λ (v w : List ℕ). list ride store number v w) (c .4) (c .5) in
+      let left = is ∙ list-untouched ride store number trace before n (sym (ap (λ (l : Listing). l .answer) is) ∙ e) in
+      (ap (λ (l : Listing). l .ride) left, ap (λ (l : Listing). l .number) left, sym (c .6) ∙ ap (λ (l : Listing). l .out) left);
+  explain = λ ride store number trace before r after n c. explained-left ride store number trace before r after c n;
   put-line = λ line before at r after c e.
       let is = c .5 ∙ ap (λ (v : List ℕ). put (text line) v at) (c .3) in
       sym (c .4) ∙ ap (λ (f : Filled). f .buffer) is ∙ put-untouched (text line) before at (sym (ap (λ (f : Filled). f .ends) is) ∙ e);
   write = λ x y z s t n before r after k c e.
       let is = c .5 ∙ ap (write x y z s t n) (c .3) in
       sym (c .4) ∙ ap (λ (w : Writing). w .buffer) is ∙ write-untouched x y z s t n before k (sym (ap (λ (w : Writing). w .answer) is) ∙ e);
-  compact = λ ride gap before r after n c e.
-      let is = c .5 ∙ ap (compact ride gap) (c .3) in
-      let kept = compact-untouched ride gap before n (sym (ap (λ (x : Compaction). x .answer) is) ∙ e) in
+  compact = λ ride store before r after n c e.
+      let is = c .5 ∙ ap (compact ride store) (c .3) in
+      let kept = compact-untouched ride store before n (sym (ap (λ (x : Compaction). x .answer) is) ∙ e) in
       (ap (λ (x : Compaction). x .ride) is ∙ kept .0, sym (c .4) ∙ ap (λ (x : Compaction). x .buffer) is ∙ kept .1);
-  compact-under = λ ride store before r after n c e.
-      let is = c .5 ∙ ap (compactUnder ride store) (c .3) in
-      let kept = under-untouched ride store before n (sym (ap (λ (x : Compaction). x .answer) is) ∙ e) in
-      (ap (λ (x : Compaction). x .ride) is ∙ kept .0, sym (c .4) ∙ ap (λ (x : Compaction). x .buffer) is ∙ kept .1);
-  block-under = λ w store before r after n c e.
-      let is = c .5 ∙ ap (blockUnder w store) (c .3) in
+  block = λ w store before r after n c e.
+      let is = c .5 ∙ ap (compactBlock w store) (c .3) in
       let kept = block-untouched w store before n (sym (ap (λ (x : Settling). x .answer) is) ∙ e) in
       (ap (λ (x : Settling). x .waiting) is ∙ kept .0, sym (c .4) ∙ ap (λ (x : Settling). x .buffer) is ∙ kept .1);
   group = group-refused;

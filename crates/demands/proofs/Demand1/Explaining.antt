@@ -1,4 +1,4 @@
--- A listing with reasons under a store refuses as the store's judgement and document 01's table say, and then leaves everything as it was.
+-- A listing, with reasons too, refuses as the settings' judgement and document 01's table say, and then leaves everything as it was.
 -- Assumes nothing.
 use Prim.Native.Nat.{ℕ, _%_}
 use mathlib.Core.Path.{_≡_, refl, sym, ap, ap₂, subst, _∙_}
@@ -14,13 +14,11 @@ use Rattle.settings.specs.At.{gapAt}
 use Rattle.ride.specs.declared.Ride.{Ride}
 use Rattle.ride.specs.Over.{records}
 use Rattle.listing.specs.declared.Listed.{Listed}
-use Rattle.listing.specs.List.{Listing, unlisted}
-use Rattle.listing.specs.Under.{judgedFirst}
+use Rattle.listing.specs.List.{Listing, unlisted, judgedFirst}
 use Rattle.listing.specs.Says.{saysDone}
-use Rattle.explained.specs.List.{listOf, listTaken, listUnder}
-use Rattle.demands.specs.Table.{badLength}
-use Rattle.demands.specs.Rules.{row, Decided, Given}
-use Rattle.demands.specs.Stores.{ExplainUnder, storeRules}
+use Rattle.explained.specs.List.{listOf, listTaken, list}
+use Rattle.demands.specs.Rules.{Decided, Given}
+use Rattle.demands.specs.Stores.{ExplainInto, traceRules}
 use Rattle.demands.proofs.Demand1.Rides.{gives-not}
 use Rattle.demands.proofs.Demand1.StoreRules.{records-so}
 
@@ -31,12 +29,12 @@ first (gives k) true ride number out l = refl
 first (gives k) false ride number out l = refl
 first (refuses n) b ride number out l = refl
 
--- A listing of whichever lines: under a store it refuses as the store's judgement says, and then with 16;
+-- A listing of whichever lines refuses as the settings' judgement says, and then with 16;
 pub listing-so : (ride : Ride) (store : Store) (number : ℕ) (trace out : List ℕ) (all : Listing) → Given (all .answer)
-    → Decided Given (storeRules store (row 16 (badLength trace) ∷ []))
+    → Decided Given (traceRules store trace)
     (judgedFirst ride number out (judged store) (pick (eqb (length trace % 8) 0) all (unlisted ride number out 16)) .answer)
 listing-so ride store number trace out all g =
-    subst (λ o. Decided Given (storeRules store (row 16 (badLength trace) ∷ [])) o) (first (judged store) (eqb (length trace % 8) 0) ride number out all)
+    subst (λ o. Decided Given (traceRules store trace) o) (first (judged store) (eqb (length trace % 8) 0) ride number out all)
     (records-so store trace (all .answer) g)
 
 -- refused, it leaves everything as it was.
@@ -48,20 +46,20 @@ listing-left (gives k) false ride number out l n g e = let same : 16 ≡ n = cc 
 listing-left (refuses m) b ride number out l n g e = let same : m ≡ n = cc in ap (unlisted ride number out) same
 
 module _ (ride : Ride) (store : Store) (number : ℕ) (trace before : List ℕ) (r : Listed) (after : List ℕ)
-    (c : ExplainUnder ride store number trace before r after) where
+    (c : ExplainInto ride store number trace before r after) where
   -- the listing of as many records as have room
   abbrev all : Listing
   all = listTaken (gapAt store) ride number (records trace) before
 
-  pub explained-so : Decided Given (storeRules store (row 16 (badLength trace) ∷ [])) (saysDone (r .done))
-  unfolding listUnder listOf
+  pub explained-so : Decided Given (traceRules store trace) (saysDone (r .done))
+  unfolding list listOf
   explained-so =
-      let e = ap (λ (l : Listing). l .answer) (c .7 ∙ ap₂ (λ (x y : List ℕ). listUnder ride store number x y) (c .4) (c .5)) in
-      subst (λ o. Decided Given (storeRules store (row 16 (badLength trace) ∷ [])) o) (sym e) (listing-so ride store number trace before all (_, refl))
+      let e = ap (λ (l : Listing). l .answer) (c .7 ∙ ap₂ (λ (x y : List ℕ). list ride store number x y) (c .4) (c .5)) in
+      subst (λ o. Decided Given (traceRules store trace) o) (sym e) (listing-so ride store number trace before all (_, refl))
 
   pub explained-left : (n : ℕ) → saysDone (r .done) ≡ refuses n → (r .ride ≡ ride) × (r .number ≡ number) × (after ≡ before)
-  unfolding listUnder listOf
+  unfolding list listOf
   explained-left n e =
-      let is = c .7 ∙ ap₂ (λ (x y : List ℕ). listUnder ride store number x y) (c .4) (c .5) in
+      let is = c .7 ∙ ap₂ (λ (x y : List ℕ). list ride store number x y) (c .4) (c .5) in
       let stays = is ∙ listing-left (judged store) (eqb (length trace % 8) 0) ride number before all n (_, refl) (sym (ap (λ (l : Listing). l .answer) is) ∙ e) in
       (ap (λ (l : Listing). l .ride) stays, ap (λ (l : Listing). l .number) stays, sym (c .6) ∙ ap (λ (l : Listing). l .out) stays)

@@ -6,18 +6,24 @@ use mathlib.Core.List.{List, [], _∷_}
 use Prim.Native.Nat.{ℕ, _%_}
 use lib.Dec.{eqb, ltb}
 use lib.ListN.{length}
-use Rattle.words.specs.Answer.{Outcome, gives, refuses, pick}
+use Rattle.words.specs.Answer.{Outcome, gives, refuses, then, pick}
+use Rattle.settings.specs.declared.Store.{Store}
+use Rattle.settings.specs.Versions.{Kept}
+use Rattle.settings.specs.Store.{judged}
+use Rattle.settings.specs.At.{gapAt}
 use Rattle.ride.specs.Record.{Entry, odometerOf, passedOf, inOrder, checkRecord}
 use Rattle.ride.specs.State.{noGroup}
 use Rattle.ride.specs.Joining.{allowed}
 use Rattle.ride.specs.Step.{goOn, refuseOr, refused, treat, step}
-use Rattle.ride.specs.Over.{records, rideOver, through, Run, run}
+use Rattle.ride.specs.Over.{records, rideOver, through, Run, judgedFirst, run}
 use Rattle.ride.specs.declared.Ride.{Ride}
 use Rattle.demands.specs.Rules.{row, Decided, Given, Is}
 use Rattle.demands.specs.Table.{badLength, wentBack, tooFar}
-use Rattle.demands.specs.Lists.{recordRules, stepRules, runRules}
+use Rattle.demands.specs.Lists.{recordRules, stepRules}
+use Rattle.demands.specs.Stores.{traceRules}
 use Rattle.demands.proofs.Common.Rules.{true-not-false, if-so}
 use Rattle.demands.proofs.Common.Spelled.{bad-gap, bad-record}
+use Rattle.demands.proofs.Demand1.StoreRules.{store-so}
 use Rattle.words.proofs.Never.{cannot-be}
 
 -- The check of a record: 16, 18, 17.
@@ -62,24 +68,24 @@ stepping ride gap r =
     )
     go false = (λ q. refl, λ q. absurd (true-not-false q))
 
--- a run through all records, and one that is refused with k
-abbrev over : Ride → ℕ → List ℕ → Run
-over ride gap trace = record { answer = gives through; ride = rideOver (λ odometer. gap) ride 1 (records trace) .ride }
+-- what decides a run: the settings, then the length
+run-first : (o : Outcome Kept) (ride : Ride) (r : Run) → then o (λ k. r .answer) ≡ judgedFirst ride o r .answer
+run-first (gives k) ride r = refl
+run-first (refuses n) ride r = refl
 
-abbrev left : Ride → ℕ → Run
-left ride k = record { answer = refuses k; ride = ride }
+length-so : (b : Bool) (ride : Ride) (r : Ride) → Decided (Is through) (row 16 (not b) ∷ [])
+    (pick {A = Run} b (record { answer = gives through; ride = r }) (record { answer = refuses 16; ride = ride }) .answer)
+length-so true ride r = (λ e. absurd (true-not-false (sym e)), λ e. refl)
+length-so false ride r = (λ e. refl, λ e. absurd (true-not-false e))
 
--- A run: 19, 16.
-pub running : (ride : Ride) (gap : ℕ) (trace : List ℕ) → Decided (Is through) (runRules gap trace) (run ride gap trace .answer)
+-- A run: the settings' own refusals, then 16.
+pub running : (ride : Ride) (store : Store) (trace : List ℕ) → Decided (Is through) (traceRules store trace) (run ride store trace .answer)
 unfolding run badLength
-running ride gap trace =
-    subst (λ (t : Bool). Decided (Is through) (row 19 t ∷ row 16 (badLength trace) ∷ []) (run ride gap trace .answer)) (sym (bad-gap gap))
-    (go (allowed gap) (eqb (length trace % 8) 0))
-  where
-    go : (t u : Bool) → Decided (Is through) (row 19 (not t) ∷ row 16 (not u) ∷ []) (pick t (pick u (over ride gap trace) (left ride 16)) (left ride 19) .answer)
-    go false u = (λ q. refl, λ q. absurd (true-not-false q))
-    go true false = (λ q. absurd (true-not-false (sym q)), λ q. (λ p. refl, λ p. absurd (true-not-false p)))
-    go true true = (λ q. absurd (true-not-false (sym q)), λ q. (λ p. absurd (true-not-false (sym p)), λ p. refl))
+running ride store trace =
+    let r : Run = pick (eqb (length trace % 8) 0) (record { answer = gives through; ride = rideOver (gapAt store) ride 1 (records trace) .ride }) (record { answer = refuses 16; ride = ride }) in
+    subst (λ o. Decided (Is through) (traceRules store trace) o) (run-first (judged store) ride r)
+    (store-so (Is through) (λ k. r .answer) (row 16 (badLength trace) ∷ []) store
+    (length-so (eqb (length trace % 8) 0) ride (rideOver (gapAt store) ride 1 (records trace) .ride)))
 
 pub gives-not : {A : Type 0} {x : A} {n : ℕ} → gives x ≡ refuses n → ⊥
 gives-not e = cannot-be cc
@@ -97,12 +103,13 @@ step-untouched ride gap r n e = go (allowed gap) (checkRecord (ride .odometer) r
     go true (gives x) q = absurd (gives-not q)
 
 -- A refused run leaves the ride.
-pub run-untouched : (ride : Ride) (gap : ℕ) (trace : List ℕ) (n : ℕ) → run ride gap trace .answer ≡ refuses n → run ride gap trace .ride ≡ ride
+run-none : (o : Outcome Kept) (b : Bool) (ride r : Ride) (n : ℕ)
+    → judgedFirst ride o (pick b (record { answer = gives through; ride = r }) (record { answer = refuses 16; ride = ride })) .answer ≡ refuses n
+    → judgedFirst ride o (pick b (record { answer = gives through; ride = r }) (record { answer = refuses 16; ride = ride })) .ride ≡ ride
+run-none (gives k) true ride r n e = absurd (gives-not e)
+run-none (gives k) false ride r n e = refl
+run-none (refuses m) b ride r n e = refl
+
+pub run-untouched : (ride : Ride) (store : Store) (trace : List ℕ) (n : ℕ) → run ride store trace .answer ≡ refuses n → run ride store trace .ride ≡ ride
 unfolding run
-run-untouched ride gap trace n e = go (allowed gap) (eqb (length trace % 8) 0) e
-  where
-    go : (t u : Bool) → pick t (pick u (over ride gap trace) (left ride 16)) (left ride 19) .answer ≡ refuses n
-        → pick t (pick u (over ride gap trace) (left ride 16)) (left ride 19) .ride ≡ ride
-    go false u q = refl
-    go true false q = refl
-    go true true q = absurd (gives-not q)
+run-untouched ride store trace n e = run-none (judged store) (eqb (length trace % 8) 0) ride (rideOver (gapAt store) ride 1 (records trace) .ride) n e

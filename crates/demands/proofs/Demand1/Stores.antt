@@ -1,4 +1,4 @@
--- Demand 1 holds of the functions that make a store or take one: each judges the store first.
+-- Demand 1 holds of the functions that make a store or ask one: each judges the store first.
 -- Assumes nothing.
 use Prim.Native.Nat.{ℕ, _%_}
 use mathlib.Core.Path.{_≡_, refl, sym, ap, ap₂, subst, _∙_}
@@ -15,12 +15,6 @@ use Rattle.settings.specs.Store.{noStore, firstOf, Change, openedIf, begin, jud
 use Rattle.settings.specs.At.{heldAt, gapAt, asked}
 use Rattle.contact.specs.Judge.{Contact, judge as judgedContact}
 use Rattle.contact.specs.Under.{judgeUnder}
-use Rattle.ride.specs.declared.Ride.{Ride}
-use Rattle.ride.specs.Over.{records, rideOver, through, Run}
-use Rattle.ride.specs.Under.{judgedFirst, runUnder}
-use Rattle.listing.specs.List.{Listing, listOf, listTaken, unlisted}
-use Rattle.listing.specs.Under.{listUnder}
-use Rattle.demands.specs.Table.{badLength}
 use Rattle.demands.specs.Table02.{tooHigh, full}
 use Rattle.demands.specs.Rules.{row, Decided, Given, Is}
 use Rattle.demands.specs.Lists.{judgeRules, JudgeReads}
@@ -29,7 +23,6 @@ use Rattle.demands.proofs.Common.Rules.{true-not-false, if-so, if-not}
 use Rattle.demands.proofs.Demand1.Contacts.{judging}
 use Rattle.demands.proofs.Demand1.Rides.{gives-not}
 use Rattle.demands.proofs.Demand1.StoreRules.{settings-so, version-so, store-so}
-use Rattle.demands.proofs.Demand1.Explaining.{listing-so, listing-left, explained-so, explained-left}
 
 -- ---- each function
 
@@ -76,29 +69,6 @@ judge-so store odometer b start len =
     (store-so (JudgeReads b start len (h .s) (h .t)) (λ k. pick (ltb highest odometer) (refuses 18) (read h)) (row 18 (tooHigh odometer) ∷ judgeRules b start len (h .s) (h .t)) store
     (if-so (JudgeReads b start len (h .s) (h .t)) (judgeRules b start len (h .s) (h .t)) (refuses 18) (read h) (judging b start len (h .s) (h .t)) (ltb highest odometer)))
 
--- a run and a listing under a store, by the store's judgement
-run-first : (o : Outcome Kept) (ride : Ride) (r : Run) → then o (λ k. r .answer) ≡ judgedFirst ride o r .answer
-run-first (gives k) ride r = refl
-run-first (refuses n) ride r = refl
-
-length-so : (b : Bool) (ride : Ride) (r : Ride) → Decided (Is through) (row 16 (not b) ∷ [])
-    (pick {A = Run} b (record { answer = gives through; ride = r }) (record { answer = refuses 16; ride = ride }) .answer)
-length-so true ride r = (λ e. absurd (true-not-false (sym e)), λ e. refl)
-length-so false ride r = (λ e. refl, λ e. absurd (true-not-false e))
-
-run-so : (ride : Ride) (store : Store) (trace : List ℕ) → Decided (Is through) (storeRules store (row 16 (badLength trace) ∷ [])) (runUnder ride store trace .answer)
-unfolding runUnder badLength
-run-so ride store trace =
-    let r : Run = pick (eqb (length trace % 8) 0) (record { answer = gives through; ride = rideOver (gapAt store) ride 1 (records trace) .ride }) (record { answer = refuses 16; ride = ride }) in
-    subst (λ o. Decided (Is through) (storeRules store (row 16 (badLength trace) ∷ [])) o) (run-first (judged store) ride r)
-    (store-so (Is through) (λ k. r .answer) (row 16 (badLength trace) ∷ []) store
-    (length-so (eqb (length trace % 8) 0) ride (rideOver (gapAt store) ride 1 (records trace) .ride)))
-
-list-so : (ride : Ride) (store : Store) (number : ℕ) (trace out : List ℕ)
-    → Decided Given (storeRules store (row 16 (badLength trace) ∷ [])) (listUnder ride store number trace out .answer)
-unfolding listUnder listOf
-list-so ride store number trace out = listing-so ride store number trace out (listTaken (gapAt store) ride number (records trace) out) (_, refl)
-
 opened-answer : (v : Version) (o : Outcome Kept) → openedIf v o .answer ≡ o
 opened-answer v (gives k) = refl
 opened-answer v (refuses n) = refl
@@ -120,13 +90,6 @@ stores-decided = record {
   judge-under = λ store odometer b start len r c.
       let e = c .4 ∙ ap (λ (x : List ℕ). judgeUnder store odometer x start len) (c .3) in
       rw e (judge-so store odometer b start len);
-  run-under = λ ride store trace r c.
-      let e = ap (λ (x : Run). x .answer) (c .4 ∙ ap (λ (x : List ℕ). runUnder ride store x) (c .3)) in
-      rw e (run-so ride store trace);
-  list-under = λ ride store number trace before r after c.
-      let e = ap (λ (l : Listing). l .answer) (c .7 ∙ ap₂ (λ (x y : List ℕ). listUnder ride store number x y) (c .4) (c .5)) in
-      rw e (list-so ride store number trace before);
-  explain-under = explained-so;
 }
 
 -- ---- what a refusal leaves
@@ -140,23 +103,6 @@ added-none : (store : Store) (v : Version) (o : Outcome Kept) (n : ℕ) → adde
 added-none store v (gives k) n e = absurd (gives-not e)
 added-none store v (refuses m) n e = refl
 
-run-none : (o : Outcome Kept) (b : Bool) (ride r : Ride) (n : ℕ)
-    → judgedFirst ride o (pick b (record { answer = gives through; ride = r }) (record { answer = refuses 16; ride = ride })) .answer ≡ refuses n
-    → judgedFirst ride o (pick b (record { answer = gives through; ride = r }) (record { answer = refuses 16; ride = ride })) .ride ≡ ride
-run-none (gives k) true ride r n e = absurd (gives-not e)
-run-none (gives k) false ride r n e = refl
-run-none (refuses m) b ride r n e = refl
-
-run-left : (ride : Ride) (store : Store) (trace : List ℕ) (n : ℕ) → runUnder ride store trace .answer ≡ refuses n → runUnder ride store trace .ride ≡ ride
-unfolding runUnder
-run-left ride store trace n e = run-none (judged store) (eqb (length trace % 8) 0) ride (rideOver (gapAt store) ride 1 (records trace) .ride) n e
-
-list-left : (ride : Ride) (store : Store) (number : ℕ) (trace out : List ℕ) (n : ℕ) → listUnder ride store number trace out .answer ≡ refuses n
-    → listUnder ride store number trace out ≡ unlisted ride number out n
-unfolding listUnder listOf
-list-left ride store number trace out n e =
-    listing-left (judged store) (eqb (length trace % 8) 0) ride number out (listTaken (gapAt store) ride number (records trace) out) n (_, refl) e
-
 pub stores-untouched : StoresUntouched
 unfolding begin add
 stores-untouched = record {
@@ -164,12 +110,4 @@ stores-untouched = record {
       ap (λ (x : Change). x .store .count) (c .1) ∙ opened-none (firstOf gap s t) (settingsOf gap s t) n (sym (ap (λ (x : Change). x .answer) (c .1)) ∙ e);
   add = λ store v r n c e.
       ap (λ (x : Change). x .store) (c .1) ∙ added-none store v (mayAdd store v) n (sym (ap (λ (x : Change). x .answer) (c .1)) ∙ e);
-  run-under = λ ride store trace r n c e.
-      let is = c .4 ∙ ap (λ (x : List ℕ). runUnder ride store x) (c .3) in
-      ap (λ (x : Run). x .ride) is ∙ run-left ride store trace n (sym (ap (λ (x : Run). x .answer) is) ∙ e);
-  list-under = λ ride store number trace before r after n c e.
-      let is = c .7 ∙ ap₂ (λ (x y : List ℕ). listUnder ride store number x y) (c .4) (c .5) in
-      let left = is ∙ list-left ride store number trace before n (sym (ap (λ (l : Listing). l .answer) is) ∙ e) in
-      (ap (λ (l : Listing). l .ride) left, ap (λ (l : Listing). l .number) left, sym (c .6) ∙ ap (λ (l : Listing). l .out) left);
-  explain-under = λ ride store number trace before r after n c. explained-left ride store number trace before r after c n;
 }

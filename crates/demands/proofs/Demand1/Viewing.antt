@@ -9,9 +9,8 @@ use lib.ListN.{length}
 use denote.Ref.{now}
 use Rattle.words.specs.Answer.{Outcome, gives, refuses, then, pick}
 use Rattle.settings.specs.declared.Store.{Store}
-use Rattle.settings.specs.Versions.{allowed, Kept}
-use Rattle.settings.specs.Store.{plain, judged}
-use Rattle.settings.proofs.Plain.{plain-good, plain-bad}
+use Rattle.settings.specs.Versions.{Kept}
+use Rattle.settings.specs.Store.{judged}
 use Rattle.ride.specs.declared.Lines.{Lines}
 use Rattle.ride.specs.At.{recordAt}
 use Rattle.ride.specs.Says.{saysLines}
@@ -19,19 +18,18 @@ use Rattle.ride.proofs.Determined.{linesOf, lines-back}
 use Rattle.viewer.specs.declared.Stand.{Stand}
 use Rattle.viewer.specs.declared.Viewer.{Viewer}
 use Rattle.viewer.specs.Stand.{opened, returned}
-use Rattle.viewer.specs.Viewing.{Done, done, Start, unopened, opens, startUnder, start, Forward, stays, byStep, under, stepOf, forward, Back, back}
+use Rattle.viewer.specs.Viewing.{Done, done, Start, unopened, opens, start, Forward, stays, byStep, under, stepOf, forward, Back, back}
 use Rattle.viewer.specs.Going.{forwards, backs}
 use Rattle.viewer.specs.Says.{Over, over}
 use Rattle.viewer.proofs.Often.{forwards-stopped, backs-stopped}
 use Rattle.demands.specs.Table.{badLength}
 use Rattle.demands.specs.Table02.{nothingKept, atEnd}
 use Rattle.demands.specs.Rules.{Rule, row, Decided, Is}
-use Rattle.demands.specs.Lists.{runRules, forwardRules, backRules}
-use Rattle.demands.specs.Stores.{storeRules}
+use Rattle.demands.specs.Lists.{forwardRules, backRules}
+use Rattle.demands.specs.Stores.{storeRules, traceRules}
 use Rattle.demands.specs.Viewing.{ViewersDecided, ViewersUntouched}
 use Rattle.demands.proofs.Common.Rules.{true-not-false}
 use Rattle.demands.proofs.Demand1.Rides.{gives-not}
-use Rattle.demands.proofs.Common.Spelled.{bad-gap}
 use Rattle.demands.proofs.Demand1.StoreRules.{store-so}
 use Rattle.demands.proofs.Demand1.ManyCalls.{past, forwards-so, backs-so}
 
@@ -50,27 +48,12 @@ opens-then : (store : Store) (trace : List ℕ) (o : Outcome Kept)
 opens-then store trace (gives k) = refl
 opens-then store trace (refuses n) = refl
 
-under-so : (store : Store) (trace : List ℕ) → Decided (Is done) (storeRules store (row 16 (badLength trace) ∷ [])) (startUnder store trace .answer)
-unfolding startUnder badLength
-under-so store trace =
+start-so : (store : Store) (trace : List ℕ) → Decided (Is done) (traceRules store trace) (start store trace .answer)
+unfolding start badLength
+start-so store trace =
     let t : Bool = eqb (length trace % 8) 0 in
     subst (λ (o : Outcome Done). Decided (Is done) (storeRules store (row 16 (not t) ∷ [])) o) (opens-then store trace (judged store))
     (store-so (Is done) (λ k. whole store trace t .answer) (row 16 (not t) ∷ []) store (whole-so store trace t))
-
-gap-so : (gap : ℕ) (trace : List ℕ) (t : Bool) → allowed gap ≡ t
-    → Decided (Is done) (row 19 (not t) ∷ row 16 (badLength trace) ∷ []) (startUnder (plain gap) trace .answer)
-unfolding startUnder badLength
-gap-so gap trace true e =
-    let good = subst (λ (o : Outcome Kept). Decided (Is done) (row 16 (badLength trace) ∷ []) (opens (plain gap) trace o .answer)) (sym (plain-good gap e))
-    (whole-so (plain gap) trace (eqb (length trace % 8) 0)) in
-    (λ q. absurd (true-not-false (sym q)), λ q. good)
-gap-so gap trace false e =
-    (λ q. ap (λ (o : Outcome Kept). opens (plain gap) trace o .answer) (plain-bad gap e), λ q. absurd (true-not-false q))
-
-start-so : (gap : ℕ) (trace : List ℕ) → Decided (Is done) (runRules gap trace) (start gap trace .answer)
-start-so gap trace =
-    subst (λ (t : Bool). Decided (Is done) (row 19 t ∷ row 16 (badLength trace) ∷ []) (start gap trace .answer)) (sym (bad-gap gap))
-    (gap-so gap trace (allowed gap) refl)
 
 -- ---- forward and back
 
@@ -103,16 +86,12 @@ back-so s = go (eqb (s .kept) 0)
 
 pub viewers-decided : ViewersDecided
 viewers-decided = record {
-  start = λ gap trace r c. let e = ap (λ (x : Start). x .answer) c in rw e (start-so gap (now trace));
-  start-under = λ store trace r c. let e = ap (λ (x : Start). x .answer) c in rw e (under-so store (now trace));
+  start = λ store trace r c. let e = ap (λ (x : Start). x .answer) c in rw e (start-so store (now trace));
   forward = λ v r c. let e = ap (λ (o : Over Forward). o .answer .answer) c in rw e (forward-so (now (v .trace)) (v .stand));
   back = λ v r c. let e = ap (λ (o : Over Back). o .answer .answer) c in rw e (back-so (v .stand));
-  start-at = λ gap trace r c.
-      let e = ap (λ (x : Start). x .answer) (c .4 ∙ ap (start gap) (c .3)) in
-      rw e (start-so gap trace);
-  start-under-at = λ store trace r c.
-      let e = ap (λ (x : Start). x .answer) (c .4 ∙ ap (startUnder store) (c .3)) in
-      rw e (under-so store trace);
+  start-at = λ store trace r c.
+      let e = ap (λ (x : Start). x .answer) (c .4 ∙ ap (start store) (c .3)) in
+      rw e (start-so store trace);
   forward-at = λ trace s r c.
       let e = ap (λ (f : Forward). f .answer) (c .4 ∙ ap (λ (t : List ℕ). forward t s) (c .3)) in
       rw e (forward-so trace s);
@@ -131,9 +110,9 @@ opens-none store trace (gives k) true n h e = absurd (gives-not (rw h at e))
 opens-none store trace (gives k) false n h e = rw h (let q : whole store trace false .answer ≡ refuses n = rw h at e in let same : 16 ≡ n = cc in ap (unopened store) same)
 opens-none store trace (refuses m) t n h e = let same : m ≡ n = cc in ap (unopened store) same
 
-under-left : (store : Store) (trace : List ℕ) (n : ℕ) → startUnder store trace .answer ≡ refuses n → startUnder store trace ≡ unopened store n
-unfolding startUnder
-under-left store trace n e = opens-none store trace (judged store) (eqb (length trace % 8) 0) n refl e
+start-left : (store : Store) (trace : List ℕ) (n : ℕ) → start store trace .answer ≡ refuses n → start store trace ≡ unopened store n
+unfolding start
+start-left store trace n e = opens-none store trace (judged store) (eqb (length trace % 8) 0) n refl e
 
 forward-none : (s : Stand) (o : Outcome Kept) (step : Forward) (t : Bool) (n : ℕ) → step .answer ≡ gives done
     → pick t (under s o step) (stays s 23) .answer ≡ refuses n → pick t (under s o step) (stays s 23) ≡ stays s n
@@ -165,11 +144,8 @@ no-lines ls e = sym (lines-back ls) ∙ ap linesOf e
 pub viewers-untouched : ViewersUntouched
 unfolding opened
 viewers-untouched = record {
-  start = λ gap trace r n c e.
-      let left = c ∙ under-left (plain gap) (now trace) n (sym (ap (λ (x : Start). x .answer) c) ∙ e) in
-      (ap (λ (x : Start). x .trace) left, ap (λ (x : Start). x .stand .number) left, ap (λ (x : Start). x .stand .kept) left);
-  start-under = λ store trace r n c e.
-      let left = c ∙ under-left store (now trace) n (sym (ap (λ (x : Start). x .answer) c) ∙ e) in
+  start = λ store trace r n c e.
+      let left = c ∙ start-left store (now trace) n (sym (ap (λ (x : Start). x .answer) c) ∙ e) in
       (ap (λ (x : Start). x .trace) left, ap (λ (x : Start). x .stand .number) left, ap (λ (x : Start). x .stand .kept) left);
   forward = λ v r n c e.
       let left = c ∙ ap (over (v .trace)) (forward-left (now (v .trace)) (v .stand) n (sym (ap (λ (o : Over Forward). o .answer .answer) c) ∙ e)) in
@@ -177,13 +153,9 @@ viewers-untouched = record {
   back = λ v r n c e.
       let stand = ap (λ (o : Over Back). o .answer .stand) c ∙ back-left (v .stand) n (sym (ap (λ (o : Over Back). o .answer .answer) c) ∙ e) in
       ap (λ (o : Over Back). record { trace = o .trace; stand = r .viewer .stand }) c ∙ ap (λ (s : Stand). record { trace = v .trace; stand = s }) stand;
-  start-at = λ gap trace r n c e.
-      let is = c .4 ∙ ap (start gap) (c .3) in
-      let left = is ∙ under-left (plain gap) trace n (sym (ap (λ (x : Start). x .answer) is) ∙ e) in
-      (ap (λ (x : Start). x .stand .number) left, ap (λ (x : Start). x .stand .kept) left);
-  start-under-at = λ store trace r n c e.
-      let is = c .4 ∙ ap (startUnder store) (c .3) in
-      let left = is ∙ under-left store trace n (sym (ap (λ (x : Start). x .answer) is) ∙ e) in
+  start-at = λ store trace r n c e.
+      let is = c .4 ∙ ap (start store) (c .3) in
+      let left = is ∙ start-left store trace n (sym (ap (λ (x : Start). x .answer) is) ∙ e) in
       (ap (λ (x : Start). x .stand .number) left, ap (λ (x : Start). x .stand .kept) left);
   forward-at = λ trace s r n c e.
       let is = c .4 ∙ ap (λ (t : List ℕ). forward t s) (c .3) in

@@ -12,6 +12,7 @@ use borrow.Author.Tests.{le-leb, lt-leb}
 use Rattle.words.specs.Answer.{gives, pick}
 use Rattle.words.specs.Limits.{largest64}
 use Rattle.words.proofs.Told.{told}
+use Rattle.settings.specs.declared.Store.{Store}
 use Rattle.ride.specs.State.{freshRide}
 use Rattle.ride.specs.Step.{End, end}
 use Rattle.ride.specs.Over.{records, rideOver}
@@ -21,18 +22,20 @@ use Rattle.ride.specs.declared.Ride.{Ride}
 use Rattle.ride.proofs.Cutting.{records-length}
 use Rattle.listing.specs.Text.{text, seen, decimal, digits}
 use Rattle.listing.specs.Put.{Filled, filled, placed, put}
-use Rattle.listing.specs.List.{textOf, Listing, listOf, listTaken, list, unlisted}
+use Rattle.listing.specs.List.{textOf, Listing, listOf, listTaken, list}
 use Rattle.listing.specs.Says.{saysDone}
 use Rattle.listing.specs.declared.Done.{Done}
 use Rattle.listing.specs.declared.Listed.{Listed}
 use Rattle.listing.specs.declared.Put.{Put}
+use Rattle.listing.proofs.Judging.{list-taken}
 use Rattle.listing.proofs.Texts.{text-one, text-join}
 use Rattle.listing.proofs.Determined as listing-is
 use Rattle.demands.specs.Table.{badLength}
 use Rattle.demands.specs.Contracts.{Fresh, PutLine, ListInto}
-use Rattle.demands.specs.Output.{ridden, output, recordsIn, Quoted, quoted, AllQuoted, Written}
+use Rattle.demands.specs.Output.{Forty, ridden, output, recordsIn, Quoted, quoted, AllQuoted, Written}
 use Rattle.demands.proofs.Common.Rules.{not-false}
 use Rattle.demands.proofs.Demand2.Room.{all-taken}
+use Rattle.demands.proofs.Common.OneVersion.{forty-so}
 use Rattle.demands.proofs.Demand2.Taking.{at-first, takes-so}
 
 -- ---- the listing
@@ -50,15 +53,14 @@ listing trace before =
       out = placed (allText trace) before 0;
     }
 
-all-listed : (trace before : List ℕ) → badLength trace ≡ false → recordsIn trace < largest64 → 128 * recordsIn trace ≤ length before
-    → list freshRide 40 1 trace before ≡ listing trace before
-unfolding list listOf badLength
-all-listed trace before good small enough =
+all-listed : (trace before : List ℕ) → recordsIn trace < largest64 → 128 * recordsIn trace ≤ length before
+    → listTaken (λ odometer. 40) freshRide 1 (records trace) before ≡ listing trace before
+unfolding listOf
+all-listed trace before small enough =
     let many : length (records trace) ≡ recordsIn trace = records-length (recordsIn trace) trace in
     let fit : 128 * length (records trace) ≤ length before = subst (λ (k : ℕ). 128 * k ≤ length before) (sym many) enough in
     let few : 1 + length (records trace) ≤ largest64 = subst (λ (k : ℕ). 1 + k ≤ largest64) (sym many) (omega arith) in
-    ap (λ (t : Bool). pick t (listTaken (λ odometer. 40) freshRide 1 (records trace) before) (unlisted freshRide 1 before 16)) (not-false (eqb (length trace % 8) 0) good)
-    ∙ ap (λ (k : ℕ). listOf (λ odometer. 40) freshRide 1 k (records trace) before) (all-taken (records trace) (λ odometer. 40) freshRide 1 (length before) fit few ∙ many)
+    ap (λ (k : ℕ). listOf (λ odometer. 40) freshRide 1 k (records trace) before) (all-taken (records trace) (λ odometer. 40) freshRide 1 (length before) fit few ∙ many)
     ∙ ap (λ (rs : List (List ℕ)). whole rs) (take-all (recordsIn trace) (records trace) (subst (λ (k : ℕ). k ≤ recordsIn trace) (sym many) (omega arith)))
   where
     whole : List (List ℕ) → Listing
@@ -70,14 +72,18 @@ all-listed trace before good small enough =
           out = placed (textOf (rideOver (λ odometer. 40) freshRide 1 rs .lines)) before 0;
         }
 
--- What `list` answers, where all records have room.
-pub listed-so : (f : Ride) (l : Listed) (trace before after : List ℕ) → badLength trace ≡ false → recordsIn trace < largest64
-    → 128 * recordsIn trace ≤ length before → Fresh f → ListInto f 40 1 trace before l after
+-- What `list` answers under a store of the program's gap, where all records have room.
+pub listed-so : (store : Store) (f : Ride) (l : Listed) (trace before after : List ℕ) → Forty store → badLength trace ≡ false → recordsIn trace < largest64
+    → 128 * recordsIn trace ≤ length before → Fresh f → ListInto f store 1 trace before l after
     → (l .done ≡ Done.Took (recordsIn trace) (length (allText trace))) × (l .ride ≡ ridden trace .ride)
     × (after ≡ allText trace ++ drop (length (allText trace)) before)
-listed-so f l trace before after good small enough fresh c =
-    let is = c .7 ∙ ap₂ (λ (v w : List ℕ). list f 40 1 v w) (c .4) (c .5) ∙ ap (λ (g : Ride). list g 40 1 trace before) (fresh .1)
-    ∙ all-listed trace before good small enough in (
+unfolding badLength
+listed-so store f l trace before after forty good small enough fresh c =
+    let gap = forty-so store forty in
+    let is = c .7 ∙ ap₂ (λ (v w : List ℕ). list f store 1 v w) (c .4) (c .5) ∙ ap (λ (g : Ride). list g store 1 trace before) (fresh .1)
+    ∙ sym (list-taken freshRide store 1 trace before (gap .0) (not-false (eqb (length trace % 8) 0) good))
+    ∙ ap (λ (gaps : ℕ → ℕ). listTaken gaps freshRide 1 (records trace) before) (gap .1)
+    ∙ all-listed trace before small enough in (
       told saysDone listing-is.doneOf listing-is.done-back (l .done) (Done.Took (recordsIn trace) (length (allText trace))) (ap (λ (v : Listing). v .answer) is) refl,
       ap (λ (v : Listing). v .ride) is,
       sym (c .6) ∙ ap (λ (v : Listing). v .out) is ∙ at-first (allText trace) before,
@@ -136,8 +142,8 @@ written = record {
   no-room = no-room-so;
   quotes = all-quoted;
   takes = takes-so;
-  whole = λ f l e trace before after good small enough fresh c ended.
-      let r = listed-so f l trace before after good small enough fresh c in
+  whole = λ store f l e trace before after forty good small enough fresh c ended.
+      let r = listed-so store f l trace before after forty good small enough fresh c in
       let w = allText trace in
       let lines : saysLines (e .lines) ≡ end (ridden trace .ride) .lines =
       ap (λ (v : End). v .lines) (ended .1) ∙ ap (λ (g : Ride). end g .lines) (r .1) in (

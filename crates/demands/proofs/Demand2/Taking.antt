@@ -1,38 +1,32 @@
--- What a listing comes to: by `list` with a gap, and by `list_under` under a store.
+-- What a listing comes to.
 -- Assumes nothing.
 use Prim.Native.Nat.{ℕ, _+_, _*_, _%_, _≤_}
 use native.Mathlib.Nat.{zero-add}
 use mathlib.Core.Path.{_≡_, refl, sym, ap, ap₂, _∙_, subst}
-use mathlib.Core.Bool.{Bool, true, false}
+use mathlib.Core.Bool.{false}
 use mathlib.Core.List.{List, _++_}
 use lib.Dec.{eqb}
 use lib.ListN.{length, take, drop}
 use lib.Seq.{take-at, drop-at}
-use Rattle.words.specs.Answer.{gives, pick}
 use Rattle.words.specs.Limits.{largest64}
 use Rattle.words.proofs.Told.{told}
 use Rattle.settings.specs.declared.Store.{Store}
-use Rattle.settings.specs.Versions.{kept}
-use Rattle.settings.specs.Store.{judged}
 use Rattle.settings.specs.At.{gapAt}
-use Rattle.ride.specs.Joining.{allowed}
 use Rattle.ride.specs.Over.{records, rideOver}
 use Rattle.ride.specs.declared.Ride.{Ride}
 use Rattle.ride.proofs.Cutting.{records-length}
 use Rattle.listing.specs.Put.{placed}
-use Rattle.listing.specs.List.{textOf, taken, Listing, listOf, listTaken, list, unlisted}
-use Rattle.listing.specs.Under.{listUnder}
+use Rattle.listing.specs.List.{textOf, taken, Listing, listOf, listTaken, list}
 use Rattle.listing.specs.Says.{saysDone, saysListed}
 use Rattle.listing.specs.declared.Done.{Done}
 use Rattle.listing.specs.declared.Listed.{Listed}
-use Rattle.listing.proofs.Plain.{under-taken}
+use Rattle.listing.proofs.Judging.{list-taken}
 use Rattle.listing.proofs.Determined as listing-is
-use Rattle.demands.specs.Table.{badLength, badGap}
+use Rattle.demands.specs.Table.{badLength}
 use Rattle.demands.specs.Contracts.{ListInto}
-use Rattle.demands.specs.Stores.{ListUnder}
+use Rattle.demands.specs.Stores.{Good}
 use Rattle.demands.specs.Output.{recordsIn, Takes}
 use Rattle.demands.proofs.Common.Rules.{not-false}
-use Rattle.demands.proofs.Common.Spelled.{bad-gap}
 use Rattle.demands.proofs.Demand2.Room.{all-taken, few-taken, one-taken}
 
 -- A text put at the beginning.
@@ -65,19 +59,10 @@ takes-by gaps ride number trace before l after is =
       counted-on = ap (λ (v : Listing). v .number) is;
     }
 
-pub takes-so : (ride : Ride) (gap number : ℕ) (trace before : List ℕ) (l : Listed) (after : List ℕ) → badGap gap ≡ false → badLength trace ≡ false
-    → ListInto ride gap number trace before l after → Takes (λ odometer. gap) ride number trace before l after
-unfolding list badLength
-takes-so ride gap number trace before l after good-gap good c =
-    takes-by (λ odometer. gap) ride number trace before l after
-    (ap (saysListed l) (sym (c .6)) ∙ c .7 ∙ ap₂ (λ (v w : List ℕ). list ride gap number v w) (c .4) (c .5)
-    ∙ ap₂ (λ (t u : Bool). pick t (pick u (listTaken (λ odometer. gap) ride number (records trace) before) (unlisted ride number before 16)) (unlisted ride number before 19))
-    (not-false (allowed gap) (sym (bad-gap gap) ∙ good-gap)) (not-false (eqb (length trace % 8) 0) good))
-
-pub takes-under : (ride : Ride) (store : Store) (number : ℕ) (trace before : List ℕ) (l : Listed) (after : List ℕ) → judged store ≡ gives kept
-    → badLength trace ≡ false → ListUnder ride store number trace before l after → Takes (gapAt store) ride number trace before l after
+pub takes-so : (ride : Ride) (store : Store) (number : ℕ) (trace before : List ℕ) (l : Listed) (after : List ℕ) → Good store
+    → badLength trace ≡ false → ListInto ride store number trace before l after → Takes (gapAt store) ride number trace before l after
 unfolding badLength
-takes-under ride store number trace before l after good-store good c =
+takes-so ride store number trace before l after good-store good c =
     takes-by (gapAt store) ride number trace before l after
-    (ap (saysListed l) (sym (c .6)) ∙ c .7 ∙ ap₂ (λ (v w : List ℕ). listUnder ride store number v w) (c .4) (c .5)
-    ∙ sym (under-taken ride store number trace before good-store (not-false (eqb (length trace % 8) 0) good)))
+    (ap (saysListed l) (sym (c .6)) ∙ c .7 ∙ ap₂ (λ (v w : List ℕ). list ride store number v w) (c .4) (c .5)
+    ∙ sym (list-taken ride store number trace before good-store (not-false (eqb (length trace % 8) 0) good)))

@@ -1,14 +1,11 @@
--- The hypotheses of the laws on rides in sections are met: every card of whole records can be listed by a call, and document 01's ride,
--- cut after its first record, is ridden card by card.
+-- The hypotheses of the laws on rides in sections are met, by `step`: document 01's ride, cut after its first record, is ridden card by card; and a call that
+-- takes a whole card. (By `run` and `list`: StoresMet.antt.)
 -- Assumes nothing.
 use Prim.Native.Nat.{ℕ, _+_, _*_, _%_, _≤_}
 use native.Mathlib.Omega.{arith}
-use mathlib.Core.Path.{_≡_, refl, sym, ap, ap₂, _∙_}
-use mathlib.Core.Bool.{Bool, true, false}
+use mathlib.Core.Path.{_≡_, refl, sym, _∙_}
 use mathlib.Core.List.{List, [], _∷_, _++_, append-nil}
-use lib.Dec.{eqb}
 use lib.ListN.{length, take, drop, replicate, length-replicate, drop-of-length-le}
-use Rattle.words.specs.Answer.{gives, pick}
 use Rattle.words.specs.Limits.{largest64}
 use Rattle.words.specs.Bits.{word}
 use Rattle.words.specs.Plain.{isCheck, covers, count, even, isCode, onwards, figure}
@@ -27,26 +24,20 @@ use Rattle.ride.specs.State.{noGroup, nothingKnown, freshRide}
 use Rattle.ride.specs.Linking.{markAt}
 use Rattle.ride.specs.Closing.{close, leave}
 use Rattle.ride.specs.Step.{closeBehind, missedLines, afterMissed, goOn, treat, step}
-use Rattle.ride.specs.Joining.{allowed, join, takeUp}
-use Rattle.ride.specs.Over.{records, Ridden, rideOver, firstRecords, run}
-use Rattle.ride.specs.declared.Ran.{Ran}
+use Rattle.ride.specs.Joining.{join, takeUp}
+use Rattle.ride.specs.Over.{records, Ridden, rideOver, firstRecords}
 use Rattle.ride.specs.declared.Stepped.{Stepped}
 use Rattle.ride.specs.declared.Ride.{Ride}
 use Rattle.listing.specs.Put.{placed}
-use Rattle.listing.specs.List.{textOf, taken, listOf, listTaken, unlisted, list}
+use Rattle.listing.specs.List.{textOf, taken}
 use Rattle.listing.specs.declared.Done.{Done}
 use Rattle.listing.specs.declared.Listed.{Listed}
 use Rattle.ride.proofs.Determined as ride-is
-use Rattle.demands.specs.Table.{badLength, badGap}
-use Rattle.demands.specs.Contracts.{ListInto, RunOver}
+use Rattle.demands.specs.Table.{badLength}
 use Rattle.demands.specs.Output.{recordsIn, ridden, oneRide}
-use Rattle.demands.specs.Sections.{Whole, Call, ByCalls, ByList, ByStep, linesFrom}
-use Rattle.demands.proofs.Common.Rules.{not-false}
-use Rattle.demands.proofs.Common.Spelled.{bad-gap}
+use Rattle.demands.specs.Sections.{Whole, Call, ByCalls, ByStep, linesFrom}
 use Rattle.demands.proofs.Beside.Cards.{eights}
-use Rattle.demands.proofs.Witness.CallsMet.{lent}
 use Rattle.demands.proofs.Beside.Blocks.{Taking}
-use Rattle.demands.proofs.Beside.Sections.{Lists, takes}
 
 -- ---- by `list`
 
@@ -87,38 +78,7 @@ module _ (gaps : ℕ → ℕ) (ride : Ride) (number : ℕ) (card : List ℕ) whe
       took : (n bytes : ℕ) → Done.Took many (length written) ≡ Done.Took n bytes → many ≡ n
       took n bytes e = cc
 
-module _ (gap : ℕ) (ride : Ride) (number : ℕ) (card : List ℕ) where
-  abbrev lentRoom : List ℕ
-  lentRoom = room (λ odometer. gap) ride number card
-
-  abbrev oneCall : Call
-  oneCall = theCall (λ odometer. gap) ride number card
-
-  allowed-so : badGap gap ≡ false → Whole card → listTaken (λ odometer. gap) ride number (records card) lentRoom ≡ list ride gap number card lentRoom
-  unfolding list badLength
-  allowed-so good whole =
-      sym
-      (ap₂ (λ (t u : Bool). pick t (pick u (listTaken (λ odometer. gap) ride number (records card) lentRoom) (unlisted ride number lentRoom 16)) (unlisted ride number lentRoom 19))
-      (not-false (allowed gap) (sym (bad-gap gap) ∙ good)) (not-false (eqb (length card % 8) 0) whole))
-
-  called : badGap gap ≡ false → Whole card → ListInto ride gap number card lentRoom (oneCall .answer) (oneCall .after)
-  unfolding listOf
-  called good whole = (
-    ([], ([], tt)),
-    lent card,
-    lent lentRoom,
-    (ride, (gap, (number, (lent card, (lent (oneCall .after), tt))))),
-    refl,
-    refl,
-    refl,
-    allowed-so good whole,
-  )
-
-  pub listed-met : badGap gap ≡ false → Whole card → number + recordsIn card ≤ largest64 → ByList gap ride number card (oneCall ∷ [])
-  listed-met good whole small =
-      all-met (λ odometer. gap) ride number card (Lists gap) (takes gap good) (called good whole) whole small
-
--- ---- by `step` and by `run`
+-- ---- by `step`
 
 -- document 01's ride on two cards: its first record, and the other two
 abbrev pub firstCard : List ℕ
@@ -151,16 +111,6 @@ stepped-met = (
 lines-met : (linesFrom 1 (one ∷ []) ≡ []) × (linesFrom 2 (two ∷ three ∷ []) ≡ ridden oneRide .lines)
 unfolding readWord isCode even count covers figure onwards isCheck exchanged other word shortWord longWord telegram balises readAll fits first fitRow fitRows howMany fitIn fitting distance signalSpeed targetFigure routeSpeed distanceOf signalDistance numberOf judgeRead judge odometerOf passedOf inOrder checkRecord noGroup nothingKnown freshRide join takeUp markAt close leave closeBehind missedLines afterMissed goOn treat firstRecords rideOver step
 lines-met = (refl, refl)
-
-abbrev ran : Ride → List ℕ → Ran
-ran ride card = ride-is.ranOf (run ride 40 card)
-
-run-met : RunOver freshRide 40 firstCard (ran freshRide firstCard) × RunOver (ran freshRide firstCard .ride) 40 secondCard (ran (ran freshRide firstCard .ride) secondCard)
-unfolding run
-run-met = (
-  (([], tt), lent firstCard, (freshRide, (40, (lent firstCard, tt))), refl, refl),
-  (([], tt), lent secondCard, (ran freshRide firstCard .ride, (40, (lent secondCard, tt))), refl, refl),
-)
 
 pub whole-met : Whole firstCard × Whole secondCard
 unfolding badLength

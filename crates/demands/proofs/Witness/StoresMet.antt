@@ -24,18 +24,19 @@ use Rattle.ride.specs.declared.Ride.{Ride}
 use Rattle.ride.specs.State.{freshRide}
 use Rattle.ride.specs.declared.Way.{Way}
 use Rattle.ride.specs.Over.{records, rideOver}
-use Rattle.ride.proofs.Under.{under-through}
+use Rattle.ride.proofs.Under.{run-through}
 use Rattle.listing.specs.List.{listOf}
-use Rattle.listing.proofs.Plain.{under-taken}
+use Rattle.listing.proofs.Judging.{list-taken}
 use Rattle.demands.specs.Table.{badLength, notSeven}
-use Rattle.demands.specs.Output.{recordsIn}
-use Rattle.demands.specs.Sections.{Whole, Call, afterCalls}
-use Rattle.demands.specs.Stores.{BeginStore, RunUnder, ListUnder}
-use Rattle.demands.specs.SectionsUnder.{Good, ByListUnder}
+use Rattle.demands.specs.Output.{Forty, recordsIn}
+use Rattle.demands.specs.PlainGap.{Opened}
+use Rattle.demands.specs.Sections.{Whole, Call, ByList, afterCalls}
+use Rattle.demands.specs.Contracts.{RunOver, ListInto}
+use Rattle.demands.specs.Stores.{BeginStore, Good}
 use Rattle.demands.proofs.Common.Rules.{not-false}
 use Rattle.demands.proofs.Witness.CallsMet.{lent}
 use Rattle.demands.proofs.Witness.SectionsMet.{room, theCall, all-met, firstCard, secondCard, whole-met}
-use Rattle.demands.proofs.Beside.SectionsUnder.{Lists, takes}
+use Rattle.demands.proofs.Beside.Sections.{Lists, takes}
 
 -- ---- any card under any good store
 
@@ -43,21 +44,21 @@ module _ (store : Store) (ride : Ride) (card : List ℕ) (good : Good store) (wh
   abbrev pub underRan : Ran
   underRan = record { ride = rideOver (gapAt store) ride 1 (records card) .ride; way = Way.Through }
 
-  pub ran-met : RunUnder ride store card underRan
+  pub ran-met : RunOver ride store card underRan
   unfolding badLength
   ran-met = (
     ([], tt),
     lent card,
     (ride, (store, (lent card, tt))),
     refl,
-    under-through ride store card good (not-false (eqb (length card % 8) 0) whole),
+    run-through ride store card good (not-false (eqb (length card % 8) 0) whole),
   )
 
 module _ (store : Store) (ride : Ride) (number : ℕ) (card : List ℕ) (good : Good store) (whole : Whole card) where
   abbrev pub underCall : Call
   underCall = theCall (gapAt store) ride number card
 
-  called : ListUnder ride store number card (underCall .before) (underCall .answer) (underCall .after)
+  called : ListInto ride store number card (underCall .before) (underCall .answer) (underCall .after)
   unfolding listOf badLength
   called = (
     ([], ([], tt)),
@@ -67,10 +68,10 @@ module _ (store : Store) (ride : Ride) (number : ℕ) (card : List ℕ) (good : 
     refl,
     refl,
     refl,
-    under-taken ride store number card (underCall .before) good (not-false (eqb (length card % 8) 0) whole),
+    list-taken ride store number card (underCall .before) good (not-false (eqb (length card % 8) 0) whole),
   )
 
-  pub under-met : number + recordsIn card ≤ largest64 → ByListUnder store ride number card (underCall ∷ [])
+  pub under-met : number + recordsIn card ≤ largest64 → ByList store ride number card (underCall ∷ [])
   under-met small = all-met (gapAt store) ride number card (Lists store) (takes store good) called whole small
 
 -- ---- one version, and two
@@ -94,6 +95,13 @@ two-gaps : (gapAt two 1029 ≡ 40) × (gapAt two 1030 ≡ 20)
 unfolding gapAt heldAt heldFrom versionsOf withOne opened noStore
 two-gaps = (refl, refl)
 
+-- the program's gap, and a plain gap
+forty-met : Forty (one .store)
+forty-met = record { s = 0x01; t = 0x7E; begun = one; pair = opened-met .0; opened = opened-met .1; is = refl }
+
+plain-met : Opened 40 one
+plain-met = record { s = 0x01; t = 0x7E; pair = opened-met .0; begun = opened-met .1 }
+
 -- ---- its cards
 
 abbrev firstCall : Call
@@ -102,7 +110,7 @@ firstCall = underCall two freshRide 1 firstCard two-good (whole-met .0)
 abbrev secondCall : Call
 secondCall = underCall two (firstCall .answer .ride) 2 secondCard two-good (whole-met .1)
 
-cards-met : ByListUnder two freshRide 1 firstCard (firstCall ∷ []) × ByListUnder two (afterCalls freshRide (firstCall ∷ [])) 2 secondCard (secondCall ∷ [])
+cards-met : ByList two freshRide 1 firstCard (firstCall ∷ []) × ByList two (afterCalls freshRide (firstCall ∷ [])) 2 secondCard (secondCall ∷ [])
 cards-met = (
   under-met two freshRide 1 firstCard two-good (whole-met .0) (omega arith),
   under-met two (firstCall .answer .ride) 2 secondCard two-good (whole-met .1) (omega arith),
@@ -111,6 +119,6 @@ cards-met = (
 abbrev firstRan : Ran
 firstRan = underRan two freshRide firstCard two-good (whole-met .0)
 
-runs-met : RunUnder freshRide two firstCard firstRan
-    × RunUnder (firstRan .ride) two secondCard (underRan two (firstRan .ride) secondCard two-good (whole-met .1))
+runs-met : RunOver freshRide two firstCard firstRan
+    × RunOver (firstRan .ride) two secondCard (underRan two (firstRan .ride) secondCard two-good (whole-met .1))
 runs-met = (ran-met two freshRide firstCard two-good (whole-met .0), ran-met two (firstRan .ride) secondCard two-good (whole-met .1))
