@@ -7,7 +7,10 @@
    none       16,777,216 bits in which no contact opens and neither sync word stands: single zeroes among ones
    telegrams  16,777,216 bits of one balise, telegram after telegram
    noise      16,777,216 bits by chance
-   line       16,777,216 bits as a vehicle hears them: ones, balises with some flipped bits, markers, bursts of noise */
+   line       16,777,216 bits as a vehicle hears them: ones, balises with some flipped bits, markers, bursts of noise
+   quiet-lead     so many frames of a lead on which nothing is heard, a decimetre each
+   ridden-lead    so many frames of a lead as a vehicle hears it: such balises, markers and noise, with more quiet line between; some odometers wild
+   standing-lead  so many frames of a vehicle that stands over a balise */
 #include "atc2_plain.h"
 #include "chance.h"
 #include "pair.h"
@@ -276,10 +279,47 @@ static void make_positions(uint64_t count)
     }
 }
 
+/* ---- A lead ---- */
+
+/* A frame with its odometer and twelve bytes of line. */
+static void put_frame(uint64_t dm, const uint8_t *line)
+{
+    uint8_t frame[16] = {(uint8_t)(dm >> 24), (uint8_t)(dm >> 16), (uint8_t)(dm >> 8), (uint8_t)dm};
+    memcpy(frame + 4, line, 12);
+    fwrite(frame, 1, sizeof frame, stdout);
+}
+
+static bool is_lead(const char *kind)
+{
+    return strcmp(kind, "quiet-lead") == 0 || strcmp(kind, "ridden-lead") == 0 || strcmp(kind, "standing-lead") == 0;
+}
+
+/* The line of a lead is the stretch, again and again. As a vehicle hears it, of ten thousand frames one has a wild odometer, too high or too low. */
+static void make_lead(const char *kind, uint64_t count)
+{
+    bool is_ridden = strcmp(kind, "ridden-lead") == 0, is_standing = strcmp(kind, "standing-lead") == 0;
+    while (length < BITS)
+        if (is_standing) {
+            put_telegrams(BITS / 32, 0);
+        } else {
+            put_run(between(2000, 12000), 1);
+            if (is_ridden)
+                put_passage();
+        }
+    size_t at = 0;
+    for (uint64_t i = 0; i < count; i++) {
+        uint64_t dm = is_standing ? 1000 : 1000 + i;
+        if (is_ridden && i > 0 && below(10000) == 0)
+            dm = in_hundred(50) ? dm / 2 : 4100000000;
+        put_frame(dm, stretch + at);
+        at = at + 24 <= sizeof stretch ? at + 12 : 0;
+    }
+}
+
 int main(int argc, char **argv)
 {
     if (argc < 3) {
-        fprintf(stderr, "gen trace|damaged|positions|none|telegrams|noise|line SEED [RECORDS]\n");
+        fprintf(stderr, "gen trace|damaged|positions|none|telegrams|noise|line|quiet-lead|ridden-lead|standing-lead SEED [RECORDS]\n");
         return 2;
     }
     chance_state = strtoull(argv[2], NULL, 10);
@@ -287,6 +327,10 @@ int main(int argc, char **argv)
     wanted = argc > 3 ? strtoull(argv[3], NULL, 10) : 1000000;
     if (strcmp(argv[1], "positions") == 0) {
         make_positions(wanted);
+        return 0;
+    }
+    if (is_lead(argv[1])) {
+        make_lead(argv[1], wanted);
         return 0;
     }
     if (strcmp(argv[1], "trace") != 0 && !is_damaged)

@@ -6,6 +6,7 @@ typedef struct _IO_FILE FILE;
 extern FILE *stdin, *stdout, *stderr;
 int printf(const char *format, ...);
 int fprintf(FILE *to, const char *format, ...);
+int sprintf(char *to, const char *format, ...);
 int snprintf(char *to, size_t size, const char *format, ...);
 int sscanf(const char *text, const char *format, ...);
 int puts(const char *text);

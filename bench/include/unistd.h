@@ -5,6 +5,7 @@
 typedef long ssize_t;
 typedef long off_t;
 #define SEEK_SET 0
+#define STDIN_FILENO 0
 #define STDOUT_FILENO 1
 ssize_t read(int file, void *to, size_t size);
 ssize_t write(int file, const void *from, size_t size);

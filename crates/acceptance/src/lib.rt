@@ -79,7 +79,7 @@ pub struct Sums {
     pub extra: u64,
 }
 
-// The plan that the bytes are, with this tolerance: judged 28, 26, 27.
+// The plan that the bytes are, with this tolerance, not begun; or the empty plan with 28, 26, 27 in this order.
 pub fn plan(bytes: &[u8], tolerance: u32) -> Planned
     ensures { λ r. ⌜ saysPlanned r ≡ plan (now (bytes .entry)) tolerance ⌝ }
 {
@@ -100,7 +100,8 @@ pub fn plan(bytes: &[u8], tolerance: u32) -> Planned
     }
 }
 
-// A line of the ride taken: a present group meets the entry that waits for it, or is extra.
+// A line of the ride taken: a present group meets the first entry of its kind that is not met and lies within the tolerance, and is wanted, else it is
+// extra; any other line takes no part and changes nothing.
 pub fn take(run: Acceptance, line: Line) -> Took
     ensures { λ r. ⌜ r ≡ takeLine run line ⌝ }
 {
@@ -121,7 +122,7 @@ pub fn take(run: Acceptance, line: Line) -> Took
     }
 }
 
-// The entry with this index, the first has 0.
+// The entry with this index, the first has 0, absent or with the place of the group that met it; or that there is none.
 pub fn report(run: Acceptance, i: usize) -> Reported
     ensures { λ r. ⌜ r ≡ report run i ⌝ }
 {
@@ -132,7 +133,7 @@ pub fn report(run: Acceptance, i: usize) -> Reported
     Reported::NoEntry
 }
 
-// The sums of the run.
+// How many entries there are, are met and are absent; how many present groups there were, and were extra.
 pub fn sum_up(run: Acceptance) -> Sums
     ensures { λ r. ⌜ r ≡ sumUp run ⌝ }
 {

@@ -19,7 +19,8 @@ pub enum Byte {
     Odd,
 }
 
-// The decimal number that the text is, of which `most` is the largest asked for.
+// The number that a text of decimal digits is, at least one of them, or that it is above `most`, the largest asked for, however long it is; any other
+// text is none.
 pub fn decimal(text: &[u8], most: u64) -> Figure
     ensures { λ r. ⌜ r ≡ decimal (now (text .entry)) most ⌝ }
 {
@@ -32,7 +33,7 @@ pub fn decimal(text: &[u8], most: u64) -> Figure
     digits::up_to(text, most)
 }
 
-// The byte that the text is, in two hex digits of either case.
+// The byte that a text of two hex digits of either case is, the first its high half; any other text is none.
 pub fn hex(text: &[u8]) -> Byte
     ensures { λ r. ⌜ r ≡ hex (now (text .entry)) ⌝ }
 {

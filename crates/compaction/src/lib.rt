@@ -42,7 +42,8 @@ pub struct Block {
     pub size: Size,
 }
 
-// The trace without the records that are dropped, in place: the settings' own refusal, then 16 for the trace's length.
+// The trace, in place, without the position records that were accepted, gave no line and have an accepted record after them; all bytes beyond the new
+// length as they were; the state after the trace; or the settings' own refusal, then 16, with nothing touched.
 pub fn compact(ride: Ride, store: Store, trace: &mut [u8]) -> Compacted
     ensures { λ r. ⌜ saysCompacted r (now (trace .exit)) ≡ compact ride store (now (trace .entry)) ⌝ }
 {
@@ -64,7 +65,8 @@ pub fn compact(ride: Ride, store: Store, trace: &mut [u8]) -> Compacted
     }
 }
 
-// One block of a trace, after what waits from the block before. Its last record waits for the next block; after the last block it is kept.
+// One block of a trace, after the record that waits from the block before: what is settled as kept stands at the block's start, and the last record
+// waits for the next block (after the last block it is kept); refusals as above, with nothing touched.
 pub fn compact_block(waiting: Waiting, store: Store, block: &mut [u8]) -> Block
     ensures { λ r. ⌜ saysBlock r (now (block .exit)) ≡ compactBlock waiting store (now (block .entry)) ⌝ }
 {

@@ -2,6 +2,7 @@
 // Promises: each contact comes once, in order, and nothing else moves the search; judged are all of its places at once.
 // Specification: specs/History.antt (the latest sixteen bits), specs/Contacts.antt, specs/Judge.antt, specs/Under.antt (under a store of
 // settings), specs/Says.antt (the answers).
+// Laws: calling next_contact on and on gives exactly the contacts of one definition over the whole stretch (proofs/Law.antt).
 ghost use mathlib.Core.Path.{_≡_};
 ghost use Rattle.contact.specs.Contacts.{begin, nextContact};
 ghost use Rattle.contact.specs.Judge.{judge};
@@ -75,7 +76,7 @@ pub enum JudgedUnder {
     Neither,
 }
 
-// The search that begins a stretch, or refusal 5.
+// The search over a stretch, with sixteen ones as history; or refusal 5.
 pub fn begin(buf: &[u8], start: usize, len: usize) -> Begun
     ensures { λ r. ⌜ saysBegun r ≡ begin (now (buf .entry)) start len ⌝ }
 {
@@ -90,7 +91,8 @@ pub fn begin(buf: &[u8], start: usize, len: usize) -> Begun
     }
 }
 
-// The next contact of a search, or that no further one opens, or refusal 9 or 5. Only a contact brings a new state.
+// The next contact, with the search past its closing bit; or that no further one opens; or refusal 9 if it is cut, 5 if the search's stretch is not
+// taken. Only a contact moves the search.
 pub fn next_contact(search: Search, buf: &[u8]) -> Next
     ensures { λ r. ⌜ saysNext r ≡ nextContact (now (buf .entry)) search ⌝ }
 {
@@ -104,7 +106,7 @@ pub fn next_contact(search: Search, buf: &[u8]) -> Next
     }
 }
 
-// The contact of `len` bits from bit `start` on, judged: read, or a marker, or refusal 4, 5, 7 or 8.
+// The contact of `len` bits from bit `start` on, judged: after 4 and 5 (a) read, (b) refused with 7, (c) a marker, (d) refused with 8, in this order.
 pub fn judge(buf: &[u8], start: usize, len: usize, s: u8, t: u8) -> Judged
     ensures { λ r. ⌜ saysJudged r ≡ judge (now (buf .entry)) start len s t ⌝ }
 {
@@ -131,7 +133,7 @@ pub fn judge(buf: &[u8], start: usize, len: usize, s: u8, t: u8) -> Judged
     }
 }
 
-// The contact judged with the sync pair that is in force at the odometer given with it; the store's own refusal first, then 18.
+// The contact judged with the sync pair in force at the odometer given with it: the store's own refusal, then 18, then as `judge` has it.
 pub fn judge_under(store: Store, odometer: u32, buf: &[u8], start: usize, len: usize) -> JudgedUnder
     ensures { λ r. ⌜ saysJudgedUnder r ≡ judgeUnder store odometer (now (buf .entry)) start len ⌝ }
 {

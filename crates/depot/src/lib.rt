@@ -50,7 +50,7 @@ fn put_part(line: Line, part: Role, buf: &mut [u8], at: usize) -> usize
     }
 }
 
-// A line of the ride taken, and the text of a present group from `at` on.
+// A line of the ride taken as `acceptance::take` says, and the text of a present group put from `at` on.
 pub fn take_line(run: Acceptance, line: Line, buf: &mut [u8], at: usize) -> Written
     ensures { λ r. ⌜ written r (now (buf .exit)) ≡ takeOne run line (now (buf .entry)) at ⌝ }
 {

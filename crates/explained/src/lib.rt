@@ -16,8 +16,8 @@ use ride::Ride;
 use settings::Asked;
 use settings::Store;
 
-// The text of the trace's records from `number` on, each with the gap in force at its odometer, at the start of out: as many records as
-// surely have room, 320 bytes each.
+// The listing of `listing::list` with the reason after a colon on each fault line: the text of as many records as surely have room, 320 bytes each; or
+// the settings' own refusal, then 16, with nothing taken.
 pub fn list(ride: Ride, store: Store, number: u64, trace: &[u8], out: &mut [u8]) -> Listed
     ensures { λ r. ⌜ saysListed r (now (out .exit)) ≡ list ride store number (now (trace .entry)) (now (out .entry)) ⌝ }
 {
@@ -41,8 +41,8 @@ pub fn list(ride: Ride, store: Store, number: u64, trace: &[u8], out: &mut [u8])
     }
 }
 
-// The line of the end of a ride, with its reason, into buf from `at` on, and the place after it; without room buf stays as it is, and the
-// answer is `at`.
+// The line of a group that the end of the ride closes, with its reason, into buf from `at` on, and the place after it; without room nothing is written,
+// and the answer is `at`.
 pub fn put_end(ride: Ride, buf: &mut [u8], at: usize) -> usize
     ensures { λ r. ⌜ came r (now (buf .exit)) ≡ put (endText ride) (now (buf .entry)) at ⌝ }
 {

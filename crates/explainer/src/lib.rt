@@ -36,7 +36,8 @@ pub enum Reason {
     NoDistance { balise: u8, place: u32 },
 }
 
-// Why a closed group was refused, or no reason.
+// Why a closed group was refused: no reason if it was accepted; for 10 and 11 the number of balises; for 12 the first bad balise, its place, and that it
+// was unreadable or its bad word; for 13 how many balises open a permitted group; for 15 the balise whose figure breaks the rule, B before C.
 pub fn explain(group: Group) -> Reason
     ensures { λ r. ⌜ saysReason r ≡ explain group ⌝ }
 {
@@ -63,7 +64,8 @@ pub fn explain(group: Group) -> Reason
     }
 }
 
-// The reason as text into buf from `at` on, and the place after it; without room buf stays as it is, and the answer is `at`.
+// The text of a reason, to the letter, into buf from `at` on, all other bytes as they were, and the place after it; without room nothing is written, and
+// the answer is `at`.
 pub fn put_reason(reason: Reason, buf: &mut [u8], at: usize) -> usize
     ensures { λ r. ⌜ came r (now (buf .exit)) ≡ put (reasonText reason) (now (buf .entry)) at ⌝ }
 {

@@ -36,7 +36,7 @@ pub fn has(text: &[u8], sign: u8) -> bool
     place_of(text, 0, sign) < text.len()
 }
 
-// One more than n where it holds. From 4,000,000,000 on nothing is counted: no run comes near it.
+// One more than n where it holds and n is below 4,000,000,000, else n: no run comes near that.
 pub fn more(n: u32, holds: bool) -> u32
     ensures { λ r. ⌜ r ≡ more n holds ⌝ }
 {

@@ -1,6 +1,7 @@
 // Balises as received, and the judgement of a closed group: rows, distances, speeds.
 // Promises: a group is its message, or refused with 10, 11, 12, 13 or 15, exactly as document 01's rows and tables say.
 // Specification: walk's specs/Rows.antt (the rows), specs/Judge.antt (the judgement), specs/Distance.antt, specs/Speed.antt, specs/Says.antt.
+// 14 is not used: no group fits a row of each direction (specs/OneWay.antt of `walk`).
 ghost use mathlib.Core.Path.{_≡_};
 ghost use Rattle.group.specs.Distance.{distance};
 ghost use Rattle.group.specs.Speed.{signalSpeed};
@@ -91,7 +92,7 @@ pub enum GroupJudged {
     NoDistance,
 }
 
-// The distance of a figure in column BY of table DF, or refusal 15.
+// The distance of a figure in column BY of table DF: base plus step times figure for columns 0 to 14 and figures 1 to 14, else refusal 15.
 pub fn distance(by: u8, figure: u8) -> Measured
     ensures { λ r. ⌜ saysMeasured r ≡ distance by figure ⌝ }
 {
@@ -108,7 +109,7 @@ pub fn distance(by: u8, figure: u8) -> Measured
     }
 }
 
-// What a figure of a signal tells of a speed.
+// The signal speed of a figure 0 to 13; no information from 14 on.
 pub fn speed(figure: u8) -> Told
     ensures { λ r. ⌜ r ≡ signalSpeed figure ⌝ }
 {
@@ -119,7 +120,7 @@ pub fn speed(figure: u8) -> Told
     }
 }
 
-// The judgement of a closed group: its message, or refusal 10, 11, 12, 13 or 15.
+// The message of a closed group by the rows, with the figure of its number balise or none; or refusal 10, 11, 12, 13, 15 in this order.
 pub fn judge(group: Group) -> GroupJudged
     ensures { λ r. ⌜ saysGroupJudged r ≡ judge group ⌝ }
 {

@@ -1,22 +1,22 @@
 pub mod Counts
-mod Walk
-mod Quiet
+pub mod Walk
+pub mod Quiet
 mod Passes
-mod Sound
-mod Over
-mod Alike
+pub mod Sound
+pub mod Over
+pub mod Alike
 mod Within
 mod Fair
 pub mod Below
 mod Broken
-mod Few
+pub mod Few
 mod Never
 pub mod Either
 mod Marker
-mod Sixty
-mod Row
+pub mod Sixty
+pub mod Row
 mod Heard
-mod Computed
+pub mod Computed
 mod Less
 mod Eleven
 mod Differ

@@ -47,7 +47,7 @@ unfolding differing unequal
 differing-sym s t zero = refl
 differing-sym s t (suc n) = ap₂ _+_ (unequal-sym (bit s n) (bit t n)) (differing-sym s t n)
 
-syncs-differ : (s t a z : ℕ) → isGood s t ≡ true → areSyncs s t a z ≡ true → differing a z 8 ≡ 7
+pub syncs-differ : (s t a z : ℕ) → isGood s t ≡ true → areSyncs s t a z ≡ true → differing a z 8 ≡ 7
 unfolding isGood areSyncs
 syncs-differ s t a z good syncs = by (or-parts (eqb a s && eqb z t) (eqb a t && eqb z s) syncs)
   where

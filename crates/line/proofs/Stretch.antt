@@ -79,7 +79,7 @@ pub place-sent : (o : OneBalise) → Proper o → TooFew o → (p : ℕ) → o .
     → isPlace (o .buffer) (o .start) (o .len) (o .s) (o .t) p ≡ true → Sent o p
 place-sent o proper few p after-start before-end e =
     let h = place-parts (o .buffer) (o .start) (o .len) (o .s) (o .t) p e in
-    let straight = aligned o proper few p after-start before-end (h .1) in
+    let straight = aligned o proper p after-start before-end few (h .1) in
     as-sent o proper p after-start before-end straight (few .inner p after-start before-end straight) (h .2)
 
 -- So every place has the words sent.

@@ -57,7 +57,7 @@ as-short w a e = go (readShort w) e
         by false e = e
 
 -- A word whose answer goes on to a telegram gave a figure.
-onward : (l : Word) (o : Answer Why ℕ) (next : ℕ → Received) (m : Telegram) → then (named l o) next ≡ gives m → (a : ℕ) × (o ≡ gives a) × (next a ≡ gives m)
+pub onward : (l : Word) (o : Answer Why ℕ) (next : ℕ → Received) (m : Telegram) → then (named l o) next ≡ gives m → (a : ℕ) × (o ≡ gives a) × (next a ≡ gives m)
 onward l (gives a) next m e = (a, refl, e)
 onward l (refuses k) next m e = cannot-be cc
 

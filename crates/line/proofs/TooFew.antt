@@ -34,6 +34,15 @@ outer-flips o w q once =
     let few : sum (paid o w q) 8 ≤ sum (λ i. flip o (q + i) + flip o (q + 32 + i)) 8 = sum-le (paid o w q) (λ i. flip o (q + i) + flip o (q + 32 + i)) 8 (λ i l. once i) in
     subst (λ (v : ℕ). sum (paid o w q) 8 ≤ v) (sum-both (λ i. flip o (q + i)) (λ i. flip o (q + 32 + i)) 8) few
 
+-- A flip that counts once.
+pub paid-once : (o : OneBalise) (q i : ℕ) → paid o 1 q i ≤ flip o (q + i) + flip o (q + 32 + i)
+unfolding paid weigh
+paid-once o q i = go (leb 8 ((q + i) % 32))
+  where
+    go : (t : Bool) → pick t 1 1 * (flip o (q + i) + flip o (q + 32 + i)) ≤ flip o (q + i) + flip o (q + 32 + i)
+    go true = omega arith
+    go false = omega arith
+
 -- Demand 3's hypothesis comes to it: no sync bit flips, so each may count four.
 pub few-flips-few : (o : OneBalise) → FewFlips o → TooFew o
 unfolding dataFlips paid weigh

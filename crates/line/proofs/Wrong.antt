@@ -70,7 +70,7 @@ sent-apart o e but-one j = go (leb 8 (j % 32)) refl
     go true is = unequal-same (sentBit o j) (sentBit o (j + 32)) (sym (data-alike o j (leb-true 8 (j % 32) is)))
     go false is = let low : j % 32 < 8 = leb-false 8 (j % 32) is in sync-pattern o j low ∙ but-one (j % 32) low
 
-module _ (o : OneBalise) (proper : Proper o) (few : TooFew o) (p : ℕ) (after-start : o .start ≤ p) (before-end : p + 40 ≤ o .start + o .len) where
+module _ (o : OneBalise) (proper : Proper o) (p : ℕ) (after-start : o .start ≤ p) (before-end : p + 40 ≤ o .start + o .len) where
   -- line bit of bit p
   abbrev q : ℕ
   q = lineBit o p
@@ -94,29 +94,30 @@ module _ (o : OneBalise) (proper : Proper o) (few : TooFew o) (p : ℕ) (after-s
         (ap₂ unequal (syncs i l ∙ but-one i l) (sent-apart o e but-one (q + i)))
         (unequal-across (bitAt (o .buffer) (p + i)) (bitAt (o .buffer) (p + 32 + i)) (sentBit o (q + i)) (sentBit o (q + i + 32))))
 
-    pays : (w i : ℕ) → i < 8 → cost w e (q % 32) i ≤ paid o w q i
+    pub pays : (w i : ℕ) → i < 8 → cost w e (q % 32) i ≤ paid o w q i
     unfolding cost paid
     pays w i l =
         let same : (q % 32 + i) % 32 ≡ (q + i) % 32 = omega arith in
         subst (λ (m : ℕ). weigh w m * unequal (notAt e i) (apart e m) ≤ weigh w ((q + i) % 32) * (flip o (q + i) + flip o (q + 32 + i))) (sym same)
         (mul-le-mul-left (weigh w ((q + i) % 32)) (flipped i l))
 
-  -- So no place lies at a wrong offset.
-  no-wrong : ((i : ℕ) → i < 8 → between o proper p i ≡ pattern o i) → 0 < q % 32 → ⊥
-  unfolding pattern
-  no-wrong syncs pos =
-      let m : Missing (pattern o) 8 = one-missing (pattern o) (λ i. unequal-lt (bitAt (repeated o) (0 + i)) (bitAt (repeated o) (32 + i))) 7 (seven o proper) in
-      let below : q % 32 < 32 = omega arith in
-      let w : ℕ = few .weight in
-      let wants : few .least ≤ sum (cost w (m .at) (q % 32)) 8 = at-least w (few .least) (m .at) (few .false-costs (m .at) (m .within) (m .is)) (q % 32) pos below in
-      let paying : sum (cost w (m .at) (q % 32)) 8 ≤ sum (paid o w q) 8 = sum-le (cost w (m .at) (q % 32)) (paid o w q) 8 (pays syncs (m .at) (m .is) w) in
-      let less : sum (paid o w q) 8 < few .least = few .outer p after-start before-end in
-      omega arith
+  module _ (few : TooFew o) where
+    -- So no place lies at a wrong offset.
+    no-wrong : ((i : ℕ) → i < 8 → between o proper p i ≡ pattern o i) → 0 < q % 32 → ⊥
+    unfolding pattern
+    no-wrong syncs pos =
+        let m : Missing (pattern o) 8 = one-missing (pattern o) (λ i. unequal-lt (bitAt (repeated o) (0 + i)) (bitAt (repeated o) (32 + i))) 7 (seven o proper) in
+        let below : q % 32 < 32 = omega arith in
+        let w : ℕ = few .weight in
+        let wants : few .least ≤ sum (cost w (m .at) (q % 32)) 8 = at-least w (few .least) (m .at) (few .false-costs (m .at) (m .within) (m .is)) (q % 32) pos below in
+        let paying : sum (cost w (m .at) (q % 32)) 8 ≤ sum (paid o w q) 8 = sum-le (cost w (m .at) (q % 32)) (paid o w q) 8 (pays syncs (m .at) (m .is) w) in
+        let less : sum (paid o w q) 8 < few .least = few .outer p after-start before-end in
+        omega arith
 
-  -- So the sync words of a place are at a telegram's beginning.
-  pub aligned : areSyncs (o .s) (o .t) (bitsAt (o .buffer) p 8) (bitsAt (o .buffer) (p + 32) 8) ≡ true → lineBit o p % 32 ≡ 0
-  aligned syncs = only (q % 32) refl
-    where
-      only : (r : ℕ) → q % 32 ≡ r → q % 32 ≡ 0
-      only zero is = is
-      only (suc r) is = absurd (no-wrong (as-syncs o proper p syncs) (omega arith))
+    -- So the sync words of a place are at a telegram's beginning.
+    pub aligned : areSyncs (o .s) (o .t) (bitsAt (o .buffer) p 8) (bitsAt (o .buffer) (p + 32) 8) ≡ true → lineBit o p % 32 ≡ 0
+    aligned syncs = only (q % 32) refl
+      where
+        only : (r : ℕ) → q % 32 ≡ r → q % 32 ≡ 0
+        only zero is = is
+        only (suc r) is = absurd (no-wrong (as-syncs o proper p syncs) (omega arith))

@@ -37,7 +37,7 @@ pub struct Listed {
     pub done: Done,
 }
 
-// The line's text and a newline into buf from `at` on; without room buf stays as it is.
+// The line's text, to the letter, and a newline into buf from `at` on, all other bytes as they were; without room nothing is written.
 pub fn put_line(line: Line, buf: &mut [u8], at: usize) -> Put
     ensures { λ r. ⌜ filled r (now (buf .exit)) ≡ put (text line) (now (buf .entry)) at ⌝ }
 {
@@ -52,8 +52,8 @@ pub fn put_line(line: Line, buf: &mut [u8], at: usize) -> Put
     Put::Next(text::put(&space[..n], buf, at))
 }
 
-// The lines of the trace's records from `number` on as text at the start of out: the settings' own refusal, 16 for the trace's length, or as many
-// records as surely have room, each treated with the gap in force at its own odometer.
+// The lines of the trace's records from `number` on as text at the start of out, of as many records as surely have room, each treated with the gap in
+// force at its own odometer; the state, the next number, how many records and bytes; or the settings' own refusal, then 16, with nothing taken.
 pub fn list(ride: Ride, store: Store, number: u64, trace: &[u8], out: &mut [u8]) -> Listed
     ensures { λ r. ⌜ saysListed r (now (out .exit)) ≡ list ride store number (now (trace .entry)) (now (out .entry)) ⌝ }
 {

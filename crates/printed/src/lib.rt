@@ -11,14 +11,15 @@ use words::Parity;
 
 mod table;
 
-// The printed list: at each figure its word.
+// The printed list: at each figure from 0 to 2,047 the long word that is sent for it.
 pub fn list() -> [u16; 2048]
     ensures { λ r. ⌜ r ≡ list ⌝ }
 {
     table::WORDS
 }
 
-// The figure of a received long word, or refusal 1 with its parity: the list is searched for it from figure 0 on.
+// The figure of sixteen received bits, or refusal 1 with their parity: what `words::read_long` promises, word for word. The list is searched from figure
+// 0 on.
 pub fn read_long(word: u16) -> LongRead
     ensures { λ r. ⌜ saysLongRead r ≡ readLong word ⌝ }
 {

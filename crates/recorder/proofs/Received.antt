@@ -97,7 +97,7 @@ module _ (x y z : ℕ) (x-low : x < 256) (y-low : y < 256) (z-low : z < 256) whe
       let low : sent 16 n % 256 ≡ z = omega arith in
       simp (long-small (y * 256 + z) n e, p .is, high, low)
 
-  spelt-back : (m : Telegram) → telegram x y z ≡ gives m → spell (telegramOf m) ≡ gives three
+  pub spelt-back : (m : Telegram) → telegram x y z ≡ gives m → spell (telegramOf m) ≡ gives three
   unfolding telegram
   spelt-back m = first (shortWord x) refl
     where

@@ -12,7 +12,8 @@ use acceptance::Role;
 use acceptance::Sums;
 use walk::Kind;
 
-// The line of a present group into buf from `at` on, and the place after it; without room buf stays as it is, and the answer is `at`.
+// The line of a present group, to the letter, into buf from `at` on, all other bytes as they were, and the place after it; without room nothing is
+// written, and the answer is `at`.
 pub fn put_group(place: u64, kind: Kind, part: Role, buf: &mut [u8], at: usize) -> usize
     ensures { λ r. ⌜ came r (now (buf .exit)) ≡ put (groupLine place kind part) (now (buf .entry)) at ⌝ }
 {

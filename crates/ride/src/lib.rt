@@ -145,7 +145,7 @@ pub struct Ran {
     pub way: Way,
 }
 
-// A fresh ride: nothing is known, no group is open, no odometer is below its own.
+// A fresh ride: the odometer at 0, no open group and nothing known.
 pub fn fresh() -> Ride
     ensures { λ r. ⌜ r ≡ freshRide ⌝ }
 {
@@ -156,7 +156,8 @@ pub fn fresh() -> Ride
     }
 }
 
-// One record's step: 19 for the gap, or steps 1 to 4 of document 01.
+// One record's step: 19 for the gap; else steps 1 to 4 of document 01, with the lines in order, the group that closed, and the state after. A refusal
+// leaves the state.
 pub fn step(ride: Ride, gap: u32, bytes: [u8; 8]) -> Stepped
     ensures { λ r. ⌜ saysStepped r ≡ step ride gap bytes ⌝ }
 {
@@ -171,7 +172,7 @@ pub fn step(ride: Ride, gap: u32, bytes: [u8; 8]) -> Stepped
     treating::reported(stepping::treat(ride, gap, bytes))
 }
 
-// The end of a ride: an open group closes.
+// The end of a ride: an open group closes and gives its line; there is no step 3, and the odometer stays.
 pub fn end(ride: Ride) -> Ended
     ensures { λ r. ⌜ saysEnded r ≡ end ride ⌝ }
 {
@@ -184,7 +185,8 @@ pub fn end(ride: Ride) -> Ended
     closing::at_end(ride.odometer, closing::leave(group, known))
 }
 
-// The ride over a whole trace: the settings' own refusal, 16 for the trace's length, or the state after all its records.
+// The ride over a whole trace: the settings' own refusal, then 16 for a length that is no multiple of 8; else the state after all records, each treated
+// with the gap in force at its own odometer.
 pub fn run(ride: Ride, store: Store, trace: &[u8]) -> Ran
     ensures { λ r. ⌜ saysRan r ≡ run ride store (now (trace .entry)) ⌝ }
 {

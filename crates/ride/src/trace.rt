@@ -84,7 +84,7 @@ fn untreated(ride: Ride, reply: Reply) -> Treated
     }
 }
 
-// The record at an index of the trace, the first at 0: 19 for the gap, then that there is no such record, or steps 1 to 4.
+// The record at an index of the trace, the first at 0: 19 for the gap, then that there is no such record; else steps 1 to 4, as `step` has them.
 pub fn treat_at(ride: Ride, gap: u32, trace: &[u8], i: usize) -> Treated
     ensures { λ r. ⌜ saysTreated r ≡ treatAt ride gap (now (trace .entry)) i ⌝ }
 {

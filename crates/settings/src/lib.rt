@@ -3,6 +3,8 @@
 // Promises: a store that begin and add made is never empty and in order; any place up to 4,000,000,000 has one version in force; a lent store
 // that they did not make is refused with the number that opening it and adding version by version would have given.
 // Specification: specs/Versions.antt, Store.antt, At.antt, Says.antt (the answers); laws: specs/Laws.antt.
+// A store's own refusal is that of a lent store which begin and add did not make: 25 for a count above 32, 19 for a count of 0, 24 for a first place
+// that is not 0, else the number that its first bad version would have been given.
 ghost use mathlib.Core.Path.{_≡_};
 ghost use Rattle.settings.specs.Store.{begin, add};
 ghost use Rattle.settings.specs.At.{asked, hold};
@@ -72,7 +74,7 @@ pub enum Asked {
     Refused(Bad),
 }
 
-// A store with its first version, at place 0; or 4 or 19.
+// A store with its first version, at place 0; or 4, then 19, and a store with count 0.
 pub fn begin(gap: u32, s: u8, t: u8) -> Begun
     ensures { λ r. ⌜ saysBegun r ≡ begin gap s t ⌝ }
 {
@@ -94,7 +96,8 @@ pub fn begin(gap: u32, s: u8, t: u8) -> Begun
     }
 }
 
-// The store with one version more, in force from this place on; or the store's own refusal, 4, 19, 18, 24 or 25, and the store as it was.
+// The store with one version more, in force from this place on; or the store's own refusal, then 4, 19, 18, 24, 25 in this order, and the store as it
+// was.
 pub fn add(store: Store, place: u32, gap: u32, s: u8, t: u8) -> Added
     ensures { λ r. ⌜ saysAdded r ≡ add store (record { place = place; gap = gap; s = s; t = t }) ⌝ }
 {
@@ -112,7 +115,7 @@ pub fn add(store: Store, place: u32, gap: u32, s: u8, t: u8) -> Added
     }
 }
 
-// The settings in force at a place; or the store's own refusal, or 18.
+// The settings in force at a place, with the places from which and until which they are; or the store's own refusal, then 18.
 pub fn at(store: Store, place: u32) -> Asked
     ensures { λ r. ⌜ saysAsked r ≡ asked store place ⌝ }
 {

@@ -7,7 +7,7 @@ use crate::Verdict;
 use crate::Version;
 use telegram::Pair;
 
-// Whether the gap is 1 to 200.
+// Whether a gap is allowed: exactly from 1 to 200.
 pub fn allowed(gap: u32) -> bool
     ensures { λ r. ⌜ r ≡ allowed gap ⌝ }
 {

@@ -39,7 +39,8 @@ pub struct Sheet {
     pub how: How,
 }
 
-// A line given to the store, without its newline. A store of no version is one that is not opened yet. A line that is not fine leaves the store.
+// A line, without its newline, given to the store, or to one of no version, which is not opened yet: a blank line or a comment leaves it; a version
+// opens it, at place 0 (else the line is unreadable), or is added, or is refused with 4, 19, 18, 24 or 25. A line that is not fine leaves the store.
 pub fn take(store: Store, line: &[u8]) -> Taken
     ensures { λ r. ⌜ r ≡ takeLine store (now (line .entry)) ⌝ }
 {
@@ -69,7 +70,8 @@ fn is_fine(how: How) -> bool
     }
 }
 
-// The settings of a text of at most 1,048,576 bytes.
+// The settings of a whole text: the store that its lines make, or the first bad line with its number; 19 where there is no version. A text of more than
+// 1,048,576 bytes is too long.
 pub fn read(text: &[u8]) -> Sheet
     ensures { λ r. ⌜ r ≡ sheet (now (text .entry)) ⌝ }
 {
@@ -103,7 +105,8 @@ pub fn read(text: &[u8]) -> Sheet
     }
 }
 
-// What is said of a text that is not fine, into buf from `at` on, and the place after it; without room buf stays as it is, and the answer is `at`.
+// What is said of a text that is not fine, as `settings line 3 refused 24`, `settings line 3 unreadable` or `settings refused 19`, and a newline into
+// buf from `at` on, all other bytes as they were, and the place after it; without room nothing is written, and the answer is `at`.
 pub fn put_told(line: u32, how: How, buf: &mut [u8], at: usize) -> usize
     ensures { λ r. ⌜ came r (now (buf .exit)) ≡ put (told line how) (now (buf .entry)) at ⌝ }
 {

@@ -51,7 +51,8 @@ fn alone(letter: u8) -> Command
     Command::Unknown
 }
 
-// What a line asks for.
+// What a line asks for: a letter alone, or a letter, a space and a number (`g N`: to where N - 1 records lie before); a number that is too large is the
+// largest; anything else is unknown.
 pub fn read(line: &[u8]) -> Command
     ensures { λ r. ⌜ r ≡ command (now (line .entry)) ⌝ }
 {

@@ -12,7 +12,8 @@ pub use commands::Command;
 pub use commands::read;
 use ride::Ride;
 
-// Where a viewer stands into buf from `at` on, and the place after it; without room buf stays as it is, and the answer is `at`.
+// Where a viewer stands, to the letter, into buf from `at` on, all other bytes as they were, and the place after it; without room nothing is written,
+// and the answer is `at`.
 pub fn put_state(
     number: usize,
     count: usize,

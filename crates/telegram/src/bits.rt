@@ -5,7 +5,7 @@ ghost use lib.Dec.{leb};
 ghost use lib.ListN.{length, getD};
 ghost use Rattle.telegram.specs.Stretch.{bitsAt};
 
-// The 64 bits from byte i on.
+// The 64 bits of the buffer from byte i on, zeroes where it has none.
 pub fn eight_bytes(buf: &[u8], i: usize) -> u64
     ensures { λ r. ⌜ r ≡ bitsAt (now (buf .entry)) (8 * i) 64 ⌝ }
 {

@@ -8,7 +8,7 @@ ghost use Rattle.text.specs.Put.{put, came};
 
 mod pieces;
 
-// The bytes into buf from `at` on, and the place after them; without room buf stays as it is, and the answer is `at`.
+// The bytes into buf from `at` on, all others as they were, and the place after them; without room nothing is written, and the answer is `at`.
 pub fn put(bytes: &[u8], buf: &mut [u8], at: usize) -> usize
     ensures { λ r. ⌜ came r (now (buf .exit)) ≡ put (now (bytes .entry)) (now (buf .entry)) at ⌝ }
 {
@@ -21,7 +21,8 @@ pub fn put(bytes: &[u8], buf: &mut [u8], at: usize) -> usize
     pieces::copy(bytes, buf, at)
 }
 
-// Words and then a number in decimal into buf from `at` on, and the place after them; without room as above.
+// Words and then a number in decimal into buf from `at` on, all other bytes as they were, and the place after them; without room nothing is written, and
+// the answer is `at`.
 pub fn put_number(words: &[u8], n: u64, buf: &mut [u8], at: usize) -> usize
     ensures { λ r. ⌜ came r (now (buf .exit)) ≡ put (now (words .entry) ++ decimal n) (now (buf .entry)) at ⌝ }
 {

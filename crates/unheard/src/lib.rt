@@ -22,7 +22,7 @@ pub enum Sound {
     NotSeven,
 }
 
-// The balise that says x, y, z (or, for x = 12, the number y) with the sync words s and t.
+// Whether the balise that says x, y, z (or, for x = 12, the number y) with the sync words s and t is audible or broken; or 2, 3, 4 in this order.
 pub fn sound_of(x: u8, y: u16, z: u8, s: u8, t: u8) -> Sound
     ensures { λ r. ⌜ saysSound r ≡ soundOf x y z s t ⌝ }
 {
@@ -34,7 +34,8 @@ pub fn sound_of(x: u8, y: u16, z: u8, s: u8, t: u8) -> Sound
     }
 }
 
-// The line of figures, or of 12 and a number, into buf from `at` on, and the place after it; without room buf stays as it is, and the answer is `at`.
+// The line of figures, or of 12 and a number, to the letter, into buf from `at` on, all other bytes as they were, and the place after it; without room
+// nothing is written, and the answer is `at`.
 pub fn put_telegram(x: u8, y: u16, z: u8, buf: &mut [u8], at: usize) -> usize
     ensures { λ r. ⌜ came r (now (buf .exit)) ≡ put (telegramLine (asked x y z)) (now (buf .entry)) at ⌝ }
 {

@@ -69,7 +69,7 @@ fn over(trace: &[u8], from: Stand, first: Held, times: usize) -> Came
     }
 }
 
-// Forward so many times, over the lent trace; it stops at the first refusal.
+// `forward_at` so many times, up to the first refusal: where the viewer then stands, and how that went.
 pub fn forwards_at(trace: &[u8], stand: Stand, times: usize) -> Came
     ensures { λ r. ⌜ saysCame r ≡ forwards times (now (trace .entry)) stand ⌝ }
 {
@@ -92,8 +92,8 @@ pub fn forwards_at(trace: &[u8], stand: Stand, times: usize) -> Came
     }
 }
 
-// How many forwards lead to just before the first record at or past the place, with so many records before the viewer; one too many where
-// there is none.
+// How many forwards lead to just before the first record at or past the place, with so many records before the viewer; where there is none, one more
+// than are left.
 pub fn times_to(trace: &[u8], number: usize, place: u64) -> usize
     ensures { λ r. ⌜ r ≡ timesTo place (drop number (records (now (trace .entry)))) ⌝ }
 {
@@ -141,7 +141,7 @@ fn less(number: usize, by: usize) -> usize
     number - by
 }
 
-// Back so many times; it stops at the first refusal.
+// `back_at` so many times, up to the first refusal: where the viewer then stands, and how that went.
 pub fn backs_at(stand: Stand, times: usize) -> Came
     ensures { λ r. ⌜ saysCame r ≡ backs times stand ⌝ }
 {

@@ -2,6 +2,8 @@
 // Promises: after any calls its state is that of a fresh ride over the records before its number; a refused call changes nothing.
 // Specification: specs/Stand.antt (where it stands, and the last 256 states), Viewing.antt (the calls), Going.antt (many at once), Says.antt (the
 // answers); what is promised: Laws.antt.
+// Laws: after any calls number, kept count and state are those of a plain definition with a history as a list (`Viewing` of specs/Laws.antt); 22 and 23
+// leave the viewer (`Refusing`); many at once come to as many single calls (`ManyAtOnce`).
 ghost use mathlib.Core.Path.{_≡_};
 ghost use Rattle.viewer.specs.Viewing.{start, forward, back};
 ghost use Rattle.viewer.specs.Says.{over, saysStarted, saysForwarded, saysBacked};
@@ -93,7 +95,7 @@ pub struct Backed<'a> {
     pub how: How,
 }
 
-// Opens a viewer at the first record, with a fresh ride: the settings' own refusal, then 16.
+// A viewer at the first record of the trace, with a fresh ride and nothing kept; or the settings' own refusal, then 16, and a viewer of an empty trace.
 pub fn start<'a>(store: Store, trace: &'a [u8]) -> Started<'a>
     ensures { λ r. ⌜ saysStarted r ≡ start store (now (trace .entry)) ⌝ }
 {
@@ -109,7 +111,8 @@ pub fn start<'a>(store: Store, trace: &'a [u8]) -> Started<'a>
     }
 }
 
-// One record forward: 23 at the end.
+// One record forward: its lines, the group that closed, the number and the kept count (up to 256) one higher, also for a refused record; or 23 exactly
+// at the end, and the viewer as it was.
 pub fn forward<'a>(viewer: Viewer<'a>) -> Forwarded<'a>
     ensures { λ r. ⌜ saysForwarded r ≡ over (viewer .entry .trace) (forward (now (viewer .entry .trace)) (viewer .entry .stand)) ⌝ }
 {
@@ -126,7 +129,7 @@ pub fn forward<'a>(viewer: Viewer<'a>) -> Forwarded<'a>
     }
 }
 
-// One record back: 22 where no state is kept.
+// One record back, to the state kept last, with number and kept count one lower; or 22 exactly if nothing is kept, and the viewer as it was.
 pub fn back<'a>(viewer: Viewer<'a>) -> Backed<'a>
     ensures { λ r. ⌜ saysBacked r ≡ over (viewer .entry .trace) (back (viewer .entry .stand)) ⌝ }
 {

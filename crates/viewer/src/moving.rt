@@ -128,7 +128,7 @@ fn step_at(trace: &[u8], stand: Stand, held: Held) -> Went
     }
 }
 
-// One record forward, over the lent trace: 23 at the end.
+// As `forward`, for a stand over the lent trace: one record forward, or 23 at the end.
 pub fn forward_at(trace: &[u8], stand: Stand) -> Went
     ensures { λ r. ⌜ saysWent r ≡ forward (now (trace .entry)) stand ⌝ }
 {
@@ -148,7 +148,7 @@ pub fn forward_at(trace: &[u8], stand: Stand) -> Went
     }
 }
 
-// One record back: 22 where no state is kept.
+// As `back`, for a stand: one record back, or 22 where no state is kept.
 pub fn back_at(stand: Stand) -> Came
     ensures { λ r. ⌜ saysCame r ≡ back stand ⌝ }
 {

@@ -40,7 +40,7 @@ fn begins(store: Store, trace: &[u8]) -> Begun
     }
 }
 
-// Where a viewer stands that was opened over this trace, and how that went.
+// Where a viewer stands that `start` opens over this trace, and how that went.
 pub fn start_at(store: Store, trace: &[u8]) -> Opened
     ensures { λ r. ⌜ saysOpened r (now (trace .entry)) ≡ start store (now (trace .entry)) ⌝ }
 {

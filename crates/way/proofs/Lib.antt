@@ -1,2 +1,2 @@
-mod Same
+pub mod Same
 mod InFull

@@ -39,7 +39,7 @@ pub enum LongWritten {
     TooLarge,
 }
 
-// The figure of a received short word, or refusal 1 with its parity.
+// The figure of a received byte if every check of the plain code is even; else refusal 1, with whether its ones are odd or even in number.
 pub fn read_short(word: u8) -> ShortRead
     ensures { λ r. ⌜ saysShortRead r ≡ readShort word ⌝ }
 {
@@ -50,7 +50,7 @@ pub fn read_short(word: u8) -> ShortRead
     }
 }
 
-// The short word to send for a figure, or refusal 2.
+// The one short word to send for a figure 0 to 15; a larger one is refused with 2.
 pub fn write_short(figure: u8) -> ShortWritten
     ensures { λ r. ⌜ saysShortWritten r ≡ writeShort figure ⌝ }
 {
@@ -62,7 +62,7 @@ pub fn write_short(figure: u8) -> ShortWritten
     }
 }
 
-// The figure of a received long word, or refusal 1 with its parity.
+// The figure of sixteen received bits if every check is even; else refusal 1, with whether their ones are odd or even in number.
 pub fn read_long(word: u16) -> LongRead
     ensures { λ r. ⌜ saysLongRead r ≡ readLong word ⌝ }
 {
@@ -75,7 +75,7 @@ pub fn read_long(word: u16) -> LongRead
     }
 }
 
-// The long word to send for a figure, or refusal 2.
+// The one long word to send for a figure 0 to 2,047; a larger one is refused with 2.
 pub fn write_long(figure: u16) -> LongWritten
     ensures { λ r. ⌜ saysLongWritten r ≡ writeLong figure ⌝ }
 {

@@ -1,4 +1,5 @@
--- `write` writes no more than the buffer has.
+-- `write` writes no more bytes than there are.
+-- Assumes nothing.
 use mathlib.Core.Path.{sym}
 use native.Mathlib.Omega.{arith}
 use lib.Seq.{length-take-le}

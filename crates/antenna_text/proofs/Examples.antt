@@ -1,0 +1,16 @@
+-- README's test balise, closed at bit 328, and one that stands later on the line, computed.
+-- Assumes nothing.
+use mathlib.Core.Path.{_≡_, refl}
+use Rattle.text.specs.Text.{codes, digits, decimal}
+use Rattle.telegram.specs.declared.Telegram.{Telegram}
+use Rattle.contact.specs.declared.Judged.{Judged}
+use Rattle.hearing.specs.Lines.{figures, what, heard, refusal}
+use Rattle.antenna_text.specs.Lines.{shown, refusedAs, toldLine, closedBefore}
+
+pub a-telegram : toldLine (closedBefore 328 292 (Judged.Read (Telegram.Figures 1 8 5) 20 8)) ≡ codes "36 292 telegram 1 8 5 places 8 from 56\n"
+unfolding toldLine heard what figures shown decimal digits
+a-telegram = refl
+
+pub standing : toldLine (closedBefore 50000000000 20000000 Judged.Beyond) ≡ codes "49980000000 20000000 refused 5\n"
+unfolding toldLine heard what refusedAs decimal digits
+standing = refl

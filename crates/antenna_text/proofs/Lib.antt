@@ -1,0 +1,4 @@
+pub mod Shown
+pub mod Advancing
+pub mod Determined
+pub mod Examples

@@ -1,0 +1,62 @@
+-- Each contract fixes its function's whole answer and the lent buffer then: any two answers that it allows are equal, and so
+-- are the buffers.
+-- Assumes nothing.
+use Prim.Native.Nat.{ℕ}
+use mathlib.Core.Path.{_≡_, refl, sym, ap, _∙_}
+use mathlib.Core.Bool.{Bool, true, false}
+use mathlib.Core.List.{List}
+use contract.Lifetimes.{Lfts}
+use borrow.Fn.Kinds.{Dens, endedOf}
+use denote.Triple.Clauses.{AtExit}
+use denote.Ref.{now}
+use Rattle.words.specs.Answer.{Outcome, gives, refuses, pick}
+use Rattle.words.proofs.Told.{Fixed}
+use Rattle.settings.specs.declared.Bad.{Bad}
+use Rattle.settings.proofs.Determined.{badOf}
+use Rattle.lead_text.specs.declared.How.{How}
+use Rattle.lead_text.specs.declared.Written.{Written}
+use Rattle.lead_text.specs.List.{Wrote, Telling}
+use Rattle.lead_text.specs.Says.{saysHow, saysWritten}
+use Rattle.lead_text.proofs.fresh.Kinds as fresh-kinds
+use Rattle.lead_text.proofs.fresh.Reads as fresh-reads
+use Rattle.lead_text.proofs.list_frames.Kinds as frames-kinds
+use Rattle.lead_text.proofs.list_frames.Reads as frames-reads
+use Rattle.lead_text.proofs.list_end.Kinds as end-kinds
+use Rattle.lead_text.proofs.list_end.Reads as end-reads
+
+-- From what an answer says, the answer.
+abbrev howOf : Outcome Wrote → How
+howOf (gives w) = pick (w .all) (How.Over (w .bytes)) (How.Full (w .bytes))
+howOf (refuses n) = How.Settings (badOf n)
+
+how-back : (h : How) → howOf (saysHow h) ≡ h
+how-back (How.Over bytes) = refl
+how-back (How.Full bytes) = refl
+how-back (How.Settings Bad.Pair) = refl
+how-back (How.Settings Bad.Gap) = refl
+how-back (How.Settings Bad.TooHigh) = refl
+how-back (How.Settings Bad.NotAbove) = refl
+how-back (How.Settings Bad.Full) = refl
+
+abbrev writtenOf : Telling → Written
+writtenOf t = record { underway = t .underway; how = howOf (t .answer) }
+
+written-back : (r : Written) (out : List ℕ) → writtenOf (saysWritten r out) ≡ r
+written-back r out = ap (λ (h : How). record { underway = r .underway; how = h }) (how-back (r .how))
+
+-- Answers and buffers that say the same are the same.
+same-written : (r r′ : Written) (out out′ : List ℕ) → saysWritten r out ≡ saysWritten r′ out′ → (r ≡ r′) × (out ≡ out′)
+same-written r r′ out out′ e = (sym (written-back r out) ∙ ap writtenOf e ∙ written-back r′ out′, ap (λ (t : Telling). t .out) e)
+
+pub fresh-determined : Fixed 0 fresh-kinds.ps fresh-kinds.r fresh-reads.Post
+fresh-determined κs a r r′ x x′ p q = p ∙ sym q
+
+pub list-frames-determined : (κs : Lfts 2) (a : Dens κs frames-kinds.ps) (r r′ : Written)
+    (x x′ : AtExit (endedOf 2 frames-kinds.ps frames-kinds.r) κs)
+    → frames-reads.Post κs a r x → frames-reads.Post κs a r′ x′ → (r ≡ r′) × (now (x .1 .1 .1 .0) ≡ now (x′ .1 .1 .1 .0))
+list-frames-determined κs a r r′ x x′ p q = same-written r r′ (now (x .1 .1 .1 .0)) (now (x′ .1 .1 .1 .0)) (p ∙ sym q)
+
+pub list-end-determined : (κs : Lfts 1) (a : Dens κs end-kinds.ps) (r r′ : Written)
+    (x x′ : AtExit (endedOf 1 end-kinds.ps end-kinds.r) κs)
+    → end-reads.Post κs a r x → end-reads.Post κs a r′ x′ → (r ≡ r′) × (now (x .1 .1 .0) ≡ now (x′ .1 .1 .0))
+list-end-determined κs a r r′ x x′ p q = same-written r r′ (now (x .1 .1 .0)) (now (x′ .1 .1 .0)) (p ∙ sym q)

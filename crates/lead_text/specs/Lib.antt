@@ -1,0 +1,4 @@
+pub mod Places
+pub mod List
+pub mod Says
+pub mod Inside

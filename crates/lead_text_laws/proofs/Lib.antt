@@ -1,0 +1,8 @@
+pub mod Telling
+pub mod Comes
+pub mod Room
+pub mod Live
+pub mod LiveMet
+pub mod Eights
+pub mod Explain
+pub mod ExplainMet

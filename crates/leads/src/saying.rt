@@ -1,0 +1,22 @@
+// What a program says on standard error of a lead that failed.
+use crate::pieces::How;
+
+// `PROGRAM: cannot open FILE` or `PROGRAM: cannot read FILE`; of what did not fail, nothing.
+pub fn say(program: &[u8], how: How) {
+    match how {
+        How::More => {}
+        How::End => {}
+        How::CannotOpen(number) => cards::cannot_open(program, number),
+        How::CannotRead(number) => cannot_read(program, number),
+        How::NoRoom => {}
+    }
+}
+
+// Standard input has no name where no argument names it.
+fn cannot_read(program: &[u8], number: usize) {
+    if os::arg_count() <= number {
+        cards::say(program, b"cannot read standard input");
+        return;
+    }
+    cards::cannot_read(program, number);
+}

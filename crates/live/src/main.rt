@@ -1,0 +1,23 @@
+// The lines of a ride from the bench's leads, as they come: frames of odometer and line in, the lines of `explain` out, each as soon as its group has closed.
+// Promises: it is safe and it ends; the lines are those of the crate lead_text, piece by piece, and those of the ride's end explained's.
+// Specification: none of its own; what the pieces come to is crates/lead_text/specs/Live.antt, what cannot be said of a program's reads and writes stands
+// in docs/EXCEPTIONS.md.
+mod riding;
+
+use asked::How;
+
+fn main() {
+    let asked = leads::options(b"live", false);
+    let store = asked.store;
+    let first = asked.first;
+    let how = asked.how;
+    match how {
+        How::Plain => riding::all(store, first),
+        How::Settings => riding::all(store, first),
+        How::Usage => cards::say(
+            b"live",
+            b"usage: live S S* [LEAD..], or live -s SETTINGS [LEAD..]",
+        ),
+        How::Said => {}
+    }
+}
