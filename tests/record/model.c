@@ -193,7 +193,7 @@ static void listen(unsigned s, unsigned t)
         uint64_t first = 0, count;
         struct contact c = contacts[i];
         if (!c.is_closed) {
-            printf("refused 9\n");
+            printf("refused 9: %s\n", words(9));
             continue;
         }
         printf("%llu %llu ", (unsigned long long)c.start, (unsigned long long)c.length);
@@ -203,7 +203,7 @@ static void listen(unsigned s, unsigned t)
         else if (j == 1)
             printf("marker\n");
         else
-            printf("refused %d\n", j);
+            printf("refused %d: %s\n", j, words(j));
     }
 }
 
@@ -255,7 +255,7 @@ static void trace(void)
         uint32_t given = ((uint32_t)f[0] << 24) + ((uint32_t)f[1] << 16) + ((uint32_t)f[2] << 8) + f[3];
         int number = given > MOST_DM ? 18 : given < accepted ? 17 : 0;
         if (number != 0 && refused++ == 0)
-            fprintf(stderr, "record: frame %llu refused %d\n", (unsigned long long)k + 1, number);
+            fprintf(stderr, "record: frame %llu refused %d: %s\n", (unsigned long long)k + 1, number, words(number));
         if (number == 0)
             accepted = given;
         in_force[k] = accepted;

@@ -2,7 +2,7 @@
 // `options(program, aside)` answers an `Asked`: the store of the settings; the number of the first argument after them (1, or 3 after `-s SETTINGS`);
 // and how it went: `Plain` (no `-s`: the store of document 01's gap, 40), `Settings` (the store of the file), `Usage` (`-s` without a file: the program
 // says its usage), or `Said`: the settings are bad, and it was said and told. Then the program ends, before any card is opened.
-// Said are, on standard output, `settings line 3 refused 24`, `settings line 3 unreadable`, `settings refused 19`; for a program whose result is bytes
+// Said are, on standard output, `settings line 3 refused 24: WORDS`, `settings line 3 unreadable`, `settings refused 19: WORDS`; for a program whose result is bytes
 // (`aside`) the same after its name on standard error; there, for every program, `PROGRAM: cannot open FILE`, `PROGRAM: cannot read FILE`, `PROGRAM: settings too long`.
 // Promises: it is safe and it ends; what a text of settings comes to, and the words said of it, are the crate sheet's. What is read or written
 // stands outside contracts: docs/EXCEPTIONS.md.
@@ -56,7 +56,7 @@ fn is_option() -> bool {
 
 // Says what is wrong with the settings. That they are too long is no result.
 fn tell_of(program: &[u8], aside: bool, line: u32, how: sheet::How) {
-    let mut text = [0u8; 80];
+    let mut text = [0u8; 128];
     let count = sheet::put_told(line, how, &mut text, 0);
     tell(ended(how));
     if aside | is_too_long(how) {
