@@ -57,10 +57,10 @@ function judged(    p, here, count, from, read, differ, zeroes) {
         if (here != read) differ = 1
         count++
     }
-    if (count >= 2) return differ ? "refused 7" : "telegram " read " places " count " from " from
+    if (count >= 2) return differ ? "refused 7: places differ" : "telegram " read " places " count " from " from
     zeroes = match(heard, /^0+/) ? RLENGTH : 0
     if (length(heard) >= 64 && substr(heard, zeroes + 1) !~ /0/ && length(heard) - zeroes <= 11) return "marker"
-    return "refused 8"
+    return "refused 8: contact neither telegram nor marker"
 }
 # "The bit that brings the zeroes among the latest sixteen to 8 or more opens one and is its first bit. Inside, the bit that brings
 # them to 4 or fewer closes it and is not part of it."
@@ -93,4 +93,4 @@ BEGIN {
     if (what == "bytes") print hex_of(sent)
     else for (i = 1; i <= length(sent); i++) bit(substr(sent, i, 1) + 0)
 }
-END { if (what == "heard" && inside) print "refused 9" }
+END { if (what == "heard" && inside) print "refused 9: contact cut by the end of the record" }

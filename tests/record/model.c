@@ -13,6 +13,20 @@
 #define MOST_BITS 16777216
 #define MOST_DM 4000000000u
 
+/* The documents' words for a number, as lines of our own have them. */
+static const char *in_words(int number)
+{
+    switch (number) {
+    case 5: return "above 16,777,216 bits";
+    case 7: return "places differ";
+    case 8: return "contact neither telegram nor marker";
+    case 9: return "contact cut by the end of the record";
+    case 17: return "odometer below the last accepted one";
+    case 18: return "odometer above 4,000,000,000";
+    }
+    return "";
+}
+
 static uint8_t *input;
 static size_t bytes;
 
@@ -193,7 +207,7 @@ static void listen(unsigned s, unsigned t)
         uint64_t first = 0, count;
         struct contact c = contacts[i];
         if (!c.is_closed) {
-            printf("refused 9\n");
+            printf("refused 9: %s\n", in_words(9));
             continue;
         }
         printf("%llu %llu ", (unsigned long long)c.start, (unsigned long long)c.length);
@@ -203,7 +217,7 @@ static void listen(unsigned s, unsigned t)
         else if (j == 1)
             printf("marker\n");
         else
-            printf("refused %d\n", j);
+            printf("refused %d: %s\n", j, in_words(j));
     }
 }
 
@@ -255,7 +269,7 @@ static void trace(void)
         uint32_t given = ((uint32_t)f[0] << 24) + ((uint32_t)f[1] << 16) + ((uint32_t)f[2] << 8) + f[3];
         int number = given > MOST_DM ? 18 : given < accepted ? 17 : 0;
         if (number != 0 && refused++ == 0)
-            fprintf(stderr, "record: frame %llu refused %d\n", (unsigned long long)k + 1, number);
+            fprintf(stderr, "record: frame %llu refused %d: %s\n", (unsigned long long)k + 1, number, in_words(number));
         if (number == 0)
             accepted = given;
         in_force[k] = accepted;

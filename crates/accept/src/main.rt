@@ -9,15 +9,11 @@ use acceptance::PlanJudged;
 use asked::How;
 use cards::Found;
 use plans::Tolerance;
-use ride::Line;
 use settings::Store;
 
 // One line of usage.
 fn usage() {
-    cards::say(
-        b"accept",
-        b"usage: accept [-s SETTINGS] PLAN TOLERANCE CARD..",
-    );
+    console::usage(b"accept", b"accept [-s SETTINGS] PLAN TOLERANCE CARD..");
 }
 
 // The ride over the cards from this argument on, taken by a plan, and the report.
@@ -27,7 +23,7 @@ fn ride_over(store: Store, run: acceptance::Acceptance, cards: usize) {
     let found = cards::go_over(cards, &mut lengths, &mut block);
     match found {
         Found::Cards => riding::accept(store, run, cards, &lengths, &mut block),
-        Found::BadLength(_) => out::write_line(Line::Trace(16)),
+        Found::BadLength(_) => out::refuse_trace(),
         Found::NoCard => usage(),
         Found::TooMany => cards::say_found(b"accept", found),
         Found::CannotOpen(_) => cards::say_found(b"accept", found),
@@ -71,7 +67,7 @@ fn accept(store: Store, first: usize) {
     let tolerance = plans::asked_for(first + 1);
     match tolerance {
         Tolerance::Dm(dm) => by_plan(store, first, dm, first + 2),
-        Tolerance::Odd => usage(),
+        Tolerance::Odd => console::wrong(b"accept", b"TOLERANCE", b"figure", first + 1),
     }
 }
 

@@ -1,28 +1,32 @@
 // Lines on standard output.
-use libc::STDOUT_FILENO;
+use console::Ended;
 use listing::Put;
 use ride::Line;
 
-// The first bytes of a text.
+// The first bytes of a text; where they cannot be written it is said and told.
 pub fn write(text: &[u8], count: usize) -> bool {
-    if count > text.len() {
-        return false;
-    }
-    io::write_all(STDOUT_FILENO, &text[..count])
+    console::put(b"accept", text, count)
 }
 
-// A line of a ride.
-pub fn write_line(line: Line) {
+// A line by which the whole call is refused.
+fn refuse_by(text: &[u8], count: usize) {
+    if write(text, count) {
+        console::tell(Ended::Refused);
+    }
+}
+
+// `trace refused 16`, alone.
+pub fn refuse_trace() {
     let mut text = [0u8; 64];
-    let Put::Next(count) = listing::put_line(line, &mut text, 0) else {
+    let Put::Next(count) = listing::put_line(Line::Trace(16), &mut text, 0) else {
         return;
     };
-    write(&text, count);
+    refuse_by(&text, count);
 }
 
 // That the plan is refused.
 pub fn refuse(number: u8) {
-    let mut text = [0u8; 64];
+    let mut text = [0u8; 128];
     let count = depot::put_refused(number, &mut text, 0);
-    write(&text, count);
+    refuse_by(&text, count);
 }

@@ -21,12 +21,7 @@ const MOST: u64 = 4294967295;
 
 // The tolerance of this argument.
 pub fn asked_for(number: usize) -> Tolerance {
-    let mut text = io::buffer();
-    let length = os::arg(number, &mut text);
-    if os::errno() != 0 {
-        return Tolerance::Odd;
-    }
-    match arguments::decimal(&text[..length], MOST) {
+    match console::number(number, MOST) {
         Figure::Number(n) => {
             if n <= MOST {
                 Tolerance::Dm(n as u32)

@@ -5,6 +5,8 @@ use crate::out::write;
 use acceptance::Acceptance;
 use acceptance::Reported;
 use cards::How;
+use console::Ended;
+use depot::Troubles;
 use ride::Ride;
 use settings::Asked;
 use settings::Held;
@@ -17,10 +19,11 @@ fn room() -> [u8; 1048576]
     [0; 1048576]
 }
 
-// Where the ride stands: the state, the run, the settings that are held, and whether all writes so far succeeded.
+// Where the ride stands: the state, the run, what went wrong so far, the settings that are held, and whether all writes so far succeeded.
 struct Stand {
     ride: Ride,
     run: Acceptance,
+    troubles: Troubles,
     held: Held,
     is_good: bool,
 }
@@ -30,6 +33,7 @@ fn write_records(from: Stand, store: Store, records: &[u8], out: &mut [u8]) -> S
     let count = records.len() / 8;
     let mut ride = from.ride;
     let mut run = from.run;
+    let mut troubles = from.troubles;
     let mut held = from.held;
     let mut at: usize = 0;
     let mut i: usize = 0;
@@ -38,22 +42,24 @@ fn write_records(from: Stand, store: Store, records: &[u8], out: &mut [u8]) -> S
         if settings::leaves(held, odometer) {
             held = settings::hold(store, held, odometer);
         }
-        let walked = depot::accept_at(ride, run, held.gap, records, i, out, at);
+        let walked = depot::accept_at(ride, run, troubles, held.gap, records, i, out, at);
         ride = walked.ride;
         run = walked.run;
+        troubles = walked.troubles;
         at = walked.next;
         i += 1;
     }
     Stand {
         ride,
         run,
+        troubles,
         held,
         is_good: write(out, at),
     }
 }
 
-// The entries of the plan, and the sum.
-fn write_report(run: Acceptance) {
+// The entries of the plan, as far as they can be written.
+fn write_entries(run: Acceptance) -> bool {
     let mut i: usize = 0;
     while i < 64 {
         let reported = acceptance::report(run, i);
@@ -62,25 +68,44 @@ fn write_report(run: Acceptance) {
         };
         let mut text = [0u8; 128];
         let count = depot::put_entry(i, entry, &mut text, 0);
-        write(&text, count);
+        if !write(&text, count) {
+            return false;
+        }
         i += 1;
     }
-    let mut text = [0u8; 256];
-    let count = depot::put_sum(acceptance::sum_up(run), &mut text, 0);
-    write(&text, count);
+    true
+}
+
+// The sum and what a depot signs. A ride that did not pass is told.
+fn write_last(run: Acceptance, faults: u64, refused: u64) {
+    let sums = acceptance::sum_up(run);
+    let mut text = [0u8; 384];
+    let next = depot::put_sum(sums, &mut text, 0);
+    let count = depot::put_last(sums, faults, refused, &mut text, next);
+    if write(&text, count) {
+        if !depot::is_passed(sums) {
+            console::tell(Ended::Refused);
+        }
+    }
 }
 
 // The end of the ride, and the report.
 fn finish(stand: Stand) {
     let ride = stand.ride;
     let run = stand.run;
+    let troubles = stand.troubles;
     let ended = ride::end(ride);
     let lines = ended.lines;
     let mut text = [0u8; 128];
     let written = depot::take_lines(run, lines, &mut text, 0);
     let after = written.run;
-    write(&text, written.next);
-    write_report(after);
+    let faults = depot::faults_after(troubles.faults, lines);
+    if !write(&text, written.next) {
+        return;
+    }
+    if write_entries(after) {
+        write_last(after, faults, troubles.refused);
+    }
 }
 
 // What comes after the last block: the report where all cards were read, and a word of what went wrong otherwise.
@@ -133,6 +158,10 @@ pub fn accept(store: Store, run: Acceptance, first: usize, lengths: &[u64], bloc
     let start = Stand {
         ride,
         run,
+        troubles: Troubles {
+            faults: 0,
+            refused: 0,
+        },
         held,
         is_good: true,
     };

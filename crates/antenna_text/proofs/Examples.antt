@@ -4,6 +4,7 @@ use mathlib.Core.Path.{_≡_, refl}
 use Rattle.text.specs.Text.{codes, digits, decimal}
 use Rattle.telegram.specs.declared.Telegram.{Telegram}
 use Rattle.contact.specs.declared.Judged.{Judged}
+use Rattle.refusals.specs.Words.{table, worded}
 use Rattle.hearing.specs.Lines.{figures, what, heard, refusal}
 use Rattle.antenna_text.specs.Lines.{shown, refusedAs, toldLine, closedBefore}
 
@@ -11,6 +12,6 @@ pub a-telegram : toldLine (closedBefore 328 292 (Judged.Read (Telegram.Figures 1
 unfolding toldLine heard what figures shown decimal digits
 a-telegram = refl
 
-pub standing : toldLine (closedBefore 50000000000 20000000 Judged.Beyond) ≡ codes "49980000000 20000000 refused 5\n"
-unfolding toldLine heard what refusedAs decimal digits
+pub standing : toldLine (closedBefore 50000000000 20000000 Judged.Beyond) ≡ codes "49980000000 20000000 refused 5: above 16,777,216 bits\n"
+unfolding toldLine heard what worded table refusedAs decimal digits
 standing = refl

@@ -1,13 +1,16 @@
 // What the arguments ask for before the cards, for the programs that ride: `-s SETTINGS`.
 // `options(program, aside)` answers an `Asked`: the store of the settings; the number of the first argument after them (1, or 3 after `-s SETTINGS`);
 // and how it went: `Plain` (no `-s`: the store of document 01's gap, 40), `Settings` (the store of the file), `Usage` (`-s` without a file: the program
-// says its usage by `cards::say`), or `Said`: the settings are bad, and it was said. Then the program ends, before any card is opened.
-// Said are, on standard output, `settings line 3 refused 24`, `settings line 3 unreadable`, `settings refused 19`; for a program whose result is bytes
+// says its usage), or `Said`: the settings are bad, and it was said and told. Then the program ends, before any card is opened.
+// Said are, on standard output, `settings line 3 refused 24: WORDS`, `settings line 3 unreadable`, `settings refused 19: WORDS`; for a program whose result is bytes
 // (`aside`) the same after its name on standard error; there, for every program, `PROGRAM: cannot open FILE`, `PROGRAM: cannot read FILE`, `PROGRAM: settings too long`.
 // Promises: it is safe and it ends; what a text of settings comes to, and the words said of it, are the crate sheet's. What is read or written
 // stands outside contracts: docs/EXCEPTIONS.md.
 ghost use mathlib.Core.Path.{_≡_};
 ghost use lib.ListN.{length};
+use console::Ended;
+use console::tell;
+use console::write;
 use libc::STDERR_FILENO;
 use libc::STDOUT_FILENO;
 use settings::Store;
@@ -51,24 +54,30 @@ fn is_option() -> bool {
     (length == 2) & (text[0] == b'-') & (text[1] == b's')
 }
 
-// The first bytes of a line.
-fn write(fd: i32, line: &[u8], count: usize) {
-    if count <= line.len() {
-        io::write_all(fd, &line[..count]);
-    }
-}
-
 // Says what is wrong with the settings. That they are too long is no result.
-fn tell(program: &[u8], aside: bool, line: u32, how: sheet::How) {
-    let mut text = [0u8; 80];
+fn tell_of(program: &[u8], aside: bool, line: u32, how: sheet::How) {
+    let mut text = [0u8; 128];
     let count = sheet::put_told(line, how, &mut text, 0);
+    tell(ended(how));
     if aside | is_too_long(how) {
         io::write_all(STDERR_FILENO, program);
         io::write_all(STDERR_FILENO, b": ");
         write(STDERR_FILENO, &text, count);
         return;
     }
-    write(STDOUT_FILENO, &text, count);
+    if !write(STDOUT_FILENO, &text, count) {
+        console::cannot_write(program);
+    }
+}
+
+// How a call ends by bad settings: refused by a number, or their text cannot be read.
+fn ended(how: sheet::How) -> Ended {
+    match how {
+        sheet::How::Refused(_) => Ended::Refused,
+        sheet::How::Fine => Ended::Said,
+        sheet::How::TooLong => Ended::Said,
+        sheet::How::Unreadable => Ended::Said,
+    }
 }
 
 // Whether a text is longer than is read.
@@ -108,7 +117,7 @@ fn judged(program: &[u8], aside: bool, sheet: Sheet) -> Asked {
     if is_fine(how) {
         return with(store, How::Settings);
     }
-    tell(program, aside, line, how);
+    tell_of(program, aside, line, how);
     with(store, How::Said)
 }
 

@@ -64,6 +64,7 @@ pub fn all(s: u8, t: u8) {
     let telegrams = figures(s, t, &mut buf);
     let count = telegrams.count;
     let listed = numbers(s, t, &mut buf, telegrams.at);
-    out::write(&buf, listed.at);
-    out::close(count, listed.count);
+    if console::put(b"audible", &buf, listed.at) {
+        out::close(count, listed.count);
+    }
 }

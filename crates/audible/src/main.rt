@@ -5,38 +5,31 @@ mod list;
 mod out;
 
 use arguments::Byte;
-use libc::STDERR_FILENO;
 use telegram::Pair;
 
-// Argument k as a word.
-fn word(k: usize) -> Byte {
-    let mut text = io::buffer();
-    let length = os::arg(k, &mut text);
-    if os::errno() != 0 {
-        return Byte::Odd;
-    }
-    arguments::hex(&text[..length])
-}
-
-fn usage() {
-    io::write_all(STDERR_FILENO, b"audible: usage: audible S S*\n");
+// Argument k, a sync word of this name; where it is none that is said.
+fn sync_word(name: &[u8], k: usize) -> Byte {
+    let asked = console::word(k);
+    let Byte::Is(_) = asked else {
+        console::wrong(b"audible", name, b"word of two hex digits", k);
+        return asked;
+    };
+    asked
 }
 
 fn main() {
     if os::arg_count() != 3 {
-        usage();
+        console::usage(b"audible", b"audible S S*");
         return;
     }
-    let Byte::Is(s) = word(1) else {
-        usage();
+    let Byte::Is(s) = sync_word(b"S", 1) else {
         return;
     };
-    let Byte::Is(t) = word(2) else {
-        usage();
+    let Byte::Is(t) = sync_word(b"S*", 2) else {
         return;
     };
     let Pair::Good = telegram::good_pair(s, t) else {
-        out::refuse(4);
+        console::refuse_here(b"audible", 4);
         return;
     };
     list::all(s, t);

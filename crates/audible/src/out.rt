@@ -1,13 +1,4 @@
 // Lines, gathered in a buffer and written when it is full.
-use libc::STDOUT_FILENO;
-
-// Writes the first bytes of the buffer.
-pub fn write(buf: &[u8], count: usize) -> bool {
-    if count > buf.len() {
-        return false;
-    }
-    io::write_all(STDOUT_FILENO, &buf[..count])
-}
 
 // The line of a telegram after those that stand; where it has no room, they are written first. The place after it.
 pub fn add(x: u8, y: u16, z: u8, buf: &mut [u8], at: usize) -> usize {
@@ -15,7 +6,7 @@ pub fn add(x: u8, y: u16, z: u8, buf: &mut [u8], at: usize) -> usize {
     if next > at {
         return next;
     }
-    if write(buf, at) {
+    if console::put(b"audible", buf, at) {
         return unheard::put_telegram(x, y, z, buf, 0);
     }
     at
@@ -25,12 +16,5 @@ pub fn add(x: u8, y: u16, z: u8, buf: &mut [u8], at: usize) -> usize {
 pub fn close(telegrams: u32, numbers: u32) {
     let mut line = [0u8; 128];
     let count = unheard::put_count(telegrams, numbers, &mut line, 0);
-    write(&line, count);
-}
-
-// The line of a refusal that stands by itself.
-pub fn refuse(number: u8) {
-    let mut line = [0u8; 64];
-    let count = hearing::put_refusal(number, &mut line, 0);
-    write(&line, count);
+    console::put(b"audible", &line, count);
 }

@@ -14,40 +14,39 @@ pub struct Call {
     pub idle: usize,
 }
 
-// What is asked for, or that the arguments are no call.
+// What is asked for; that there are too few or too many arguments; or that one of them is wrong, which was said.
 pub enum Asked {
     For(Call),
-    Odd,
+    Usage,
+    Said,
 }
 
-// A number of the command line, where the largest asked for stands for all above it; or none.
+// A number of the command line, where the largest asked for stands for all above it; or none, which was said.
 enum Taken {
     Is(u64),
-    Odd,
+    Said,
 }
 
-// Argument k as a number up to `most`.
-fn number(k: usize, most: u64) -> Taken {
-    let mut text = io::buffer();
-    let length = os::arg(k, &mut text);
-    if os::errno() != 0 {
-        return Taken::Odd;
-    }
-    match arguments::decimal(&text[..length], most) {
+// Argument k, of this name, as a number up to `most`.
+fn figure(name: &[u8], k: usize, most: u64) -> Taken {
+    match console::number(k, most) {
         Figure::Number(n) => Taken::Is(n),
         Figure::Above => Taken::Is(most),
-        Figure::Odd => Taken::Odd,
+        Figure::Odd => {
+            console::wrong(b"balise", name, b"figure", k);
+            Taken::Said
+        }
     }
 }
 
-// Argument k as a word.
-fn word(k: usize) -> Byte {
-    let mut text = io::buffer();
-    let length = os::arg(k, &mut text);
-    if os::errno() != 0 {
-        return Byte::Odd;
-    }
-    arguments::hex(&text[..length])
+// Argument k, of this name, as a word.
+fn sync_word(name: &[u8], k: usize) -> Byte {
+    let asked = console::word(k);
+    let Byte::Is(_) = asked else {
+        console::wrong(b"balise", name, b"word of two hex digits", k);
+        return asked;
+    };
+    asked
 }
 
 // A figure of one byte, of two and of four: the largest stands for all above it, and is refused as they are.
@@ -73,40 +72,33 @@ fn four_bytes(n: u64) -> u32 {
 }
 
 // The bytes of quiet line, argument k if there is one: 0 to 65,535.
-fn idle(k: usize) -> Taken
-    requires { ⌜ k ≤ 7 ⌝ }
-{
-    if os::arg_count() == k {
+fn idle(k: usize) -> Taken {
+    if os::arg_count() <= k {
         return Taken::Is(0);
     }
-    if os::arg_count() != k + 1 {
-        return Taken::Odd;
-    }
-    let asked = number(k, 65536);
-    let Taken::Is(n) = asked else {
-        return Taken::Odd;
+    let asked = console::number(k, 65535);
+    let Figure::Number(n) = asked else {
+        console::wrong(b"balise", b"IDLE", b"figure up to 65,535", k);
+        return Taken::Said;
     };
-    if n > 65535 {
-        return Taken::Odd;
-    }
-    asked
+    Taken::Is(n)
 }
 
 // The call with these figures, its sync words from argument k on.
 fn with_figures(x: u64, y: u64, z: u64, k: usize) -> Asked
     requires { ⌜ k ≤ 4 ⌝ }
 {
-    let Byte::Is(s) = word(k) else {
-        return Asked::Odd;
+    let Byte::Is(s) = sync_word(b"S", k) else {
+        return Asked::Said;
     };
-    let Byte::Is(t) = word(k + 1) else {
-        return Asked::Odd;
+    let Byte::Is(t) = sync_word(b"S*", k + 1) else {
+        return Asked::Said;
     };
-    let Taken::Is(n) = number(k + 2, 4294967295) else {
-        return Asked::Odd;
+    let Taken::Is(n) = figure(b"N", k + 2, 4294967295) else {
+        return Asked::Said;
     };
     let Taken::Is(idle) = idle(k + 3) else {
-        return Asked::Odd;
+        return Asked::Said;
     };
     Asked::For(Call {
         x: one_byte(x),
@@ -119,19 +111,46 @@ fn with_figures(x: u64, y: u64, z: u64, k: usize) -> Asked
     })
 }
 
-// The whole call: three figures, or 12 and a number.
-pub fn arguments() -> Asked {
-    let Taken::Is(x) = number(1, 255) else {
-        return Asked::Odd;
-    };
-    let Taken::Is(y) = number(2, 65535) else {
-        return Asked::Odd;
-    };
-    if x == 12 {
-        return with_figures(12, y, 0, 3);
+// Whether there are so many arguments, the program's name among them, or one more.
+fn are_there(words: usize, fewest: usize) -> bool {
+    if words < fewest {
+        return false;
     }
-    let Taken::Is(z) = number(3, 255) else {
-        return Asked::Odd;
+    words - fewest < 2
+}
+
+// A call with three figures.
+fn by_figures(x: u64, y: u64) -> Asked {
+    if !are_there(os::arg_count(), 7) {
+        return Asked::Usage;
+    }
+    let Taken::Is(z) = figure(b"Z", 3, 255) else {
+        return Asked::Said;
     };
     with_figures(x, y, z, 4)
+}
+
+// A call with 12 and a number.
+fn by_number(number: u64) -> Asked {
+    if !are_there(os::arg_count(), 6) {
+        return Asked::Usage;
+    }
+    with_figures(12, number, 0, 3)
+}
+
+// The whole call: three figures, or 12 and a number.
+pub fn arguments() -> Asked {
+    if os::arg_count() < 6 {
+        return Asked::Usage;
+    }
+    let Taken::Is(x) = figure(b"X", 1, 255) else {
+        return Asked::Said;
+    };
+    let Taken::Is(y) = figure(b"Y", 2, 65535) else {
+        return Asked::Said;
+    };
+    if x == 12 {
+        return by_number(y);
+    }
+    by_figures(x, y)
 }

@@ -8,14 +8,8 @@ mod asked;
 
 use asked::Asked;
 use asked::Call;
-use libc::STDERR_FILENO;
 use libc::STDOUT_FILENO;
 use writer::Written;
-
-// A line of standard error.
-fn complain(line: &[u8]) {
-    io::write_all(STDERR_FILENO, line);
-}
 
 // 65,535 bytes of ones.
 fn ones() -> [u8; 65535]
@@ -27,19 +21,27 @@ fn ones() -> [u8; 65535]
 // So many bytes of ones, at most 65,535.
 fn quiet(count: usize) -> bool {
     let ones = ones();
-    if count > 65535 {
-        return false;
-    }
-    io::write_all(STDOUT_FILENO, &ones[..count])
+    console::write(STDOUT_FILENO, &ones, count)
 }
 
-// The bytes written, between quiet line.
-fn send(bytes: &[u8], idle: usize) {
+// The first bytes of some between quiet line, as far as they can be written.
+fn sent(bytes: &[u8], count: usize, idle: usize) -> bool {
     if !quiet(idle) {
+        return false;
+    }
+    if !console::write(STDOUT_FILENO, bytes, count) {
+        return false;
+    }
+    quiet(idle)
+}
+
+// The bytes between quiet line, but not to a terminal.
+fn send(bytes: &[u8], count: usize, idle: usize) {
+    if console::to_terminal(b"balise") {
         return;
     }
-    if io::write_all(STDOUT_FILENO, bytes) {
-        quiet(idle);
+    if !sent(bytes, count, idle) {
+        console::cannot_write(b"balise");
     }
 }
 
@@ -48,24 +50,22 @@ fn answer(call: Call) {
     let mut out = [0u8; 4001];
     let written = writer::write(call.x, call.y, call.z, call.s, call.t, call.n, &mut out);
     match written {
-        Written::Bytes(count) => {
-            if count <= 4001 {
-                send(&out[..count], call.idle);
-            }
-        }
-        Written::TooLarge => complain(b"balise: refused 2\n"),
-        Written::Fifteen => complain(b"balise: refused 3\n"),
-        Written::NotSeven => complain(b"balise: refused 4\n"),
-        Written::Count => complain(b"balise: refused 20\n"),
-        Written::Short => complain(b"balise: refused 21\n"),
+        Written::Bytes(count) => send(&out, count, call.idle),
+        Written::TooLarge => console::refuse(b"balise", 2),
+        Written::Fifteen => console::refuse(b"balise", 3),
+        Written::NotSeven => console::refuse(b"balise", 4),
+        Written::Count => console::refuse(b"balise", 20),
+        Written::Short => console::refuse(b"balise", 21),
     }
 }
 
 fn main() {
     match asked::arguments() {
         Asked::For(call) => answer(call),
-        Asked::Odd => complain(
-            b"balise: usage: balise X Y Z S S* N [IDLE], or balise 12 NUMBER S S* N [IDLE]\n",
+        Asked::Usage => console::usage(
+            b"balise",
+            b"balise X Y Z S S* N [IDLE], or balise 12 NUMBER S S* N [IDLE]",
         ),
+        Asked::Said => {}
     }
 }

@@ -23,12 +23,15 @@ struct Card {
     is_again: bool,
 }
 
-// Opens the file that the argument with this number names; below 0 where that cannot be done.
+// Opens the file that the argument with this number names, or standard input for the name `-`; below 0 where that cannot be done.
 pub fn open_card(number: usize) -> i32 {
     let mut path = io::buffer();
     let length = os::arg(number, &mut path);
     if os::errno() != 0 {
         return -1;
+    }
+    if (length == 1) & (path[0] == b'-') {
+        return os::open_read(b"/dev/stdin");
     }
     os::open_read(&path[..length])
 }

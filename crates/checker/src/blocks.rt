@@ -2,6 +2,7 @@
 ghost use mathlib.Core.Path.{_≡_};
 ghost use lib.ListN.{length};
 use cards::How;
+use console::Ended;
 use libc::STDOUT_FILENO;
 use listing::Done;
 use listing::Put;
@@ -24,13 +25,29 @@ pub struct Stand {
     is_good: bool,
 }
 
+// Writes the first bytes of a buffer. Where that fails the launcher is told, and says so.
+fn write(out: &[u8], count: usize) -> bool {
+    if console::write(STDOUT_FILENO, out, count) {
+        return true;
+    }
+    console::tell(Ended::Unwritten);
+    false
+}
+
 // Writes a line.
-pub fn write_line(line: Line) -> bool {
+fn write_line(line: Line) -> bool {
     let mut out = [0u8; 64];
     let Put::Next(n) = listing::put_line(line, &mut out, 0) else {
         return false;
     };
-    io::write_all(STDOUT_FILENO, &out[..n])
+    write(&out, n)
+}
+
+// `trace refused 16`, alone.
+pub fn refuse_trace() {
+    if write_line(Line::Trace(16)) {
+        console::tell(Ended::Refused);
+    }
 }
 
 // Lists the records and writes their lines. Where out has 128 bytes for each of them, one call of `list` takes them all.
@@ -51,12 +68,11 @@ fn write_records(from: Stand, store: Store, records: &[u8], out: &mut [u8]) -> S
             is_good: false,
         };
     };
-    let is_written = io::write_all(STDOUT_FILENO, &out[..bytes]);
-    let listed = count * 8;
+    let is_written = write(out, bytes);
     Stand {
         ride: after,
         number,
-        is_good: is_written & (listed == records.len()),
+        is_good: is_written & (count == records.len() / 8),
     }
 }
 
@@ -70,13 +86,16 @@ fn write_end(ride: Ride) {
     write_line(line);
 }
 
-// What comes after the last block: the end's line where all cards were read, and nothing after a card that cannot be opened any more or a read that failed.
+// What comes after the last block: the end's line where all cards were read; of a card that cannot be opened any more, or of a read that failed, the launcher is told.
 fn finish(how: How, stand: Stand) {
-    let How::End = how else {
-        return;
-    };
     let ride = stand.ride;
-    write_end(ride);
+    match how {
+        How::End => write_end(ride),
+        How::CannotOpen(_) => console::tell(Ended::Unread),
+        How::CannotRead(_) => console::tell(Ended::Unread),
+        How::NoRoom => {}
+        How::More => {}
+    }
 }
 
 // The lines of all records of the cards from this argument on, whose lengths were kept, as one ride under the settings, and of its end. A proved loop has to end, and nothing says that

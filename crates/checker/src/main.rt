@@ -6,11 +6,12 @@ mod blocks;
 
 use asked::How;
 use cards::Found;
-use ride::Line;
+use console::Ended;
+use console::tell;
 use settings::Store;
 
-// Goes over the cards twice: once for their lengths, once for the records. Of a card that cannot be opened or read nothing is said, as document 01 has it. The
-// buffers are made once: a fresh one for each part of a card would have to be filled with zeroes first.
+// Goes over the cards twice: once for their lengths, once for the records. Of a card that cannot be opened or read nothing is written, as document 01 has it:
+// the launcher is told. The buffers are made once: a fresh one for each part of a card would have to be filled with zeroes first.
 fn list(store: Store, first: usize) {
     let mut lengths = [0u64; 8192];
     let mut block = io::large_buffer();
@@ -20,14 +21,12 @@ fn list(store: Store, first: usize) {
             let mut out = blocks::room();
             blocks::list_cards(store, first, &lengths, &mut block, &mut out);
         }
-        Found::BadLength(_) => {
-            blocks::write_line(Line::Trace(16));
-        }
-        Found::NoCard => {}
-        Found::TooMany => {}
-        Found::CannotOpen(_) => {}
-        Found::CannotRead(_) => {}
-        Found::Once(_) => {}
+        Found::BadLength(_) => blocks::refuse_trace(),
+        Found::NoCard => tell(Ended::Usage),
+        Found::TooMany => tell(Ended::TooMany),
+        Found::CannotOpen(_) => tell(Ended::Unread),
+        Found::CannotRead(_) => tell(Ended::Unread),
+        Found::Once(_) => tell(Ended::Once),
     }
 }
 
@@ -39,7 +38,7 @@ fn main() {
     match how {
         How::Plain => list(store, first),
         How::Settings => list(store, first),
-        How::Usage => cards::say(b"checker", b"usage: checker [-s SETTINGS] CARD.."),
+        How::Usage => tell(Ended::Usage),
         How::Said => {}
     }
 }

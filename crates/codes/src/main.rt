@@ -4,7 +4,6 @@
 mod hex;
 mod lines;
 
-use libc::STDERR_FILENO;
 use words::ShortWritten;
 
 // The word of a figure in the short code.
@@ -37,16 +36,25 @@ fn short_code() -> [u16; 16] {
     ]
 }
 
-fn main() {
-    if 1 < os::arg_count() {
-        io::write_all(STDERR_FILENO, b"codes: usage: codes\n");
-        return;
-    }
+// Both lists, with an empty line between them, as far as they can be written.
+fn write_lists() -> bool {
     let short = short_code();
     let long = printed::list();
-    if lines::put(&short, 2) {
-        if lines::text(b"\n") {
-            lines::put(&long, 0);
-        }
+    if !lines::put(&short, 2) {
+        return false;
+    }
+    if !lines::text(b"\n") {
+        return false;
+    }
+    lines::put(&long, 0)
+}
+
+fn main() {
+    if 1 < os::arg_count() {
+        console::usage(b"codes", b"codes");
+        return;
+    }
+    if !write_lists() {
+        console::cannot_write(b"codes");
     }
 }

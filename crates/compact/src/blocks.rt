@@ -2,7 +2,6 @@
 ghost use Prim.Native.Nat.{_≤_};
 ghost use lib.ListN.{length};
 use crate::counts;
-use crate::writing;
 use cards::How;
 use compaction::Size;
 use compaction::Waiting;
@@ -32,7 +31,7 @@ fn write_block(from: Stand, store: Store, block: &mut [u8]) -> Stand {
             is_good: false,
         };
     };
-    let is_good = writing::write(STDOUT_FILENO, block, bytes);
+    let is_good = console::write(STDOUT_FILENO, block, bytes);
     Stand {
         waiting: then,
         records,
@@ -60,7 +59,12 @@ fn write_last(stand: Stand) {
         counts::say(stand.records, counts::more(stand.kept, 1));
         return;
     }
-    writing::cannot_write();
+    cannot_write();
+}
+
+// That a write failed.
+fn cannot_write() {
+    console::cannot_write(b"compact");
 }
 
 // What comes after the last block: the last record and the counts, or what failed.
@@ -95,7 +99,7 @@ pub fn write_cards(store: Store, first: usize, lengths: &[u64], block: &mut [u8]
         let read = got.read;
         stand = write_front(stand, store, block, read);
         if !stand.is_good {
-            writing::cannot_write();
+            cannot_write();
             return;
         }
         let how = got.how;

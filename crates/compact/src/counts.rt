@@ -1,7 +1,6 @@
 // How many records there were, and how many are kept.
 ghost use mathlib.Core.Path.{_≡_};
 ghost use Rattle.compact.specs.Counting.{added};
-use crate::writing;
 use libc::STDERR_FILENO;
 
 // Two counts added; a sum that no trace reaches stays at the highest number.
@@ -21,5 +20,5 @@ pub fn say(records: u64, kept: u64) {
     let second = text::put_number(b"compact: ", records, &mut line, 0);
     let third = text::put_number(b" records, ", kept, &mut line, second);
     let end = text::put(b" kept\n", &mut line, third);
-    writing::write(STDERR_FILENO, &line, end);
+    console::write(STDERR_FILENO, &line, end);
 }

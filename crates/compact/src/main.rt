@@ -4,7 +4,6 @@
 // and writes stands in docs/EXCEPTIONS.md.
 mod blocks;
 mod counts;
-mod writing;
 
 use asked::How;
 use cards::Found;
@@ -12,7 +11,7 @@ use settings::Store;
 
 // How it is called.
 fn usage() {
-    cards::say(b"compact", b"usage: compact [-s SETTINGS] CARD..");
+    console::usage(b"compact", b"compact [-s SETTINGS] CARD..");
 }
 
 // Goes over the cards twice: once for their lengths, once for the records. Nothing is written before all of them can be read and have whole records.
@@ -21,8 +20,12 @@ fn go_over(store: Store, first: usize) {
     let mut block = io::large_buffer();
     let found = cards::go_over(first, &mut lengths, &mut block);
     match found {
-        Found::Cards => blocks::write_cards(store, first, &lengths, &mut block),
-        Found::BadLength(_) => cards::say(b"compact", b"refused 16"),
+        Found::Cards => {
+            if !console::to_terminal(b"compact") {
+                blocks::write_cards(store, first, &lengths, &mut block);
+            }
+        }
+        Found::BadLength(_) => console::refuse(b"compact", 16),
         Found::NoCard => usage(),
         Found::TooMany => cards::say_found(b"compact", found),
         Found::CannotOpen(_) => cards::say_found(b"compact", found),

@@ -13,6 +13,9 @@ use Rattle.depot.specs.declared.Written.{Written}
 use Rattle.depot.specs.declared.records.Walked.{Walked}
 use Rattle.depot.specs.Taking.{Going, written}
 use Rattle.depot.specs.Record.{Walk, walked}
+use Rattle.words.proofs.Told.{Fixed}
+use Rattle.depot.proofs.troubles.faults_after.Kinds as faults-after-kinds
+use Rattle.depot.proofs.troubles.faults_after.Reads as faults-after-reads
 use Rattle.depot.proofs.take_line.Kinds as take-line-kinds
 use Rattle.depot.proofs.take_line.Reads as take-line-reads
 use Rattle.depot.proofs.records.accept_at.Kinds as accept-at-kinds
@@ -23,8 +26,7 @@ use Rattle.depot.proofs.take_lines.Reads as take-lines-reads
 -- The ride of a record likewise.
 same-walked : {r r′ : Walked} {x x′ : List ℕ} → walked r x ≡ walked r′ x′ → (r ≡ r′) × (x ≡ x′)
 same-walked e = (
-  ap₂ (λ (s : Ride) (w : Written). record { ride = s; run = w .run; next = w .next }) (ap (λ (w : Walk). w .ride) e)
-      (ap (λ (w : Walk). record { run = w .going .run; next = w .going .text .next }) e),
+  ap (λ (w : Walk). record { ride = w .ride; run = w .going .run; troubles = w .troubles; next = w .going .text .next }) e,
   ap (λ (w : Walk). w .going .text .buffer) e,
 )
 
@@ -44,5 +46,8 @@ pub take-lines-determined : (κs : Lfts 1) (a : Dens κs take-lines-kinds.ps) (r
 take-lines-determined κs a r r′ x x′ p q = same-written (p ∙ sym q)
 
 pub accept-at-determined : (κs : Lfts 2) (a : Dens κs accept-at-kinds.ps) (r r′ : Walked) (x x′ : AtExit (endedOf 2 accept-at-kinds.ps accept-at-kinds.r) κs)
-    → accept-at-reads.Post κs a r x → accept-at-reads.Post κs a r′ x′ → (r ≡ r′) × (now (x .1 .1 .1 .1 .1 .0) ≡ now (x′ .1 .1 .1 .1 .1 .0))
+    → accept-at-reads.Post κs a r x → accept-at-reads.Post κs a r′ x′ → (r ≡ r′) × (now (x .1 .1 .1 .1 .1 .1 .0) ≡ now (x′ .1 .1 .1 .1 .1 .1 .0))
 accept-at-determined κs a r r′ x x′ p q = same-walked (p ∙ sym q)
+
+pub faults-after-determined : Fixed 0 faults-after-kinds.ps faults-after-kinds.r faults-after-reads.Post
+faults-after-determined κs a r r′ x x′ p q = p ∙ sym q

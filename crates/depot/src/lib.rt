@@ -1,23 +1,28 @@
 // A depot's acceptance run as text: the ride's lines as they are taken; the report at the end and a refused plan as `reported` puts them.
 // Promises: a line is written to the letter and whole, or not at all; bytes around it stay; a run goes on as `acceptance` says.
-// Specification: specs/Taking.antt (lines taken as text), specs/Record.antt (a record), `reported`'s specs/Lines.antt (the words); a text in a buffer is `text`'s specs/Put.antt.
+// Specification: specs/Taking.antt (lines taken as text), specs/Record.antt (a record), specs/Troubles.antt (what went wrong, counted), `reported`'s specs/Lines.antt (the words); a text in a buffer is `text`'s specs/Put.antt.
 ghost use mathlib.Core.Path.{_≡_};
 ghost use Rattle.text.specs.Put.{put, came};
 ghost use Rattle.ride.specs.Says.{saysLines};
 ghost use Rattle.depot.specs.Taking.{partLine, written, takeOne, takeAll};
 
 mod records;
+mod troubles;
 
 use acceptance::Acceptance;
 use acceptance::Role;
 pub use records::Walked;
 pub use records::accept_at;
+pub use reported::is_passed;
 pub use reported::put_entry;
 pub use reported::put_group;
+pub use reported::put_last;
 pub use reported::put_refused;
 pub use reported::put_sum;
 use ride::Line;
 use ride::Lines;
+pub use troubles::Troubles;
+pub use troubles::faults_after;
 
 // A run after some lines, and the place in the buffer after their text.
 pub struct Written {

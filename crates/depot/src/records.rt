@@ -1,18 +1,22 @@
-// One record of a ride: it is treated, and its lines are taken with their text.
+// One record of a ride: it is treated, its lines are taken with their text, and what went wrong is counted.
 ghost use mathlib.Core.Path.{_≡_};
 ghost use Rattle.ride.specs.Says.{saysLines, saysGiven, saysReply};
 ghost use Rattle.depot.specs.Record.{linesIn, linesOf, walked, acceptAt};
 use crate::take_lines;
+use crate::troubles::Troubles;
+use crate::troubles::faults_after;
+use crate::troubles::refused_after;
 use acceptance::Acceptance;
 use ride::Given;
 use ride::Lines;
 use ride::Reply;
 use ride::Ride;
 
-// Where a run stands after a record: the ride, the run, and the place in the buffer after the text of its lines.
+// Where a run stands after a record: the ride, the run, what went wrong so far, and the place in the buffer after the text of its lines.
 pub struct Walked {
     pub ride: Ride,
     pub run: Acceptance,
+    pub troubles: Troubles,
     pub next: usize,
 }
 
@@ -41,22 +45,27 @@ fn lines_of(reply: Reply) -> Lines
 pub fn accept_at(
     ride: Ride,
     run: Acceptance,
+    troubles: Troubles,
     gap: u32,
     trace: &[u8],
     i: usize,
     buf: &mut [u8],
     at: usize,
 ) -> Walked
-    ensures { λ r. ⌜ walked r (now (buf .exit)) ≡ acceptAt ride run gap (now (trace .entry)) i (now (buf .entry)) at ⌝ }
+    ensures { λ r. ⌜ walked r (now (buf .exit)) ≡ acceptAt ride run troubles gap (now (trace .entry)) i (now (buf .entry)) at ⌝ }
 {
     let treated = ride::treat_at(ride, gap, trace, i);
     let reply = treated.reply;
-    let took = take_lines(run, lines_of(reply), buf, at);
+    let lines = lines_of(reply);
+    let took = take_lines(run, lines, buf, at);
+    let faults = faults_after(troubles.faults, lines);
+    let refused = refused_after(troubles.refused, reply);
     let after = treated.ride;
     let going = took.run;
     Walked {
         ride: after,
         run: going,
+        troubles: Troubles { faults, refused },
         next: took.next,
     }
 }

@@ -2,7 +2,7 @@
 ghost use mathlib.Core.Path.{_≡_};
 ghost use lib.ListN.{length};
 use cards::How;
-use libc::STDOUT_FILENO;
+use console::Ended;
 use listing::Done;
 use listing::Put;
 use ride::Line;
@@ -23,21 +23,15 @@ pub struct Stand {
     is_good: bool,
 }
 
-// Writes the first bytes of a buffer.
-fn write(out: &[u8], count: usize) -> bool {
-    if count > out.len() {
-        return false;
-    }
-    io::write_all(STDOUT_FILENO, &out[..count])
-}
-
-// Writes a line.
-pub fn write_line(line: Line) -> bool {
+// `trace refused 16`, alone.
+pub fn refuse_trace() {
     let mut out = [0u8; 64];
-    let Put::Next(n) = listing::put_line(line, &mut out, 0) else {
-        return false;
+    let Put::Next(n) = listing::put_line(Line::Trace(16), &mut out, 0) else {
+        return;
     };
-    write(&out, n)
+    if console::put(b"explain", &out, n) {
+        console::tell(Ended::Refused);
+    }
 }
 
 // Lists the records and writes their lines. Where out has 320 bytes for each of them, one call of `list` takes them all.
@@ -58,7 +52,7 @@ fn write_records(from: Stand, store: Store, records: &[u8], out: &mut [u8]) -> S
             is_good: false,
         };
     };
-    let is_written = write(out, bytes);
+    let is_written = console::put(b"explain", out, bytes);
     Stand {
         ride: after,
         number,
@@ -70,16 +64,19 @@ fn write_records(from: Stand, store: Store, records: &[u8], out: &mut [u8]) -> S
 fn write_end(ride: Ride) {
     let mut out = [0u8; 320];
     let n = explained::put_end(ride, &mut out, 0);
-    write(&out, n);
+    console::put(b"explain", &out, n);
 }
 
-// What comes after the last block: the end's line where all cards were read, and nothing after a card that cannot be opened any more or a read that failed.
+// What comes after the last block: the end's line where all cards were read, or what failed.
 fn finish(how: How, stand: Stand) {
-    let How::End = how else {
-        return;
-    };
     let ride = stand.ride;
-    write_end(ride);
+    match how {
+        How::End => write_end(ride),
+        How::CannotOpen(number) => cards::cannot_open(b"explain", number),
+        How::CannotRead(number) => cards::cannot_read(b"explain", number),
+        How::NoRoom => {}
+        How::More => {}
+    }
 }
 
 // The lines of all records of the cards, whose lengths were kept, as one ride, and of its end. A proved loop has to end, and nothing says that

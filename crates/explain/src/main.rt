@@ -5,12 +5,11 @@ mod blocks;
 
 use asked::How;
 use cards::Found;
-use ride::Line;
 use settings::Store;
 
 // The line for wrong or missing arguments.
 fn usage() {
-    cards::say(b"explain", b"usage: explain [-s SETTINGS] CARD..");
+    console::usage(b"explain", b"explain [-s SETTINGS] CARD..");
 }
 
 // Goes over the cards twice: once for their lengths, once for the records.
@@ -23,9 +22,7 @@ fn explain_cards(store: Store, first: usize) {
             let mut out = blocks::room();
             blocks::list_cards(store, first, &lengths, &mut block, &mut out);
         }
-        Found::BadLength(_) => {
-            blocks::write_line(Line::Trace(16));
-        }
+        Found::BadLength(_) => blocks::refuse_trace(),
         Found::NoCard => usage(),
         Found::TooMany => cards::say_found(b"explain", found),
         Found::CannotOpen(_) => cards::say_found(b"explain", found),

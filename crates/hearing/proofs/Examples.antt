@@ -2,6 +2,7 @@
 -- Assumes nothing.
 use mathlib.Core.Path.{_≡_, refl}
 use Rattle.text.specs.Text.{codes, digits, decimal}
+use Rattle.refusals.specs.Words.{table, worded, refused}
 use Rattle.telegram.specs.declared.Telegram.{Telegram}
 use Rattle.contact.specs.declared.Judged.{Judged}
 use Rattle.hearing.specs.Lines.{figures, what, heard, refusal}
@@ -18,10 +19,10 @@ pub a-marker : heard 5000 80 Judged.Marker ≡ codes "5000 80 marker\n"
 unfolding heard what decimal digits
 a-marker = refl
 
-pub refusals : (heard 7000 60 Judged.Neither ≡ codes "7000 60 refused 8\n") × (heard 7000 60 Judged.Differ ≡ codes "7000 60 refused 7\n")
-unfolding heard what decimal digits
+pub refusals : (heard 7000 60 Judged.Neither ≡ codes "7000 60 refused 8: contact neither telegram nor marker\n") × (heard 7000 60 Judged.Differ ≡ codes "7000 60 refused 7: places differ\n")
+unfolding heard what worded table decimal digits
 refusals = (refl, refl)
 
-pub alone : refusal 9 ≡ codes "refused 9\n"
-unfolding refusal decimal digits
+pub alone : refusal 9 ≡ codes "refused 9: contact cut by the end of the record\n"
+unfolding refused worded table decimal digits
 alone = refl

@@ -8,9 +8,10 @@ use lib.ListN.{length, length-append}
 use Rattle.text.specs.Text.{codes}
 use Rattle.text.proofs.Decimal.{decimal-length}
 use Rattle.text.proofs.Standing.{numbered}
+use Rattle.refusals.specs.Words.{table, worded}
 use Rattle.telegram.specs.declared.Telegram.{Telegram}
 use Rattle.contact.specs.declared.Judged.{Judged}
-use Rattle.hearing.specs.Lines.{figures, what, heard, refusal}
+use Rattle.hearing.specs.Lines.{figures, what, heard}
 
 pub figures-are : (x y z : ℕ) → numbered " " x ++ numbered " " y ++ numbered " " z ≡ figures (Telegram.Figures x y z)
 unfolding figures
@@ -28,17 +29,13 @@ pub heard-is : (start bits : ℕ) (j : Judged) → numbered "" start ++ numbered
 unfolding heard
 heard-is start bits j = simp append-assoc
 
-pub refusal-is : (n : ℕ) → numbered "refused " n ++ codes "\n" ≡ refusal n
-unfolding refusal
-refusal-is n = refl
-
 figures-length : (t : Telegram) → length (figures t) ≤ 63
 unfolding figures
 figures-length (Telegram.Figures x y z) = simp length-append (omega (arith, decimal-length x, decimal-length y, decimal-length z))
 figures-length (Telegram.Number m) = simp length-append (omega (arith, decimal-length m))
 
 what-length : (j : Judged) → length (what j) ≤ 126
-unfolding what
+unfolding what worded table
 what-length (Judged.Read t first count) = simp length-append (omega (arith, figures-length t, decimal-length count, decimal-length first))
 what-length Judged.Marker = omega arith
 what-length Judged.NotSeven = omega arith
@@ -50,7 +47,3 @@ what-length Judged.Neither = omega arith
 pub heard-length : (start bits : ℕ) (j : Judged) → length (heard start bits j) ≤ 192
 unfolding heard
 heard-length start bits j = simp length-append (omega (arith, decimal-length start, decimal-length bits, what-length j))
-
-pub refusal-length : (n : ℕ) → length (refusal n) ≤ 64
-unfolding refusal
-refusal-length n = simp length-append (omega (arith, decimal-length n))

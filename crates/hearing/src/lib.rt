@@ -23,7 +23,5 @@ pub fn put_contact(start: usize, bits: usize, judged: Judged, buf: &mut [u8], at
 pub fn put_refusal(number: u8, buf: &mut [u8], at: usize) -> usize
     ensures { λ r. ⌜ came r (now (buf .exit)) ≡ put (refusal number) (now (buf .entry)) at ⌝ }
 {
-    let mut space = [0u8; 64];
-    let n = lines::put_refused(number, &mut space, 0);
-    text::put(&space[..n], buf, at)
+    refusals::put_refused(number, buf, at)
 }

@@ -4,7 +4,7 @@ ghost use Prim.Native.Nat.{_+_, _≤_};
 ghost use lib.ListN.{length};
 ghost use Rattle.text.specs.Put.{put, came};
 ghost use Rattle.contact.specs.declared.Judged.{Judged};
-ghost use Rattle.hearing.specs.Lines.{figures, what, heard, refusal};
+ghost use Rattle.hearing.specs.Lines.{figures, what, heard};
 use contact::Judged;
 use telegram::Telegram;
 use text::put;
@@ -48,10 +48,14 @@ fn put_what(judged: Judged, buf: &mut [u8], at: usize) -> usize
             count,
         } => put_read(telegram, first, count, buf, at),
         Judged::Marker => put(b" marker", buf, at),
-        Judged::NotSeven => put(b" refused 4", buf, at),
-        Judged::Beyond => put(b" refused 5", buf, at),
-        Judged::Differ => put(b" refused 7", buf, at),
-        Judged::Neither => put(b" refused 8", buf, at),
+        Judged::NotSeven => put(
+            b" refused 4: sync pair doesn't differ in seven bits",
+            buf,
+            at,
+        ),
+        Judged::Beyond => put(b" refused 5: above 16,777,216 bits", buf, at),
+        Judged::Differ => put(b" refused 7: places differ", buf, at),
+        Judged::Neither => put(b" refused 8: contact neither telegram nor marker", buf, at),
     }
 }
 
@@ -64,13 +68,4 @@ pub fn put_heard(start: usize, bits: usize, judged: Judged, buf: &mut [u8], at: 
     let b = put_number(b" ", bits as u64, buf, a);
     let c = put_what(judged, buf, b);
     put(b"\n", buf, c)
-}
-
-// The line of a refusal.
-pub fn put_refused(number: u8, buf: &mut [u8], at: usize) -> usize
-    requires { ⌜ at + length (refusal number) ≤ length (now buf) ⌝ }
-    ensures { λ r. ⌜ came r (now (buf .exit)) ≡ put (refusal number) (now (buf .entry)) at ⌝ }
-{
-    let a = put_number(b"refused ", number as u64, buf, at);
-    put(b"\n", buf, a)
 }

@@ -2,8 +2,6 @@
 use arguments::Byte;
 use asked::Asked;
 use asked::How;
-use libc::STDERR_FILENO;
-use libc::STDOUT_FILENO;
 use settings::Verdict;
 
 // The gap beside a plain pair, in dm.
@@ -12,34 +10,23 @@ const GAP: u32 = 40;
 // The first argument after `S S*`, and the fewest words of a command line that has both.
 const AFTER: usize = 3;
 
-// Argument k as a word.
-fn word(k: usize) -> Byte {
-    let mut text = io::buffer();
-    let length = os::arg(k, &mut text);
-    if os::errno() != 0 {
-        return Byte::Odd;
-    }
-    arguments::hex(&text[..length])
-}
-
-// The first bytes of a line.
-fn write(fd: i32, line: &[u8], count: usize) {
-    if count <= line.len() {
-        io::write_all(fd, &line[..count]);
-    }
+// Argument k, a sync word of this name; where it is none that is said.
+fn sync_word(program: &[u8], name: &[u8], k: usize) -> Byte {
+    let asked = console::word(k);
+    let Byte::Is(_) = asked else {
+        console::wrong(program, name, b"word of two hex digits", k);
+        return asked;
+    };
+    asked
 }
 
 // Says that the pair is refused.
 fn refuse(program: &[u8], aside: bool) {
-    let mut line = [0u8; 64];
-    let count = hearing::put_refusal(4, &mut line, 0);
     if aside {
-        io::write_all(STDERR_FILENO, program);
-        io::write_all(STDERR_FILENO, b": ");
-        write(STDERR_FILENO, &line, count);
+        console::refuse(program, 4);
         return;
     }
-    write(STDOUT_FILENO, &line, count);
+    console::refuse_here(program, 4);
 }
 
 // The pair S and S* with the gap 40, or what is said of it.
@@ -65,26 +52,26 @@ fn pair(program: &[u8], aside: bool, s: u8, t: u8) -> Asked {
 }
 
 // The command line is none.
-fn usage() -> Asked {
+fn none(how: How) -> Asked {
     let begun = settings::begin(GAP, 0x00, 0x7F);
     let store = begun.store;
     Asked {
         store,
         first: AFTER,
-        how: How::Usage,
+        how,
     }
 }
 
 // The words of a pair, from the arguments.
 fn pair_named(program: &[u8], aside: bool) -> Asked {
     if os::arg_count() < AFTER {
-        return usage();
+        return none(How::Usage);
     }
-    let Byte::Is(s) = word(1) else {
-        return usage();
+    let Byte::Is(s) = sync_word(program, b"S", 1) else {
+        return none(How::Said);
     };
-    let Byte::Is(t) = word(2) else {
-        return usage();
+    let Byte::Is(t) = sync_word(program, b"S*", 2) else {
+        return none(How::Said);
     };
     pair(program, aside, s, t)
 }

@@ -15,7 +15,7 @@ pub fn say(program: &[u8], how: How) {
 // Standard input has no name where no argument names it.
 fn cannot_read(program: &[u8], number: usize) {
     if os::arg_count() <= number {
-        cards::say(program, b"cannot read standard input");
+        console::fail(program, b"cannot read standard input");
         return;
     }
     cards::cannot_read(program, number);

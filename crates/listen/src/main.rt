@@ -12,14 +12,14 @@ use telegram::Pair;
 // The argument of the line's file.
 const FILE: usize = 1;
 
-// Argument k as a word.
-fn word(k: usize) -> Byte {
-    let mut text = io::buffer();
-    let length = os::arg(k, &mut text);
-    if os::errno() != 0 {
-        return Byte::Odd;
-    }
-    arguments::hex(&text[..length])
+// Argument k, a sync word of this name; where it is none that is said.
+fn sync_word(name: &[u8], k: usize) -> Byte {
+    let asked = console::word(k);
+    let Byte::Is(_) = asked else {
+        console::wrong(b"listen", name, b"word of two hex digits", k);
+        return asked;
+    };
+    asked
 }
 
 // Whether the line comes by standard input: `-`.
@@ -35,7 +35,7 @@ fn is_input() -> bool {
 // The contacts of the open file, if the sync pair is good.
 fn listen(fd: i32, s: u8, t: u8) {
     let Pair::Good = telegram::good_pair(s, t) else {
-        out::refuse(4);
+        console::refuse_here(b"listen", 4);
         return;
     };
     if !pieces::all(fd, s, t) {
@@ -58,21 +58,15 @@ fn open(s: u8, t: u8) {
     libc::close(fd);
 }
 
-fn usage() {
-    cards::say(b"listen", b"usage: listen FILE S S*");
-}
-
 fn main() {
     if os::arg_count() != 4 {
-        usage();
+        console::usage(b"listen", b"listen FILE S S*");
         return;
     }
-    let Byte::Is(s) = word(2) else {
-        usage();
+    let Byte::Is(s) = sync_word(b"S", 2) else {
         return;
     };
-    let Byte::Is(t) = word(3) else {
-        usage();
+    let Byte::Is(t) = sync_word(b"S*", 3) else {
         return;
     };
     open(s, t);

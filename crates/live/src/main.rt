@@ -14,10 +14,7 @@ fn main() {
     match how {
         How::Plain => riding::all(store, first),
         How::Settings => riding::all(store, first),
-        How::Usage => cards::say(
-            b"live",
-            b"usage: live S S* [LEAD..], or live -s SETTINGS [LEAD..]",
-        ),
+        How::Usage => console::usage(b"live", b"live S S* [LEAD..], or live -s SETTINGS [LEAD..]"),
         How::Said => {}
     }
 }

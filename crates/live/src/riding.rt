@@ -3,7 +3,6 @@ ghost use Prim.Native.Nat.{_≤_};
 ghost use lib.ListN.{length};
 use lead_text::How;
 use lead_text::Underway;
-use libc::STDOUT_FILENO;
 use ride::Ride;
 use settings::Store;
 
@@ -15,14 +14,7 @@ struct Stand {
 
 // Writes the first bytes of a buffer, and says so where that fails.
 fn write(out: &[u8], count: usize) -> bool {
-    if count > out.len() {
-        return false;
-    }
-    if io::write_all(STDOUT_FILENO, &out[..count]) {
-        return true;
-    }
-    cards::say(b"live", b"cannot write");
-    false
+    console::put(b"live", out, count)
 }
 
 // The lines of the first `count` bytes of the block, whole frames: as far as the room goes, and again, until they are used.

@@ -14,8 +14,11 @@ fn send(seed: u32, chance: u32) {
 }
 
 fn main() {
+    if console::to_terminal(b"noise") {
+        return;
+    }
     match call::arguments() {
         Asked::For { seed, chance } => send(seed, chance),
-        Asked::Odd => cards::say(b"noise", b"usage: noise SEED N [LEAD]"),
+        Asked::Odd => console::usage(b"noise", b"noise SEED N [LEAD]"),
     }
 }

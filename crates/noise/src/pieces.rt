@@ -21,7 +21,7 @@ fn write(bytes: &[u8], count: usize) -> bool {
 
 // That a write failed.
 fn cannot_write() {
-    cards::say(b"noise", b"cannot write");
+    console::cannot_write(b"noise");
 }
 
 // The whole frames at the front of the block get their noise and go out.

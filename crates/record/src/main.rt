@@ -7,6 +7,14 @@ mod out;
 mod pieces;
 
 use asked::How;
+use settings::Store;
+
+// The records of the leads from this argument on, but not to a terminal.
+fn record(store: Store, first: usize) {
+    if !console::to_terminal(b"record") {
+        pieces::all(store, first);
+    }
+}
 
 fn main() {
     let asked = leads::options(b"record", true);
@@ -14,11 +22,11 @@ fn main() {
     let first = asked.first;
     let how = asked.how;
     match how {
-        How::Plain => pieces::all(store, first),
-        How::Settings => pieces::all(store, first),
-        How::Usage => cards::say(
+        How::Plain => record(store, first),
+        How::Settings => record(store, first),
+        How::Usage => console::usage(
             b"record",
-            b"usage: record S S* [LEAD..], or record -s SETTINGS [LEAD..]",
+            b"record S S* [LEAD..], or record -s SETTINGS [LEAD..]",
         ),
         How::Said => {}
     }

@@ -9,10 +9,11 @@ use Rattle.recording_text.specs.declared.First.{First}
 use Rattle.recording_text.specs.declared.Frames.{Frames}
 use Rattle.recording_text.specs.declared.Records.{Records}
 use Rattle.recording_text.specs.Counts.{more, judgeFrame, noFrames, overFrames, countFrames, noRecords, countRecord, countRecords}
+use Rattle.refusals.specs.Words.{table, worded, refused}
 use Rattle.recording_text.specs.Lines.{refusedLine, firstLine, whereAny, sumLine, endLines}
 
-pub first-line : (firstLine First.NotYet (First.Frame 12 17) ≡ codes "record: frame 12 refused 17\n") × (firstLine (First.Frame 12 17) (First.Frame 12 17) ≡ [])
-unfolding firstLine refusedLine decimal digits
+pub first-line : (firstLine First.NotYet (First.Frame 12 17) ≡ codes "record: frame 12 refused 17: odometer below the last accepted one\n") × (firstLine (First.Frame 12 17) (First.Frame 12 17) ≡ [])
+unfolding firstLine refusedLine refused worded table decimal digits
 first-line = (refl, refl)
 
 pub the-end : endLines (record { frames = 5200; refused = 3; first = First.Frame 12 17; odometer = 0 }) (record { contacts = 12; read = 10; markers = 1; unreadable = 1; records = 530 }) 5

@@ -12,12 +12,14 @@ use Rattle.words.specs.Answer.{pick}
 use Rattle.text.specs.Text.{codes, decimal}
 use Rattle.text.proofs.Decimal.{decimal-length}
 use Rattle.text.proofs.Standing.{numbered}
+use Rattle.refusals.specs.Words.{refused}
+use Rattle.refusals.proofs.Lengths.{refused-length as words-length}
 use Rattle.recording_text.specs.declared.First.{First}
 use Rattle.recording_text.specs.declared.Frames.{Frames}
 use Rattle.recording_text.specs.declared.Records.{Records}
 use Rattle.recording_text.specs.Lines.{refusedLine, firstLine, whereAny, sumLine, endLines}
 
-pub refused-is : (frame number : ℕ) → numbered "record: frame " frame ++ numbered " refused " number ++ codes "\n" ≡ refusedLine frame number
+pub refused-is : (frame number : ℕ) → numbered "record: frame " frame ++ codes " " ++ refused number ≡ refusedLine frame number
 unfolding refusedLine
 refused-is frame number = simp append-assoc
 
@@ -54,11 +56,11 @@ unfolding endLines
 end-is f c bytes = refl
 
 -- No line is longer than this.
-refused-length : (frame number : ℕ) → length (refusedLine frame number) ≤ 64
+refused-length : (frame number : ℕ) → length (refusedLine frame number) ≤ 128
 unfolding refusedLine
-refused-length frame number = simp length-append (omega (arith, decimal-length frame, decimal-length number))
+refused-length frame number = simp length-append (omega (arith, decimal-length frame, words-length number))
 
-pub first-length : (before after : First) → length (firstLine before after) ≤ 64
+pub first-length : (before after : First) → length (firstLine before after) ≤ 128
 unfolding firstLine
 first-length First.NotYet First.NotYet = omega arith
 first-length First.NotYet (First.Frame frame number) = refused-length frame number

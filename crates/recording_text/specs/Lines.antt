@@ -1,4 +1,4 @@
--- What `record` says on standard error: "`record: frame 12 refused 17` when the first such frame comes", and at the end "where it applies
+-- What `record` says on standard error: `record: frame 12 refused 17: odometer below the last accepted one` "when the first such frame comes", and at the end "where it applies
 -- `record: frames refused 3` and `record: bytes after the last frame 5`, then always `record: frames 5200, contacts 12, read 10, markers 1,
 -- unreadable 1, records 530`".
 -- Assumes nothing.
@@ -8,13 +8,14 @@ use mathlib.Core.List.{List, [], _++_}
 use lib.Dec.{eqb}
 use Rattle.words.specs.Answer.{pick}
 use Rattle.text.specs.Text.{codes, decimal}
+use Rattle.refusals.specs.Words.{refused}
 use Rattle.recording_text.specs.declared.First.{First}
 use Rattle.recording_text.specs.declared.Frames.{Frames}
 use Rattle.recording_text.specs.declared.Records.{Records}
 
 -- The line of a refused frame.
 unfoldable pub refusedLine : ℕ → ℕ → List ℕ
-refusedLine frame number = codes "record: frame " ++ decimal frame ++ codes " refused " ++ decimal number ++ codes "\n"
+refusedLine frame number = codes "record: frame " ++ decimal frame ++ codes " " ++ refused number
 
 -- What is said of the first refused frame after some frames: its line if it came among them, and nothing else.
 unfoldable pub firstLine : First → First → List ℕ

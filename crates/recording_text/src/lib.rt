@@ -84,7 +84,7 @@ pub fn count_record(records: Records, bytes: [u8; 8]) -> Records
 pub fn put_first(before: First, after: First, buf: &mut [u8], at: usize) -> usize
     ensures { λ r. ⌜ came r (now (buf .exit)) ≡ put (firstLine before after) (now (buf .entry)) at ⌝ }
 {
-    let mut space = [0u8; 64];
+    let mut space = [0u8; 128];
     let n = lines::spell_first(before, after, &mut space, 0);
     text::put(&space[..n], buf, at)
 }

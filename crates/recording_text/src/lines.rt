@@ -9,6 +9,7 @@ ghost use Rattle.recording_text.specs.Lines.{refusedLine, firstLine, whe
 use crate::First;
 use crate::Frames;
 use crate::Records;
+use refusals::put_refused;
 use text::put;
 use text::put_number;
 
@@ -18,8 +19,8 @@ fn spell_refused(frame: u64, number: u8, buf: &mut [u8], at: usize) -> usize
     ensures { λ r. ⌜ came r (now (buf .exit)) ≡ put (refusedLine frame number) (now (buf .entry)) at ⌝ }
 {
     let a = put_number(b"record: frame ", frame, buf, at);
-    let b = put_number(b" refused ", number as u64, buf, a);
-    put(b"\n", buf, b)
+    let b = put(b" ", buf, a);
+    put_refused(number, buf, b)
 }
 
 // That of the first one, where it came just now.

@@ -110,7 +110,7 @@ pub fn write_cards(lengths: &[u64], block: &mut [u8]) {
         let read = got.read;
         stand = write_front(stand, block, read);
         if !stand.is_good {
-            cards::say(b"records", b"cannot write");
+            console::cannot_write(b"records");
             return;
         }
         let how = got.how;

@@ -17,7 +17,7 @@ fn main() {
         Found::BadLength(_) => {
             io::write_all(STDOUT_FILENO, b"trace refused 16\n");
         }
-        Found::NoCard => cards::say(b"records", b"usage: records CARD.."),
+        Found::NoCard => console::usage(b"records", b"records CARD.."),
         Found::TooMany => cards::say_found(b"records", found),
         Found::CannotOpen(_) => cards::say_found(b"records", found),
         Found::CannotRead(_) => cards::say_found(b"records", found),

@@ -14,6 +14,11 @@ use Rattle.reported.proofs.put_entry.Kinds as put-entry-kinds
 use Rattle.reported.proofs.put_entry.Reads as put-entry-reads
 use Rattle.reported.proofs.put_sum.Kinds as put-sum-kinds
 use Rattle.reported.proofs.put_sum.Reads as put-sum-reads
+use Rattle.words.proofs.Told.{Fixed}
+use Rattle.reported.proofs.is_passed.Kinds as is-passed-kinds
+use Rattle.reported.proofs.is_passed.Reads as is-passed-reads
+use Rattle.reported.proofs.put_last.Kinds as put-last-kinds
+use Rattle.reported.proofs.put_last.Reads as put-last-reads
 use Rattle.reported.proofs.put_refused.Kinds as put-refused-kinds
 use Rattle.reported.proofs.put_refused.Reads as put-refused-reads
 
@@ -36,3 +41,13 @@ put-sum-determined κs a r r′ x x′ p q = same-put (p ∙ sym q)
 pub put-refused-determined : (κs : Lfts 1) (a : Dens κs put-refused-kinds.ps) (r r′ : ℕ) (x x′ : AtExit (endedOf 1 put-refused-kinds.ps put-refused-kinds.r) κs)
     → put-refused-reads.Post κs a r x → put-refused-reads.Post κs a r′ x′ → (r ≡ r′) × (now (x .1 .0) ≡ now (x′ .1 .0))
 put-refused-determined κs a r r′ x x′ p q = same-put (p ∙ sym q)
+
+pub is-passed-determined : Fixed 0 is-passed-kinds.ps is-passed-kinds.r is-passed-reads.Post
+is-passed-determined κs a r r′ x x′ p q = p ∙ sym q
+
+pub put-last-determined : (κs : Lfts 1) (a : Dens κs put-last-kinds.ps) (r r′ : ℕ)
+    (x x′ : AtExit (endedOf 1 put-last-kinds.ps put-last-kinds.r) κs)
+    → put-last-reads.Post κs a r x → put-last-reads.Post κs a r′ x′ → (r ≡ r′) × (now (x .1 .1 .1 .0) ≡ now (x′ .1 .1 .1 .0))
+put-last-determined κs a r r′ x x′ p q =
+    let same : came r (now (x .1 .1 .1 .0)) ≡ came r′ (now (x′ .1 .1 .1 .0)) = p ∙ sym q in
+    (ap (λ (v : Put). v .next) same, ap (λ (v : Put). v .buffer) same)

@@ -5,7 +5,8 @@ use Rattle.text.specs.Text.{codes, digits, decimal}
 use Rattle.walk.specs.declared.Kind.{Kind}
 use Rattle.acceptance.specs.declared.Met.{Met}
 use Rattle.acceptance.specs.declared.Role.{Role}
-use Rattle.reported.specs.Lines.{kindWord, partWords, groupLine, metWords, entryLine, sumLine, refusedLine}
+use Rattle.refusals.specs.Words.{table, worded, refused}
+use Rattle.reported.specs.Lines.{kindWord, partWords, groupLine, metWords, entryLine, sumLine, isPassed, troubleLine, verdict, lastLines, refusedLine}
 
 pub groups : (groupLine 1003 Kind.Signal (Role.Wanted 0) ≡ codes "1003 signal wanted 1\n") × (groupLine 2000 Kind.Warning Role.Extra ≡ codes "2000 warning extra\n")
 unfolding groupLine kindWord partWords decimal digits
@@ -21,6 +22,15 @@ pub the-sum : sumLine (record { entries = 2; met = 1; absent = 1; present = 2; e
 unfolding sumLine decimal digits
 the-sum = refl
 
-pub refused : refusedLine 27 ≡ codes "plan refused 27\n"
-unfolding refusedLine decimal digits
-refused = refl
+pub refused-plan : refusedLine 27 ≡ codes "plan refused 27: entries out of order or too near\n"
+unfolding refusedLine refused worded table decimal digits
+refused-plan = refl
+
+pub signed : lastLines (record { entries = 2; met = 1; absent = 1; present = 2; extra = 1 }) 1 10
+    ≡ codes "faults 1, records refused 10: see explain\nnot passed\n"
+unfolding lastLines troubleLine verdict isPassed decimal digits
+signed = refl
+
+pub signed-passed : lastLines (record { entries = 2; met = 2; absent = 0; present = 2; extra = 0 }) 0 0 ≡ codes "passed\n"
+unfolding lastLines troubleLine verdict isPassed
+signed-passed = refl

@@ -1,10 +1,14 @@
 -- The lines of a depot's acceptance run as text: a present group (`1003 signal wanted 1`, `2000 warning extra`), an entry of the plan (`entry 1 at
--- 1000 signal met at 1003`, `entry 2 at 5000 line absent`), the sum (`2 entries: 1 met, 1 absent; 2 present groups: 1 wanted, 1 extra`) and a
--- refused plan (`plan refused 27`). The words do not change with the counts. Entries are counted from 1.
+-- 1000 signal met at 1003`, `entry 2 at 5000 line absent`), the sum (`2 entries: 1 met, 1 absent; 2 present groups: 1 wanted, 1 extra`), what a depot
+-- signs (`faults 1, records refused 10: see explain`, `not passed`) and a refused plan (`plan refused 27: entries out of order or too near`). The words
+-- do not change with the counts. Entries are counted from 1.
 -- Assumes nothing.
-use Prim.Native.Nat.{ℕ}
+use Prim.Native.Nat.{ℕ, _+_}
 use Prim.Native.String.{String}
+use mathlib.Core.Bool.{Bool, _&&_}
 use mathlib.Core.List.{List, [], _++_}
+use lib.Dec.{eqb, ltb}
+use Rattle.words.specs.Answer.{pick}
 use Rattle.text.specs.Text.{codes, decimal}
 use Rattle.walk.specs.declared.Kind.{Kind}
 use Rattle.acceptance.specs.declared.Met.{Met}
@@ -12,6 +16,7 @@ use Rattle.acceptance.specs.declared.Entry.{Entry}
 use Rattle.acceptance.specs.declared.Role.{Role}
 use Rattle.acceptance.specs.declared.Sums.{Sums}
 use Rattle.acceptance.specs.Taking.{oneMore}
+use Rattle.refusals.specs.Words.{refused}
 
 -- The word for a kind, after its space.
 unfoldable pub kindWord : Kind → List ℕ
@@ -50,6 +55,25 @@ sumLine s =
     (counted "" (s .entries) ++ counted " entries: " (s .met) ++ counted " met, " (s .absent))
     ++ (counted " absent; " (s .present) ++ counted " present groups: " (s .met) ++ counted " wanted, " (s .extra) ++ codes " extra\n")
 
+-- A ride passes where no entry is absent and no group is extra.
+unfoldable pub isPassed : Sums → Bool
+isPassed s = eqb (s .absent) 0 && eqb (s .extra) 0
+
+-- What went wrong on the way, both counts, where anything did.
+unfoldable pub troubleLine : ℕ → ℕ → List ℕ
+troubleLine faults records =
+    pick (ltb 0 (faults + records))
+    (counted "faults " faults ++ counted ", records refused " records ++ codes ": see explain\n")
+    (codes "")
+
+-- Whether the ride passed.
+unfoldable pub verdict : Bool → List ℕ
+verdict passed = pick passed (codes "passed\n") (codes "not passed\n")
+
+-- The last lines: what went wrong, and whether the ride passed.
+unfoldable pub lastLines : Sums → ℕ → ℕ → List ℕ
+lastLines s faults records = troubleLine faults records ++ verdict (isPassed s)
+
 -- The line of a refused plan.
 unfoldable pub refusedLine : ℕ → List ℕ
-refusedLine n = codes "plan refused " ++ decimal n ++ codes "\n"
+refusedLine n = codes "plan " ++ refused n

@@ -1,9 +1,9 @@
-// The lines of a depot's acceptance run as text: a present group, an entry of the plan, the sum, a refused plan.
+// The lines of a depot's acceptance run as text: a present group, an entry of the plan, the sum, what a depot signs, a refused plan.
 // Promises: a line is written to the letter and whole, or not at all; bytes around it stay.
 // Specification: specs/Lines.antt (the words); a text in a buffer is `text`'s specs/Put.antt.
 ghost use mathlib.Core.Path.{_≡_};
 ghost use Rattle.text.specs.Put.{put, came};
-ghost use Rattle.reported.specs.Lines.{groupLine, entryLine, sumLine, refusedLine};
+ghost use Rattle.reported.specs.Lines.{groupLine, entryLine, sumLine, isPassed, lastLines, refusedLine};
 
 mod lines;
 
@@ -40,11 +40,27 @@ pub fn put_sum(sums: Sums, buf: &mut [u8], at: usize) -> usize
     text::put(&space[..n], buf, at)
 }
 
+// Whether a ride with these sums passed.
+pub fn is_passed(sums: Sums) -> bool
+    ensures { λ r. ⌜ r ≡ isPassed sums ⌝ }
+{
+    (sums.absent == 0) & (sums.extra == 0)
+}
+
+// What went wrong on the way, if anything did, and whether the ride passed, likewise.
+pub fn put_last(sums: Sums, faults: u64, records: u64, buf: &mut [u8], at: usize) -> usize
+    ensures { λ r. ⌜ came r (now (buf .exit)) ≡ put (lastLines sums faults records) (now (buf .entry)) at ⌝ }
+{
+    let mut space = [0u8; 128];
+    let n = lines::spell_last(is_passed(sums), faults, records, &mut space, 0);
+    text::put(&space[..n], buf, at)
+}
+
 // The line of a refused plan, likewise.
 pub fn put_refused(number: u8, buf: &mut [u8], at: usize) -> usize
     ensures { λ r. ⌜ came r (now (buf .exit)) ≡ put (refusedLine number) (now (buf .entry)) at ⌝ }
 {
-    let mut space = [0u8; 64];
+    let mut space = [0u8; 128];
     let n = lines::spell_refused(number, &mut space, 0);
     text::put(&space[..n], buf, at)
 }

@@ -6,11 +6,12 @@ ghost use lib.ListN.{length};
 ghost use Rattle.text.specs.Text.{codes, decimal};
 ghost use Rattle.text.specs.Put.{put, came};
 ghost use Rattle.acceptance.specs.Taking.{oneMore};
-ghost use Rattle.reported.specs.Lines.{kindWord, partWords, groupLine, metWords, entryLine, sumLine, refusedLine};
+ghost use Rattle.reported.specs.Lines.{kindWord, partWords, groupLine, metWords, entryLine, sumLine, troubleLine, verdict, refusedLine};
 use acceptance::Entry;
 use acceptance::Met;
 use acceptance::Role;
 use acceptance::Sums;
+use refusals::put_refused;
 use text::put;
 use text::put_number;
 use walk::Kind;
@@ -122,11 +123,55 @@ pub fn spell_sum(sums: Sums, buf: &mut [u8], at: usize) -> usize
     spell_groups(sums.present, sums.met, sums.extra, buf, a)
 }
 
+// Both counts of what went wrong.
+fn spell_counts(faults: u64, records: u64, buf: &mut [u8], at: usize) -> usize
+    requires { ⌜ at + length ((codes "faults " ++ decimal faults) ++ (codes ", records refused " ++ decimal records) ++ codes ": see explain\n") ≤ length (now buf) ⌝ }
+    ensures { λ r. ⌜ came r (now (buf .exit)) ≡ put ((codes "faults " ++ decimal faults) ++ (codes ", records refused " ++ decimal records) ++ codes ": see explain\n") (now (buf .entry)) at ⌝ }
+{
+    let a = put_number(b"faults ", faults, buf, at);
+    let b = put_number(b", records refused ", records, buf, a);
+    put(b": see explain\n", buf, b)
+}
+
+// What went wrong, where anything did.
+fn spell_trouble(faults: u64, records: u64, buf: &mut [u8], at: usize) -> usize
+    requires { ⌜ at + length (troubleLine faults records) ≤ length (now buf) ⌝ }
+    ensures { λ r. ⌜ came r (now (buf .exit)) ≡ put (troubleLine faults records) (now (buf .entry)) at ⌝ }
+{
+    if faults > 0 {
+        return spell_counts(faults, records, buf, at);
+    }
+    if records > 0 {
+        return spell_counts(faults, records, buf, at);
+    }
+    put(b"", buf, at)
+}
+
+// Whether the ride passed.
+fn spell_verdict(passed: bool, buf: &mut [u8], at: usize) -> usize
+    requires { ⌜ at + length (verdict passed) ≤ length (now buf) ⌝ }
+    ensures { λ r. ⌜ came r (now (buf .exit)) ≡ put (verdict passed) (now (buf .entry)) at ⌝ }
+{
+    if passed {
+        return put(b"passed\n", buf, at);
+    }
+    put(b"not passed\n", buf, at)
+}
+
+// What went wrong, and whether the ride passed.
+pub fn spell_last(passed: bool, faults: u64, records: u64, buf: &mut [u8], at: usize) -> usize
+    requires { ⌜ at + length (troubleLine faults records ++ verdict passed) ≤ length (now buf) ⌝ }
+    ensures { λ r. ⌜ came r (now (buf .exit)) ≡ put (troubleLine faults records ++ verdict passed) (now (buf .entry)) at ⌝ }
+{
+    let a = spell_trouble(faults, records, buf, at);
+    spell_verdict(passed, buf, a)
+}
+
 // The line of a refused plan.
 pub fn spell_refused(number: u8, buf: &mut [u8], at: usize) -> usize
     requires { ⌜ at + length (refusedLine number) ≤ length (now buf) ⌝ }
     ensures { λ r. ⌜ came r (now (buf .exit)) ≡ put (refusedLine number) (now (buf .entry)) at ⌝ }
 {
-    let a = put_number(b"plan refused ", number as u64, buf, at);
-    put(b"\n", buf, a)
+    let a = put(b"plan ", buf, at);
+    put_refused(number, buf, a)
 }

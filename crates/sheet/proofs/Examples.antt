@@ -10,6 +10,7 @@ use Rattle.sheet.specs.Line.{figure, version, wordsOf, lineOf}
 use Rattle.sheet.specs.declared.How.{How}
 use Rattle.sheet.specs.Taking.{given, takeLine}
 use Rattle.sheet.specs.Sheet.{linesOf, ended, linesFrom, sheet}
+use Rattle.refusals.specs.Words.{table, worded, refused}
 use Rattle.sheet.specs.Told.{refusal, told}
 use Rattle.settings.specs.Store.{noStore}
 
@@ -43,7 +44,7 @@ unfolding sheet linesFrom linesOf ended takeLine given noStore lineOf wordsOf ve
 bad-ones = (refl, refl, refl, refl, refl)
 
 -- The request's own words.
-pub words-said : (told 3 (How.Refused 24) ≡ codes "settings line 3 refused 24\n") × (told 3 How.Unreadable ≡ codes "settings line 3 unreadable\n")
-    × (told 0 (How.Refused 19) ≡ codes "settings refused 19\n")
-unfolding told refusal spelled digits
+pub words-said : (told 3 (How.Refused 24) ≡ codes "settings line 3 refused 24: place not above the last one\n") × (told 3 How.Unreadable ≡ codes "settings line 3 unreadable\n")
+    × (told 0 (How.Refused 19) ≡ codes "settings refused 19: gap outside 1 to 200\n")
+unfolding told refusal spelled digits refused worded table
 words-said = (refl, refl, refl)

@@ -12,14 +12,16 @@ use Rattle.words.specs.Answer.{pick}
 use Rattle.text.specs.Text.{codes, decimal}
 use Rattle.text.proofs.Decimal.{decimal-length}
 use Rattle.text.proofs.Standing.{numbered}
+use Rattle.refusals.specs.Words.{refused}
+use Rattle.refusals.proofs.Lengths.{refused-length}
 use Rattle.sheet.specs.declared.How.{How}
 use Rattle.sheet.specs.Told.{refusal, told}
 
-pub of-none : (line n : ℕ) → line ≡ 0 → numbered "settings refused " n ++ codes "\n" ≡ refusal line n
+pub of-none : (line n : ℕ) → line ≡ 0 → codes "settings " ++ refused n ≡ refusal line n
 unfolding refusal
-of-none line n e = simp (eq-eqb line 0 e, append-assoc)
+of-none line n e = simp (eq-eqb line 0 e)
 
-pub of-a-line : (line n : ℕ) → (line ≡ 0 → ⊥) → numbered "settings line " line ++ numbered " refused " n ++ codes "\n" ≡ refusal line n
+pub of-a-line : (line n : ℕ) → (line ≡ 0 → ⊥) → numbered "settings line " line ++ codes " " ++ refused n ≡ refusal line n
 unfolding refusal
 of-a-line line n e = simp (ne-eqb line 0 e, append-assoc)
 
@@ -27,21 +29,21 @@ pub unreadable-is : (line : ℕ) → numbered "settings line " line ++ codes " u
 unfolding told
 unreadable-is line = simp append-assoc
 
-by-line : (b : Bool) (x y : List ℕ) → length x ≤ 80 → length y ≤ 80 → length (pick b x y) ≤ 80
+by-line : (b : Bool) (x y : List ℕ) → length x ≤ 128 → length y ≤ 128 → length (pick b x y) ≤ 128
 by-line true x y h k = h
 by-line false x y h k = k
 
-refusal-length : (line n : ℕ) → length (refusal line n) ≤ 80
+refusal-length : (line n : ℕ) → length (refusal line n) ≤ 128
 unfolding refusal
 refusal-length line n =
     by-line (eqb line 0)
-    (codes "settings refused " ++ decimal n ++ codes "\n")
-    (codes "settings line " ++ decimal line ++ codes " refused " ++ decimal n ++ codes "\n")
-    (simp length-append (omega (arith, decimal-length n)))
-    (simp length-append (omega (arith, decimal-length line, decimal-length n)))
+    (codes "settings " ++ refused n)
+    (codes "settings line " ++ decimal line ++ codes " " ++ refused n)
+    (simp length-append (omega (arith, refused-length n)))
+    (simp length-append (omega (arith, decimal-length line, refused-length n)))
 
 -- Nothing longer is said.
-pub told-length : (line : ℕ) (how : How) → length (told line how) ≤ 80
+pub told-length : (line : ℕ) (how : How) → length (told line how) ≤ 128
 unfolding told
 told-length line How.Fine = omega arith
 told-length line How.Unreadable = simp length-append (omega (arith, decimal-length line))

@@ -110,7 +110,7 @@ pub fn read(text: &[u8]) -> Sheet
 pub fn put_told(line: u32, how: How, buf: &mut [u8], at: usize) -> usize
     ensures { λ r. ⌜ came r (now (buf .exit)) ≡ put (told line how) (now (buf .entry)) at ⌝ }
 {
-    let mut space = [0u8; 80];
+    let mut space = [0u8; 128];
     let n = telling::put_how(line, how, &mut space, 0);
     text::put(&space[..n], buf, at)
 }

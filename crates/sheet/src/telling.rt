@@ -5,6 +5,7 @@ ghost use lib.ListN.{length};
 ghost use Rattle.text.specs.Put.{put, came};
 ghost use Rattle.sheet.specs.Told.{refusal, told};
 use crate::How;
+use refusals::put_refused;
 use text::put;
 use text::put_number;
 
@@ -14,12 +15,12 @@ fn put_refusal(line: u32, number: u8, buf: &mut [u8], at: usize) -> usize
     ensures { λ r. ⌜ came r (now (buf .exit)) ≡ put (refusal line number) (now (buf .entry)) at ⌝ }
 {
     if line == 0 {
-        let a = put_number(b"settings refused ", number as u64, buf, at);
-        return put(b"\n", buf, a);
+        let a = put(b"settings ", buf, at);
+        return put_refused(number, buf, a);
     }
     let a = put_number(b"settings line ", line as u64, buf, at);
-    let b = put_number(b" refused ", number as u64, buf, a);
-    put(b"\n", buf, b)
+    let b = put(b" ", buf, a);
+    put_refused(number, buf, b)
 }
 
 // What is said.

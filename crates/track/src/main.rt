@@ -24,13 +24,16 @@ fn answer(call: Call) {
     let pair = telegram::good_pair(call.s, call.t);
     match pair {
         Pair::Good => feed(call),
-        Pair::NotSeven => cards::say(b"track", b"refused 4"),
+        Pair::NotSeven => console::refuse(b"track", 4),
     }
 }
 
 fn main() {
+    if console::to_terminal(b"track") {
+        return;
+    }
     match call::arguments() {
         Asked::For(call) => answer(call),
-        Asked::Odd => cards::say(b"track", b"usage: track FILE S S* [N]"),
+        Asked::Odd => console::usage(b"track", b"track FILE S S* [N]"),
     }
 }

@@ -1,14 +1,25 @@
 // What is said on standard error of a text that is refused.
-use crate::out;
 use crate::taking::How;
+use console::Ended;
 use libc::STDERR_FILENO;
 
-// `track: line 3 WORDS`.
+// `track: line 3 WORDS`, and the call came to nothing.
 fn say_line(line: u64, words: &[u8]) {
     let mut text = [0u8; 64];
     let first = text::put_number(b"track: line ", line, &mut text, 0);
     let second = text::put(words, &mut text, first);
-    out::write(STDERR_FILENO, &text, second);
+    console::write(STDERR_FILENO, &text, second);
+    console::tell(Ended::Said);
+}
+
+// `track: line 3 refused 2: WORDS`.
+fn say_refused(line: u64, number: u8) {
+    let mut text = [0u8; 128];
+    let first = text::put_number(b"track: line ", line, &mut text, 0);
+    let second = text::put(b" ", &mut text, first);
+    let third = refusals::put_refused(number, &mut text, second);
+    console::write(STDERR_FILENO, &text, third);
+    console::tell(Ended::Refused);
 }
 
 // Why the line with this number is not taken; of a pass that goes on, nothing.
@@ -16,11 +27,11 @@ pub fn say(line: u64, how: How) {
     match how {
         How::On => {}
         How::Unreadable => say_line(line, b" unreadable\n"),
-        How::TooLarge => say_line(line, b" refused 2\n"),
-        How::Fifteen => say_line(line, b" refused 3\n"),
-        How::TooHigh => say_line(line, b" refused 18\n"),
-        How::Lower => say_line(line, b" refused 17\n"),
+        How::TooLarge => say_refused(line, 2),
+        How::Fifteen => say_refused(line, 3),
+        How::TooHigh => say_refused(line, 18),
+        How::Lower => say_refused(line, 17),
         How::TooNear => say_line(line, b" too near\n"),
-        How::CannotWrite => cards::say(b"track", b"cannot write"),
+        How::CannotWrite => console::cannot_write(b"track"),
     }
 }

@@ -26,7 +26,7 @@ fn is_well(program: &[u8], done: Done) -> bool {
             return false;
         }
         How::CannotWrite => {
-            cards::say(program, b"cannot write");
+            console::cannot_write(program);
             return false;
         }
     }
@@ -45,7 +45,7 @@ fn twice(program: &[u8], form: Form, fd: i32) {
         return;
     }
     if giving::are_too_many(form, things) {
-        cards::say(program, b"refused 26");
+        console::refuse(program, 26);
         return;
     }
     if libc::lseek(fd, 0, SEEK_SET) != 0 {
@@ -60,6 +60,9 @@ fn twice(program: &[u8], form: Form, fd: i32) {
 pub fn run(program: &[u8], form: Form) {
     if os::arg_count() != 2 {
         telling::usage(program, form);
+        return;
+    }
+    if console::to_terminal(program) {
         return;
     }
     let fd = cards::open_card(FILE);

@@ -1,7 +1,6 @@
 // Going as a command asks, and the lines of the records that are passed.
 ghost use Prim.Native.Nat.{_+_, _/_, _<_, _≤_};
 ghost use lib.ListN.{length};
-use crate::out;
 use listing::Done;
 use ride::Ride;
 use settings::Store;
@@ -37,7 +36,7 @@ fn write_block(ride: Ride, store: Store, number: u64, records: &[u8], out: &mut 
     let Done::Took { records: _, bytes } = done else {
         return after;
     };
-    out::write(out, bytes);
+    console::put(b"view", out, bytes);
     after
 }
 

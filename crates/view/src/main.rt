@@ -12,7 +12,7 @@ use cards::Found;
 use settings::Store;
 
 fn usage() {
-    cards::say(b"view", b"usage: view [-s SETTINGS] CARD..");
+    console::usage(b"view", b"view [-s SETTINGS] CARD..");
 }
 
 // Looks at the cards from this argument on, under these settings.

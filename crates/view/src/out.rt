@@ -1,4 +1,5 @@
 // What is written: lines, refusals, where the viewer stands, and the list of commands.
+use console::Ended;
 use libc::STDERR_FILENO;
 use libc::STDIN_FILENO;
 use libc::STDOUT_FILENO;
@@ -7,29 +8,22 @@ use ride::Line;
 use viewer::How;
 use viewer::Stand;
 
-// Writes the first bytes of the buffer.
-pub fn write(buf: &[u8], count: usize) -> bool {
-    if count > buf.len() {
-        return false;
-    }
-    io::write_all(STDOUT_FILENO, &buf[..count])
-}
-
 // `trace refused 16`, alone.
 pub fn refuse_trace() {
     let mut line = [0u8; 64];
     let Put::Next(n) = listing::put_line(Line::Trace(16), &mut line, 0) else {
         return;
     };
-    write(&line, n);
+    if console::put(b"view", &line, n) {
+        console::tell(Ended::Refused);
+    }
 }
 
-// `refused 22`.
+// `refused 22: WORDS`.
 fn refuse(number: u8) {
-    let mut line = [0u8; 64];
-    let a = text::put_number(b"refused ", number as u64, &mut line, 0);
-    let b = text::put(b"\n", &mut line, a);
-    write(&line, b);
+    let mut line = [0u8; 128];
+    let n = refusals::put_refused(number, &mut line, 0);
+    console::put(b"view", &line, n);
 }
 
 // The refusal that stopped a move, if there was one: an opened viewer's settings are good, so 22 or 23.
@@ -42,12 +36,12 @@ pub fn tell(how: How) {
     }
 }
 
-// Where the viewer stands, of so many records.
-pub fn show(stand: Stand, count: usize) {
+// Where the viewer stands, of so many records, if it can be written.
+pub fn show(stand: Stand, count: usize) -> bool {
     let mut lines = [0u8; 512];
     let ride = stand.ride;
     let n = shown::put_state(stand.number, count, stand.kept, ride, &mut lines, 0);
-    write(&lines, n);
+    console::put(b"view", &lines, n)
 }
 
 // The list of commands.

@@ -102,7 +102,7 @@ fn fill(first: usize, lengths: &[u64], trace: &mut [u8]) -> Read
 // Reads the cards, whose lengths were kept, and looks at them.
 pub fn open(store: Store, first: usize, lengths: &[u64]) {
     if !fits(lengths) {
-        cards::say(b"view", b"the cards have more than 4 MiB together");
+        console::fail(b"view", b"the cards have more than 4 MiB together");
         return;
     }
     let mut trace = room();

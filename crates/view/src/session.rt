@@ -11,39 +11,38 @@ use viewer::Begun;
 use viewer::Came;
 use viewer::Stand;
 
-// Where a move ended: the refusal that stopped it, and where the viewer stands.
-fn tell(came: Came, count: usize) -> Stand {
+// Where a move ended, after the refusal that stopped it, if there was one.
+fn tell(came: Came) -> Stand {
     let stand = came.stand;
     let how = came.how;
     out::tell(how);
-    out::show(stand, count);
     stand
 }
 
-// One command but `q`.
+// One command but `q`: where the viewer stands after it.
 fn obey(trace: &[u8], stand: Stand, command: Command) -> Stand {
-    let count = trace.len() / 8;
     match command {
-        Command::Forward(times) => tell(forth(trace, stand, times as usize), count),
-        Command::Back(times) => tell(viewer::backs_at(stand, times as usize), count),
-        Command::Go(before) => tell(to_number(trace, stand, before as usize), count),
-        Command::Place(place) => tell(to_place(trace, stand, place), count),
+        Command::Forward(times) => tell(forth(trace, stand, times as usize)),
+        Command::Back(times) => tell(viewer::backs_at(stand, times as usize)),
+        Command::Go(before) => tell(to_number(trace, stand, before as usize)),
+        Command::Place(place) => tell(to_place(trace, stand, place)),
         Command::Quit => stand,
         Command::Unknown => {
             out::help();
-            out::show(stand, count);
             stand
         }
     }
 }
 
-// The commands up to `q` or the end of the input. No run uses up the turns.
+// The commands up to `q`, the end of the input, or where nothing can be written any more. No run uses up the turns.
 fn obey_all(trace: &[u8], first: Stand) {
     let mut stand = first;
     let mut line = [0u8; 256];
     let mut turns = u64::MAX;
-    out::show(stand, trace.len() / 8);
     while turns > 0 {
+        if !out::show(stand, trace.len() / 8) {
+            return;
+        }
         out::prompt();
         let got = input::next(&mut line);
         let count = got.count;

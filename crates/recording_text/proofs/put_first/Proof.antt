@@ -12,7 +12,7 @@ use Rattle.recording_text.proofs.put_first.Tie as tie
 line : (c : tie.After-spell-first) → let a = c .before .before .before .args in Begins (firstLine (a .before) (a .after)) (c .spell-first .last .1 .1 .0) (c .spell-first .result)
 line c =
     let a = c .before .before .before .args in
-    begins 64 (firstLine (a .before) (a .after)) (omega (arith, first-length (a .before) (a .after))) (c .spell-first .ensures)
+    begins 128 (firstLine (a .before) (a .after)) (omega (arith, first-length (a .before) (a .after))) (c .spell-first .ensures)
 
 pub put-first-spec : {M : Type 1} → statement M
 put-first-spec =

@@ -12,7 +12,7 @@ use Rattle.reported.proofs.put_refused.Tie as tie
 line : (c : tie.After-spell-refused) → let a = c .before .before .before .args in Begins (refusedLine (a .number)) (c .spell-refused .last .1 .0) (c .spell-refused .result)
 line c =
     let a = c .before .before .before .args in
-    begins 64 (refusedLine (a .number)) (omega (arith, refused-length (a .number))) (c .spell-refused .ensures)
+    begins 128 (refusedLine (a .number)) (omega (arith, refused-length (a .number))) (c .spell-refused .ensures)
 
 pub put-refused-spec : {M : Type 1} → statement M
 put-refused-spec =

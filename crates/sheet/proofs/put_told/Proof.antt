@@ -11,7 +11,7 @@ use Rattle.sheet.proofs.put_told.Tie as tie
 line : (c : tie.After-put-how) → let a = c .before .before .before .args in Begins (told (a .line) (a .how)) (c .put-how .last .1 .1 .0) (c .put-how .result)
 line c =
     let a = c .before .before .before .args in
-    begins 80 (told (a .line) (a .how)) (omega (arith, told-length (a .line) (a .how))) (c .put-how .ensures)
+    begins 128 (told (a .line) (a .how)) (omega (arith, told-length (a .line) (a .how))) (c .put-how .ensures)
 
 pub put-told-spec : {M : Type 1} → statement M
 put-told-spec =

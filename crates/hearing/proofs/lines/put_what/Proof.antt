@@ -4,6 +4,7 @@ use Prim.Native.Nat.{_+_, _≤_}
 use lib.ListN.{length}
 use Rattle.text.proofs.Standing.{by-case}
 use Rattle.contact.specs.declared.Judged.{Judged}
+use Rattle.refusals.specs.Words.{table, worded}
 use Rattle.hearing.specs.Lines.{what}
 use borrow.Author.Needs.{needs}
 use Rattle.hearing.proofs.lines.put_what.Statement.{statement}
@@ -16,7 +17,7 @@ put-read-requires c κs =
     subst (λ (j : Judged). s .args .at + length (what j) ≤ length (s .args .buf .now)) (k .judged .given .1) (s .pre)
 
 pub put-what-spec : {M : Type 1} → statement M
-unfolding what
+unfolding what worded table
 put-what-spec =
     tie.close
     (tie.spec
