@@ -16,6 +16,7 @@ use Rattle.telegram.specs.Sync.{isGood}
 use Rattle.telegram.specs.Telegram.{Received}
 use Rattle.telegram.specs.Place.{wordsAt, places}
 use Rattle.telegram.specs.Survey.{sameWords, allAs}
+use Rattle.telegram.specs.declared.Telegram.{Telegram}
 use Rattle.line.specs.Line.{OneBalise, Proper, placesOf}
 use Rattle.line.proofs.Places.{and-true, or-parts, or-left, or-right}
 use Rattle.line.proofs.Sent.{Sent, AllSent, read-as-sent}
@@ -57,25 +58,35 @@ two-alike b start len p ps two alike =
     (and-true (le-leb 2 (length (p ∷ ps)) two) alike)
 
 -- Where every place has the words sent, two places or more are read as the telegram sent.
-pub read-so : (o : OneBalise) → Proper o → AllSent o → 2 ≤ length (placesOf o)
-    → (a : Judged) → JudgeContact (o .buffer) (o .start) (o .len) (o .s) (o .t) a → (first : ℕ) × (count : ℕ) × (a ≡ Judged.Read (o .telegram) first count)
-read-so o proper every two a call = go (placesOf o) refl
+pub judged-so : (o : OneBalise) → Proper o → AllSent o → 2 ≤ length (placesOf o)
+    → (first : ℕ) × (count : ℕ) × (judge (o .buffer) (o .start) (o .len) (o .s) (o .t) ≡ gives (read (gives (o .telegram)) first count))
+judged-so o proper every two = go (placesOf o) refl
   where
     b : List ℕ
     b = o .buffer
 
-    go : (ps : List ℕ) → placesOf o ≡ ps → (first : ℕ) × (count : ℕ) × (a ≡ Judged.Read (o .telegram) first count)
+    go : (ps : List ℕ) → placesOf o ≡ ps → (first : ℕ) × (count : ℕ) × (judge b (o .start) (o .len) (o .s) (o .t) ≡ gives (read (gives (o .telegram)) first count))
     go [] list = absurd (let e = ap length list in omega arith)
     go (p ∷ ps) list =
         let sent : (q : ℕ) → among q (p ∷ ps) ≡ true → Sent o q = λ q there. every q (ap (among q) list ∙ there) in
         let here = sent p (or-left (among p ps) (eq-eqb p p refl)) in
         let alike = all-alike o p here ps (λ q there. sent q (or-right (eqb q p) there)) in
-        let many : 2 ≤ length (p ∷ ps) = subst (λ (l : List ℕ). 2 ≤ length l) list two in
-        let is : judge b (o .start) (o .len) (o .s) (o .t) ≡ gives (read (gives (o .telegram)) p (length (p ∷ ps))) =
-        judged-taken b (o .start) (o .len) (o .s) (o .t) (proper .pair) (proper .taken)
-        ∙ ap (judgement b (o .start) (o .len)) list ∙ two-alike b (o .start) (o .len) p ps many alike
-        ∙ ap (λ (r : Received). gives (read r p (length (p ∷ ps)))) (read-as-sent o proper p here) in
-        (p, length (p ∷ ps), judges b (o .start) (o .len) (o .s) (o .t) a call ∙ ap judgedOf is)
+        let many : 2 ≤ length (p ∷ ps) = subst (λ (l : List ℕ). 2 ≤ length l) list two in (
+          p,
+          length (p ∷ ps),
+          judged-taken b (o .start) (o .len) (o .s) (o .t) (proper .pair) (proper .taken)
+              ∙ ap (judgement b (o .start) (o .len)) list ∙ two-alike b (o .start) (o .len) p ps many alike
+              ∙ ap (λ (r : Received). gives (read r p (length (p ∷ ps)))) (read-as-sent o proper p here),
+        )
+
+-- So a call of `judge` answers.
+pub answers-so : (b : List ℕ) (start len s t : ℕ) (m : Telegram) → (first : ℕ) × (count : ℕ) × (judge b start len s t ≡ gives (read (gives m) first count))
+    → (a : Judged) → JudgeContact b start len s t a → (first : ℕ) × (count : ℕ) × (a ≡ Judged.Read m first count)
+answers-so b start len s t m so a call = (so .0, so .1, judges b start len s t a call ∙ ap judgedOf (so .2))
+
+pub read-so : (o : OneBalise) → Proper o → AllSent o → 2 ≤ length (placesOf o)
+    → (a : Judged) → JudgeContact (o .buffer) (o .start) (o .len) (o .s) (o .t) a → (first : ℕ) × (count : ℕ) × (a ≡ Judged.Read (o .telegram) first count)
+read-so o proper every two = answers-so (o .buffer) (o .start) (o .len) (o .s) (o .t) (o .telegram) (judged-so o proper every two)
 
 -- A list with two different numbers has two.
 pub two-listed : (p q : ℕ) → p < q → (ps : List ℕ) → among p ps ≡ true → among q ps ≡ true → 2 ≤ length ps

@@ -18,7 +18,7 @@ use Rattle.line.specs.Line.{unequal, sum}
 use Rattle.line.proofs.Sums.{unequal-sym}
 use Rattle.line.proofs.Bits.{differing-bits}
 use Rattle.line.proofs.Places.{and-parts, or-parts, place-parts}
-use Rattle.contact.specs.Judge.{Contact, marker, onesAtEnd, allZero, isMarker}
+use Rattle.contact.specs.Judge.{Contact, marker, judge, onesAtEnd, allZero, isMarker}
 use Rattle.contact.specs.declared.Judged.{Judged}
 use Rattle.contact.proofs.Determined.{judgedOf}
 use Rattle.contact.proofs.MarkerRule.{Marker, is-marker}
@@ -115,6 +115,15 @@ module _ (b : List ℕ) (start len : ℕ) (zeroes-there : (i : ℕ) → i < len 
               ap (λ (x : Bool). x && leb (onesAtEnd b (start + 7) (len + 4)) 11 && allZero b (start + 7) (len + 4 - onesAtEnd b (start + 7) (len + 4)))
               (lt-leb 64 (len + 4) less)
 
+-- So it is judged,
+pub judged-sixty : (b : List ℕ) (start len : ℕ) → ((i : ℕ) → i < len → bitAt b (start + i) ≡ 0) → 8 ≤ len → Ones b (start + len) (start + len + between)
+    → inside b (start + 7) (len + 4) ≡ true → (s t : ℕ) → isGood s t ≡ true
+    → judge b (start + 7) (len + 4) s t ≡ pick {A = Outcome Contact} (leb sixty len) (gives marker) (refuses 8)
+judged-sixty b start len zeroes-there long after-it taken s t good =
+    few-judged b (start + 7) (len + 4) s t good taken (few b start len zeroes-there long after-it s t good)
+    ∙ ap (λ (x : Bool). pick x (gives marker) (refuses 8)) (is-sixty b start len zeroes-there long after-it s t good)
+
+-- and a call of `judge` answers.
 both-ways : (x : Bool) → judgedOf (pick {A = Outcome Contact} x (gives marker) (refuses 8)) ≡ pick x Judged.Marker Judged.Neither
 both-ways true = refl
 both-ways false = refl
@@ -123,6 +132,5 @@ pub from-sixty : (b : List ℕ) (start len : ℕ) → ((i : ℕ) → i < len →
     → inside b (start + 7) (len + 4) ≡ true → FromSixty b start len
 from-sixty b start len zeroes-there long after-it taken s t good a called =
     judges b (start + 7) (len + 4) s t a called
-    ∙ ap judgedOf (few-judged b (start + 7) (len + 4) s t good taken (few b start len zeroes-there long after-it s t good)
-    ∙ ap (λ (x : Bool). pick x (gives marker) (refuses 8)) (is-sixty b start len zeroes-there long after-it s t good))
+    ∙ ap judgedOf (judged-sixty b start len zeroes-there long after-it taken s t good)
     ∙ both-ways (leb sixty len)

@@ -8,7 +8,7 @@ use native.Mathlib.Omega.{arith}
 use lib.Dec.{leb, ltb}
 use lib.ListN.{length}
 use borrow.Author.Tests.{leb-true, leb-false, ltb-true, ltb-false}
-use Rattle.words.specs.Answer.{pick}
+use Rattle.words.specs.Answer.{gives, pick}
 use Rattle.words.specs.Plain.{among}
 use Rattle.telegram.specs.Stretch.{bitAt, inside}
 use Rattle.telegram.specs.Place.{isPlace, places}
@@ -21,13 +21,14 @@ use Rattle.line.proofs.TooFew.{few-flips-few}
 use Rattle.line.proofs.Stretch.{all-sent, as-sent}
 use Rattle.line.proofs.Unflipped.{unflipped-among}
 use Rattle.line.proofs.Clean.{clean-few}
+use Rattle.contact.specs.Judge.{read, judge}
 use Rattle.contact.specs.declared.Judged.{Judged}
 use Rattle.heard.specs.Calls.{JudgeContact}
 use Rattle.heard.specs.Pass.{cutBits}
 use Rattle.heard.specs.Heard.{NoFalse}
 use Rattle.heard.proofs.Sound.{received}
 use Rattle.heard.proofs.Over.{cut-straight}
-use Rattle.heard.proofs.Alike.{read-so, two-listed}
+use Rattle.heard.proofs.Alike.{judged-so, answers-so, two-listed}
 
 -- The contact that skips k of the balise's bits and has e of the ones after them, as a stretch; with e = 0, the balise's part of it.
 abbrev pub contactOf : OneBalise → ℕ → ℕ → OneBalise
@@ -181,10 +182,10 @@ module _ (o : OneBalise) (proper : Proper o) (clean : Clean o) (k e : ℕ) (k-lo
         go false is = late-sent q (leb-false (q + 40) (o .start + o .len) is) there′
 
     -- With two whole telegrams of the balise in the contact, it is read.
-    pub is-read : k ≤ cutBits o + 47 → cutBits o + 136 ≤ o .len
-        → (a : Judged) → JudgeContact (o .buffer) (o .start + k) (o .len + e - k) (o .s) (o .t) a → (first : ℕ) × (count : ℕ) × (a ≡ Judged.Read (o .telegram) first count)
+    pub judged-read : k ≤ cutBits o + 47 → cutBits o + 136 ≤ o .len
+        → (first : ℕ) × (count : ℕ) × (judge (o .buffer) (o .start + k) (o .len + e - k) (o .s) (o .t) ≡ gives (read (gives (o .telegram)) first count))
     unfolding lineBit
-    is-read skipped long a called =
+    judged-read skipped long =
         let c = cutBits o in
         let p = o .start + c + 64 in
         let line : o .phase + (p - o .start) ≡ o .phase + c + 64 = omega arith in
@@ -192,4 +193,8 @@ module _ (o : OneBalise) (proper : Proper o) (clean : Clean o) (k e : ℕ) (k-lo
         let next : (o .phase + (p + 32 - o .start)) % 32 ≡ 0 = omega (arith, cut-straight o) in
         let two : 2 ≤ length (placesOf all) =
         two-listed p (p + 32) (omega arith) (placesOf all) (whole p (omega arith) (omega arith) round) (whole (p + 32) (omega arith) (omega arith) next) in
-        read-so all all-proper everywhere two a called
+        judged-so all all-proper everywhere two
+
+    pub is-read : k ≤ cutBits o + 47 → cutBits o + 136 ≤ o .len
+        → (a : Judged) → JudgeContact (o .buffer) (o .start + k) (o .len + e - k) (o .s) (o .t) a → (first : ℕ) × (count : ℕ) × (a ≡ Judged.Read (o .telegram) first count)
+    is-read skipped long = answers-so (o .buffer) (o .start + k) (o .len + e - k) (o .s) (o .t) (o .telegram) (judged-read skipped long)

@@ -31,7 +31,7 @@ use Rattle.recording.specs.Document.{linesOf, wholeLine, TheContacts, As
 use Rattle.recording.proofs.Frames.{line-length}
 
 module _ (lead : List ℕ) where
-  all-length : (n : ℕ) → 16 * n ≤ length lead → length (linesOf lead n) ≡ 12 * n
+  pub all-length : (n : ℕ) → 16 * n ≤ length lead → length (linesOf lead n) ≡ 12 * n
   unfolding linesOf
   all-length zero fits = refl
   all-length (suc n) fits =
@@ -59,7 +59,7 @@ module _ (lead : List ℕ) where
   byte-of zero k j fits low within = absurd (omega arith)
   byte-of (suc n) k j fits low within = byte-by n k j fits low within (ltb k n) refl (λ below. byte-of n k j (omega arith) low below)
 
-  bit-of : (n i : ℕ) → 16 * n ≤ length lead → i < 96 * n → lineIn lead i ≡ bitAt (linesOf lead n) i
+  pub bit-of : (n i : ℕ) → 16 * n ≤ length lead → i < 96 * n → lineIn lead i ≡ bitAt (linesOf lead n) i
   bit-of n i fits low =
       let b : i % 96 / 8 < 12 = omega arith in
       let k : i / 96 < n = omega arith in

@@ -1,0 +1,5 @@
+pub mod Bytes
+pub mod SoFar
+pub mod Laws
+pub mod Determined
+pub mod Examples

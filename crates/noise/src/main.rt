@@ -1,0 +1,21 @@
+// A lead with noise on its line: each bit flips with a chance of N in a million. For showing what noise does: it is refused, never mended.
+// Promises: it is safe and it ends; the bytes are lead_noise::add_noise's, piece by piece, and those after the last whole frame as they came.
+// Specification: none of its own; that the pieces join is crates/lead_noise/specs/Laws.antt, what cannot be said of a program's reads and
+// writes stands in docs/EXCEPTIONS.md.
+mod call;
+mod pieces;
+
+use call::Asked;
+
+// The lead with noise, by way of a block of 65,536 bytes.
+fn send(seed: u32, chance: u32) {
+    let mut block = io::large_buffer();
+    pieces::all(seed, chance, &mut block);
+}
+
+fn main() {
+    match call::arguments() {
+        Asked::For { seed, chance } => send(seed, chance),
+        Asked::Odd => cards::say(b"noise", b"usage: noise SEED N [LEAD]"),
+    }
+}

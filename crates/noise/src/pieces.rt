@@ -1,0 +1,76 @@
+// The lead piece by piece: in, with noise, out.
+ghost use Prim.Native.Nat.{_≤_};
+ghost use lib.ListN.{length};
+use leads::How;
+use leads::Leads;
+use libc::STDOUT_FILENO;
+
+// The generator's number, and whether the write before succeeded.
+struct Sent {
+    x: u32,
+    is_good: bool,
+}
+
+// The first bytes of some; no success where there are fewer.
+fn write(bytes: &[u8], count: usize) -> bool {
+    if count > bytes.len() {
+        return false;
+    }
+    io::write_all(STDOUT_FILENO, &bytes[..count])
+}
+
+// That a write failed.
+fn cannot_write() {
+    cards::say(b"noise", b"cannot write");
+}
+
+// The whole frames at the front of the block get their noise and go out.
+fn send(x: u32, chance: u32, block: &mut [u8], count: usize) -> Sent
+    requires { ⌜ count ≤ length (now block) ⌝ }
+{
+    let then = lead_noise::add_noise(x, chance, &mut block[..count]);
+    Sent {
+        x: then,
+        is_good: write(block, count),
+    }
+}
+
+// What comes after the last piece: the bytes of a frame that is not whole, as they came; or what failed.
+fn finish(how: How, leads: Leads, block: &[u8]) {
+    match how {
+        How::End => {
+            if !write(block, leads::kept(leads)) {
+                cannot_write();
+            }
+        }
+        How::CannotOpen(_) => leads::say(b"noise", how),
+        How::CannotRead(_) => leads::say(b"noise", how),
+        How::NoRoom => {}
+        How::More => {}
+    }
+}
+
+// All that the lead gives, as it comes. A proved loop has to end, and nothing says that a lead does: so it counts its turns down from a number
+// that no run uses up.
+pub fn all(seed: u32, chance: u32, block: &mut [u8]) {
+    let mut x = seed;
+    let mut leads = leads::begin(3);
+    let mut turns = u64::MAX;
+    while turns > 0 {
+        let piece = leads::next_piece(leads, block);
+        let length = piece.length;
+        let sent = send(x, chance, block, length);
+        if !sent.is_good {
+            cannot_write();
+            return;
+        }
+        x = sent.x;
+        leads = piece.leads;
+        let how = piece.how;
+        let How::More = how else {
+            finish(how, leads, block);
+            return;
+        };
+        turns -= 1;
+    }
+}

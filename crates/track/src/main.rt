@@ -1,0 +1,36 @@
+// From the text of a track to the lead that a bench riding over it would give, to standard output.
+// Promises: it is safe and it ends; the frames are track_lead::write's, block by block and thing by thing; nothing is written of a text that is refused.
+// Specification: none of its own; what the frames come to is crates/track_lead/specs/Laws.antt, what cannot be said of a program's reads and
+// writes stands in docs/EXCEPTIONS.md.
+mod call;
+mod going;
+mod out;
+mod saying;
+mod taking;
+
+use call::Asked;
+use call::Call;
+use telegram::Pair;
+
+// Goes over the text twice: once for what is refused, once for the frames.
+fn feed(call: Call) {
+    let mut block = io::large_buffer();
+    let mut out = io::large_buffer();
+    going::twice(call, &mut block, &mut out);
+}
+
+// The pair is judged before the text.
+fn answer(call: Call) {
+    let pair = telegram::good_pair(call.s, call.t);
+    match pair {
+        Pair::Good => feed(call),
+        Pair::NotSeven => cards::say(b"track", b"refused 4"),
+    }
+}
+
+fn main() {
+    match call::arguments() {
+        Asked::For(call) => answer(call),
+        Asked::Odd => cards::say(b"track", b"usage: track FILE S S* [N]"),
+    }
+}

@@ -1,0 +1,122 @@
+-- The thing over the antenna in a frame: the last that has begun. The places of a text that is taken never fall.
+-- Assumes nothing.
+use Prim.Native.Nat.{ℕ, zero, suc, _+_, _-_, _*_, _≤_, _<_, min}
+use mathlib.Core.Path.{_≡_, refl, sym, ap, _∙_, subst}
+use mathlib.Core.Bool.{Bool, true, false, _&&_}
+use mathlib.Core.List.{List, [], _∷_}
+use native.Mathlib.Omega.{arith}
+use native.Mathlib.Nat.{mul-le-mul-left}
+use lib.Dec.{ltb, leb}
+use borrow.Author.Tests.{ltb-true, ltb-false, lt-leb, le-leb}
+use Rattle.words.specs.Answer.{Answer, gives, refuses, then, pick}
+use Rattle.words.proofs.Never.{cannot-be}
+use Rattle.track_lead.specs.declared.Thing.{Thing}
+use Rattle.track_lead.specs.declared.Mark.{Mark}
+use Rattle.track_lead.specs.declared.Way.{Way}
+use Rattle.track_lead.specs.Way.{highest, isSent, isNear, firstOf, after, Bad, refused, tooNear, take}
+use Rattle.track_lead.specs.Lead.{Item, wayFrom, Over, firstFrame, latest}
+
+-- ---- places that never fall
+
+-- The places of the lines are `low` or higher, each at least as high as the one before, and at most `high`.
+abbrev pub Rising : ℕ → ℕ → List Item → Type 0
+Rising low high [] = low ≤ high
+Rising low high (item ∷ items) = (low ≤ item .place) × Rising (item .place) high items
+
+pub rises : (low high : ℕ) (items : List Item) → Rising low high items → low ≤ high
+rises low high [] r = r
+rises low high (item ∷ items) r = let l = rises (item .place) high items (r .1) in omega (arith, r .0)
+
+-- A line that is taken: its place is no lower than the last, and at most 4,000,000,000; and the way after it.
+pub record TakenSo (way : Way) (place : ℕ) (thing : Thing) (next : Way) : Type 0 where
+  pub on : way .last ≤ place
+  pub low : place ≤ highest
+  pub apart : (isSent thing && isNear (way .thing) place) ≡ false
+  pub next-is : next ≡ after way place thing
+
+pub taken-so : (way : Way) (place : ℕ) (thing : Thing) (next : Way) → take way place thing ≡ gives next → TakenSo way place thing next
+unfolding take
+taken-so way place thing next is = by (ltb highest place) refl (ltb place (way .last)) refl (isSent thing && isNear (way .thing) place) refl is
+  where
+    by : (a : Bool) → ltb highest place ≡ a → (b : Bool) → ltb place (way .last) ≡ b → (c : Bool) → (isSent thing && isNear (way .thing) place) ≡ c
+        → pick {A = Answer Bad Way} a (refuses (refused 18)) (pick b (refuses (refused 17)) (pick c (refuses tooNear) (gives (after way place thing)))) ≡ gives next
+        → TakenSo way place thing next
+    by false p false q false r e =
+        record {
+          on = ltb-false place (way .last) q;
+          low = ltb-false highest place p;
+          apart = r;
+          next-is = let same : next ≡ after way place thing = cc in same;
+        }
+    by true p b q c r e = absurd (cannot-be cc)
+    by false p true q c r e = absurd (cannot-be cc)
+    by false p false q true r e = absurd (cannot-be cc)
+
+-- What goes on with an answer that is given.
+pub given-then : (a : Answer Bad Way) (next : Way → Answer Bad Way) (w : Way) → then a next ≡ gives w → (v : Way) × (a ≡ gives v) × (next v ≡ gives w)
+given-then (gives v) next w is = (v, refl, is)
+given-then (refuses r) next w is = absurd (cannot-be cc)
+
+-- A text that is taken.
+pub record TakenAll (way : Way) (items : List Item) (last : Way) : Type 0 where
+  pub rising : Rising (way .last) (last .last) items
+  pub low : way .last ≤ highest → last .last ≤ highest
+  pub first-kept : (place : ℕ) → way .first ≡ Mark.At place → last .first ≡ Mark.At place
+
+pub taken-all : (way : Way) (items : List Item) (last : Way) → wayFrom way items ≡ gives last → TakenAll way items last
+unfolding wayFrom after
+taken-all way [] last is =
+    let same : way ≡ last = cc in
+    record {
+      rising = subst (λ (w : Way). way .last ≤ w .last) same (omega arith);
+      low = λ l. subst (λ (w : Way). w .last ≤ highest) same l;
+      first-kept = λ place e. ap (λ (w : Way). w .first) (sym same) ∙ e;
+    }
+taken-all way (item ∷ items) last is =
+    let g = given-then (take way (item .place) (item .thing)) (λ next. wayFrom next items) last is in
+    let t = taken-so way (item .place) (item .thing) (g .0) (g .1) in
+    let rest = taken-all (g .0) items last (g .2) in
+    let there : g .0 .last ≡ item .place = ap (λ (w : Way). w .last) (t .next-is) in
+    record {
+      rising = (t .on, subst (λ (p : ℕ). Rising p (last .last) items) there (rest .rising));
+      low = λ l. rest .low (omega (arith, there, t .low));
+      first-kept = λ place e. rest .first-kept place (ap (λ (w : Way). w .first) (t .next-is) ∙ ap (λ (m : Mark). firstOf m (item .place)) e);
+    }
+
+-- ---- the last that has begun
+
+module _ (n begin : ℕ) where
+  -- Before the first frame of what comes, it is as it was.
+  pub not-yet : (items : List Item) (low high k : ℕ) (over : Over) → Rising low high items → begin ≤ low → k < firstFrame n begin low → latest n begin items k over ≡ over
+  unfolding latest
+  not-yet [] low high k over rising from soon = refl
+  not-yet (item ∷ items) low high k over rising from soon =
+      let later : firstFrame n begin low ≤ firstFrame n begin (item .place) = mul-le-mul-left n (omega (arith, rising .0)) in
+      let none : leb (firstFrame n begin (item .place)) k ≡ false = lt-leb (firstFrame n begin (item .place)) k (omega (arith, later)) in
+      ap (λ (t : Bool). latest n begin items k (pick (isSent (item .thing) && t) (record { thing = item .thing; since = firstFrame n begin (item .place) }) over)) none
+      ∙ ap (λ (t : Bool). latest n begin items k (pick t (record { thing = item .thing; since = firstFrame n begin (item .place) }) over)) (never (isSent (item .thing)))
+      ∙ not-yet items (item .place) high k over (rising .1) (omega (arith, rising .0)) (omega (arith, later))
+    where
+      never : (t : Bool) → (t && false) ≡ false
+      never true = refl
+      never false = refl
+
+  -- From its first frame on a thing has begun; a position never does.
+  pub begun : (item : Item) (items : List Item) (k : ℕ) (over : Over) → isSent (item .thing) ≡ true → firstFrame n begin (item .place) ≤ k
+      → latest n begin (item ∷ items) k over ≡ latest n begin items k (record { thing = item .thing; since = firstFrame n begin (item .place) })
+  unfolding latest
+  begun item items k over is late = simp (is, le-leb _ _ late)
+
+  pub position : (item : Item) (items : List Item) (k : ℕ) (over : Over) → isSent (item .thing) ≡ false → latest n begin (item ∷ items) k over ≡ latest n begin items k over
+  unfolding latest
+  position item items k over is = simp is
+
+  pub soon : (item : Item) (items : List Item) (k : ℕ) (over : Over) → k < firstFrame n begin (item .place) → latest n begin (item ∷ items) k over ≡ latest n begin items k over
+  unfolding latest
+  soon item items k over early =
+      ap (λ (t : Bool). latest n begin items k (pick (isSent (item .thing) && t) (record { thing = item .thing; since = firstFrame n begin (item .place) }) over)) (lt-leb _ _ early)
+      ∙ ap (λ (t : Bool). latest n begin items k (pick t (record { thing = item .thing; since = firstFrame n begin (item .place) }) over)) (never (isSent (item .thing)))
+    where
+      never : (t : Bool) → (t && false) ≡ false
+      never true = refl
+      never false = refl

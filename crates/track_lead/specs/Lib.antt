@@ -1,0 +1,6 @@
+pub mod Way
+pub mod Sent
+pub mod Feed
+pub mod Lead
+pub mod Says
+pub mod Laws
