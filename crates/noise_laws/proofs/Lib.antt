@@ -20,12 +20,12 @@ mod Shift
 mod Inner
 mod Eighth
 mod Late
-mod Reading
+pub mod Reading
 mod MarkerLine
 mod Marker
 mod Computed
 mod FirstLines
 mod LastLines
-mod OtherLines
+pub mod OtherLines
 mod Limits
 mod MarkerMet

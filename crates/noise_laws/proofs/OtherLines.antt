@@ -43,11 +43,11 @@ pub nothing : Passed 4 0 zeroesLine Judged.Marker
 unfolding equalBits those from
 nothing = passed-so 4 0 zeroesLine 0 144 46 64 record { next = 111; left = 33; history = 4095 } Judged.Marker nothing-proper refl nothing-pass nothing-contact nothing-judged
 
-noisy-proper : Proper noisyLine
+pub noisy-proper : Proper noisyLine
 unfolding isGood differing inside telegram shortWord longWord readWord isCode even count covers exchanged other word figure onwards isCheck
 noisy-proper = record { bytes = (omega arith, omega arith, omega arith, omega arith, omega arith); pair = refl; valid = refl; taken = refl }
 
-noisy-pass : NoisyPass 2 noisyLine 0 240
+pub noisy-pass : NoisyPass 2 noisyLine 0 240
 unfolding inside lineAt isOver lineBit sentBit flipped flipsIn sum unequal
 noisy-pass = pass-computed 2 noisyLine 0 240 (omega arith) (omega arith) tt refl
 

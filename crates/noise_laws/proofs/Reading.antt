@@ -128,7 +128,7 @@ module _ (o : OneBalise) (proper : Proper o) (most from to : ℕ) (pass : NoisyP
   every quiet record-wide over = tt
   every (refused n) record-wide over = tt
 
-  pub reads-the-sent : most ≤ 3 → ReadsTheSent o (contactsFrom b (fromStart from (to - from)))
+  reads-the-sent : most ≤ 3 → ReadsTheSent o (contactsFrom b (fromStart from (to - from)))
   reads-the-sent small =
       let low = pass .from-low in
       let high = pass .to-high in
@@ -142,8 +142,13 @@ one-of-eight o k equal =
     let h = listed (λ k. eqb (bit (o .s) (8 - k)) (bit (o .t) (8 - k))) k 1 8 (ap (among k) equal ∙ or-left false (eq-eqb k k refl)) in
     omega (arith, h .1)
 
+-- Of the contacts of document 01, whichever calls hand them out.
+pub reads-the-contacts : (o : OneBalise) → Proper o → (k : ℕ) → EqualBit o k → (from to : ℕ) → NoisyPass (getD allowed (k - 1) 0) o from to
+    → ReadsTheSent o (contactsFrom (o .buffer) (fromStart from (to - from)))
+reads-the-contacts o proper k equal from to pass =
+    reads-the-sent o proper (getD allowed (k - 1) 0) from to pass k equal refl
+    (inside-reads o proper k equal (in-stretch o (getD allowed (k - 1) 0) from to pass)) (at-most-three (k - 1) (one-of-eight o k equal))
+
 pub no-false-reading : NoFalseReading
 no-false-reading o proper k equal from to pass w l =
-    subst (ReadsTheSent o) (sym (listened (o .buffer) from to w l))
-    (reads-the-sent o proper (getD allowed (k - 1) 0) from to pass k equal refl
-    (inside-reads o proper k equal (in-stretch o (getD allowed (k - 1) 0) from to pass)) (at-most-three (k - 1) (one-of-eight o k equal)))
+    subst (ReadsTheSent o) (sym (listened (o .buffer) from to w l)) (reads-the-contacts o proper k equal from to pass)

@@ -1,0 +1,2 @@
+mod InPieces
+mod InPiecesMet
