@@ -8,10 +8,10 @@ use Rattle.records.proofs.blocks.write_cards.Statement.{statement}
 use Rattle.records.proofs.blocks.write_cards.Tie as tie
 
 abbrev Inv-loop : tie.InvT-loop
-Inv-loop lengths block₀ stand₀ pass₀ turns₀ name words block stand pass turns = length block ≡ length block₀
+Inv-loop lengths block₀ stand₀ pass₀ turns₀ name block stand pass turns = length block ≡ length block₀
 
 abbrev μ-loop : tie.MeasureT-loop
-μ-loop lengths block₀ stand₀ pass₀ turns₀ name words block stand pass turns = turns
+μ-loop lengths block₀ stand₀ pass₀ turns₀ name block stand pass turns = turns
 
 -- what was read lies within the block
 within : (c : tie.After-next-block Inv-loop μ-loop) → c .next-block .result .read ≤ length (c .next-block .last .1 .1 .0)
@@ -27,7 +27,7 @@ kept : (c : tie.After-next-block Inv-loop μ-loop) →
 kept c = c .next-block .kept .1 .1 .0 ∙ c .before .before .before .loop .inv
 
 same-length : tie.Need-same-length Inv-loop μ-loop
-same-length c = kept (c .before .before .before .before .before .before .before .before .before)
+same-length c = kept (c .before .before .before .before .before .before .before .before)
 
 same-length-2 : tie.Need-same-length-2 Inv-loop μ-loop
 same-length-2 c = kept (c .before .before .before .before .before .before .before .before)
@@ -45,7 +45,7 @@ write-cards-spec =
     Inv-loop
     μ-loop
     (λ c κs. tt) (λ c. refl) (λ c κs. tt) write-front-requires
-    (λ c. search needs) (λ c. search needs) (λ c κs. tt) same-length
+    (λ c. search needs) (λ c κs. tt) same-length
     (λ c. tt) (λ c. search needs) (λ c κs. tt) same-length-2
     (λ c. tt) (λ c. omega arith) (λ c. omega arith) loop-again
     same-length-3
