@@ -92,9 +92,12 @@ position-rises tape s e =
     rises-one tape (positioned tape) (tape .odometer) (bytesOf (tape .odometer) (blank 3)) (blank-made (tape .odometer) .2) (s .last) (s .high) refl
     (record { high = s .high; last = omega arith; opened = outside (tape .ear .stand) (positioned tape) e })
 
+not-due : {A : Type 0} → false ≡ true → A
+not-due e = cannot-be cc
+
 due-outside : (stand : Stand) (last : Last) (odometer : ℕ) → dueIn stand last odometer ≡ true → stand ≡ Stand.Outside
 due-outside Stand.Outside last odometer e = refl
-due-outside (Stand.Inside sound) last odometer e = cannot-be cc
+due-outside (Stand.Inside sound) last odometer e = not-due e
 
 after-by : (tape : Tape) (b : Bool) → isDue tape ≡ b → Steady tape → Rises tape (pick b (position tape) (silent tape))
 after-by tape true e s = position-rises tape s (due-outside (tape .ear .stand) (tape .last) (tape .odometer) e)

@@ -1,6 +1,10 @@
 -- Where the held version is left the store is asked, else the held one stays.
 -- Assumes nothing.
-use mathlib.Core.Path.{sym, _∙_}
+use mathlib.Core.Path.{sym, ap, _∙_}
+use mathlib.Core.Bool.{Bool}
+use Rattle.words.specs.Answer.{pick}
+use Rattle.settings.specs.declared.Held.{Held}
+use Rattle.settings.specs.At.{hold}
 use Rattle.recording.specs.Recording.{heldAt}
 use borrow.Author.Needs.{needs}
 use Rattle.recording.proofs.going.held_for.Statement.{statement}
@@ -8,10 +12,16 @@ use Rattle.recording.proofs.going.held_for.Tie as tie
 
 returns : tie.Need-returns
 unfolding heldAt
-returns c = rw (sym (c .before .before .before .leaves .ensures) ∙ c .before .before .if1 .taken) (cc)
+returns c =
+    let l = c .before .before .before in
+    let a = l .before .args in
+    c .hold .ensures ∙ ap (λ (h : Held). hold (a .store) h (a .odometer)) (c .before .none-held .ensures)
+    ∙ ap (λ (b : Bool). pick b (heldAt (a .store) (a .odometer)) (a .held)) (sym (sym (l .leaves .ensures) ∙ c .before .before .if1 .taken))
 
 returns-2 : tie.Need-returns-2
-returns-2 c = rw (sym (c .before .leaves .ensures) ∙ c .if1 .left)
+returns-2 c =
+    let a = c .before .before .args in
+    ap (λ (b : Bool). pick b (heldAt (a .store) (a .odometer)) (a .held)) (sym (sym (c .before .leaves .ensures) ∙ c .if1 .left))
 
 pub held-for-spec : {M : Type 1} → statement M
 held-for-spec =
