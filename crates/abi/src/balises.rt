@@ -1,8 +1,8 @@
 // Test balises: their bits into a lent buffer.
 ghost use mathlib.Core.Path.{_≡_};
-ghost use Rattle.writer.specs.Write.{write};
+ghost use Rattle.balise_writer.specs.Write.{write};
 ghost use Rattle.abi.specs.Face.{returned, itself};
-use writer::Written;
+use balise_writer::Written;
 
 // 4n + 1, with n telegrams of a test balise at the start of `out`; -2, -3, -4, -20 or -21.
 #[no_mangle]
@@ -18,7 +18,7 @@ pub extern "C" fn atc2_write_balise(
     ensures { λ r. ⌜ r ≡ returned itself (write x y z s t n (now (out .entry)) .answer) ⌝ }
     ensures { λ _. ⌜ now (out .exit) ≡ write x y z s t n (now (out .entry)) .buffer ⌝ }
 {
-    match writer::write(x, y, z, s, t, n, out) {
+    match balise_writer::write(x, y, z, s, t, n, out) {
         Written::Bytes(bytes) => bytes as i32,
         Written::TooLarge => -2,
         Written::Fifteen => -3,

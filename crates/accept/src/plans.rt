@@ -1,7 +1,7 @@
 // The plan and the tolerance as the arguments name them.
 use acceptance::Acceptance;
 use acceptance::PlanJudged;
-use arguments::Figure;
+use figures::Figure;
 
 // A tolerance: a number of dm (one that is too large for any plan stands for all such), or no number.
 pub enum Tolerance {

@@ -10,7 +10,7 @@ use lib.ListN.{length, take, getD, replicate}
 use lib.Seq.{take-at, getD-take}
 use borrow.Author.Tests.{leb-true, lt-ltb, le-ltb}
 use Rattle.words.specs.Answer.{pick}
-use Rattle.walk.specs.declared.Kind.{Kind}
+use Rattle.group_rows.specs.declared.Kind.{Kind}
 use Rattle.ride.specs.declared.Seen.{Seen}
 use Rattle.ride.specs.declared.Line.{Line}
 use Rattle.ride.specs.Over.{records}

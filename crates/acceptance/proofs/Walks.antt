@@ -11,7 +11,7 @@ use lib.ListN.{length, take, drop, getD, length-drop}
 use lib.Seq.{drop-cons, getD-take, length-take-le, drop-length}
 use borrow.Author.Tests.{leb-true, leb-false, lt-ltb, le-ltb, lt-leb, le-leb}
 use Rattle.words.specs.Answer.{pick}
-use Rattle.walk.specs.declared.Kind.{Kind}
+use Rattle.group_rows.specs.declared.Kind.{Kind}
 use Rattle.acceptance.specs.declared.Entry.{Entry}
 use Rattle.acceptance.specs.Plan.{noEntry, isBeyond, apart}
 use Rattle.acceptance.specs.Taking.{isAbsent, waits, waiting}

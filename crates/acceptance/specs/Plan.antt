@@ -8,7 +8,7 @@ use mathlib.Core.List.{List, [], _∷_, _++_, map}
 use lib.Dec.{eqb, leb, ltb}
 use lib.ListN.{length, take, replicate}
 use Rattle.words.specs.Answer.{Outcome, gives, refuses, pick}
-use Rattle.walk.specs.declared.Kind.{Kind}
+use Rattle.group_rows.specs.declared.Kind.{Kind}
 use Rattle.ride.specs.Record.{byte, blank}
 use Rattle.ride.specs.Over.{records}
 use Rattle.acceptance.specs.declared.Met.{Met}

@@ -12,8 +12,8 @@ mod reading;
 mod summing;
 mod taking;
 
+use group_rows::Kind;
 use ride::Line;
-use walk::Kind;
 
 // Whether an entry was met: not, or by a group with this A place.
 pub enum Met {

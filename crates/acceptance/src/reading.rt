@@ -11,7 +11,7 @@ use crate::Entry;
 use crate::Met;
 use crate::PlanJudged;
 use crate::Planned;
-use walk::Kind;
+use group_rows::Kind;
 
 // A place of a plan that no entry has taken.
 const NO_ENTRY: Entry = Entry {

@@ -9,8 +9,8 @@ use crate::Entry;
 use crate::Met;
 use crate::Role;
 use crate::Took;
-use walk::Direction;
-use walk::Kind;
+use group_rows::Direction;
+use group_rows::Kind;
 
 // How many entries a plan with this count has: at most 64.
 pub fn entries_in(entries: [Entry; 64], count: usize) -> usize

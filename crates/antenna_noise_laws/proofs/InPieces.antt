@@ -10,13 +10,13 @@ use Rattle.words.specs.Answer.{gives}
 use Rattle.telegram.specs.Stretch.{bitAt, inside}
 use Rattle.telegram.specs.declared.Telegram.{Telegram}
 use Rattle.telegram.proofs.Taken.{taken}
-use Rattle.line.specs.Line.{OneBalise}
+use Rattle.balise_line.specs.Line.{OneBalise}
 use Rattle.contact.specs.History.{sixteenOnes}
 use Rattle.contact.specs.Contacts.{Contacts, contact, quiet, refused, outside, contacts}
 use Rattle.contact.specs.Judge.{read, judge}
 use Rattle.contact.specs.declared.Judged.{Judged}
-use Rattle.heard.specs.Calls.{JudgeContact}
-use Rattle.heard.proofs.Over.{from-taken}
+use Rattle.contact_laws.specs.Calls.{JudgeContact}
+use Rattle.contact_laws.proofs.Over.{from-taken}
 use Rattle.antenna.specs.declared.Ear.{Ear}
 use Rattle.antenna.specs.Line.{heard, judgedAll}
 use Rattle.antenna.proofs.Law.{hears-all}

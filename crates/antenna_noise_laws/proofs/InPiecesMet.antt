@@ -17,7 +17,7 @@ use Rattle.telegram.specs.Sync.{differing, isGood}
 use Rattle.telegram.specs.Telegram.{shortWord, longWord, telegram}
 use Rattle.telegram.specs.Place.{areSyncs, from, those}
 use Rattle.telegram.specs.declared.Telegram.{Telegram}
-use Rattle.line.specs.Forty.{equalBits}
+use Rattle.balise_line.specs.Forty.{equalBits}
 use Rattle.contact.specs.History as history
 use Rattle.contact.specs.History.{zeroesOf, zeroes, opens, closes}
 use Rattle.contact.specs.Judge.{read}

@@ -6,8 +6,8 @@ use mathlib.Core.List.{List, [], _∷_}
 use lib.ListN.{getD}
 use Rattle.words.specs.Answer.{gives}
 use Rattle.telegram.specs.declared.Telegram.{Telegram}
-use Rattle.line.specs.Line.{OneBalise, Proper}
-use Rattle.line.specs.Forty.{EqualBit}
+use Rattle.balise_line.specs.Line.{OneBalise, Proper}
+use Rattle.balise_line.specs.Forty.{EqualBit}
 use Rattle.contact.specs.Judge.{read}
 use Rattle.antenna.specs.declared.Ear.{Ear}
 use Rattle.antenna.specs.Line.{Told, told}

@@ -10,7 +10,7 @@ use Rattle.telegram.specs.declared.Telegram.{Telegram}
 use Rattle.contact.specs.declared.Judged.{Judged}
 use Rattle.contact.specs.Says.{saysJudged}
 use Rattle.antenna.specs.Line.{placed}
-use Rattle.hearing.specs.Lines.{heard}
+use Rattle.contact_text.specs.Lines.{heard}
 use Rattle.antenna_text.specs.Lines.{shown, refusedAs, judgedAs, toldLine, closedBefore}
 
 pub shown-whole : (n : ℕ) → n ≤ largest64 → shown n ≡ n

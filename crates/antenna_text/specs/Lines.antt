@@ -1,4 +1,4 @@
--- What is heard on a line that comes in pieces, as text: the lines of `hearing`, with each contact's start counted from the first bit of the line.
+-- What is heard on a line that comes in pieces, as text: the lines of `contact_text`, with each contact's start counted from the first bit of the line.
 -- Assumes nothing.
 use Prim.Native.Nat.{ℕ, _-_}
 use mathlib.Core.Bool.{Bool, true, false}
@@ -10,7 +10,7 @@ use Rattle.contact.specs.declared.Judged.{Judged}
 use Rattle.contact.specs.Says.{saysJudged}
 use Rattle.contact.specs.Judge.{Contact, read, marker}
 use Rattle.antenna.specs.Line.{Told, told, placed}
-use Rattle.hearing.specs.Lines.{heard, refusal}
+use Rattle.contact_text.specs.Lines.{heard, refusal}
 
 -- A number of a line as it is shown: none is above 2^64 - 1. No line has as many bits.
 unfoldable pub shown : ℕ → ℕ

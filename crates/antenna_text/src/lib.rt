@@ -1,4 +1,4 @@
-// The lines of contacts that are heard piece by piece: those of `hearing`, with each start counted from the first bit of the whole line.
+// The lines of contacts that are heard piece by piece: those of `contact_text`, with each start counted from the first bit of the whole line.
 // Promises: a line is written to the letter and whole, or not at all; bytes around it stay.
 // Specification: specs/Lines.antt (the words); what listening in pieces comes to is crates/antenna_text_laws; a text in a buffer is `text`'s specs/Put.antt.
 ghost use mathlib.Core.Path.{_≡_};
@@ -15,5 +15,5 @@ pub fn put_closed(end: u64, bits: usize, judged: Judged, buf: &mut [u8], at: usi
     ensures { λ r. ⌜ came r (now (buf .exit)) ≡ put (toldLine (closedBefore end bits judged)) (now (buf .entry)) at ⌝ }
 {
     let start = placing::less(end as usize, bits);
-    hearing::put_contact(start, bits, placing::placed(start, judged), buf, at)
+    contact_text::put_contact(start, bits, placing::placed(start, judged), buf, at)
 }

@@ -4,7 +4,7 @@
 // says its usage), or `Said`: the settings are bad, and it was said and told. Then the program ends, before any card is opened.
 // Said are, on standard output, `settings line 3 refused 24: WORDS`, `settings line 3 unreadable`, `settings refused 19: WORDS`; for a program whose result is bytes
 // (`aside`) the same after its name on standard error; there, for every program, `PROGRAM: cannot open FILE`, `PROGRAM: cannot read FILE`, `PROGRAM: settings too long`.
-// Promises: it is safe and it ends; what a text of settings comes to, and the words said of it, are the crate sheet's. What is read or written
+// Promises: it is safe and it ends; what a text of settings comes to, and the words said of it, are the crate settings_text's. What is read or written
 // stands outside contracts: docs/EXCEPTIONS.md.
 ghost use mathlib.Core.Path.{_≡_};
 ghost use lib.ListN.{length};
@@ -14,7 +14,7 @@ use console::write;
 use libc::STDERR_FILENO;
 use libc::STDOUT_FILENO;
 use settings::Store;
-use sheet::Sheet;
+use settings_text::Sheet;
 
 // The gap of a program that is given no settings, in dm.
 const GAP: u32 = 40;
@@ -55,9 +55,9 @@ fn is_option() -> bool {
 }
 
 // Says what is wrong with the settings. That they are too long is no result.
-fn tell_of(program: &[u8], aside: bool, line: u32, how: sheet::How) {
+fn tell_of(program: &[u8], aside: bool, line: u32, how: settings_text::How) {
     let mut text = [0u8; 128];
-    let count = sheet::put_told(line, how, &mut text, 0);
+    let count = settings_text::put_told(line, how, &mut text, 0);
     tell(ended(how));
     if aside | is_too_long(how) {
         io::write_all(STDERR_FILENO, program);
@@ -71,32 +71,32 @@ fn tell_of(program: &[u8], aside: bool, line: u32, how: sheet::How) {
 }
 
 // How a call ends by bad settings: refused by a number, or their text cannot be read.
-fn ended(how: sheet::How) -> Ended {
+fn ended(how: settings_text::How) -> Ended {
     match how {
-        sheet::How::Refused(_) => Ended::Refused,
-        sheet::How::Fine => Ended::Said,
-        sheet::How::TooLong => Ended::Said,
-        sheet::How::Unreadable => Ended::Said,
+        settings_text::How::Refused(_) => Ended::Refused,
+        settings_text::How::Fine => Ended::Said,
+        settings_text::How::TooLong => Ended::Said,
+        settings_text::How::Unreadable => Ended::Said,
     }
 }
 
 // Whether a text is longer than is read.
-fn is_too_long(how: sheet::How) -> bool {
+fn is_too_long(how: settings_text::How) -> bool {
     match how {
-        sheet::How::TooLong => true,
-        sheet::How::Fine => false,
-        sheet::How::Unreadable => false,
-        sheet::How::Refused(_) => false,
+        settings_text::How::TooLong => true,
+        settings_text::How::Fine => false,
+        settings_text::How::Unreadable => false,
+        settings_text::How::Refused(_) => false,
     }
 }
 
 // Whether a text is fine.
-fn is_fine(how: sheet::How) -> bool {
+fn is_fine(how: settings_text::How) -> bool {
     match how {
-        sheet::How::Fine => true,
-        sheet::How::TooLong => false,
-        sheet::How::Unreadable => false,
-        sheet::How::Refused(_) => false,
+        settings_text::How::Fine => true,
+        settings_text::How::TooLong => false,
+        settings_text::How::Unreadable => false,
+        settings_text::How::Refused(_) => false,
     }
 }
 
@@ -130,7 +130,7 @@ fn from_file(program: &[u8], aside: bool, plain: Store, fd: i32) -> Asked {
         cards::cannot_read(program, FILE);
         return with(plain, How::Said);
     }
-    judged(program, aside, sheet::read(&text[..count]))
+    judged(program, aside, settings_text::read(&text[..count]))
 }
 
 // What the arguments ask for before the cards.

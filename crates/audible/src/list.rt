@@ -1,6 +1,6 @@
 // The telegrams, one after the other.
 use crate::out;
-use unheard::Sound;
+use audibility::Sound;
 
 // What is listed so far: the place after the lines that stand in the buffer, and how many there are. There are 5,198 telegrams.
 pub struct Listed {
@@ -12,7 +12,7 @@ pub struct Listed {
 fn add(x: u8, y: u16, z: u8, s: u8, t: u8, buf: &mut [u8], listed: Listed) -> Listed {
     let at = listed.at;
     let count = listed.count;
-    let Sound::Broken = unheard::sound_of(x, y, z, s, t) else {
+    let Sound::Broken = audibility::sound_of(x, y, z, s, t) else {
         return Listed { at, count };
     };
     if count >= 5198 {

@@ -1,10 +1,10 @@
 // What can never be heard with a sync pair: the figures of every broken telegram, a line each, then the numbers, then how many there are.
-// Promises: it is safe and it ends; what is broken is said by unheard::sound_of, and the lines are those of unheard.
+// Promises: it is safe and it ends; what is broken is said by audibility::sound_of, and the lines are those of unheard.
 // Specification: none of its own; what cannot be said of a program's writes stands in docs/EXCEPTIONS.md.
 mod list;
 mod out;
 
-use arguments::Byte;
+use figures::Byte;
 use telegram::Pair;
 
 // Argument k, a sync word of this name; where it is none that is said.

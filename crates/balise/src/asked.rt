@@ -1,7 +1,7 @@
 // What the arguments ask for.
 ghost use Prim.Native.Nat.{_≤_};
-use arguments::Byte;
-use arguments::Figure;
+use figures::Byte;
+use figures::Figure;
 
 // A balise: its figures, its sync words, the number of telegrams, and the bytes of quiet line around them.
 pub struct Call {

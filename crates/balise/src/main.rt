@@ -1,5 +1,5 @@
 // A test balise: its packed bits to standard output, between so many bytes of ones, the quiet line.
-// Promises: it is safe and it ends; the bytes are writer::write's; a figure that is too large is refused as the figure it is.
+// Promises: it is safe and it ends; the bytes are balise_writer::write's; a figure that is too large is refused as the figure it is.
 // Specification: none of its own; what cannot be said of a program's reads and writes stands in docs/EXCEPTIONS.md.
 ghost use mathlib.Core.Path.{_≡_};
 ghost use lib.ListN.{length};
@@ -8,8 +8,8 @@ mod asked;
 
 use asked::Asked;
 use asked::Call;
+use balise_writer::Written;
 use libc::STDOUT_FILENO;
-use writer::Written;
 
 // 65,535 bytes of ones.
 fn ones() -> [u8; 65535]
@@ -48,7 +48,7 @@ fn send(bytes: &[u8], count: usize, idle: usize) {
 // The balise that is asked for, or why it is refused.
 fn answer(call: Call) {
     let mut out = [0u8; 4001];
-    let written = writer::write(call.x, call.y, call.z, call.s, call.t, call.n, &mut out);
+    let written = balise_writer::write(call.x, call.y, call.z, call.s, call.t, call.n, &mut out);
     match written {
         Written::Bytes(count) => send(&out, count, call.idle),
         Written::TooLarge => console::refuse(b"balise", 2),

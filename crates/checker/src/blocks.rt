@@ -4,11 +4,11 @@ ghost use lib.ListN.{length};
 use cards::How;
 use console::Ended;
 use libc::STDOUT_FILENO;
-use listing::Done;
-use listing::Put;
 use ride::Line;
 use ride::Lines;
 use ride::Ride;
+use ride_text::Done;
+use ride_text::Put;
 use settings::Store;
 
 // Room for the lines of a block: 128 bytes for each of its records.
@@ -37,7 +37,7 @@ fn write(out: &[u8], count: usize) -> bool {
 // Writes a line.
 fn write_line(line: Line) -> bool {
     let mut out = [0u8; 64];
-    let Put::Next(n) = listing::put_line(line, &mut out, 0) else {
+    let Put::Next(n) = ride_text::put_line(line, &mut out, 0) else {
         return false;
     };
     write(&out, n)
@@ -53,7 +53,7 @@ pub fn refuse_trace() {
 // Lists the records and writes their lines. Where out has 128 bytes for each of them, one call of `list` takes them all.
 fn write_records(from: Stand, store: Store, records: &[u8], out: &mut [u8]) -> Stand {
     let ride = from.ride;
-    let answer = listing::list(ride, store, from.number, records, out);
+    let answer = ride_text::list(ride, store, from.number, records, out);
     let done = answer.done;
     let after = answer.ride;
     let number = answer.number;

@@ -1,6 +1,6 @@
 // The words of both codes as a list to pin to the wall: in each line its first figure, then eight words in hexadecimal.
 // Promises: it is safe and it ends; it reads nothing, so the file stdout beside it is all that it can write, and is the printed list.
-// Specification: specs/Hex.antt (the digits of a word); the words are those of words::write_short and printed::list.
+// Specification: specs/Hex.antt (the digits of a word); the words are those of words::write_short and words_list::list.
 mod hex;
 mod lines;
 
@@ -39,7 +39,7 @@ fn short_code() -> [u16; 16] {
 // Both lists, with an empty line between them, as far as they can be written.
 fn write_lists() -> bool {
     let short = short_code();
-    let long = printed::list();
+    let long = words_list::list();
     if !lines::put(&short, 2) {
         return false;
     }

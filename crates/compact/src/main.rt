@@ -1,6 +1,6 @@
 // The compacted trace of the cards that are named, as one ride, to standard output; on standard error how many records it had and how many are kept.
 // Promises: it is safe and it ends; what is kept is compaction::compact_block's, block by block and card by card.
-// Specification: specs/Counting.antt for its counts; what the blocks come to is crates/smaller/specs/Blocks.antt, what cannot be said of a program's reads
+// Specification: specs/Counting.antt for its counts; what the blocks come to is crates/compaction_laws/specs/Blocks.antt, what cannot be said of a program's reads
 // and writes stands in docs/EXCEPTIONS.md.
 mod blocks;
 mod counts;

@@ -4,14 +4,14 @@
 // 2. `usage`, `cannot_write`, `wrong` (an argument), `refuse`, `to_terminal`: what programs have to say alike, and tell.
 // 3. `write`: the first bytes of a buffer to either stream; `put`: to standard output, and a failure is said and told; `refuse_here`: a refusal there.
 // 4. `number`, `word`: an argument as a figure or as a word of two hex digits.
-// Promises: all is safe and ends. The words of a refusal are `refusals`', figures `arguments`'. What is read or written stands outside contracts: docs/EXCEPTIONS.md.
-mod figures;
+// Promises: all is safe and ends. The words of a refusal are `refusals`', figures `figures`'. What is read or written stands outside contracts: docs/EXCEPTIONS.md.
+mod arguments;
 mod lines;
 mod saying;
 mod status;
 
-pub use figures::number;
-pub use figures::word;
+pub use arguments::number;
+pub use arguments::word;
 pub use lines::put;
 pub use lines::refuse_here;
 pub use lines::write;

@@ -28,13 +28,13 @@ use lib.ListN.{take}
 use Rattle.telegram.specs.Stretch.{stretchOf}
 use Rattle.telegram.specs.Place.{find}
 use Rattle.telegram.specs.Survey.{survey}
-use Rattle.writer.specs.Write.{Writing, write}
+use Rattle.balise_writer.specs.Write.{Writing, write}
 use Rattle.contact.specs.Contacts.{begin, nextContact}
 use Rattle.contact.specs.Judge.{judge}
 use Rattle.ride.specs.Step.{Step}
 use Rattle.ride.specs.At.{Treatment}
 use Rattle.ride.specs.Over.{Run, run}
-use Rattle.listing.specs.List.{Listing, list}
+use Rattle.ride_text.specs.List.{Listing, list}
 use Rattle.compaction.specs.Compact.{Compaction, compact, Settling, compactBlock}
 use Rattle.demands.specs.Demand1.{Demand1}
 use Rattle.demands.proofs.Demand1.Refusals.{reading, writing, pairing, lying, wording, finding, surveying}

@@ -7,15 +7,15 @@ pub mod Clean
 pub mod Noise
 pub mod Needed
 use Rattle.words.specs.Says.{saysShortRead, saysLongRead}
-use Rattle.line.specs.Line.{OneBalise, Proper}
+use Rattle.balise_line.specs.Line.{OneBalise, Proper}
 use Rattle.demands.specs.Contracts.{ReadShort, ReadLong}
 use Rattle.demands.specs.Demand3.{OnlyTheSent, Demand3}
 use Rattle.words.proofs.Widths.{short, long}
 use Rattle.demands.proofs.Demand3.Noise.{noise-law}
-use Rattle.line.proofs.Sent.{AllSent}
-use Rattle.line.proofs.TooFew.{few-flips-few}
-use Rattle.line.proofs.Stretch.{all-sent}
-use Rattle.line.proofs.Unflipped.{unflipped-among}
+use Rattle.balise_line.proofs.Sent.{AllSent}
+use Rattle.balise_line.proofs.TooFew.{few-flips-few}
+use Rattle.balise_line.proofs.Stretch.{all-sent}
+use Rattle.balise_line.proofs.Unflipped.{unflipped-among}
 use Rattle.demands.proofs.Demand3.Handed.{asking-ends, every-sent, all-places-sent, unflipped-comes}
 use Rattle.demands.proofs.Demand3.Together.{survey-sent}
 use Rattle.demands.proofs.Demand3.JudgedAlike.{judge-sent}

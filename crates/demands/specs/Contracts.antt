@@ -18,7 +18,7 @@ use Rattle.telegram.specs.declared.Reach.{Reach}
 use Rattle.telegram.specs.declared.TelegramRead.{TelegramRead}
 use Rattle.telegram.specs.declared.Found.{Found}
 use Rattle.telegram.specs.declared.Surveyed.{Surveyed}
-use Rattle.writer.specs.declared.Written.{Written}
+use Rattle.balise_writer.specs.declared.Written.{Written}
 use Rattle.contact.specs.declared.Search.{Search}
 use Rattle.contact.specs.declared.Begun.{Begun}
 use Rattle.contact.specs.declared.Next.{Next}
@@ -41,8 +41,8 @@ use Rattle.telegram.proofs.find.Kinds as find-kinds
 use Rattle.telegram.proofs.find.Reads as find-reads
 use Rattle.telegram.proofs.survey.Kinds as survey-kinds
 use Rattle.telegram.proofs.survey.Reads as survey-reads
-use Rattle.writer.proofs.write.Kinds as write-kinds
-use Rattle.writer.proofs.write.Reads as write-reads
+use Rattle.balise_writer.proofs.write.Kinds as write-kinds
+use Rattle.balise_writer.proofs.write.Reads as write-reads
 use Rattle.contact.proofs.begin.Kinds as begin-kinds
 use Rattle.contact.proofs.begin.Reads as begin-reads
 use Rattle.contact.proofs.next_contact.Kinds as next-kinds

@@ -5,8 +5,8 @@
 -- lists specs/Lists.antt and, for a store, Stores.antt; what the contracts allow is specs/Contracts.antt. That every call ends is the kit's own check of each
 -- function, and no theorem here. Of the crates whose functions have one, those without a list give no number: `fresh`, `speed` and `end` always answer; `put_line`
 -- says that a line has no room, for which document 01 has no number; `settings::allowed` says whether row 19's condition does not hold; what M-111 added
--- without a number is named in specs/Stores.antt; but `writer::spell` gives the first two of `write`'s. Where
--- the other crates say when they refuse, the face for C among them (crates/face), is in docs/DEMANDS.md.
+-- without a number is named in specs/Stores.antt; but `balise_writer::spell` gives the first two of `write`'s. Where
+-- the other crates say when they refuse, the face for C among them (crates/abi_laws), is in docs/DEMANDS.md.
 -- Assumes nothing.
 use Prim.Native.Nat.{ℕ, _+_, _*_}
 use mathlib.Core.List.{List, [], _∷_}
@@ -27,8 +27,8 @@ use Rattle.telegram.specs.declared.Reach.{Reach}
 use Rattle.telegram.specs.declared.TelegramRead.{TelegramRead}
 use Rattle.telegram.specs.declared.Found.{Found}
 use Rattle.telegram.specs.declared.Surveyed.{Surveyed}
-use Rattle.writer.specs.Says.{saysAnswer}
-use Rattle.writer.specs.declared.Written.{Written}
+use Rattle.balise_writer.specs.Says.{saysAnswer}
+use Rattle.balise_writer.specs.declared.Written.{Written}
 use Rattle.contact.specs.Contacts.{fromStart}
 use Rattle.contact.specs.Says.{saysBegun, saysNext, saysJudged}
 use Rattle.contact.specs.declared.Search.{Search}
@@ -36,9 +36,9 @@ use Rattle.contact.specs.declared.Begun.{Begun}
 use Rattle.contact.specs.declared.Next.{Next}
 use Rattle.contact.specs.declared.Judged.{Judged}
 use Rattle.group.specs.Says.{saysMeasured, saysGroupJudged as saysGroup}
-use Rattle.walk.specs.declared.Placed.{Placed}
-use Rattle.walk.specs.declared.Fitted.{Fitted}
-use Rattle.walk.specs.Fitting.{saysFitted}
+use Rattle.group_rows.specs.declared.Placed.{Placed}
+use Rattle.group_rows.specs.declared.Fitted.{Fitted}
+use Rattle.group_rows.specs.Fitting.{saysFitted}
 use Rattle.group.specs.declared.Group.{Group}
 use Rattle.group.specs.declared.Measured.{Measured}
 use Rattle.group.specs.declared.GroupJudged.{GroupJudged}
@@ -55,8 +55,8 @@ use Rattle.compaction.specs.Says.{saysSize}
 use Rattle.compaction.specs.declared.Waiting.{Waiting}
 use Rattle.compaction.specs.declared.Compacted.{Compacted}
 use Rattle.compaction.specs.declared.Block.{Block}
-use Rattle.listing.specs.Says.{saysDone}
-use Rattle.listing.specs.declared.Listed.{Listed}
+use Rattle.ride_text.specs.Says.{saysDone}
+use Rattle.ride_text.specs.declared.Listed.{Listed}
 use Rattle.demands.specs.Rules.{rowOf, row, Decided, Given, Is}
 use Rattle.demands.specs.Table.{notCode, above, notSeven, beyond, noRow, noDistance, badGap}
 use Rattle.demands.specs.Contracts.{ReadShort, WriteShort, ReadLong, WriteLong, GoodPair, InsideBuffer, ReadTelegram, Find, Survey, Write, Begin, NextContact, JudgeContact, FitRow, Distance, JudgeGroup, CheckRecord, StepOf, TreatAt, RunOver, ListInto}

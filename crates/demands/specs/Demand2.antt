@@ -2,7 +2,7 @@
 -- ATC-2 papers. Writing a figure as a code word and reading it back gives the figure; reading an accepted word and writing it gives the word."
 -- That each contract is an equation with document 01's definitions is in each crate; here every answer that the contracts allow
 -- is compared with document 01's own sentences and numbers, and the contracts with each other. What the contracts allow:
--- specs/Contracts.antt. The rows, to be compared with document 01: crates/walk/specs/Rows.antt, and what a row is: Row.antt there; cases of
+-- specs/Contracts.antt. The rows, to be compared with document 01: crates/group_rows/specs/Rows.antt, and what a row is: Row.antt there; cases of
 -- all of them: specs/RowCases.antt. What accepted groups say: specs/Said.antt. The ride, its marks and missed signals: specs/Ride.antt. The table of proved cases:
 -- specs/Cases.antt. The ride in full, and what the program writes: specs/Output.antt. That all of this holds: proofs/Demand2.antt.
 -- It does not say that the rows, tables and speeds of document 01 are those of the railway's own papers: source 000's tables are
@@ -31,9 +31,9 @@ use Rattle.telegram.specs.declared.Telegram.{Telegram}
 use Rattle.telegram.specs.declared.TelegramRead.{TelegramRead}
 use Rattle.group.specs.Distance.{columns, Column, column, plus, inColumn}
 use Rattle.group.specs.Speed.{speeds}
-use Rattle.walk.specs.OneWay.{OneWay}
-use Rattle.walk.specs.declared.Direction.{Direction}
-use Rattle.walk.specs.declared.Kind.{Kind}
+use Rattle.group_rows.specs.OneWay.{OneWay}
+use Rattle.group_rows.specs.declared.Direction.{Direction}
+use Rattle.group_rows.specs.declared.Kind.{Kind}
 use Rattle.group.specs.Judge.{yOf, B, judgeRead}
 use Rattle.group.specs.Says.{saysMeasured, saysGroupJudged}
 use Rattle.group.specs.declared.Content.{Content}

@@ -4,7 +4,7 @@
 -- telegram with the set sync words, if no sync bit flips and no telegram, alone or together with the next, cut ones
 -- included, has more than three flipped data bits, every telegram handed out is the one sent, at its true place, and every
 -- unflipped telegram lying with both its sync words in the stretch is handed out."
--- What is sent, what flips and the hypothesis on the flips: specs/Line.antt of `line`. What the contracts allow:
+-- What is sent, what flips and the hypothesis on the flips: specs/Line.antt of `balise_line`. What the contracts allow:
 -- specs/Contracts.antt; calls of `find` one after the other: specs/Calls.antt.
 -- That all of this holds: proofs/Demand3.antt.
 -- Assumes nothing.
@@ -26,7 +26,7 @@ use Rattle.telegram.specs.declared.Found.{Found}
 use Rattle.telegram.specs.declared.Surveyed.{Surveyed}
 use Rattle.contact.specs.declared.Judged.{Judged}
 use Rattle.demands.specs.Table.{notCode}
-use Rattle.line.specs.Line.{OneBalise, Proper, FewFlips, Clean, sentAt, flipsAt, placesOf}
+use Rattle.balise_line.specs.Line.{OneBalise, Proper, FewFlips, Clean, sentAt, flipsAt, placesOf}
 use Rattle.demands.specs.Contracts.{ReadShort, ReadLong, Find, Survey, JudgeContact}
 use Rattle.demands.specs.Calls.{HandedOut, Comes}
 

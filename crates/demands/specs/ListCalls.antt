@@ -7,8 +7,8 @@ use mathlib.Core.List.{List, [], _∷_, _++_}
 use lib.ListN.{take, drop}
 use Rattle.settings.specs.declared.Store.{Store}
 use Rattle.ride.specs.declared.Ride.{Ride}
-use Rattle.listing.specs.declared.Done.{Done}
-use Rattle.listing.specs.declared.Listed.{Listed}
+use Rattle.ride_text.specs.declared.Done.{Done}
+use Rattle.ride_text.specs.declared.Listed.{Listed}
 use Rattle.demands.specs.Table.{badLength}
 use Rattle.demands.specs.Contracts.{ListInto}
 

@@ -8,8 +8,8 @@ use mathlib.Core.List.{List, [], _∷_, _++_}
 use lib.ListN.{length, take, drop}
 use Rattle.words.specs.Answer.{pick}
 use Rattle.words.specs.Limits.{largest64}
-use Rattle.walk.specs.declared.Direction.{Direction}
-use Rattle.walk.specs.declared.Kind.{Kind}
+use Rattle.group_rows.specs.declared.Direction.{Direction}
+use Rattle.group_rows.specs.declared.Kind.{Kind}
 use Rattle.group.specs.declared.Number.{Number}
 use Rattle.group.specs.declared.Told.{Told}
 use Rattle.settings.specs.declared.Begun.{Begun}
@@ -25,12 +25,12 @@ use Rattle.ride.specs.declared.Linking.{Linking}
 use Rattle.ride.specs.declared.Mark.{Mark}
 use Rattle.ride.specs.declared.Ran.{Ran}
 use Rattle.ride.specs.declared.Ride.{Ride}
-use Rattle.listing.specs.Text.{codes, text}
-use Rattle.listing.specs.Put.{placed}
-use Rattle.listing.specs.List.{textOf}
-use Rattle.listing.specs.declared.Done.{Done}
-use Rattle.listing.specs.declared.Listed.{Listed}
-use Rattle.listing.specs.declared.Put.{Put}
+use Rattle.ride_text.specs.Text.{codes, text}
+use Rattle.ride_text.specs.Put.{placed}
+use Rattle.ride_text.specs.List.{textOf}
+use Rattle.ride_text.specs.declared.Done.{Done}
+use Rattle.ride_text.specs.declared.Listed.{Listed}
+use Rattle.ride_text.specs.declared.Put.{Put}
 use Rattle.demands.specs.Table.{badLength, notSeven}
 use Rattle.demands.specs.Contracts.{Fresh, EndOf, RunOver, PutLine, ListInto}
 use Rattle.demands.specs.Stores.{BeginStore, Good}

@@ -13,8 +13,8 @@ use Rattle.ride.specs.Over.{through}
 use Rattle.ride.specs.Says.{saysRan}
 use Rattle.ride.specs.declared.Ran.{Ran}
 use Rattle.ride.specs.declared.Ride.{Ride}
-use Rattle.listing.specs.Says.{saysDone}
-use Rattle.listing.specs.declared.Listed.{Listed}
+use Rattle.ride_text.specs.Says.{saysDone}
+use Rattle.ride_text.specs.declared.Listed.{Listed}
 use Rattle.compaction.specs.Says.{saysSize}
 use Rattle.compaction.specs.declared.Compacted.{Compacted}
 use Rattle.viewer.specs.Viewing.{done}

@@ -7,9 +7,9 @@ use mathlib.Core.Bool.{Bool, true, false}
 use mathlib.Core.List.{List, [], _∷_, _++_}
 use lib.ListN.{length}
 use Rattle.group.specs.declared.Content.{Content}
-use Rattle.walk.specs.declared.Direction.{Direction}
+use Rattle.group_rows.specs.declared.Direction.{Direction}
 use Rattle.group.specs.declared.GroupJudged.{GroupJudged}
-use Rattle.walk.specs.declared.Kind.{Kind}
+use Rattle.group_rows.specs.declared.Kind.{Kind}
 use Rattle.group.specs.declared.Message.{Message}
 use Rattle.group.specs.declared.Number.{Number}
 use Rattle.group.specs.declared.Told.{Told}

@@ -1,4 +1,4 @@
--- What the contracts of the public functions of `walk`, `group`, `ride` and `listing` allow, as Contracts.antt says it. In `put_line` and `list` the
+-- What the contracts of the public functions of `group_rows`, `group`, `ride` and `ride_text` allow, as Contracts.antt says it. In `put_line` and `list` the
 -- bytes of the second and of the fifth parameter at the end are taken out of e.
 -- Assumes nothing.
 use Prim.Native.Nat.{ℕ}
@@ -8,8 +8,8 @@ use contract.Lifetimes.{Lfts}
 use denote.Ref.{RefT, now}
 use borrow.Fn.Kinds.{endedOf}
 use denote.Triple.Clauses.{AtExit}
-use Rattle.walk.specs.declared.Placed.{Placed}
-use Rattle.walk.specs.declared.Fitted.{Fitted}
+use Rattle.group_rows.specs.declared.Placed.{Placed}
+use Rattle.group_rows.specs.declared.Fitted.{Fitted}
 use Rattle.group.specs.declared.Group.{Group}
 use Rattle.group.specs.declared.Measured.{Measured}
 use Rattle.group.specs.declared.Told.{Told}
@@ -22,14 +22,14 @@ use Rattle.ride.specs.declared.trace.Treated.{Treated}
 use Rattle.ride.specs.declared.Ended.{Ended}
 use Rattle.ride.specs.declared.Ran.{Ran}
 use Rattle.ride.specs.declared.Line.{Line}
-use Rattle.listing.specs.declared.Put.{Put}
-use Rattle.listing.specs.declared.Listed.{Listed}
+use Rattle.ride_text.specs.declared.Put.{Put}
+use Rattle.ride_text.specs.declared.Listed.{Listed}
 use Rattle.group.proofs.distance.Kinds as distance-kinds
 use Rattle.group.proofs.distance.Reads as distance-reads
 use Rattle.group.proofs.speed.Kinds as speed-kinds
 use Rattle.group.proofs.speed.Reads as speed-reads
-use Rattle.walk.proofs.fit.Kinds as fit-kinds
-use Rattle.walk.proofs.fit.Reads as fit-reads
+use Rattle.group_rows.proofs.fit.Kinds as fit-kinds
+use Rattle.group_rows.proofs.fit.Reads as fit-reads
 use Rattle.group.proofs.judge.Kinds as judge-group-kinds
 use Rattle.group.proofs.judge.Reads as judge-group-reads
 use Rattle.ride.proofs.fresh.Kinds as fresh-kinds
@@ -44,12 +44,12 @@ use Rattle.ride.proofs.end.Kinds as end-kinds
 use Rattle.ride.proofs.end.Reads as end-reads
 use Rattle.ride.proofs.run.Kinds as run-kinds
 use Rattle.ride.proofs.run.Reads as run-reads
-use Rattle.listing.proofs.put_line.Kinds as put-line-kinds
-use Rattle.listing.proofs.put_line.Reads as put-line-reads
-use Rattle.listing.proofs.list.Kinds as list-kinds
-use Rattle.listing.proofs.list.Reads as list-reads
+use Rattle.ride_text.proofs.put_line.Kinds as put-line-kinds
+use Rattle.ride_text.proofs.put_line.Reads as put-line-reads
+use Rattle.ride_text.proofs.list.Kinds as list-kinds
+use Rattle.ride_text.proofs.list.Reads as list-reads
 
--- The contract of `walk::fit` allows the answer r for the first n of these five balises.
+-- The contract of `group_rows::fit` allows the answer r for the first n of these five balises.
 abbrev pub FitRow : List Placed → ℕ → Fitted → Type 0
 FitRow p n r = (e : AtExit (endedOf 0 fit-kinds.ps fit-kinds.r) tt) × fit-reads.Post tt (p, (n, tt)) r e
 

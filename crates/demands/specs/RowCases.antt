@@ -10,12 +10,12 @@ use Rattle.words.specs.Answer.{Outcome, gives, refuses}
 use Rattle.group.specs.Says.{saysGroupJudged}
 use Rattle.group.specs.declared.Balise.{Balise}
 use Rattle.group.specs.declared.Content.{Content}
-use Rattle.walk.specs.declared.Direction.{Direction}
+use Rattle.group_rows.specs.declared.Direction.{Direction}
 use Rattle.group.specs.declared.Group.{Group}
 use Rattle.group.specs.declared.Heard.{Heard}
 use Rattle.group.specs.declared.GroupJudged.{GroupJudged}
 use Rattle.group.specs.declared.Message.{Message}
-use Rattle.walk.specs.declared.Kind.{Kind}
+use Rattle.group_rows.specs.declared.Kind.{Kind}
 use Rattle.group.specs.declared.Number.{Number}
 use Rattle.group.specs.declared.Told.{Told}
 use Rattle.demands.specs.Cases.{M8}

@@ -5,16 +5,16 @@ use mathlib.Core.Path.{_≡_}
 use mathlib.Core.Logic.{_⊎_}
 use mathlib.Core.Bool.{Bool, true}
 use mathlib.Core.List.{List, [], _∷_, List·Memᴰ}
-use Rattle.walk.specs.Row.{Found as Sought, none, found, isOneOf, Y as YOf, Z as ZOf}
+use Rattle.group_rows.specs.Row.{Found as Sought, none, found, isOneOf, Y as YOf, Z as ZOf}
 use Rattle.group.specs.Judge.{yOf, zOf, B, C, P}
 use Rattle.group.specs.declared.Content.{Content}
-use Rattle.walk.specs.declared.Direction.{Direction}
-use Rattle.walk.specs.declared.Kind.{Kind}
+use Rattle.group_rows.specs.declared.Direction.{Direction}
+use Rattle.group_rows.specs.declared.Kind.{Kind}
 use Rattle.group.specs.declared.Measured.{Measured}
 use Rattle.group.specs.declared.Message.{Message}
-use Rattle.walk.specs.declared.Placed.{Placed}
+use Rattle.group_rows.specs.declared.Placed.{Placed}
 use Rattle.group.specs.declared.Number.{Number}
-use Rattle.walk.specs.declared.Part.{Part}
+use Rattle.group_rows.specs.declared.Part.{Part}
 use Rattle.group.specs.declared.Told.{Told}
 use Rattle.demands.specs.Contracts.{Distance, Speed}
 use Rattle.demands.specs.Ride.{IsSignal}

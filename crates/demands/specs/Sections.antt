@@ -23,8 +23,8 @@ use Rattle.ride.specs.declared.Line.{Line}
 use Rattle.ride.specs.declared.Ran.{Ran}
 use Rattle.ride.specs.declared.Ride.{Ride}
 use Rattle.ride.specs.declared.Stepped.{Stepped}
-use Rattle.listing.specs.Text.{text}
-use Rattle.listing.specs.List.{textOf}
+use Rattle.ride_text.specs.Text.{text}
+use Rattle.ride_text.specs.List.{textOf}
 use Rattle.demands.specs.Table.{badLength}
 use Rattle.demands.specs.Contracts.{Fresh, StepOf, EndOf, RunOver, ListInto}
 use Rattle.demands.specs.Stores.{Good}

@@ -24,7 +24,7 @@ use Rattle.settings.specs.Says.{saysVerdict, saysAsked}
 use Rattle.contact.specs.Says.{saysJudgedUnder}
 use Rattle.contact.specs.declared.JudgedUnder.{JudgedUnder}
 use Rattle.ride.specs.declared.Ride.{Ride}
-use Rattle.listing.specs.declared.Listed.{Listed}
+use Rattle.ride_text.specs.declared.Listed.{Listed}
 use Rattle.settings.proofs.begin.Kinds as begin-kinds
 use Rattle.settings.proofs.begin.Reads as begin-reads
 use Rattle.settings.proofs.add.Kinds as add-kinds

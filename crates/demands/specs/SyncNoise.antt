@@ -3,7 +3,7 @@
 -- two flips, sync words included, every telegram handed out is the one sent, at its true place, and every one whose forty bits arrived unflipped is
 -- handed out. For other pairs nothing new is claimed, since a flip or two at the right spots can make a false place; demand 3 as it stands is
 -- kept for them."
--- What is sent and what flips, the equal bit and the forty bits in a row: line/specs/Line.antt and line/specs/Forty.antt. What follows is demand 3's
+-- What is sent and what flips, the equal bit and the forty bits in a row: balise_line/specs/Line.antt and balise_line/specs/Forty.antt. What follows is demand 3's
 -- own conclusion: specs/Demand3.antt.
 -- That all of this holds: proofs/Beside/SyncNoise.antt.
 -- Assumes nothing.
@@ -15,8 +15,8 @@ use lib.ListN.{getD}
 use Rattle.words.specs.Plain.{among}
 use Rattle.telegram.specs.declared.Telegram.{Telegram}
 use Rattle.telegram.specs.declared.Found.{Found}
-use Rattle.line.specs.Line.{OneBalise, Proper, sentAt, placesOf}
-use Rattle.line.specs.Forty.{EqualBit, AtMostInForty}
+use Rattle.balise_line.specs.Line.{OneBalise, Proper, sentAt, placesOf}
+use Rattle.balise_line.specs.Forty.{EqualBit, AtMostInForty}
 use Rattle.demands.specs.Contracts.{Find}
 use Rattle.demands.specs.Calls.{HandedOut}
 use Rattle.demands.specs.Demand3.{OnlyTheSent}

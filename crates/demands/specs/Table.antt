@@ -17,14 +17,14 @@ use Rattle.contact.specs.History.{after, zeroes}
 use Rattle.contact.specs.Judge.{allAlike, onesAtEnd, allZero}
 use Rattle.contact.specs.declared.Search.{Search}
 use Rattle.group.specs.Balise.{balises, readAll}
-use Rattle.walk.specs.Row.{Found, none, found, Y, Z, Fit, misfit, fit}
-use Rattle.walk.specs.Rows.{present, opposite, fitIn}
+use Rattle.group_rows.specs.Row.{Found, none, found, Y, Z, Fit, misfit, fit}
+use Rattle.group_rows.specs.Rows.{present, opposite, fitIn}
 use Rattle.group.specs.Judge.{yOf, zOf, B, C}
 use Rattle.group.specs.declared.Balise.{Balise}
 use Rattle.group.specs.declared.Group.{Group}
 use Rattle.group.specs.declared.Heard.{Heard}
-use Rattle.walk.specs.declared.Kind.{Kind}
-use Rattle.walk.specs.declared.Placed.{Placed}
+use Rattle.group_rows.specs.declared.Kind.{Kind}
+use Rattle.group_rows.specs.declared.Placed.{Placed}
 pub use Rattle.demands.specs.RecordTable.{someNotZero}
 unfoldable pub use Rattle.demands.specs.RecordTable.{badLength, badRecord, wentBack, tooFar, badGap}
 

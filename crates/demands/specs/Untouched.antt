@@ -10,11 +10,11 @@ use Rattle.words.specs.Plain.{figure}
 use Rattle.words.specs.Says.{saysShortRead, saysShortWritten, saysLongRead, saysLongWritten}
 use Rattle.telegram.specs.Says.{saysPair, saysReach, saysTelegramRead, saysFound, saysSurveyed}
 use Rattle.settings.specs.Says.{saysVerdict, saysAsked}
-use Rattle.writer.specs.Says.{saysAnswer}
-use Rattle.writer.specs.declared.Written.{Written}
+use Rattle.balise_writer.specs.Says.{saysAnswer}
+use Rattle.balise_writer.specs.declared.Written.{Written}
 use Rattle.contact.specs.Says.{saysBegun, saysNext, saysJudged, saysJudgedUnder}
 use Rattle.group.specs.Says.{saysMeasured, saysGroupJudged as saysGroup}
-use Rattle.walk.specs.Fitting.{saysFitted}
+use Rattle.group_rows.specs.Fitting.{saysFitted}
 use Rattle.group.specs.declared.GroupJudged.{GroupJudged}
 use Rattle.ride.specs.State.{noGroup, isOpen, nothingKnown}
 use Rattle.ride.specs.Joining.{takeUp}
@@ -32,9 +32,9 @@ use Rattle.compaction.specs.declared.Waiting.{Waiting}
 use Rattle.compaction.specs.declared.Compacted.{Compacted}
 use Rattle.compaction.specs.declared.Block.{Block}
 use Rattle.viewer.specs.Says.{saysBegun as saysOpened, saysHow}
-use Rattle.listing.specs.Says.{saysDone}
-use Rattle.listing.specs.declared.Put.{Put}
-use Rattle.listing.specs.declared.Listed.{Listed}
+use Rattle.ride_text.specs.Says.{saysDone}
+use Rattle.ride_text.specs.declared.Put.{Put}
+use Rattle.ride_text.specs.declared.Listed.{Listed}
 use Rattle.demands.specs.Contracts.{Write, JudgeGroup, StepOf, TreatAt, EndOf, RunOver, PutLine, ListInto}
 use Rattle.demands.specs.Compacting.{CompactIn, BlockIn}
 use Rattle.demands.specs.Steps.{OneStep, LeavesBehind}
@@ -48,9 +48,9 @@ abbrev pub Bare : {R A B : Type 0} → (A → Answer R B) → Type 0
 Bare {R} {A} says = (refusal : R) (r r′ : A) → says r ≡ refuses refusal → says r′ ≡ refuses refusal → r ≡ r′
 
 -- "A refusal hands out no figure, and lent memory and the running state stay untouched unless the table says otherwise."
--- Of the functions with a list only those of `listing`, `explained`, `writer` and `compaction` are lent memory that they may write; a search is given by value,
--- and a refusal of `next_contact` gives none back. Those that put a text into a lent buffer (of `text`, `hearing`, `explainer`, `explained`, `sheet`, `reported`, `depot`,
--- `shown`, `unheard`) refuse with no number: what they leave without room is in their contracts. (The face for C: `left` of crates/abi/specs/Face.antt.)
+-- Of the functions with a list only those of `ride_text`, `explained`, `balise_writer` and `compaction` are lent memory that they may write; a search is given by value,
+-- and a refusal of `next_contact` gives none back. Those that put a text into a lent buffer (of `text`, `contact_text`, `group_reason`, `explained`, `settings_text`, `acceptance_text`, `depot`,
+-- `viewer_text`, `audibility`) refuse with no number: what they leave without room is in their contracts. (The face for C: `left` of crates/abi/specs/Face.antt.)
 pub record Untouched : Type 0 where
   -- a refused step closes no group, and it and a refused run leave the ride as it was
   pub step : (ride : Ride) (gap : ℕ) (bytes : List ℕ) (r : Stepped) (n : ℕ) → StepOf ride gap bytes r

@@ -13,7 +13,7 @@ use Rattle.text.proofs.Placing.{placed-none}
 use Rattle.ride.specs.declared.Seen.{Seen}
 use Rattle.ride.specs.declared.Line.{Line}
 use Rattle.acceptance.specs.declared.Role.{Role}
-use Rattle.reported.specs.Lines.{groupLine}
+use Rattle.acceptance_text.specs.Lines.{groupLine}
 use Rattle.depot.specs.Taking.{partLine}
 
 -- Nothing put is nothing changed.

@@ -9,7 +9,7 @@ use Rattle.acceptance.specs.declared.Role.{Role}
 use Rattle.acceptance.specs.declared.Took.{Took}
 use Rattle.acceptance.specs.Taking.{takeLine}
 use Rattle.depot.specs.declared.Written.{Written}
-use Rattle.reported.specs.Lines.{groupLine}
+use Rattle.acceptance_text.specs.Lines.{groupLine}
 
 -- The text of a line by its part: a present group's line; nothing for what takes no part.
 abbrev pub partLine : Line → Role → List ℕ

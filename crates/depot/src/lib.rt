@@ -1,6 +1,6 @@
-// A depot's acceptance run as text: the ride's lines as they are taken; the report at the end and a refused plan as `reported` puts them.
+// A depot's acceptance run as text: the ride's lines as they are taken; the report at the end and a refused plan as `acceptance_text` puts them.
 // Promises: a line is written to the letter and whole, or not at all; bytes around it stay; a run goes on as `acceptance` says.
-// Specification: specs/Taking.antt (lines taken as text), specs/Record.antt (a record), specs/Troubles.antt (what went wrong, counted), `reported`'s specs/Lines.antt (the words); a text in a buffer is `text`'s specs/Put.antt.
+// Specification: specs/Taking.antt (lines taken as text), specs/Record.antt (a record), specs/Troubles.antt (what went wrong, counted), `acceptance_text`'s specs/Lines.antt (the words); a text in a buffer is `text`'s specs/Put.antt.
 ghost use mathlib.Core.Path.{_≡_};
 ghost use Rattle.text.specs.Put.{put, came};
 ghost use Rattle.ride.specs.Says.{saysLines};
@@ -11,14 +11,14 @@ mod troubles;
 
 use acceptance::Acceptance;
 use acceptance::Role;
+pub use acceptance_text::is_passed;
+pub use acceptance_text::put_entry;
+pub use acceptance_text::put_group;
+pub use acceptance_text::put_last;
+pub use acceptance_text::put_refused;
+pub use acceptance_text::put_sum;
 pub use records::Walked;
 pub use records::accept_at;
-pub use reported::is_passed;
-pub use reported::put_entry;
-pub use reported::put_group;
-pub use reported::put_last;
-pub use reported::put_refused;
-pub use reported::put_sum;
 use ride::Line;
 use ride::Lines;
 pub use troubles::Troubles;

@@ -3,10 +3,10 @@ ghost use mathlib.Core.Path.{_≡_};
 ghost use lib.ListN.{length};
 use cards::How;
 use console::Ended;
-use listing::Done;
-use listing::Put;
 use ride::Line;
 use ride::Ride;
+use ride_text::Done;
+use ride_text::Put;
 use settings::Store;
 
 // Room for the lines of a block: 320 bytes for each of its records.
@@ -26,7 +26,7 @@ pub struct Stand {
 // `trace refused 16`, alone.
 pub fn refuse_trace() {
     let mut out = [0u8; 64];
-    let Put::Next(n) = listing::put_line(Line::Trace(16), &mut out, 0) else {
+    let Put::Next(n) = ride_text::put_line(Line::Trace(16), &mut out, 0) else {
         return;
     };
     if console::put(b"explain", &out, n) {

@@ -8,10 +8,10 @@ use borrow.Fn.Kinds.{Dens, endedOf}
 use denote.Triple.Clauses.{AtExit}
 use denote.Ref.{now}
 use Rattle.text.specs.Put.{Put, came}
-use Rattle.listing.specs.declared.Listed.{Listed}
-use Rattle.listing.specs.List.{Listing}
-use Rattle.listing.specs.Says.{saysListed}
-use Rattle.listing.proofs.Determined.{listedOf, listed-back}
+use Rattle.ride_text.specs.declared.Listed.{Listed}
+use Rattle.ride_text.specs.List.{Listing}
+use Rattle.ride_text.specs.Says.{saysListed}
+use Rattle.ride_text.proofs.Determined.{listedOf, listed-back}
 use Rattle.explained.proofs.list.Kinds as list-kinds
 use Rattle.explained.proofs.list.Reads as list-reads
 use Rattle.explained.proofs.put_end.Kinds as put-end-kinds

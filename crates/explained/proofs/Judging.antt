@@ -13,7 +13,7 @@ use Rattle.settings.specs.Store.{judged}
 use Rattle.settings.specs.At.{gapAt}
 use Rattle.ride.specs.declared.Ride.{Ride}
 use Rattle.ride.specs.Over.{records}
-use Rattle.listing.specs.List.{unlisted}
+use Rattle.ride_text.specs.List.{unlisted}
 use Rattle.explained.specs.List.{listTaken, list}
 
 pub list-refused : (ride : Ride) (store : Store) (number : ℕ) (trace out : List ℕ) (n : ℕ) → judged store ≡ refuses n → unlisted ride number out n ≡ list ride store number trace out

@@ -18,15 +18,15 @@ use Rattle.ride.specs.declared.Lines.{Lines}
 use Rattle.ride.specs.declared.trace.Given.{Given}
 use Rattle.ride.specs.Over.{linesFor}
 use Rattle.ride.specs.Says.{saysWrong, saysLines, saysGiven}
-use Rattle.listing.specs.declared.Put.{Put}
-use Rattle.listing.specs.Put as listed
-use Rattle.listing.proofs.Longest.{longest}
-use Rattle.explainer.specs.declared.Bad.{Bad as Badly}
-use Rattle.explainer.specs.declared.Reason.{Reason}
-use Rattle.explainer.specs.Explain.{explain}
-use Rattle.explainer.specs.Says.{saysBad, saysReason}
-use Rattle.explainer.specs.Text.{reasonText}
-use Rattle.explainer.proofs.Pieces.{reason-length}
+use Rattle.ride_text.specs.declared.Put.{Put}
+use Rattle.ride_text.specs.Put as listed
+use Rattle.ride_text.proofs.Longest.{longest}
+use Rattle.group_reason.specs.declared.Bad.{Bad as Badly}
+use Rattle.group_reason.specs.declared.Reason.{Reason}
+use Rattle.group_reason.specs.Explain.{explain}
+use Rattle.group_reason.specs.Says.{saysBad, saysReason}
+use Rattle.group_reason.specs.Text.{reasonText}
+use Rattle.group_reason.proofs.Pieces.{reason-length}
 use Rattle.explained.specs.Text.{badAnswer, answer, whyText, faultText, lineText, linesText}
 
 -- The answer that says what an answer says is that answer.

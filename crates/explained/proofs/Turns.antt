@@ -16,8 +16,8 @@ use Rattle.ride.specs.declared.Ride.{Ride}
 use Rattle.ride.specs.Record.{odometerOf}
 use Rattle.ride.specs.Step.{Step, treat}
 use Rattle.ride.specs.Over.{firstRecords}
-use Rattle.listing.specs.List.{Listing}
-use Rattle.listing.proofs.Turns.{listing, leftOf, left-next}
+use Rattle.ride_text.specs.List.{Listing}
+use Rattle.ride_text.proofs.Turns.{listing, leftOf, left-next}
 use Rattle.explained.specs.Told.{stepText, Told, tellOver}
 use Rattle.explained.specs.List.{isTaken, taken, listOf}
 

@@ -15,7 +15,7 @@ use Rattle.ride.specs.declared.Ride.{Ride}
 use Rattle.ride.specs.Record.{odometerOf}
 use Rattle.ride.specs.Step.{Step, treat}
 use Rattle.ride.specs.Over.{records}
-use Rattle.listing.specs.List.{Listing, unlisted, judgedFirst}
+use Rattle.ride_text.specs.List.{Listing, unlisted, judgedFirst}
 use Rattle.explained.specs.Told.{stepText, Told, tellOver}
 
 -- Whether the record with this number is taken: its lines, at most two of at most 160 bytes, have room, and the next record's number is still

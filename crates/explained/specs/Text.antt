@@ -10,12 +10,12 @@ use Rattle.telegram.specs.Telegram.{badWord}
 use Rattle.text.specs.Text.{codes, decimal}
 use Rattle.group.specs.declared.Group.{Group}
 use Rattle.ride.specs.declared.Line.{Line}
-use Rattle.listing.specs.Text.{text}
-use Rattle.explainer.specs.declared.Bad.{Bad as Badly}
-use Rattle.explainer.specs.declared.Reason.{Reason}
-use Rattle.explainer.specs.Reason.{Bad, unreadable, word, balises, bad, opens, figure, Explained, noReason, because}
-use Rattle.explainer.specs.Explain.{explain}
-use Rattle.explainer.specs.Text.{reasonText}
+use Rattle.ride_text.specs.Text.{text}
+use Rattle.group_reason.specs.declared.Bad.{Bad as Badly}
+use Rattle.group_reason.specs.declared.Reason.{Reason}
+use Rattle.group_reason.specs.Reason.{Bad, unreadable, word, balises, bad, opens, figure, Explained, noReason, because}
+use Rattle.group_reason.specs.Explain.{explain}
+use Rattle.group_reason.specs.Text.{reasonText}
 
 -- The explainer's answer that says so: what is bad about a balise,
 abbrev pub badAnswer : Bad → Badly

@@ -1,22 +1,22 @@
 // The listing of a trace with reasons: the checker's lines, each fault line with its reason after a colon.
 // Promises: the lines and the state are those of the ride; a fault line's reason is the explainer's, of the group that closed; bytes around the text stay.
-// Specification: specs/Text.antt (the words), Told.antt (a ride told), List.antt (the listing; it answers as that of `listing`), Alike.antt (the checker's lines).
+// Specification: specs/Text.antt (the words), Told.antt (a ride told), List.antt (the listing; it answers as that of `ride_text`), Alike.antt (the checker's lines).
 ghost use mathlib.Core.Path.{_≡_};
 ghost use Rattle.text.specs.Put.{put, came};
-ghost use Rattle.listing.specs.Says.{saysListed};
+ghost use Rattle.ride_text.specs.Says.{saysListed};
 ghost use Rattle.explained.specs.Told.{endText};
 ghost use Rattle.explained.specs.List.{list};
 
 mod lines;
 mod records;
 
-use listing::Done;
-use listing::Listed;
 use ride::Ride;
+use ride_text::Done;
+use ride_text::Listed;
 use settings::Asked;
 use settings::Store;
 
-// The listing of `listing::list` with the reason after a colon on each fault line: the text of as many records as surely have room, 320 bytes each; or
+// The listing of `ride_text::list` with the reason after a colon on each fault line: the text of as many records as surely have room, 320 bytes each; or
 // the settings' own refusal, then 16, with nothing taken.
 pub fn list(ride: Ride, store: Store, number: u64, trace: &[u8], out: &mut [u8]) -> Listed
     ensures { λ r. ⌜ saysListed r (now (out .exit)) ≡ list ride store number (now (trace .entry)) (now (out .entry)) ⌝ }

@@ -5,16 +5,16 @@ ghost use lib.ListN.{length};
 ghost use Rattle.text.specs.Put.{put, came};
 ghost use Rattle.ride.specs.Over.{linesFor};
 ghost use Rattle.ride.specs.Says.{saysWrong, saysLines, saysGiven};
-ghost use Rattle.listing.specs.Text.{text};
-ghost use Rattle.explainer.specs.Text.{reasonText};
+ghost use Rattle.ride_text.specs.Text.{text};
+ghost use Rattle.group_reason.specs.Text.{reasonText};
 ghost use Rattle.explained.specs.Text.{faultText, lineText, linesText};
-use explainer::Reason;
 use group::Group;
-use listing::Put;
+use group_reason::Reason;
 use ride::Given;
 use ride::Line;
 use ride::Lines;
 use ride::Wrong;
+use ride_text::Put;
 use text::put;
 use text::put_number;
 
@@ -22,7 +22,7 @@ use text::put_number;
 fn put_plain(line: Line, buf: &mut [u8], at: usize) -> usize
     ensures { λ r. ⌜ came r (now (buf .exit)) ≡ put (text line) (now (buf .entry)) at ⌝ }
 {
-    match listing::put_line(line, buf, at) {
+    match ride_text::put_line(line, buf, at) {
         Put::Next(next) => next,
         Put::NoRoom => at,
     }
@@ -36,7 +36,7 @@ fn put_fault(place: u64, n: u8, reason: Reason, buf: &mut [u8], at: usize) -> us
     let a = put_number(b"", place, buf, at);
     let b = put_number(b" fault ", n as u64, buf, a);
     let c = put(b": ", buf, b);
-    let d = explainer::put_reason(reason, buf, c);
+    let d = group_reason::put_reason(reason, buf, c);
     put(b"\n", buf, d)
 }
 
@@ -47,7 +47,7 @@ fn put_said(closed: Group, line: Line, buf: &mut [u8], at: usize) -> usize
 {
     match line {
         Line::Group(_) => put_plain(line, buf, at),
-        Line::Fault(place, n) => put_fault(place, n, explainer::explain(closed), buf, at),
+        Line::Fault(place, n) => put_fault(place, n, group_reason::explain(closed), buf, at),
         Line::Missed(_) => put_plain(line, buf, at),
         Line::Record(_, _) => put_plain(line, buf, at),
         Line::Trace(_) => put_plain(line, buf, at),

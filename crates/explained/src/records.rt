@@ -5,13 +5,13 @@ ghost use Rattle.settings.specs.Versions.{kept};
 ghost use Rattle.settings.specs.Store.{judged};
 ghost use Rattle.settings.specs.At.{heldAt, gapAt};
 ghost use Rattle.ride.specs.Over.{records};
-ghost use Rattle.listing.specs.Says.{saysListed};
+ghost use Rattle.ride_text.specs.Says.{saysListed};
 ghost use Rattle.explained.specs.List.{listTaken};
 use crate::lines::put_given;
-use listing::Done;
-use listing::Listed;
 use ride::Reply;
 use ride::Ride;
+use ride_text::Done;
+use ride_text::Listed;
 use settings::Held;
 use settings::Store;
 

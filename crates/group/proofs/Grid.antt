@@ -7,7 +7,7 @@ use native.Mathlib.Nat.{not-suc-le-zero}
 use native.Mathlib.Omega.{arith}
 use lib.Dec.{T, eqb}
 use borrow.Author.Tests.{eqb-true, eqb-false}
-use Rattle.walk.proofs.Bools.{and-left, and-right}
+use Rattle.group_rows.proofs.Bools.{and-left, and-right}
 
 -- The test f at each number below n.
 abbrev pub every : (ℕ → Bool) → ℕ → Bool

@@ -10,8 +10,8 @@ use lib.Seq.{take-suc-set}
 use Rattle.words.specs.Answer.{Outcome, gives, refuses}
 use Rattle.group.specs.declared.Heard.{Heard}
 use Rattle.group.specs.declared.Balise.{Balise}
-use Rattle.walk.specs.declared.Part.{Part}
-use Rattle.walk.specs.declared.Placed.{Placed}
+use Rattle.group_rows.specs.declared.Part.{Part}
+use Rattle.group_rows.specs.declared.Placed.{Placed}
 use Rattle.group.specs.declared.Number.{Number}
 use Rattle.group.specs.Balise.{then, partHeard, readAll}
 use Rattle.group.specs.Numbers.{numberOr, numberOf}

@@ -6,11 +6,11 @@ use mathlib.Core.Bool.{true, false}
 use mathlib.Core.List.{List, [], _∷_}
 use native.Mathlib.Omega.{arith}
 use lib.ListN.{length, take, getD}
-use Rattle.walk.specs.declared.Placed.{Placed}
-use Rattle.walk.specs.Row.{any, isCategory, none, found, first}
-use Rattle.walk.proofs.Figures.{meets-any}
-use Rattle.walk.proofs.Ahead.{onward, first-then}
-use Rattle.walk.proofs.Leads.{blank}
+use Rattle.group_rows.specs.declared.Placed.{Placed}
+use Rattle.group_rows.specs.Row.{any, isCategory, none, found, first}
+use Rattle.group_rows.proofs.Figures.{meets-any}
+use Rattle.group_rows.proofs.Ahead.{onward, first-then}
+use Rattle.group_rows.proofs.Leads.{blank}
 
 module _ (c : ℕ) (q : List Placed) (m : ℕ) (five : length q ≡ 5) (few : m ≤ 5) (some : 0 < m) where
   split : take m q ≡ getD q 0 blank ∷ take (m - 1) (onward q)

@@ -11,8 +11,8 @@ use Rattle.telegram.specs.declared.Telegram.{Telegram}
 use Rattle.group.specs.declared.Heard.{Heard}
 use Rattle.group.specs.declared.Balise.{Balise}
 use Rattle.group.specs.declared.Group.{Group}
-use Rattle.walk.specs.declared.Part.{Part}
-use Rattle.walk.specs.declared.Placed.{Placed}
+use Rattle.group_rows.specs.declared.Part.{Part}
+use Rattle.group_rows.specs.declared.Placed.{Placed}
 
 -- The balises of a group of at most five, in the order passed.
 unfoldable pub balises : Group → List Balise

@@ -5,7 +5,7 @@ use mathlib.Core.Bool.{Bool, _&&_, _||_}
 use mathlib.Core.List.{List, [], _∷_}
 use lib.Dec.{eqb, leb}
 use Rattle.words.specs.Answer.{Outcome, gives, refuses, pick}
-use Rattle.walk.specs.Row.{Found, none, found, Y}
+use Rattle.group_rows.specs.Row.{Found, none, found, Y}
 
 -- A step of table DF, with its sign.
 pub data Step : Type 0 where

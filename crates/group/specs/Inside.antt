@@ -5,14 +5,14 @@ use mathlib.Core.List.{List}
 use lib.ListN.{take}
 use Rattle.words.specs.Answer.{Outcome, gives, refuses, pick}
 use Rattle.group.specs.declared.contents.Contained.{Contained}
-use Rattle.walk.specs.declared.Part.{Part}
-use Rattle.walk.specs.declared.Placed.{Placed}
+use Rattle.group_rows.specs.declared.Part.{Part}
+use Rattle.group_rows.specs.declared.Placed.{Placed}
 use Rattle.group.specs.declared.reading.PartRead.{PartRead}
 use Rattle.group.specs.declared.reading.AllRead.{AllRead}
 use Rattle.group.specs.declared.parts.Sought.{Sought}
 use Rattle.group.specs.declared.Number.{Number}
 use Rattle.group.specs.declared.Content.{Content}
-use Rattle.walk.specs.Row.{Found, none, found}
+use Rattle.group_rows.specs.Row.{Found, none, found}
 use Rattle.group.specs.Numbers.{numberOr}
 
 -- A balise that was looked for.

@@ -9,18 +9,18 @@ use mathlib.Core.Bool.{_&&_}
 use mathlib.Core.List.{List}
 use lib.Dec.{eqb, ltb}
 use Rattle.words.specs.Answer.{Outcome, gives, refuses, pick}
-use Rattle.walk.specs.declared.Direction.{Direction}
-use Rattle.walk.specs.declared.Kind.{Kind}
-use Rattle.walk.specs.declared.Placed.{Placed}
-use Rattle.walk.specs.declared.Picked.{Picked}
+use Rattle.group_rows.specs.declared.Direction.{Direction}
+use Rattle.group_rows.specs.declared.Kind.{Kind}
+use Rattle.group_rows.specs.declared.Placed.{Placed}
+use Rattle.group_rows.specs.declared.Picked.{Picked}
 use Rattle.group.specs.declared.Group.{Group}
 use Rattle.group.specs.declared.Number.{Number}
 use Rattle.group.specs.declared.Content.{Content}
 use Rattle.group.specs.declared.Message.{Message}
 use Rattle.group.specs.Balise.{balises, then, readAll}
-use Rattle.walk.specs.Row.{any, Y, Z, Found, none, found, first}
+use Rattle.group_rows.specs.Row.{any, Y, Z, Found, none, found, first}
 use Rattle.group.specs.Distance.{linkDistance, isPreset, noIncrease}
-use Rattle.walk.specs.Fitting.{fitting}
+use Rattle.group_rows.specs.Fitting.{fitting}
 use Rattle.group.specs.Speed.{signalSpeed, targetFigure}
 use Rattle.group.specs.Numbers.{numberOf}
 

@@ -2,8 +2,8 @@
 -- Assumes nothing.
 use mathlib.Core.List.{List, [], _∷_}
 use Rattle.group.specs.declared.Number.{Number}
-use Rattle.walk.specs.declared.Part.{Part}
-use Rattle.walk.specs.declared.Placed.{Placed}
+use Rattle.group_rows.specs.declared.Part.{Part}
+use Rattle.group_rows.specs.declared.Placed.{Placed}
 
 -- The figure of a number balise (12); of any other, what is found after it.
 abbrev pub numberOr : Part → Number → Number

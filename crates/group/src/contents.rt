@@ -11,8 +11,8 @@ use crate::Content;
 use crate::Measured;
 use crate::parts;
 use crate::parts::Sought;
-use walk::Kind;
-use walk::Placed;
+use group_rows::Kind;
+use group_rows::Placed;
 
 // What a present group says beyond its kind, or that its distance is not allowed.
 pub enum Contained {

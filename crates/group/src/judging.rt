@@ -12,10 +12,10 @@ use crate::Number;
 use crate::contents;
 use crate::contents::Contained;
 use crate::parts;
-use walk::Direction;
-use walk::Fitted;
-use walk::Picked;
-use walk::Placed;
+use group_rows::Direction;
+use group_rows::Fitted;
+use group_rows::Picked;
+use group_rows::Placed;
 
 // The message of a group with what its row says, this number and this content.
 fn message(row: Picked, number: Number, content: Content) -> Message
@@ -55,7 +55,7 @@ pub fn read(p: [Placed; 5], n: usize, number: Number) -> GroupJudged
     requires { ⌜ (n ≤ 5) × (number ≡ numberOf (take n p)) ⌝ }
     ensures { λ r. ⌜ saysGroupJudged r ≡ judgeRead (take n p) ⌝ }
 {
-    match walk::fit(p, n) {
+    match group_rows::fit(p, n) {
         Fitted::Is(row) => {
             let direction = row.direction;
             match direction {

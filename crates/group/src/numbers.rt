@@ -4,7 +4,7 @@ ghost use Rattle.group.specs.declared.Number.{Number};
 ghost use Rattle.group.specs.Numbers.{numberOr};
 ghost use Rattle.group.specs.Inside.{elseNumber};
 use crate::Number;
-use walk::Part;
+use group_rows::Part;
 
 // The figure of a number balise (12); of any other, none.
 fn number_in(part: Part) -> Number

@@ -2,10 +2,10 @@
 ghost use mathlib.Core.Path.{_≡_};
 ghost use Prim.Native.Nat.{_≤_};
 ghost use lib.ListN.{take};
-ghost use Rattle.walk.specs.Row.{any, Y, Z, first};
+ghost use Rattle.group_rows.specs.Row.{any, Y, Z, first};
 ghost use Rattle.group.specs.Inside.{saysSought};
-use walk::Part;
-use walk::Placed;
+use group_rows::Part;
+use group_rows::Placed;
 
 // A balise that is looked for.
 pub enum Sought {
@@ -45,10 +45,10 @@ pub fn first_of(p: [Placed; 5], n: usize, c: u8) -> Sought
     while 0 < left {
         let b = ahead[0];
         let part = b.part;
-        if walk::is_category(part, c) {
+        if group_rows::is_category(part, c) {
             return Sought::Is(b);
         }
-        ahead = walk::after_first(ahead);
+        ahead = group_rows::after_first(ahead);
         left -= 1;
     }
     Sought::Missing

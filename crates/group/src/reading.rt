@@ -11,10 +11,10 @@ use crate::Balise;
 use crate::Heard;
 use crate::Number;
 use crate::numbers::else_number;
+use group_rows::Part;
+use group_rows::Placed;
 use telegram::Telegram;
 use telegram::TelegramRead;
-use walk::Part;
-use walk::Placed;
 
 // What reading a balise answers: it as read, or refusal 12.
 pub enum PartRead {

@@ -24,10 +24,10 @@ use Rattle.ride.specs.declared.Ride.{Ride}
 use Rattle.ride.specs.Record.{odometerOf}
 use Rattle.ride.specs.Step.{Step, treat}
 use Rattle.ride.specs.Over.{firstRecords, records}
-use Rattle.listing.specs.declared.Done.{Done}
-use Rattle.listing.specs.declared.Listed.{Listed as Answer}
-use Rattle.listing.specs.List.{Taken, Listing}
-use Rattle.listing.specs.Says.{saysDone, saysListed}
+use Rattle.ride_text.specs.declared.Done.{Done}
+use Rattle.ride_text.specs.declared.Listed.{Listed as Answer}
+use Rattle.ride_text.specs.List.{Taken, Listing}
+use Rattle.ride_text.specs.Says.{saysDone, saysListed}
 use Rattle.explained.specs.Told.{Told, stepText, tellOver}
 use Rattle.explained.specs.List.{isTaken, taken, listOf, listTaken}
 use Rattle.explained.specs.List as explaining

@@ -7,8 +7,8 @@ ghost use Rattle.settings.specs.Versions.{kept};
 ghost use Rattle.settings.specs.Store.{judged};
 ghost use Rattle.settings.specs.At.{gapAt};
 ghost use Rattle.lead_text.specs.Inside.{saysOne, listOne};
-use listing::Done;
 use ride::Ride;
+use ride_text::Done;
 use settings::Store;
 
 // What listing a record answers: whether it was taken; the ride, the next record's number and the next place then.

@@ -18,10 +18,10 @@ use Rattle.ride.specs.State.{freshRide}
 use Rattle.ride.specs.Over.{firstRecords, records}
 use Rattle.ride.proofs.Cutting.{records-length, take-records, front-records, cut-records}
 use Rattle.recording.specs.Recording.{recorded}
-use Rattle.listing.specs.declared.Done.{Done}
-use Rattle.listing.specs.declared.Listed.{Listed}
-use Rattle.listing.specs.List.{Taken, Listing}
-use Rattle.listing.specs.Says.{saysDone, saysListed}
+use Rattle.ride_text.specs.declared.Done.{Done}
+use Rattle.ride_text.specs.declared.Listed.{Listed}
+use Rattle.ride_text.specs.List.{Taken, Listing}
+use Rattle.ride_text.specs.Says.{saysDone, saysListed}
 use Rattle.explained.specs.Told.{Told, tellOver, endText}
 use Rattle.explained.specs.List.{taken, listOf, listTaken}
 use Rattle.explained.specs.List as explaining

@@ -15,10 +15,10 @@ use Rattle.settings.specs.At.{gapAt}
 use Rattle.ride.specs.declared.Ride.{Ride}
 use Rattle.ride.specs.Over.{records}
 use Rattle.ride.proofs.Cutting.{records-length}
-use Rattle.listing.specs.declared.Done.{Done}
-use Rattle.listing.specs.declared.Listed.{Listed}
-use Rattle.listing.specs.List.{Listing}
-use Rattle.listing.specs.Says.{saysListed}
+use Rattle.ride_text.specs.declared.Done.{Done}
+use Rattle.ride_text.specs.declared.Listed.{Listed}
+use Rattle.ride_text.specs.List.{Listing}
+use Rattle.ride_text.specs.Says.{saysListed}
 use Rattle.explained.specs.Told.{Told, tellOver}
 use Rattle.explained.specs.List.{taken, listOf, listTaken}
 use Rattle.explained.proofs.Judging.{list-taken}

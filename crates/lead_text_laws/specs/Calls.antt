@@ -10,7 +10,7 @@ use borrow.Fn.Kinds.{endedOf}
 use denote.Triple.Clauses.{AtExit}
 use Rattle.settings.specs.declared.Store.{Store}
 use Rattle.ride.specs.declared.Ride.{Ride}
-use Rattle.listing.specs.declared.Listed.{Listed}
+use Rattle.ride_text.specs.declared.Listed.{Listed}
 use Rattle.lead_text.specs.declared.Underway.{Underway}
 use Rattle.lead_text.specs.declared.Written.{Written}
 use Rattle.lead_text.proofs.fresh.Kinds as fresh-kinds

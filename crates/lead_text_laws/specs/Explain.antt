@@ -9,8 +9,8 @@ use Rattle.ride.specs.declared.Ride.{Ride}
 use Rattle.ride.specs.State.{freshRide}
 use Rattle.ride.specs.Over.{records}
 use Rattle.recording.specs.Recording.{recorded}
-use Rattle.listing.specs.declared.Done.{Done}
-use Rattle.listing.specs.declared.Listed.{Listed}
+use Rattle.ride_text.specs.declared.Done.{Done}
+use Rattle.ride_text.specs.declared.Listed.{Listed}
 use Rattle.lead_text.specs.declared.Underway.{Underway}
 use Rattle.lead_text_laws.specs.Calls.{Fresh, ExplainInto}
 use Rattle.lead_text_laws.specs.Live.{Good, Heard, Closed, Ended, InPieces, joined, explains}

@@ -1,7 +1,7 @@
 // The settings before the leads: a sync pair, or a file.
-use arguments::Byte;
 use asked::Asked;
 use asked::How;
+use figures::Byte;
 use settings::Verdict;
 
 // The gap beside a plain pair, in dm.

@@ -7,8 +7,8 @@ use lib.Dec.{eqb, leb, ltb}
 use lib.ListN.{drop}
 use Rattle.words.specs.Answer.{pick}
 use Rattle.text.specs.Text.{codes}
-use Rattle.arguments.specs.Figures.{between, hex}
-use Rattle.arguments.specs.declared.Byte.{Byte}
+use Rattle.figures.specs.Figures.{between, hex}
+use Rattle.figures.specs.declared.Byte.{Byte}
 use Rattle.lines.specs.declared.Number.{Number}
 use Rattle.lines.specs.declared.Name.{Name}
 use Rattle.lines.specs.declared.Word.{Word}

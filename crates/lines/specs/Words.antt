@@ -7,9 +7,9 @@ use lib.Dec.{eqb, ltb}
 use lib.ListN.{set, replicate}
 use Rattle.words.specs.Answer.{pick}
 use Rattle.text.specs.Text.{codes}
-use Rattle.arguments.specs.Figures.{decimal, hex}
-use Rattle.arguments.specs.declared.Figure.{Figure}
-use Rattle.arguments.specs.declared.Byte.{Byte}
+use Rattle.figures.specs.Figures.{decimal, hex}
+use Rattle.figures.specs.declared.Figure.{Figure}
+use Rattle.figures.specs.declared.Byte.{Byte}
 use Rattle.lines.specs.declared.Number.{Number}
 use Rattle.lines.specs.declared.Name.{Name}
 use Rattle.lines.specs.declared.Word.{Word}

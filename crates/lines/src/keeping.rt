@@ -11,7 +11,7 @@ use crate::Number;
 use crate::Reader;
 use crate::Word;
 use crate::spelling::done;
-use arguments::Byte;
+use figures::Byte;
 
 // A place of a line that has no word.
 const NO_WORD: Word = Word {

@@ -11,7 +11,7 @@ ghost use Rattle.lines.specs.Reading.{fresh, nextLine};
 mod keeping;
 mod spelling;
 
-use arguments::Byte;
+use figures::Byte;
 use keeping::closed;
 use spelling::letter_on;
 use spelling::no_letters;

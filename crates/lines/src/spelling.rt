@@ -5,7 +5,7 @@ use crate::Letters;
 use crate::Name;
 use crate::Number;
 use crate::Word;
-use arguments::Byte;
+use figures::Byte;
 
 // No character yet.
 pub fn no_letters() -> Letters
@@ -121,7 +121,7 @@ fn byte_of(first: u8, second: u8, count: u8) -> Byte
     if count != 2 {
         return Byte::Odd;
     }
-    arguments::hex(&[first, second])
+    figures::hex(&[first, second])
 }
 
 // What a word is, after its last character.

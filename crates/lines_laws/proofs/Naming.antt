@@ -12,7 +12,7 @@ use Rattle.words.specs.Answer.{pick}
 use Rattle.words.proofs.Never.{cannot-be}
 use Rattle.words.proofs.Linear.{and-parts}
 use Rattle.text.specs.Text.{codes}
-use Rattle.arguments.specs.Figures.{between}
+use Rattle.figures.specs.Figures.{between}
 use Rattle.lines.specs.declared.Name.{Name}
 use Rattle.lines.specs.Words.{same, name}
 use Rattle.lines.specs.Reading.{noName, lettersOn, spelledOn, named}

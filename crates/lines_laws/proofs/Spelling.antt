@@ -9,9 +9,9 @@ use lib.Dec.{eqb, leb}
 use lib.ListN.{length}
 use borrow.Author.Tests.{le-leb, lt-leb, leb-true, leb-false, lt-ltb}
 use Rattle.words.specs.Answer.{pick}
-use Rattle.arguments.specs.Figures.{between, allDigits, continued, decimal, hex}
-use Rattle.arguments.specs.declared.Figure.{Figure}
-use Rattle.arguments.proofs.Characters.{grows}
+use Rattle.figures.specs.Figures.{between, allDigits, continued, decimal, hex}
+use Rattle.figures.specs.declared.Figure.{Figure}
+use Rattle.figures.proofs.Characters.{grows}
 use Rattle.lines.specs.declared.Number.{Number}
 use Rattle.lines.specs.declared.Letters.{Letters}
 use Rattle.lines.specs.Words.{largest, numberOf, number}

@@ -9,8 +9,8 @@ use lib.Dec.{eqb}
 use lib.ListN.{length}
 use borrow.Author.Tests.{eq-eqb, ne-eqb}
 use Rattle.words.specs.Answer.{pick}
-use Rattle.arguments.specs.Figures.{hex}
-use Rattle.arguments.specs.declared.Byte.{Byte}
+use Rattle.figures.specs.Figures.{hex}
+use Rattle.figures.specs.declared.Byte.{Byte}
 use Rattle.lines.specs.declared.Number.{Number}
 use Rattle.lines.specs.declared.Name.{Name}
 use Rattle.lines.specs.declared.Word.{Word}

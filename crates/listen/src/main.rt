@@ -5,7 +5,7 @@
 mod out;
 mod pieces;
 
-use arguments::Byte;
+use figures::Byte;
 use libc::STDIN_FILENO;
 use telegram::Pair;
 

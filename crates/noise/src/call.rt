@@ -1,5 +1,5 @@
 // What the arguments ask for.
-use arguments::Figure;
+use figures::Figure;
 
 // A seed, 1 to 2,147,483,646, and how many bits in a million flip; or that the arguments are no call.
 pub enum Asked {
@@ -20,7 +20,7 @@ fn number(k: usize, least: u32, most: u32) -> Taken {
     if os::errno() != 0 {
         return Taken::Odd;
     }
-    let Figure::Number(n) = arguments::decimal(&text[..length], most as u64) else {
+    let Figure::Number(n) = figures::decimal(&text[..length], most as u64) else {
         return Taken::Odd;
     };
     if n > most as u64 {

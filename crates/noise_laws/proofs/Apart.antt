@@ -9,7 +9,7 @@ use lib.Dec.{ltb}
 use borrow.Author.Tests.{ltb-true, ltb-false}
 use Rattle.telegram.specs.Stretch.{bitAt, bitsAt}
 use Rattle.telegram.specs.declared.Telegram.{Telegram}
-use Rattle.line.proofs.Bits.{same-bits}
+use Rattle.balise_line.proofs.Bits.{same-bits}
 use Rattle.noise_laws.proofs.Two.{Two}
 
 module _ (b : List ℕ) (c l s t : ℕ) (m : Telegram) (two : Two b c l s t m) where

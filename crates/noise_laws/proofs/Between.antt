@@ -9,7 +9,7 @@ use lib.Dec.{leb}
 use borrow.Author.Tests.{leb-true, leb-false}
 use Rattle.contact.specs.History.{zeroes}
 use Rattle.contact.specs.Contacts.{contactsFrom, fromStart}
-use Rattle.heard.specs.Zeroes.{zeroesIn}
+use Rattle.contact_laws.specs.Zeroes.{zeroesIn}
 use Rattle.noise_laws.specs.Pass.{InForty}
 use Rattle.noise_laws.proofs.Flips.{zeroes-flips, any-few}
 use Rattle.noise_laws.proofs.Where.{AllWithin, history, latest-few, latest-sixteen, all-within}

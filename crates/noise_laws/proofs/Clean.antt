@@ -8,10 +8,10 @@ use native.Mathlib.Omega.{arith}
 use lib.Dec.{ltb}
 use borrow.Author.Tests.{ltb-true, ltb-false}
 use Rattle.telegram.specs.Stretch.{bitAt}
-use Rattle.line.specs.Line.{OneBalise, sentBit, lineBit}
-use Rattle.line.proofs.Sums.{none-sum, unequal-same}
-use Rattle.heard.specs.Pass.{Pass}
-use Rattle.heard.proofs.Sound.{received}
+use Rattle.balise_line.specs.Line.{OneBalise, sentBit, lineBit}
+use Rattle.balise_line.proofs.Sums.{none-sum, unequal-same}
+use Rattle.contact_laws.specs.Pass.{Pass}
+use Rattle.contact_laws.proofs.Sound.{received}
 use Rattle.noise_laws.specs.Pass.{lineAt, flipped, flipsIn, CleanToo}
 use Rattle.noise_laws.proofs.Inside.{one-before, one-after, sent-there}
 

@@ -8,15 +8,15 @@ use native.Mathlib.Omega.{arith}
 use lib.Dec.{T, leb, leb→le}
 use Rattle.words.proofs.Ranges.{upto, below}
 use Rattle.telegram.specs.Stretch.{inside}
-use Rattle.line.specs.Line.{OneBalise, Proper}
-use Rattle.line.specs.Forty.{EqualBit}
+use Rattle.balise_line.specs.Line.{OneBalise, Proper}
+use Rattle.balise_line.specs.Forty.{EqualBit}
 use Rattle.contact.specs.Contacts.{contact, quiet, contactsFrom, fromStart}
 use Rattle.contact.specs.Judge.{judge}
 use Rattle.contact.specs.declared.Search.{Search}
 use Rattle.contact.specs.declared.Judged.{Judged}
 use Rattle.contact.proofs.Determined.{judgedOf}
-use Rattle.heard.proofs.Over.{listened}
-use Rattle.heard.proofs.Alike.{judges}
+use Rattle.contact_laws.proofs.Over.{listened}
+use Rattle.contact_laws.proofs.Alike.{judges}
 use Rattle.noise_laws.specs.Pass.{lineAt, flipsIn, InForty, NoisyPass}
 use Rattle.noise_laws.specs.Limits.{Passed}
 

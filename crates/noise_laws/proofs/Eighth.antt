@@ -10,8 +10,8 @@ use lib.ListN.{getD}
 use borrow.Author.Tests.{eq-eqb, eqb-true, eqb-false, ltb-true, ltb-false, le-leb}
 use Rattle.words.specs.Answer.{pick}
 use Rattle.words.proofs.Ranges.{both, both-left, both-right, upto, below}
-use Rattle.line.specs.Line.{unequal, sum}
-use Rattle.line.proofs.Sums.{sum-ext, sum-split, unequal-same, unequal-none, notAt}
+use Rattle.balise_line.specs.Line.{unequal, sum}
+use Rattle.balise_line.proofs.Sums.{sum-ext, sum-split, unequal-same, unequal-none, notAt}
 use Rattle.noise_laws.specs.Reading.{allowed}
 use Rattle.noise_laws.proofs.Every.{every, listOf, of-every, at-list}
 use Rattle.noise_laws.proofs.Rounds.{spelt-alike}

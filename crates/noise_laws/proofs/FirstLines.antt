@@ -11,8 +11,8 @@ use Rattle.telegram.specs.Telegram.{shortWord, longWord, telegram}
 use Rattle.telegram.specs.Place.{areSyncs, wordsAt, isPlace, from, those, places}
 use Rattle.telegram.specs.Survey.{sameWords, allAs}
 use Rattle.telegram.specs.declared.Telegram.{Telegram}
-use Rattle.line.specs.Line.{Proper, sentBit, lineBit, unequal, sum}
-use Rattle.line.specs.Forty.{equalBits}
+use Rattle.balise_line.specs.Line.{Proper, sentBit, lineBit, unequal, sum}
+use Rattle.balise_line.specs.Forty.{equalBits}
 use Rattle.contact.specs.History.{after, zeroesOf, zeroes, opens, closes}
 use Rattle.contact.specs.Contacts.{contact, quiet, contacts, contactsFrom, fromStart}
 use Rattle.contact.specs.Judge.{onesAtEnd, allZero, isMarker, judgement, judge}

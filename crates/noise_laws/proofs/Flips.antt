@@ -8,9 +8,9 @@ use native.Mathlib.Omega.{arith}
 use lib.Dec.{leb}
 use borrow.Author.Tests.{leb-true, leb-false}
 use Rattle.telegram.specs.Stretch.{bitAt}
-use Rattle.line.specs.Line.{unequal, sum}
-use Rattle.line.proofs.Sums.{sum-part, sum-split, sum-ext, unequal-none}
-use Rattle.heard.specs.Zeroes.{zeroesIn}
+use Rattle.balise_line.specs.Line.{unequal, sum}
+use Rattle.balise_line.proofs.Sums.{sum-part, sum-split, sum-ext, unequal-none}
+use Rattle.contact_laws.specs.Zeroes.{zeroesIn}
 use Rattle.noise_laws.specs.Pass.{flipped, flipsIn, InForty}
 
 module _ (line : ℕ → ℕ) (b : List ℕ) where

@@ -17,19 +17,19 @@ use Rattle.telegram.specs.Telegram.{Received, telegram}
 use Rattle.telegram.specs.Place.{areSyncs, wordsAt, accepted, isPlace}
 use Rattle.telegram.proofs.Window.{bit-lt}
 use Rattle.telegram.proofs.Taken.{part-taken}
-use Rattle.line.specs.Line.{OneBalise, Proper, repeated, sentBit, lineBit, unequal, flip, flips, flipsAt, sum}
-use Rattle.line.specs.Forty.{EqualBit, AtMostInForty}
-use Rattle.line.proofs.Sums.{sum-le, none-sum, unequal-lt, notAt, Missing, one-missing}
-use Rattle.line.proofs.Telegrams.{taken}
-use Rattle.line.proofs.Round.{pattern, seven, data-sent, word-x, word-y, word-z}
-use Rattle.line.proofs.Offsets.{weigh, apart, cost}
-use Rattle.line.proofs.Window.{unflipped-bit, flips-split, no-flip}
-use Rattle.line.proofs.TooFew.{paid, outer-flips, paid-once}
-use Rattle.line.proofs.Places.{place-parts, or-parts}
-use Rattle.line.proofs.Sent.{same-words, read-as-sent}
-use Rattle.line.proofs.Wrong.{as-syncs, pays}
-use Rattle.line.proofs.Stretch.{as-sent}
-use Rattle.line.proofs.EqualBit.{at-equal}
+use Rattle.balise_line.specs.Line.{OneBalise, Proper, repeated, sentBit, lineBit, unequal, flip, flips, flipsAt, sum}
+use Rattle.balise_line.specs.Forty.{EqualBit, AtMostInForty}
+use Rattle.balise_line.proofs.Sums.{sum-le, none-sum, unequal-lt, notAt, Missing, one-missing}
+use Rattle.balise_line.proofs.Telegrams.{taken}
+use Rattle.balise_line.proofs.Round.{pattern, seven, data-sent, word-x, word-y, word-z}
+use Rattle.balise_line.proofs.Offsets.{weigh, apart, cost}
+use Rattle.balise_line.proofs.Window.{unflipped-bit, flips-split, no-flip}
+use Rattle.balise_line.proofs.TooFew.{paid, outer-flips, paid-once}
+use Rattle.balise_line.proofs.Places.{place-parts, or-parts}
+use Rattle.balise_line.proofs.Sent.{same-words, read-as-sent}
+use Rattle.balise_line.proofs.Wrong.{as-syncs, pays}
+use Rattle.balise_line.proofs.Stretch.{as-sent}
+use Rattle.balise_line.proofs.EqualBit.{at-equal}
 use Rattle.noise_laws.specs.Reading.{allowed}
 use Rattle.noise_laws.proofs.Rounds.{spelt-alike}
 use Rattle.noise_laws.proofs.Tests.{spelt}

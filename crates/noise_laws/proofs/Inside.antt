@@ -8,10 +8,10 @@ use lib.Dec.{leb, ltb}
 use borrow.Author.Tests.{le-leb, lt-leb, lt-ltb, le-ltb}
 use Rattle.words.specs.Answer.{pick}
 use Rattle.telegram.specs.Stretch.{bitAt}
-use Rattle.line.specs.Line.{OneBalise, sentBit, lineBit, unequal, flip, flips, flipsAt}
-use Rattle.line.specs.Forty.{AtMostInForty}
-use Rattle.line.proofs.Sums.{sum-ext}
-use Rattle.line.proofs.Window.{flip-is}
+use Rattle.balise_line.specs.Line.{OneBalise, sentBit, lineBit, unequal, flip, flips, flipsAt}
+use Rattle.balise_line.specs.Forty.{AtMostInForty}
+use Rattle.balise_line.proofs.Sums.{sum-ext}
+use Rattle.balise_line.proofs.Window.{flip-is}
 use Rattle.noise_laws.specs.Pass.{isOver, lineAt, flipped, flipsIn, NoisyPass}
 
 module _ (o : OneBalise) where

@@ -12,9 +12,9 @@ use Rattle.telegram.specs.Stretch.{bitAt}
 use Rattle.telegram.specs.Place.{wordsAt, accepted}
 use Rattle.telegram.proofs.Window.{bit-lt}
 use Rattle.telegram.proofs.Taken.{part-taken}
-use Rattle.line.specs.Line.{OneBalise, Proper, repeated, sentBit, lineBit, unequal, sum}
-use Rattle.line.proofs.Sums.{sum-split, sum-ext, sum-none, none-sum, unequal-lt, unequal-none, unequal-same, notAt}
-use Rattle.line.proofs.Wrong.{Bytes}
+use Rattle.balise_line.specs.Line.{OneBalise, Proper, repeated, sentBit, lineBit, unequal, sum}
+use Rattle.balise_line.proofs.Sums.{sum-split, sum-ext, sum-none, none-sum, unequal-lt, unequal-none, unequal-same, notAt}
+use Rattle.balise_line.proofs.Wrong.{Bytes}
 use Rattle.noise_laws.specs.Pass.{lineAt, flipped, flipsIn, NoisyPass}
 use Rattle.noise_laws.specs.Reading.{allowed}
 use Rattle.noise_laws.proofs.Flips.{flips-split, zeroes-flips}

@@ -15,14 +15,14 @@ use Rattle.telegram.specs.Place.{areSyncs}
 use Rattle.telegram.specs.declared.Telegram.{Telegram}
 use Rattle.telegram.proofs.Window.{bit-lt}
 use Rattle.telegram.proofs.Taken.{part-taken}
-use Rattle.line.specs.Line.{unequal, sum}
-use Rattle.line.proofs.Sums.{sum-le, sum-ext, sum-both, none-sum, unequal-same}
-use Rattle.line.proofs.Bits.{same-bits, differing-bits}
-use Rattle.line.proofs.Places.{and-parts, or-parts, place-parts}
+use Rattle.balise_line.specs.Line.{unequal, sum}
+use Rattle.balise_line.proofs.Sums.{sum-le, sum-ext, sum-both, none-sum, unequal-same}
+use Rattle.balise_line.proofs.Bits.{same-bits, differing-bits}
+use Rattle.balise_line.proofs.Places.{and-parts, or-parts, place-parts}
 use Rattle.contact.specs.Contacts.{Contacts, contact, quiet, refused}
-use Rattle.heard.specs.Zeroes.{zeroesIn}
-use Rattle.heard.proofs.Over.{listened}
-use Rattle.heard.proofs.Sixty.{syncs-differ}
+use Rattle.contact_laws.specs.Zeroes.{zeroesIn}
+use Rattle.contact_laws.proofs.Over.{listened}
+use Rattle.contact_laws.proofs.Sixty.{syncs-differ}
 use Rattle.noise_laws.specs.Pass.{flipsIn}
 use Rattle.noise_laws.specs.Marker.{markerAt, NoisyMarker, NeverRead, MarkerNeverRead}
 use Rattle.noise_laws.proofs.Flips.{zeroes-flips, any-few, flips-split}

@@ -10,8 +10,8 @@ use borrow.Author.Tests.{lt-leb, le-leb, lt-ltb, le-ltb}
 use Rattle.words.specs.Answer.{pick}
 use Rattle.telegram.specs.Stretch.{bitAt}
 use Rattle.telegram.proofs.Window.{bit-lt}
-use Rattle.line.specs.Line.{unequal, sum}
-use Rattle.line.proofs.Sums.{sum-le, unequal-same, unequal-none, unequal-lt}
+use Rattle.balise_line.specs.Line.{unequal, sum}
+use Rattle.balise_line.proofs.Sums.{sum-le, unequal-same, unequal-none, unequal-lt}
 use Rattle.noise_laws.specs.Pass.{isOver, flipped, flipsIn}
 use Rattle.noise_laws.specs.Marker.{markerAt}
 use Rattle.noise_laws.proofs.Apart.{d}

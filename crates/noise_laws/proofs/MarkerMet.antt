@@ -5,7 +5,7 @@ use mathlib.Core.List.{List, [], _∷_}
 use Prim.Native.Nat.{ℕ}
 use native.Mathlib.Omega.{arith}
 use Rattle.telegram.specs.Stretch.{inside}
-use Rattle.line.specs.Line.{unequal, sum}
+use Rattle.balise_line.specs.Line.{unequal, sum}
 use Rattle.noise_laws.specs.Pass.{isOver, flipped, flipsIn}
 use Rattle.noise_laws.specs.Marker.{markerAt, NoisyMarker}
 use Rattle.noise_laws.proofs.Computed.{forty-computed}

@@ -7,11 +7,11 @@ use native.Mathlib.Omega.{arith}
 use Rattle.words.specs.Answer.{gives}
 use Rattle.telegram.specs.Stretch.{bitAt, inside}
 use Rattle.telegram.specs.Place.{wordsAt, accepted}
-use Rattle.line.specs.Line.{OneBalise, Proper, repeated, sentBit, lineBit, unequal, flip, flips, sum}
-use Rattle.line.proofs.Sums.{sum-ext}
-use Rattle.line.proofs.Window.{flip-is}
-use Rattle.line.proofs.Sent.{read-as-sent}
-use Rattle.line.proofs.Stretch.{as-sent}
+use Rattle.balise_line.specs.Line.{OneBalise, Proper, repeated, sentBit, lineBit, unequal, flip, flips, sum}
+use Rattle.balise_line.proofs.Sums.{sum-ext}
+use Rattle.balise_line.proofs.Window.{flip-is}
+use Rattle.balise_line.proofs.Sent.{read-as-sent}
+use Rattle.balise_line.proofs.Stretch.{as-sent}
 
 module _ (o : OneBalise) (proper : Proper o) (p : ℕ) (taken : inside (o .buffer) p 40 ≡ true) where
   -- a balise whose telegram begins at bit p

@@ -10,8 +10,8 @@ use lib.Dec.{T, eqb, eqb→eq, leb, leb→le, ltb}
 use borrow.Author.Tests.{eq-eqb, ltb-true, ltb-false}
 use Rattle.words.specs.Answer.{pick}
 use Rattle.words.proofs.Ranges.{both, both-left, both-right, upto}
-use Rattle.line.specs.Line.{unequal, sum}
-use Rattle.line.proofs.Sums.{sum-ext, notAt}
+use Rattle.balise_line.specs.Line.{unequal, sum}
+use Rattle.balise_line.proofs.Sums.{sum-ext, notAt}
 use Rattle.noise_laws.proofs.Every.{every, listOf, of-every, at-list}
 use Rattle.noise_laws.proofs.Rounds.{repeats, same-sum, sum-front, spelt-alike}
 use Rattle.noise_laws.proofs.Tests.{spelt, isShort, round, zs, outer, sameTest, bitsOf, same-tested}

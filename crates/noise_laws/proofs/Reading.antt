@@ -16,14 +16,14 @@ use Rattle.telegram.specs.Telegram.{Received}
 use Rattle.telegram.specs.Place.{wordsAt, accepted, isPlace, places}
 use Rattle.telegram.specs.declared.Telegram.{Telegram}
 use Rattle.telegram.proofs.Taken.{part-taken}
-use Rattle.line.specs.Line.{OneBalise, Proper}
-use Rattle.line.specs.Forty.{equalBits, EqualBit}
-use Rattle.line.proofs.Sums.{unequal-none, unequal-same, notAt}
-use Rattle.line.proofs.Places.{listed, or-left, place-parts}
-use Rattle.line.proofs.Wrong.{outer-bits}
-use Rattle.line.proofs.EqualBit.{at-equal}
+use Rattle.balise_line.specs.Line.{OneBalise, Proper}
+use Rattle.balise_line.specs.Forty.{equalBits, EqualBit}
+use Rattle.balise_line.proofs.Sums.{unequal-none, unequal-same, notAt}
+use Rattle.balise_line.proofs.Places.{listed, or-left, place-parts}
+use Rattle.balise_line.proofs.Wrong.{outer-bits}
+use Rattle.balise_line.proofs.EqualBit.{at-equal}
 use Rattle.contact.specs.Contacts.{Contacts, contact, quiet, refused, contactsFrom, fromStart}
-use Rattle.heard.proofs.Over.{listened}
+use Rattle.contact_laws.proofs.Over.{listened}
 use Rattle.noise_laws.specs.Pass.{lineAt, NoisyPass}
 use Rattle.noise_laws.specs.Reading.{ReadsTheSent, allowed, NoFalseReading}
 use Rattle.noise_laws.proofs.Where.{AllWithin, within-record}

@@ -7,8 +7,8 @@ use native.Mathlib.Nat.{mod-eq-of-lt, mod-eq-sub-mod}
 use native.Mathlib.Omega.{arith}
 use lib.Dec.{ltb}
 use borrow.Author.Tests.{ltb-true, ltb-false}
-use Rattle.line.specs.Line.{sum}
-use Rattle.line.proofs.Sums.{sum-split, sum-ext}
+use Rattle.balise_line.specs.Line.{sum}
+use Rattle.balise_line.proofs.Sums.{sum-split, sum-ext}
 use Rattle.noise_laws.proofs.Tests.{spelt}
 
 module _ (r : ℕ → ℕ) (a d n : ℕ) (per : (i : ℕ) → i < n → r (a + (i + d)) ≡ r (a + i)) (pos : 0 < d) where

@@ -11,8 +11,8 @@ use Rattle.words.specs.Answer.{gives, pick}
 use Rattle.words.proofs.Ranges.{both}
 use Rattle.telegram.specs.Telegram.{telegram}
 use Rattle.telegram.specs.declared.Telegram.{Telegram}
-use Rattle.line.specs.Line.{sum}
-use Rattle.line.proofs.Sums.{sum-none}
+use Rattle.balise_line.specs.Line.{sum}
+use Rattle.balise_line.proofs.Sums.{sum-none}
 use Rattle.noise_laws.proofs.Every.{every, listOf, of-every, at-list}
 use Rattle.noise_laws.proofs.Rounds.{spelt-alike}
 use Rattle.noise_laws.proofs.Tests.{spelt, isShort, bitsOf}

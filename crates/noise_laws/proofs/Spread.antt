@@ -8,9 +8,9 @@ use lib.Dec.{leb}
 use borrow.Author.Tests.{leb-true, le-leb}
 use Rattle.words.specs.Answer.{pick}
 use Rattle.telegram.specs.Stretch.{bitAt}
-use Rattle.line.specs.Line.{OneBalise, repeated, sentBit, unequal, sum}
-use Rattle.line.proofs.Sums.{sum-le, sum-ext, sum-part}
-use Rattle.line.proofs.Round.{data-alike, data-sent}
+use Rattle.balise_line.specs.Line.{OneBalise, repeated, sentBit, unequal, sum}
+use Rattle.balise_line.proofs.Sums.{sum-le, sum-ext, sum-part}
+use Rattle.balise_line.proofs.Round.{data-alike, data-sent}
 use Rattle.noise_laws.proofs.Rounds.{same-sum}
 
 -- A sum of n bits is at most n.

@@ -10,11 +10,11 @@ use Rattle.telegram.specs.Stretch.{bitAt, bitsAt}
 use Rattle.telegram.specs.Place.{areSyncs, wordsAt}
 use Rattle.telegram.specs.declared.Telegram.{Telegram}
 use Rattle.telegram.proofs.Window.{bit-lt, bits-lt}
-use Rattle.line.specs.Line.{OneBalise, Proper, repeated, unequal}
-use Rattle.line.proofs.Sums.{sum-ext, unequal-lt, notAt, Missing, one-missing}
-use Rattle.line.proofs.Round.{pattern, seven}
-use Rattle.line.proofs.Places.{place-parts}
-use Rattle.line.proofs.Wrong.{Bytes, outer-bits, as-syncs}
+use Rattle.balise_line.specs.Line.{OneBalise, Proper, repeated, unequal}
+use Rattle.balise_line.proofs.Sums.{sum-ext, unequal-lt, notAt, Missing, one-missing}
+use Rattle.balise_line.proofs.Round.{pattern, seven}
+use Rattle.balise_line.proofs.Places.{place-parts}
+use Rattle.balise_line.proofs.Wrong.{Bytes, outer-bits, as-syncs}
 use Rattle.noise_laws.specs.Pass.{lineAt, NoisyPass}
 use Rattle.noise_laws.proofs.Flips.{zeroes-flips, any-few}
 use Rattle.noise_laws.proofs.Inside.{one-after}

@@ -11,8 +11,8 @@ use lib.ListN.{getD}
 use borrow.Author.Tests.{eq-eqb, eqb-true, ltb-true, ltb-false}
 use Rattle.words.specs.Answer.{pick}
 use Rattle.words.proofs.Ranges.{upto}
-use Rattle.line.specs.Line.{unequal, sum}
-use Rattle.line.proofs.Sums.{sum-ext, sum-le, sum-both, sum-split, sum-part, sum-none, unequal-same, unequal-none, unequal-lt, notAt}
+use Rattle.balise_line.specs.Line.{unequal, sum}
+use Rattle.balise_line.proofs.Sums.{sum-ext, sum-le, sum-both, sum-split, sum-part, sum-none, unequal-same, unequal-none, unequal-lt, notAt}
 use Rattle.noise_laws.proofs.Every.{every, listOf, of-every, at-list}
 use Rattle.noise_laws.proofs.Rounds.{repeats, spelt-alike}
 use Rattle.noise_laws.proofs.Tests.{spelt, isShort, round, zs, outer, second, longTest, longAll, bitsOf, joined, long-tested}

@@ -9,8 +9,8 @@ use lib.Dec.{T, eqb, ltb}
 use borrow.Author.Tests.{eq-eqb, ltb-true, ltb-false, lt-ltb, le-ltb}
 use Rattle.words.specs.Answer.{pick}
 use Rattle.words.proofs.Ranges.{both, upto}
-use Rattle.line.specs.Line.{unequal}
-use Rattle.line.proofs.Sums.{unequal-sym, unequal-none, unequal-lt, notAt}
+use Rattle.balise_line.specs.Line.{unequal}
+use Rattle.balise_line.proofs.Sums.{unequal-sym, unequal-none, unequal-lt, notAt}
 use Rattle.noise_laws.proofs.Every.{listOf, of-every, at-list}
 use Rattle.noise_laws.proofs.Rounds.{repeats}
 use Rattle.noise_laws.proofs.Tests.{round, second, swappedTest, bitsOf, swapped-tested}

@@ -8,7 +8,7 @@ use lib.ListN.{getD}
 use Rattle.words.specs.Answer.{pick}
 use Rattle.words.proofs.Ranges.{both, upto, below}
 use Rattle.words.proofs.Short.{listed}
-use Rattle.line.specs.Line.{unequal, sum}
+use Rattle.balise_line.specs.Line.{unequal, sum}
 use Rattle.noise_laws.proofs.Every.{every}
 
 -- The n bits of a line from bit a on, as a number.

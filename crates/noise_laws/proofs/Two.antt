@@ -16,12 +16,12 @@ use Rattle.telegram.specs.Telegram.{Received}
 use Rattle.telegram.specs.Place.{wordsAt, isPlace, from, those, places}
 use Rattle.telegram.specs.Survey.{sameWords, allAs}
 use Rattle.telegram.specs.declared.Telegram.{Telegram}
-use Rattle.line.proofs.Places.{and-parts}
+use Rattle.balise_line.proofs.Places.{and-parts}
 use Rattle.contact.specs.Judge.{allAlike, firstPlace, read, marker, isMarker, judgement}
 use Rattle.contact.specs.declared.Judged.{Judged}
 use Rattle.contact.proofs.Determined.{judgedOf}
-use Rattle.heard.specs.Calls.{JudgeContact}
-use Rattle.heard.proofs.Alike.{judges, judged-taken}
+use Rattle.contact_laws.specs.Calls.{JudgeContact}
+use Rattle.contact_laws.proofs.Alike.{judges, judged-taken}
 use Rattle.noise_laws.specs.Reading.{fewest}
 
 module _ (test : ℕ → Bool) where

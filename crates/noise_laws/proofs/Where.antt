@@ -13,8 +13,8 @@ use Rattle.contact.specs.History.{sixteenOnes, after, zeroesOf, zeroes, opens, 
 use Rattle.contact.specs.Contacts.{Mode, outside, since, Contacts, contact, quiet, refused, contacts, contactsFrom, fromStart}
 use Rattle.contact.specs.declared.Search.{Search}
 use Rattle.contact.proofs.Stays.{grows, on}
-use Rattle.heard.specs.Zeroes.{zeroesIn}
-use Rattle.heard.proofs.Quiet.{short, full}
+use Rattle.contact_laws.specs.Zeroes.{zeroesIn}
+use Rattle.contact_laws.proofs.Quiet.{short, full}
 
 -- Each of the contacts lies between the bits low and high.
 abbrev pub AllWithin : ℕ → ℕ → Contacts → Type 0

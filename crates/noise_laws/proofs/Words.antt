@@ -17,7 +17,7 @@ use Rattle.telegram.specs.Stretch.{bitAt, bitsAt}
 use Rattle.telegram.specs.Telegram.{Received, named, telegram, shortWord, longWord}
 use Rattle.telegram.specs.declared.Telegram.{Telegram}
 use Rattle.telegram.specs.declared.Word.{Word}
-use Rattle.line.proofs.Telegrams.{onward}
+use Rattle.balise_line.proofs.Telegrams.{onward}
 use Rattle.noise_laws.proofs.Tests.{spelt, isShort}
 
 abbrev isRead : Answer Why ℕ → Bool

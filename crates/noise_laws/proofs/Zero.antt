@@ -9,9 +9,9 @@ use Rattle.words.specs.Answer.{gives}
 use Rattle.telegram.specs.Stretch.{bitAt}
 use Rattle.telegram.specs.Place.{wordsAt, accepted}
 use Rattle.telegram.proofs.Taken.{part-taken}
-use Rattle.line.specs.Line.{OneBalise, Proper, repeated, sentBit, lineBit, unequal, sum}
-use Rattle.line.proofs.Sums.{sum-split, sum-ext, unequal-lt}
-use Rattle.heard.specs.Zeroes.{zeroesIn}
+use Rattle.balise_line.specs.Line.{OneBalise, Proper, repeated, sentBit, lineBit, unequal, sum}
+use Rattle.balise_line.proofs.Sums.{sum-split, sum-ext, unequal-lt}
+use Rattle.contact_laws.specs.Zeroes.{zeroesIn}
 use Rattle.noise_laws.specs.Pass.{lineAt, flipped, flipsIn, NoisyPass}
 use Rattle.noise_laws.proofs.Flips.{flips-split, zeroes-flips}
 use Rattle.noise_laws.proofs.Inside.{one-after, sent-there}

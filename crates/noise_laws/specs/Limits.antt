@@ -4,12 +4,12 @@ use Prim.Native.Nat.{ℕ, suc, _-_}
 use mathlib.Core.Path.{_≡_}
 use lib.ListN.{getD}
 use Rattle.telegram.specs.declared.Telegram.{Telegram}
-use Rattle.line.specs.Line.{OneBalise, Proper}
-use Rattle.line.specs.Forty.{EqualBit}
+use Rattle.balise_line.specs.Line.{OneBalise, Proper}
+use Rattle.balise_line.specs.Forty.{EqualBit}
 use Rattle.contact.specs.Contacts.{Contacts, contact}
 use Rattle.contact.specs.declared.Search.{Search}
 use Rattle.contact.specs.declared.Judged.{Judged}
-use Rattle.heard.specs.Calls.{Listened, JudgeContact}
+use Rattle.contact_laws.specs.Calls.{Listened, JudgeContact}
 use Rattle.noise_laws.specs.Pass.{NoisyPass}
 use Rattle.noise_laws.specs.Reading.{allowed}
 use Rattle.noise_laws.specs.Lines.{firstLine, secondLine, thirdLine, fourthLine, fifthLine, sixthLine, seventhLine, eighthLine, zeroesLine, noisyLine, sevenLine, eightLine}

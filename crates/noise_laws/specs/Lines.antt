@@ -3,7 +3,7 @@
 use Prim.Native.Nat.{ℕ}
 use mathlib.Core.List.{List, [], _∷_}
 use Rattle.telegram.specs.declared.Telegram.{Telegram}
-use Rattle.line.specs.Line.{OneBalise}
+use Rattle.balise_line.specs.Line.{OneBalise}
 
 -- Equal bit first sent. 00 and 7F hex: 3 0 0 is read as 8 0 0.
 abbrev pub firstLine : OneBalise

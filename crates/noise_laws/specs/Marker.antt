@@ -11,7 +11,7 @@ use Rattle.telegram.specs.Sync.{isGood}
 use Rattle.telegram.specs.declared.Telegram.{Telegram}
 use Rattle.contact.specs.Contacts.{Contacts, contact, quiet, refused}
 use Rattle.contact.specs.declared.Judged.{Judged}
-use Rattle.heard.specs.Calls.{Listened, JudgeContact}
+use Rattle.contact_laws.specs.Calls.{Listened, JudgeContact}
 use Rattle.noise_laws.specs.Pass.{isOver, InForty}
 
 -- The bit that the line carries at bit i of the buffer, before any noise: over the marker a zero, elsewhere a one.

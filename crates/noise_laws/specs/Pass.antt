@@ -8,8 +8,8 @@ use mathlib.Core.List.{List}
 use lib.Dec.{leb, ltb}
 use Rattle.words.specs.Answer.{pick}
 use Rattle.telegram.specs.Stretch.{bitAt, inside}
-use Rattle.line.specs.Line.{OneBalise, sentBit, lineBit, unequal, sum}
-use Rattle.heard.specs.Pass.{Pass}
+use Rattle.balise_line.specs.Line.{OneBalise, sentBit, lineBit, unequal, sum}
+use Rattle.contact_laws.specs.Pass.{Pass}
 
 -- Whether bit i of the buffer is one of the n bits from bit `start` on.
 unfoldable pub isOver : ℕ → ℕ → ℕ → Bool

@@ -8,12 +8,12 @@ use lib.ListN.{length, getD}
 use Rattle.words.specs.Answer.{gives}
 use Rattle.telegram.specs.Place.{wordsAt, places}
 use Rattle.telegram.specs.declared.Telegram.{Telegram}
-use Rattle.line.specs.Line.{OneBalise, Proper}
-use Rattle.line.specs.Forty.{EqualBit}
+use Rattle.balise_line.specs.Line.{OneBalise, Proper}
+use Rattle.balise_line.specs.Forty.{EqualBit}
 use Rattle.contact.specs.Contacts.{Contacts, contact, quiet, refused}
 use Rattle.contact.specs.Judge.{allAlike, firstPlace}
 use Rattle.contact.specs.declared.Judged.{Judged}
-use Rattle.heard.specs.Calls.{Listened, JudgeContact}
+use Rattle.contact_laws.specs.Calls.{Listened, JudgeContact}
 use Rattle.noise_laws.specs.Pass.{NoisyPass}
 
 -- The fewest places that make a reading, if all are alike: "one place alone never makes a reading" (document 01).

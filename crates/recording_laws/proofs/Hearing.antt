@@ -14,7 +14,7 @@ use Rattle.contact.specs.Contacts.{Contacts, refused, outside, contacts, contac
 use Rattle.contact.specs.Judge.{Contact, judge}
 use Rattle.contact.specs.Says.{saysJudged}
 use Rattle.contact.specs.declared.Search.{Search}
-use Rattle.heard.specs.Calls.{Listened}
+use Rattle.contact_laws.specs.Calls.{Listened}
 use Rattle.contact.proofs.Calls.{called-from-begin}
 use Rattle.antenna.specs.declared.Ear.{Ear}
 use Rattle.antenna.specs.Hearing as hearing

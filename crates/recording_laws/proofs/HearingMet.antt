@@ -22,7 +22,7 @@ use Rattle.contact.specs.declared.Begun.{Begun}
 use Rattle.contact.specs.declared.Next.{Next}
 use Rattle.contact.specs.declared.Judged.{Judged}
 use Rattle.contact.proofs.Law.{further, ends as at-the-end}
-use Rattle.heard.specs.Calls.{Listened, JudgeContact}
+use Rattle.contact_laws.specs.Calls.{Listened, JudgeContact}
 use Rattle.antenna.specs.declared.Places.{Places}
 use Rattle.antenna.specs.declared.Stand.{Stand}
 use Rattle.antenna.specs.declared.Ear.{Ear}

@@ -10,19 +10,19 @@ use Rattle.words.specs.Answer.{Outcome, gives, refuses, then, pick}
 use Rattle.words.proofs.Never.{cannot-be}
 use Rattle.telegram.specs.Sync.{isGood}
 use Rattle.telegram.specs.declared.Telegram.{Telegram}
-use Rattle.line.specs.Line.{OneBalise, Proper}
+use Rattle.balise_line.specs.Line.{OneBalise, Proper}
 use Rattle.settings.specs.declared.Store.{Store}
 use Rattle.contact.specs.Contacts.{Contacts, contact, quiet, refused}
 use Rattle.contact.specs.Judge.{Contact, judge}
 use Rattle.contact.specs.Says.{saysJudged}
 use Rattle.contact.specs.declared.Judged.{Judged}
 use Rattle.contact.specs.declared.Search.{Search}
-use Rattle.writer.specs.Words.{spell}
-use Rattle.heard.specs.Calls.{Listened, JudgeContact}
-use Rattle.heard.specs.Pass.{between, cutBits}
-use Rattle.heard.specs.Heard.{enough, OverIt, IsRead}
-use Rattle.heard.specs.Row.{Thing, balise, marker, Long, Row, MarkersOwn, AsPassed}
-use Rattle.heard.proofs.Row.{row-heard}
+use Rattle.balise_writer.specs.Words.{spell}
+use Rattle.contact_laws.specs.Calls.{Listened, JudgeContact}
+use Rattle.contact_laws.specs.Pass.{between, cutBits}
+use Rattle.contact_laws.specs.Heard.{enough, OverIt, IsRead}
+use Rattle.contact_laws.specs.Row.{Thing, balise, marker, Long, Row, MarkersOwn, AsPassed}
+use Rattle.contact_laws.proofs.Row.{row-heard}
 use Rattle.antenna.specs.declared.Stand.{Stand}
 use Rattle.antenna.specs.Line.{Told, told, judgedAll, cut, isInside}
 use Rattle.recorder.specs.Record.{telegramOf, contentOf, bytesOf, blank, atOdometer, recordOf}

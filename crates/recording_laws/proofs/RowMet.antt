@@ -16,7 +16,7 @@ use Rattle.telegram.specs.Sync.{differing, isGood, goodPair}
 use Rattle.telegram.specs.Telegram.{shortWord, longWord, telegram}
 use Rattle.telegram.specs.Place.{areSyncs, wordsAt, isPlace}
 use Rattle.telegram.specs.declared.Telegram.{Telegram}
-use Rattle.line.specs.Line.{OneBalise, Proper, sentBit, lineBit}
+use Rattle.balise_line.specs.Line.{OneBalise, Proper, sentBit, lineBit}
 use Rattle.settings.specs.declared.Store.{Store}
 use Rattle.settings.specs.declared.Held.{Held}
 use Rattle.settings.specs.Versions.{settingsOf, follows}
@@ -24,11 +24,11 @@ use Rattle.settings.specs.Store as stores
 use Rattle.settings.specs.Store.{noStore, versionsOf, opened, begin, allFollow, inOrder}
 use Rattle.settings.specs.At as at
 use Rattle.settings.specs.At.{heldFrom, asked, hold, heldOr}
-use Rattle.heard.specs.Zeroes.{zeroesSent}
-use Rattle.heard.specs.Pass.{between}
-use Rattle.heard.specs.Row.{Thing, balise, marker, Long, Row}
-use Rattle.heard.proofs.Either.{audible-computed, fairAt, no-false-computed}
-use Rattle.heard.proofs.Computed.{ones-computed, zeroes-computed, clean-computed}
+use Rattle.contact_laws.specs.Zeroes.{zeroesSent}
+use Rattle.contact_laws.specs.Pass.{between}
+use Rattle.contact_laws.specs.Row.{Thing, balise, marker, Long, Row}
+use Rattle.contact_laws.proofs.Either.{audible-computed, fairAt, no-false-computed}
+use Rattle.contact_laws.proofs.Computed.{ones-computed, zeroes-computed, clean-computed}
 use Rattle.recording.specs.Frame.{lineOf}
 use Rattle.recording.specs.Recording.{noneHeld, heldAt}
 use Rattle.recording.specs.Contacts.{inForce, sIn, tIn, bitsOf}

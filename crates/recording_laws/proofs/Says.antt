@@ -23,7 +23,7 @@ use Rattle.contact.specs.Under.{judgeUnder}
 use Rattle.contact.specs.Says.{saysJudged, saysJudgedUnder}
 use Rattle.contact.specs.declared.Judged.{Judged}
 use Rattle.contact.specs.declared.JudgedUnder.{JudgedUnder}
-use Rattle.heard.specs.Calls.{Listened, JudgeContact}
+use Rattle.contact_laws.specs.Calls.{Listened, JudgeContact}
 use Rattle.antenna.specs.declared.Stand.{Stand}
 use Rattle.antenna.specs.Hearing as hearing
 use Rattle.antenna.specs.Line.{Told, told, heard, after, judgedAll, cut, isInside}
@@ -38,8 +38,8 @@ use Rattle.ride.specs.declared.Ride.{Ride}
 use Rattle.ride.specs.declared.Passed.{Passed}
 use Rattle.ride.specs.declared.Checked.{Checked}
 use Rattle.ride.proofs.Determined.{checkedOf, checked-back}
-use Rattle.way.specs.Same.{RecordOf, CheckRecord, Same}
-use Rattle.way.proofs.Same.{says-the-same}
+use Rattle.chain_laws.specs.Same.{RecordOf, CheckRecord, Same}
+use Rattle.chain_laws.proofs.Same.{says-the-same}
 use Rattle.recording.specs.Recording.{heldAt, noneHeld, recorded}
 use Rattle.recording.specs.Kept.{orUnreadable, recordAt}
 use Rattle.recording.specs.Rising as rising

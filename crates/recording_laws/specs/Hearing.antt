@@ -13,7 +13,7 @@ use Rattle.contact.specs.Contacts.{Contacts, contact, quiet, refused, outside, 
 use Rattle.contact.specs.Says.{saysJudged}
 use Rattle.contact.specs.declared.Search.{Search}
 use Rattle.contact.specs.declared.Judged.{Judged}
-use Rattle.heard.specs.Calls.{Listened, JudgeContact}
+use Rattle.contact_laws.specs.Calls.{Listened, JudgeContact}
 use Rattle.antenna.specs.declared.Ear.{Ear}
 use Rattle.antenna.specs.declared.Until.{Until}
 use Rattle.antenna.specs.Line.{Told, told, placed, judgedAll, cut, isInside}

@@ -1,16 +1,16 @@
--- Balises and markers passed clean, one after the other (crates/heard/specs/Row.antt), give exactly their records, in order, at their places.
+-- Balises and markers passed clean, one after the other (crates/contact_laws/specs/Row.antt), give exactly their records, in order, at their places.
 -- Assumes nothing.
 use Prim.Native.Nat.{ℕ, _+_, _/_, _≤_, _<_}
 use mathlib.Core.Path.{_≡_}
 use mathlib.Core.Bool.{true}
 use mathlib.Core.List.{List, [], _∷_}
 use Rattle.telegram.specs.Sync.{isGood}
-use Rattle.line.specs.Line.{OneBalise}
+use Rattle.balise_line.specs.Line.{OneBalise}
 use Rattle.settings.specs.declared.Store.{Store}
 use Rattle.contact.specs.Contacts.{Contacts}
-use Rattle.heard.specs.Calls.{Listened}
-use Rattle.heard.specs.Pass.{between, cutBits}
-use Rattle.heard.specs.Row.{Thing, balise, marker, Row}
+use Rattle.contact_laws.specs.Calls.{Listened}
+use Rattle.contact_laws.specs.Pass.{between, cutBits}
+use Rattle.contact_laws.specs.Row.{Thing, balise, marker, Row}
 use Rattle.antenna.specs.Line.{Told}
 use Rattle.recorder.specs.Record.{bytesOf, blank}
 use Rattle.recording.specs.Recording.{recorded}

@@ -12,13 +12,13 @@ use Rattle.contact.specs.Contacts.{Contacts, contact, quiet, refused}
 use Rattle.contact.specs.Says.{saysJudged, saysJudgedUnder}
 use Rattle.contact.specs.declared.Judged.{Judged}
 use Rattle.contact.specs.declared.JudgedUnder.{JudgedUnder}
-use Rattle.heard.specs.Calls.{Listened, JudgeContact}
+use Rattle.contact_laws.specs.Calls.{Listened, JudgeContact}
 use Rattle.group.specs.declared.Heard.{Heard}
 use Rattle.ride.specs.Record.{odometerOf, passedOf}
 use Rattle.ride.specs.declared.Ride.{Ride}
 use Rattle.ride.specs.declared.Passed.{Passed}
 use Rattle.ride.specs.declared.Checked.{Checked}
-use Rattle.way.specs.Same.{CheckRecord, Same}
+use Rattle.chain_laws.specs.Same.{CheckRecord, Same}
 use Rattle.recording.specs.Recording.{recorded}
 use Rattle.recording.specs.Contacts.{inForce, sIn, tIn, withoutPositions, bitsOf}
 use Rattle.recording.specs.Document.{wholeLine}
@@ -31,7 +31,7 @@ AllAccepted last (r ∷ rs) =
     ((ride : Ride) (k : Checked) → ride .odometer ≡ last → CheckRecord ride r k → k ≡ Checked.Accepted (odometerOf r) (passedOf r))
     × (last ≤ odometerOf r) × AllAccepted (odometerOf r) rs
 
--- What the record of a contact says, where j was judged of it: the balise judged (`Same` of crates/way/specs/Same.antt); and of a contact refused with 5, or judged
+-- What the record of a contact says, where j was judged of it: the balise judged (`Same` of crates/chain_laws/specs/Same.antt); and of a contact refused with 5, or judged
 -- without a good pair (4), that it was unreadable, so that no contact is lost without a word.
 abbrev pub SaysIt : List ℕ → Judged → Heard → Type 0
 SaysIt b (Judged.Read m first count) h = Same b (Judged.Read m first count) h

@@ -6,7 +6,7 @@ use mathlib.Core.List.{List, [], _∷_}
 use lib.ListN.{getD}
 use Rattle.words.specs.Answer.{Outcome, gives, refuses, pick}
 use Rattle.group.specs.declared.Group.{Group}
-use Rattle.walk.specs.declared.Kind.{Kind}
+use Rattle.group_rows.specs.declared.Kind.{Kind}
 use Rattle.group.specs.declared.Number.{Number}
 use Rattle.group.specs.declared.Told.{Told}
 use Rattle.group.specs.declared.Content.{Content}

@@ -25,8 +25,8 @@ use group::Group;
 use group::GroupJudged;
 use group::Message;
 use group::Number;
-use walk::Direction;
-use walk::Kind;
+use group_rows::Direction;
+use group_rows::Kind;
 
 // What closing leaves: its lines, the group that closed, the group that is there then, and what is known then.
 pub struct Closed {

@@ -23,6 +23,8 @@ use group::Group;
 use group::Heard;
 use group::Number;
 use group::Told;
+use group_rows::Direction;
+use group_rows::Kind;
 pub use records::check_record;
 use settings::Asked;
 use settings::Bad;
@@ -33,8 +35,6 @@ pub use trace::Reply;
 pub use trace::Treated;
 pub use trace::odometer_at;
 pub use trace::treat_at;
-use walk::Direction;
-use walk::Kind;
 
 // Linking: not set, or set with a distance in dm from a place.
 pub enum Linking {

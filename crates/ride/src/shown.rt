@@ -6,7 +6,7 @@ use crate::Seen;
 use crate::marks::mark_from;
 use group::Message;
 use group::Number;
-use walk::Kind;
+use group_rows::Kind;
 
 // The number on the line of a group of this kind: signals alone show theirs.
 fn number_on(kind: Kind, number: Number) -> Number

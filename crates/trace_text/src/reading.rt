@@ -2,7 +2,7 @@
 ghost use mathlib.Core.Path.{_≡_};
 ghost use Rattle.trace_text.specs.Said.{figureOf, named, numbered, figures, isRaw, raw, whatOf};
 use crate::What;
-use arguments::Byte;
+use figures::Byte;
 use lines::Line;
 use lines::Name;
 use lines::Number;

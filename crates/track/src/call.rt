@@ -1,6 +1,6 @@
 // What the arguments ask for.
-use arguments::Byte;
-use arguments::Figure;
+use figures::Byte;
+use figures::Figure;
 
 // A sync pair, and how many frames there are to each decimetre; the text's file is argument 1.
 pub struct Call {
@@ -28,7 +28,7 @@ fn word(k: usize) -> Byte {
     if os::errno() != 0 {
         return Byte::Odd;
     }
-    arguments::hex(&text[..length])
+    figures::hex(&text[..length])
 }
 
 // The frames to a decimetre: argument 4, 1 to 1,000; 1 if it is not given.
@@ -41,7 +41,7 @@ fn rate() -> Frames {
     if os::errno() != 0 {
         return Frames::Odd;
     }
-    let Figure::Number(n) = arguments::decimal(&text[..length], 1000) else {
+    let Figure::Number(n) = figures::decimal(&text[..length], 1000) else {
         return Frames::Odd;
     };
     if n > 1000 {

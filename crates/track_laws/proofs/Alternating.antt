@@ -12,17 +12,17 @@ use Rattle.words.specs.Answer.{Outcome, gives, refuses, pick}
 use Rattle.telegram.specs.Stretch.{bitAt, bitsAt, inside}
 use Rattle.telegram.specs.Sync.{differing, isGood}
 use Rattle.telegram.specs.Place.{isPlace, places}
-use Rattle.line.specs.Line.{unequal, sum}
-use Rattle.line.proofs.Bits.{differing-bits}
-use Rattle.line.proofs.Places.{place-parts}
+use Rattle.balise_line.specs.Line.{unequal, sum}
+use Rattle.balise_line.proofs.Bits.{differing-bits}
+use Rattle.balise_line.proofs.Places.{place-parts}
 use Rattle.contact.specs.Contacts.{outside, contact, contacts}
 use Rattle.contact.specs.Judge.{Contact, marker, isMarker, judge}
 use Rattle.contact.proofs.MarkerRule.{Marker, marker-is}
-use Rattle.heard.specs.Zeroes.{zeroesIn}
-use Rattle.heard.proofs.Walk.{Still}
-use Rattle.heard.proofs.Passes.{Passed, passes}
-use Rattle.heard.proofs.Few.{one-listed, few-judged}
-use Rattle.heard.proofs.Sixty.{syncs-differ}
+use Rattle.contact_laws.specs.Zeroes.{zeroesIn}
+use Rattle.contact_laws.proofs.Walk.{Still}
+use Rattle.contact_laws.proofs.Passes.{Passed, passes}
+use Rattle.contact_laws.proofs.Few.{one-listed, few-judged}
+use Rattle.contact_laws.proofs.Sixty.{syncs-differ}
 
 -- Bits that are alike do not differ; where the second is a one they differ if the first is none.
 alike : (x y v : ℕ) → x ≡ y → unequal x y ≤ 1 - v

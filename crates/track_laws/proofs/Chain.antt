@@ -15,9 +15,9 @@ use Rattle.telegram.specs.Stretch.{bitAt}
 use Rattle.settings.specs.declared.Store.{Store}
 use Rattle.contact.specs.Contacts.{outside, Contacts, contact, quiet, contacts}
 use Rattle.contact.specs.Judge.{Contact, judge}
-use Rattle.heard.specs.Pass.{Ones}
-use Rattle.heard.proofs.Walk.{Still}
-use Rattle.heard.proofs.Over.{ones-last}
+use Rattle.contact_laws.specs.Pass.{Ones}
+use Rattle.contact_laws.proofs.Walk.{Still}
+use Rattle.contact_laws.proofs.Over.{ones-last}
 use Rattle.antenna.specs.Line.{Told, told, judgedAll, cut}
 use Rattle.recorder.specs.Record.{bytesOf, blank}
 use Rattle.recording.specs.Kept.{recordAt}

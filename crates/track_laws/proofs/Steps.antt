@@ -12,29 +12,29 @@ use Rattle.words.specs.Answer.{Outcome, gives, refuses, pick}
 use Rattle.telegram.specs.Stretch.{bitAt, inside}
 use Rattle.telegram.specs.Sync.{isGood}
 use Rattle.telegram.specs.declared.Telegram.{Telegram}
-use Rattle.line.specs.Line.{OneBalise, Proper, Clean, sentBit, receivedBit, inStretch, unequal, flip}
-use Rattle.line.proofs.Sums.{unequal-same}
-use Rattle.line.proofs.Places.{and-parts, and-true}
+use Rattle.balise_line.specs.Line.{OneBalise, Proper, Clean, sentBit, receivedBit, inStretch, unequal, flip}
+use Rattle.balise_line.proofs.Sums.{unequal-same}
+use Rattle.balise_line.proofs.Places.{and-parts, and-true}
 use Rattle.contact.specs.Contacts.{outside, Contacts, contact, contacts}
 use Rattle.contact.specs.Judge.{Contact, read, marker, judge}
 use Rattle.contact.specs.declared.Search.{Search}
 use Rattle.contact.specs.declared.Judged.{Judged}
-use Rattle.heard.specs.Zeroes.{zeroesSent, Audible}
-use Rattle.heard.specs.Pass.{Ones, between, Pass, cutBits}
-use Rattle.heard.specs.Heard.{OverIt, NoFalse}
-use Rattle.heard.proofs.Walk.{Still}
-use Rattle.heard.proofs.Over.{ones-on, over-it}
-use Rattle.heard.proofs.Within.{judged-read}
-use Rattle.heard.proofs.Fair.{no-false}
-use Rattle.heard.proofs.Marker.{marker-contact}
-use Rattle.heard.proofs.Sixty.{judged-sixty}
+use Rattle.contact_laws.specs.Zeroes.{zeroesSent, Audible}
+use Rattle.contact_laws.specs.Pass.{Ones, between, Pass, cutBits}
+use Rattle.contact_laws.specs.Heard.{OverIt, NoFalse}
+use Rattle.contact_laws.proofs.Walk.{Still}
+use Rattle.contact_laws.proofs.Over.{ones-on, over-it}
+use Rattle.contact_laws.proofs.Within.{judged-read}
+use Rattle.contact_laws.proofs.Fair.{no-false}
+use Rattle.contact_laws.proofs.Marker.{marker-contact}
+use Rattle.contact_laws.proofs.Sixty.{judged-sixty}
 use Rattle.recorder.specs.Record.{contentOf, bytesOf, blank, atOdometer, recordOf}
 use Rattle.recorder.proofs.Received.{spelt-back}
 use Rattle.recording.specs.Kept.{orUnreadable, recordAt}
 use Rattle.track_lead.specs.declared.Thing.{Thing}
 use Rattle.track_lead.specs.Way.{highest}
 use Rattle.track_lead.specs.Sent.{twelve, sends}
-use Rattle.writer.specs.Write.{telegrams}
+use Rattle.balise_writer.specs.Write.{telegrams}
 use Rattle.track_laws.specs.Sure.{Pair, passedAt, Heard}
 use Rattle.track_laws.proofs.Stream.{bitOr, ones-after, zeroes-in-it, turns-in-it, telegram-bits}
 use Rattle.track_laws.proofs.Alternating as alternating

@@ -7,10 +7,10 @@ use native.Mathlib.Omega.{arith}
 use lib.ListN.{length, take, drop, getD, replicate, getD-replicate, List·getD-eq-default}
 use lib.Seq.{getD-drop, getD-take}
 use Rattle.telegram.specs.Stretch.{bitAt}
-use Rattle.line.specs.Line.{OneBalise, sentBit}
-use Rattle.writer.specs.Words.{Words}
-use Rattle.writer.specs.Write.{telegrams}
-use Rattle.writer.proofs.Bytes.{telegrams-byte, telegrams-length}
+use Rattle.balise_line.specs.Line.{OneBalise, sentBit}
+use Rattle.balise_writer.specs.Words.{Words}
+use Rattle.balise_writer.specs.Write.{telegrams}
+use Rattle.balise_writer.proofs.Bytes.{telegrams-byte, telegrams-length}
 use Rattle.track_lead.specs.declared.Thing.{Thing}
 use Rattle.track_lead.specs.Sent.{twelve, sends, lineIn}
 

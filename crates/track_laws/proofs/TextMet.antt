@@ -12,15 +12,15 @@ use Rattle.words.specs.Code.{other, exchanged, readWord}
 use Rattle.telegram.specs.Sync.{differing, isGood, goodPair}
 use Rattle.telegram.specs.Telegram.{shortWord, longWord, telegram}
 use Rattle.telegram.specs.declared.Telegram.{Telegram}
-use Rattle.line.specs.Line.{sentBit}
+use Rattle.balise_line.specs.Line.{sentBit}
 use Rattle.settings.specs.declared.Store.{Store}
 use Rattle.settings.specs.Versions.{kept, settingsOf}
 use Rattle.settings.specs.declared.Held.{Held}
 use Rattle.settings.specs.Store as stores
 use Rattle.settings.specs.At as at
-use Rattle.heard.specs.Zeroes.{zeroesSent}
-use Rattle.heard.specs.Heard.{endsInFourOnes}
-use Rattle.heard.proofs.Either.{audible-computed}
+use Rattle.contact_laws.specs.Zeroes.{zeroesSent}
+use Rattle.contact_laws.specs.Heard.{endsInFourOnes}
+use Rattle.contact_laws.proofs.Either.{audible-computed}
 use Rattle.recording.specs.Recording.{noneHeld, heldAt, recorded}
 use Rattle.recording.specs.Contacts.{withoutPositions}
 use Rattle.track_lead.specs.declared.Thing.{Thing}

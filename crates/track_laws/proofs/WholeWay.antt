@@ -13,8 +13,8 @@ use Rattle.words.proofs.Never.{cannot-be}
 use Rattle.settings.specs.declared.Store.{Store}
 use Rattle.contact.specs.History.{sixteenOnes}
 use Rattle.contact.specs.Contacts.{outside, contacts}
-use Rattle.heard.proofs.Walk.{Still}
-use Rattle.heard.proofs.Over.{ones-still}
+use Rattle.contact_laws.proofs.Walk.{Still}
+use Rattle.contact_laws.proofs.Over.{ones-still}
 use Rattle.antenna.specs.declared.Stand.{Stand}
 use Rattle.antenna.specs.Hearing as hearing
 use Rattle.antenna.specs.Line.{Told, heard, after, judgedAll, cut, isInside}
@@ -35,7 +35,7 @@ use Rattle.track_lead.proofs.TheLead.{Reaches, reaches}
 use Rattle.track_laws.specs.Sure.{Pair, Heard, SureThing, Sure, withItem, recordsOf}
 use Rattle.track_laws.specs.WholeWay.{Throughout, WholeWay}
 use Rattle.track_laws.proofs.Frames.{frames-long}
-use Rattle.writer.specs.Write.{telegrams}
+use Rattle.balise_writer.specs.Write.{telegrams}
 use Rattle.track_laws.proofs.Stream.{bitOr, ones-after}
 use Rattle.track_laws.proofs.Steps.{Step, balise-step, marker-step, unreadable-step}
 use Rattle.track_laws.proofs.Chain.{SentFrom, weaker, apart, thing-then, Here, Done, Fit, fits, nothing-more, with-step, its-bits, ones-before, stands-then, reaches-next}

@@ -8,9 +8,9 @@ use Rattle.words.specs.Answer.{gives}
 use Rattle.telegram.specs.Sync.{isGood}
 use Rattle.telegram.specs.Telegram.{telegram}
 use Rattle.telegram.specs.declared.Telegram.{Telegram}
-use Rattle.line.specs.Line.{OneBalise}
-use Rattle.heard.specs.Zeroes.{Audible}
-use Rattle.heard.specs.Heard.{endsInFourOnes}
+use Rattle.balise_line.specs.Line.{OneBalise}
+use Rattle.contact_laws.specs.Zeroes.{Audible}
+use Rattle.contact_laws.specs.Heard.{endsInFourOnes}
 use Rattle.recorder.specs.Record.{bytesOf, blank}
 use Rattle.track_lead.specs.declared.Thing.{Thing}
 use Rattle.track_lead.specs.Way.{highest}

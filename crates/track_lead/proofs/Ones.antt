@@ -7,7 +7,7 @@ use native.Mathlib.Omega.{arith}
 use native.Mathlib.Numerals.{add-one}
 use lib.ListN.{length, take, drop, getD, drop-of-length-le, length-take, length-append}
 use lib.Seq.{drop-cons}
-use Rattle.writer.specs.Write.{telegrams}
+use Rattle.balise_writer.specs.Write.{telegrams}
 use Rattle.track_lead.specs.declared.Thing.{Thing}
 use Rattle.track_lead.specs.Sent.{twelve, sends, lineIn}
 

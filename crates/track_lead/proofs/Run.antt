@@ -10,7 +10,7 @@ use lib.Dec.{ltb}
 use lib.ListN.{length}
 use borrow.Author.Tests.{lt-ltb, le-ltb, ltb-true, ltb-false}
 use Rattle.words.specs.Answer.{pick}
-use Rattle.writer.specs.Write.{telegrams}
+use Rattle.balise_writer.specs.Write.{telegrams}
 use Rattle.track_lead.specs.declared.Thing.{Thing}
 use Rattle.track_lead.specs.declared.Feed.{Feed}
 use Rattle.track_lead.specs.Sent.{twelve, sends, lineIn}

@@ -4,7 +4,7 @@
 use Prim.Native.Nat.{ℕ, _*_}
 use mathlib.Core.List.{List, [], _++_}
 use lib.ListN.{take, drop, replicate}
-use Rattle.writer.specs.Write.{telegrams}
+use Rattle.balise_writer.specs.Write.{telegrams}
 use Rattle.track_lead.specs.declared.Thing.{Thing}
 
 -- The twelve bytes of line of a frame that are all the same.

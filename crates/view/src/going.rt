@@ -1,8 +1,8 @@
 // Going as a command asks, and the lines of the records that are passed.
 ghost use Prim.Native.Nat.{_+_, _/_, _<_, _≤_};
 ghost use lib.ListN.{length};
-use listing::Done;
 use ride::Ride;
+use ride_text::Done;
 use settings::Store;
 use viewer::Came;
 use viewer::Stand;
@@ -30,7 +30,7 @@ fn end_of(number: usize, to: usize) -> usize
 
 // Writes the lines of some records, the first with this number, in this state; the state after them.
 fn write_block(ride: Ride, store: Store, number: u64, records: &[u8], out: &mut [u8]) -> Ride {
-    let listed = listing::list(ride, store, number, records, out);
+    let listed = ride_text::list(ride, store, number, records, out);
     let done = listed.done;
     let after = listed.ride;
     let Done::Took { records: _, bytes } = done else {

@@ -3,15 +3,15 @@ use console::Ended;
 use libc::STDERR_FILENO;
 use libc::STDIN_FILENO;
 use libc::STDOUT_FILENO;
-use listing::Put;
 use ride::Line;
+use ride_text::Put;
 use viewer::How;
 use viewer::Stand;
 
 // `trace refused 16`, alone.
 pub fn refuse_trace() {
     let mut line = [0u8; 64];
-    let Put::Next(n) = listing::put_line(Line::Trace(16), &mut line, 0) else {
+    let Put::Next(n) = ride_text::put_line(Line::Trace(16), &mut line, 0) else {
         return;
     };
     if console::put(b"view", &line, n) {
@@ -40,7 +40,7 @@ pub fn tell(how: How) {
 pub fn show(stand: Stand, count: usize) -> bool {
     let mut lines = [0u8; 512];
     let ride = stand.ride;
-    let n = shown::put_state(stand.number, count, stand.kept, ride, &mut lines, 0);
+    let n = viewer_text::put_state(stand.number, count, stand.kept, ride, &mut lines, 0);
     console::put(b"view", &lines, n)
 }
 

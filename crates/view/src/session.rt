@@ -6,10 +6,10 @@ use crate::going::to_place;
 use crate::input;
 use crate::out;
 use settings::Store;
-use shown::Command;
 use viewer::Begun;
 use viewer::Came;
 use viewer::Stand;
+use viewer_text::Command;
 
 // Where a move ended, after the refusal that stopped it, if there was one.
 fn tell(came: Came) -> Stand {
@@ -49,7 +49,7 @@ fn obey_all(trace: &[u8], first: Stand) {
         if got.is_end {
             return;
         }
-        let command = shown::read(&line[..count]);
+        let command = viewer_text::read(&line[..count]);
         if is_quit(command) {
             return;
         }

@@ -79,7 +79,7 @@ pub record ManyAtOnce : Type 0 where
   -- what is shown after so many forwards or backs at once is what so many single calls come to, refused ones too
   pub forward-often : (n : ℕ) (v w : Viewer) → Lead (often n forth) v w → forwards n (now (v .trace)) (v .stand) .stand ≡ w .stand
   pub back-often : (n : ℕ) (v w : Viewer) → Lead (often n back) v w → backs n (v .stand) .stand ≡ w .stand
-  -- the records that are passed give the lines of a ride over them from the state before them, which is what `listing` writes; and the viewer
+  -- the records that are passed give the lines of a ride over them from the state before them, which is what `ride_text` writes; and the viewer
   -- has that ride's state
   pub lines : (n : ℕ) (trace : List ℕ) (s : Stand) → judged (s .settings) ≡ gives kept → s .number + n ≤ length trace / 8
       → _≡_ {A = Ridden} (record { lines = linesPassed n trace s; ride = forwards n trace s .stand .ride })

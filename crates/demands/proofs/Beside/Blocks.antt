@@ -18,10 +18,10 @@ use Rattle.ride.specs.declared.Line.{Line}
 use Rattle.ride.specs.declared.Ride.{Ride}
 use Rattle.ride.proofs.Cutting.{records-length, take-records, front-records, cut-records}
 use Rattle.ride.proofs.Sections.{ride-on, ride-joined}
-use Rattle.listing.specs.Text.{text}
-use Rattle.listing.specs.List.{textOf}
-use Rattle.listing.specs.declared.Listed.{Listed}
-use Rattle.listing.proofs.Texts.{text-join}
+use Rattle.ride_text.specs.Text.{text}
+use Rattle.ride_text.specs.List.{textOf}
+use Rattle.ride_text.specs.declared.Listed.{Listed}
+use Rattle.ride_text.proofs.Texts.{text-join}
 use Rattle.demands.specs.Table.{badLength}
 use Rattle.demands.specs.Contracts.{Fresh, EndOf}
 use Rattle.demands.specs.Output.{recordsIn, Takes}

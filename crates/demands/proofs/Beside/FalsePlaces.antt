@@ -23,13 +23,13 @@ use Rattle.telegram.specs.Says.{saysFound}
 use Rattle.telegram.specs.declared.Telegram.{Telegram}
 use Rattle.telegram.specs.declared.Found.{Found}
 use Rattle.telegram.proofs.Places.{one-offset}
-use Rattle.line.specs.Line.{OneBalise, Proper, sentBit, receivedBit, inStretch, unequal, flip, sum, flips, lineBit, sentAt, flipsAt}
-use Rattle.line.specs.Forty.{equalBits, EqualBit}
+use Rattle.balise_line.specs.Line.{OneBalise, Proper, sentBit, receivedBit, inStretch, unequal, flip, sum, flips, lineBit, sentAt, flipsAt}
+use Rattle.balise_line.specs.Forty.{equalBits, EqualBit}
 use Rattle.demands.specs.Contracts.{Find}
 use Rattle.demands.specs.Calls.{first}
 use Rattle.demands.specs.SyncNoise.{FalsePlace, enough}
 use Rattle.demands.proofs.Witness.CallsMet.{lent}
-use Rattle.line.proofs.EqualBit.{isOnly, only-this}
+use Rattle.balise_line.proofs.EqualBit.{isOnly, only-this}
 
 -- The balise sends zeroes between the sync words s and t. Of the stretch, forty bits that begin at the line bit `phase`, the bytes s, 0, 0, 0 and t are
 -- received.

@@ -6,7 +6,7 @@ use denote.Ref.{now}
 use Rattle.ride.specs.Joining.{allowed}
 use Rattle.ride.specs.Over.{through}
 use Rattle.ride.specs.Says.{saysRan}
-use Rattle.listing.specs.Says.{saysDone}
+use Rattle.ride_text.specs.Says.{saysDone}
 use Rattle.compaction.specs.Says.{saysSize}
 use Rattle.viewer.specs.Viewing.{done}
 use Rattle.viewer.specs.Says.{saysBegun}

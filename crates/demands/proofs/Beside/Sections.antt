@@ -10,10 +10,10 @@ use Rattle.settings.specs.At.{gapAt}
 use Rattle.ride.specs.Step.{end}
 use Rattle.ride.specs.declared.Line.{Line}
 use Rattle.ride.specs.declared.Ride.{Ride}
-use Rattle.listing.specs.Text.{text}
-use Rattle.listing.specs.List.{textOf}
-use Rattle.listing.specs.declared.Listed.{Listed}
-use Rattle.listing.proofs.Texts.{text-one}
+use Rattle.ride_text.specs.Text.{text}
+use Rattle.ride_text.specs.List.{textOf}
+use Rattle.ride_text.specs.declared.Listed.{Listed}
+use Rattle.ride_text.proofs.Texts.{text-one}
 use Rattle.demands.specs.Table.{badLength}
 use Rattle.demands.specs.Contracts.{ListInto}
 use Rattle.demands.specs.Stores.{Good}

@@ -13,12 +13,12 @@ use Rattle.telegram.specs.Says.{saysFound}
 use Rattle.telegram.specs.declared.Found.{Found}
 use Rattle.telegram.proofs.Determined.{foundOf, found-back}
 use Rattle.telegram.proofs.Places.{too-short}
-use Rattle.line.specs.Line.{OneBalise, Proper, unequal, sum, placesOf}
-use Rattle.line.proofs.Sums.{notAt}
-use Rattle.line.proofs.Offsets.{weigh, apart, cost, dear, dearAmong}
-use Rattle.line.proofs.Stretch.{all-sent}
-use Rattle.line.proofs.EqualBit.{one-equal}
-use Rattle.line.proofs.Forty.{forty-few}
+use Rattle.balise_line.specs.Line.{OneBalise, Proper, unequal, sum, placesOf}
+use Rattle.balise_line.proofs.Sums.{notAt}
+use Rattle.balise_line.proofs.Offsets.{weigh, apart, cost, dear, dearAmong}
+use Rattle.balise_line.proofs.Stretch.{all-sent}
+use Rattle.balise_line.proofs.EqualBit.{one-equal}
+use Rattle.balise_line.proofs.Forty.{forty-few}
 use Rattle.demands.specs.SyncNoise.{middle, NothingComes, SyncNoise}
 use Rattle.demands.proofs.Demand3.Handed.{specified}
 use Rattle.demands.proofs.Beside.FalsePlaces.{false-places}

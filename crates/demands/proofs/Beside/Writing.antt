@@ -15,17 +15,17 @@ use Rattle.telegram.specs.declared.Found.{Found}
 use Rattle.contact.specs.Judge.{Contact, allAlike, firstPlace, isMarker, read, marker, judgement, judge}
 use Rattle.contact.specs.Says.{saysJudged}
 use Rattle.contact.specs.declared.Judged.{Judged}
-use Rattle.line.specs.Line.{OneBalise, Proper, placesOf}
-use Rattle.line.proofs.TooFew.{few-flips-few}
-use Rattle.line.proofs.Stretch.{all-sent}
-use Rattle.line.proofs.Clean.{clean-few, true-places}
-use Rattle.writer.specs.Words.{wordsOf}
-use Rattle.writer.specs.Write.{telegrams, write}
-use Rattle.writer.specs.Sender.{sender}
-use Rattle.writer.proofs.Bytes.{telegrams-length}
-use Rattle.writer.proofs.Accepted.{accepted}
-use Rattle.writer.proofs.Heard.{is-clean, places-are}
-use Rattle.writer.proofs.Valid.{is-proper}
+use Rattle.balise_line.specs.Line.{OneBalise, Proper, placesOf}
+use Rattle.balise_line.proofs.TooFew.{few-flips-few}
+use Rattle.balise_line.proofs.Stretch.{all-sent}
+use Rattle.balise_line.proofs.Clean.{clean-few, true-places}
+use Rattle.balise_writer.specs.Words.{wordsOf}
+use Rattle.balise_writer.specs.Write.{telegrams, write}
+use Rattle.balise_writer.specs.Sender.{sender}
+use Rattle.balise_writer.proofs.Bytes.{telegrams-length}
+use Rattle.balise_writer.proofs.Accepted.{accepted}
+use Rattle.balise_writer.proofs.Heard.{is-clean, places-are}
+use Rattle.balise_writer.proofs.Valid.{is-proper}
 use Rattle.demands.specs.Contracts.{JudgeContact}
 use Rattle.demands.specs.Calls.{Comes}
 use Rattle.demands.specs.Writing.{telegramOf, WrittenIsRead}

@@ -3,13 +3,13 @@
 use mathlib.Core.Path.{_≡_, refl}
 use mathlib.Core.List.{List}
 use Rattle.words.specs.Answer.{Outcome, refuses}
-use Rattle.walk.specs.Row.{Fit}
-use Rattle.walk.specs.Rows.{present, opposite, fitIn}
-use Rattle.walk.specs.Fitting.{speedOf, asOr, fitting}
-use Rattle.walk.specs.declared.Direction.{Direction}
-use Rattle.walk.specs.declared.Kind.{Kind}
-use Rattle.walk.specs.declared.Placed.{Placed}
-use Rattle.walk.specs.declared.Picked.{Picked}
+use Rattle.group_rows.specs.Row.{Fit}
+use Rattle.group_rows.specs.Rows.{present, opposite, fitIn}
+use Rattle.group_rows.specs.Fitting.{speedOf, asOr, fitting}
+use Rattle.group_rows.specs.declared.Direction.{Direction}
+use Rattle.group_rows.specs.declared.Kind.{Kind}
+use Rattle.group_rows.specs.declared.Placed.{Placed}
+use Rattle.group_rows.specs.declared.Picked.{Picked}
 use Rattle.group.specs.Balise.{then}
 use Rattle.group.specs.declared.Message.{Message}
 use Rattle.group.specs.Judge.{judgeAs, judgeRead}

@@ -15,8 +15,8 @@ use Rattle.telegram.specs.declared.Word.{Word}
 use Rattle.group.specs.Balise.{partOf, partHeard, readAll}
 use Rattle.group.specs.declared.Balise.{Balise}
 use Rattle.group.specs.declared.Heard.{Heard}
-use Rattle.walk.specs.declared.Part.{Part}
-use Rattle.walk.specs.declared.Placed.{Placed}
+use Rattle.group_rows.specs.declared.Part.{Part}
+use Rattle.group_rows.specs.declared.Placed.{Placed}
 use Rattle.demands.specs.Table.{notCode, fifteen, isNumber, isBad, wordsRefused, isUnread, someUnread}
 use Rattle.demands.proofs.Demand1.Answers.{isRefusal, Only, or-false}
 

@@ -5,29 +5,29 @@ use mathlib.Core.List.{List}
 use Prim.Native.Nat.{ℕ}
 use Rattle.words.specs.Says.{saysShortRead, saysShortWritten, saysLongRead, saysLongWritten}
 use Rattle.telegram.specs.Says.{saysPair, saysReach, saysTelegramRead, saysFound, saysSurveyed}
-use Rattle.writer.specs.Write.{Writing, write}
-use Rattle.writer.specs.Says.{saysAnswer}
+use Rattle.balise_writer.specs.Write.{Writing, write}
+use Rattle.balise_writer.specs.Says.{saysAnswer}
 use Rattle.contact.specs.Says.{saysBegun, saysNext, saysJudged, saysJudgedUnder}
-use Rattle.walk.specs.Fitting.{saysFitted}
+use Rattle.group_rows.specs.Fitting.{saysFitted}
 use Rattle.group.specs.Says.{saysMeasured, saysGroupJudged as saysGroup}
 use Rattle.ride.specs.Says.{saysChecked, saysReport, saysReply, saysWay}
 use Rattle.ride.specs.Step.{Step, step}
 use Rattle.ride.specs.Over.{Run, run}
-use Rattle.listing.specs.Text.{text}
-use Rattle.listing.specs.Put.{Filled, put}
-use Rattle.listing.specs.List.{Listing, list}
-use Rattle.listing.specs.Says.{saysDone}
+use Rattle.ride_text.specs.Text.{text}
+use Rattle.ride_text.specs.Put.{Filled, put}
+use Rattle.ride_text.specs.List.{Listing, list}
+use Rattle.ride_text.specs.Says.{saysDone}
 use Rattle.settings.specs.Says.{saysVerdict, saysAsked}
 use Rattle.settings.proofs.Determined as settings-are
 use Rattle.words.proofs.Told.{told}
 use Rattle.words.proofs.Determined as words-are
 use Rattle.telegram.proofs.Determined as telegram-is
-use Rattle.writer.proofs.Determined as writer-is
+use Rattle.balise_writer.proofs.Determined as writer-is
 use Rattle.contact.proofs.Determined as contact-is
-use Rattle.walk.proofs.Determined as walk-is
+use Rattle.group_rows.proofs.Determined as walk-is
 use Rattle.group.proofs.Determined as group-is
 use Rattle.ride.proofs.Determined as ride-is
-use Rattle.listing.proofs.Determined as listing-is
+use Rattle.ride_text.proofs.Determined as listing-is
 use Rattle.demands.specs.Demand1.{Untouched}
 use Rattle.demands.proofs.Demand1.Rides.{step-untouched, run-untouched}
 use Rattle.demands.proofs.Demand1.Treats.{treat-untouched}

@@ -7,7 +7,7 @@ use Prim.Native.Nat.{ℕ, zero, suc}
 use lib.Dec.{eqb, leb, ltb, leb·zero, leb·suc-zero, leb·suc-suc}
 use lib.ListN.{length}
 use Rattle.words.specs.Answer.{refuses, pick}
-use Rattle.walk.specs.Row.{Found, none, found, Y}
+use Rattle.group_rows.specs.Row.{Found, none, found, Y}
 use Rattle.group.specs.Distance.{Column, columns, inTable, distance, linkDistance}
 use Rattle.demands.specs.Rules.{row, Decided, Given}
 use Rattle.demands.specs.Table.{noLink, noDistance}

@@ -13,9 +13,9 @@ use Rattle.settings.specs.Store.{judged}
 use Rattle.settings.specs.At.{gapAt}
 use Rattle.ride.specs.declared.Ride.{Ride}
 use Rattle.ride.specs.Over.{records}
-use Rattle.listing.specs.declared.Listed.{Listed}
-use Rattle.listing.specs.List.{Listing, unlisted, judgedFirst}
-use Rattle.listing.specs.Says.{saysDone}
+use Rattle.ride_text.specs.declared.Listed.{Listed}
+use Rattle.ride_text.specs.List.{Listing, unlisted, judgedFirst}
+use Rattle.ride_text.specs.Says.{saysDone}
 use Rattle.explained.specs.List.{listOf, listTaken, list}
 use Rattle.demands.specs.Rules.{Decided, Given}
 use Rattle.demands.specs.Stores.{ExplainInto, traceRules}

@@ -7,21 +7,21 @@ use Prim.Native.Nat.{ℕ}
 use lib.Dec.{ltb}
 use Rattle.words.specs.Answer.{Outcome, gives, refuses, pick}
 use Rattle.group.specs.Balise.{balises, then, readAll}
-use Rattle.walk.specs.Row.{Y, Z, Fit, misfit, fit}
-use Rattle.walk.specs.Rows.{present, opposite, fitIn}
+use Rattle.group_rows.specs.Row.{Y, Z, Fit, misfit, fit}
+use Rattle.group_rows.specs.Rows.{present, opposite, fitIn}
 use Rattle.group.specs.Distance.{isPreset, noIncrease}
 use Rattle.group.specs.Speed.{signalSpeed, targetFigure}
 use Rattle.group.specs.declared.Content.{Content}
 use Rattle.group.specs.Numbers.{numberOf}
 use Rattle.group.specs.Judge.{yOf, zOf, B, P, C, distanceOf, signalDistance, contentOf, messageOf, judgeRead, judge}
-use Rattle.walk.specs.declared.Direction.{Direction}
+use Rattle.group_rows.specs.declared.Direction.{Direction}
 use Rattle.group.specs.declared.Group.{Group}
-use Rattle.walk.specs.declared.Kind.{Kind}
-use Rattle.walk.specs.declared.Placed.{Placed}
+use Rattle.group_rows.specs.declared.Kind.{Kind}
+use Rattle.group_rows.specs.declared.Placed.{Placed}
 use Rattle.demands.specs.Rules.{row, Decided, Given}
 use Rattle.demands.specs.Table.{oneBalise, moreThanFive, unread, listOf, partsOf, isMisfit, noRow, judgedKind, isJudged, presetBarred, notAllowed, noLink}
 use Rattle.demands.specs.Lists.{groupRules}
-use Rattle.walk.specs.Fitting.{speedOf, asOr, fitting}
+use Rattle.group_rows.specs.Fitting.{speedOf, asOr, fitting}
 use Rattle.demands.proofs.Common.Fits.{said, decide}
 use Rattle.demands.proofs.Common.Rules.{true-not-false, if-so}
 use Rattle.demands.proofs.Demand1.Answers.{isRefusal, Only, only-pick, lone}

@@ -12,9 +12,9 @@ use Rattle.settings.specs.Store.{judged}
 use Rattle.settings.specs.At.{gapAt}
 use Rattle.ride.specs.Over.{records}
 use Rattle.ride.specs.declared.Ride.{Ride}
-use Rattle.listing.specs.Put.{filled, placed, put}
-use Rattle.listing.specs.declared.Put.{Put}
-use Rattle.listing.specs.List.{listOf, listTaken, unlisted, list}
+use Rattle.ride_text.specs.Put.{filled, placed, put}
+use Rattle.ride_text.specs.declared.Put.{Put}
+use Rattle.ride_text.specs.List.{listOf, listTaken, unlisted, list}
 use Rattle.demands.specs.Rules.{Decided, Given}
 use Rattle.demands.specs.Stores.{traceRules}
 use Rattle.demands.proofs.Demand1.Explaining.{listing-so, listing-left}

@@ -10,10 +10,10 @@ use borrow.Author.Tests.{le-ltb, lt-ltb, leb-true, leb-false}
 use Rattle.words.specs.Answer.{Outcome, gives, refuses, pick}
 use Rattle.telegram.specs.Sync.{isGood}
 use Rattle.telegram.specs.declared.Telegram.{Telegram}
-use Rattle.writer.specs.Words.{asked, tooLarge, hasFifteen, wordsOf, spell}
-use Rattle.writer.specs.Write.{telegrams, inRange, bytesOf, onto, withWords, write}
-use Rattle.writer.proofs.Bytes.{telegrams-length}
-use Rattle.writer.proofs.Answers.{range}
+use Rattle.balise_writer.specs.Words.{asked, tooLarge, hasFifteen, wordsOf, spell}
+use Rattle.balise_writer.specs.Write.{telegrams, inRange, bytesOf, onto, withWords, write}
+use Rattle.balise_writer.proofs.Bytes.{telegrams-length}
+use Rattle.balise_writer.proofs.Answers.{range}
 use Rattle.demands.specs.Rules.{Rule, row, Decided, Is}
 use Rattle.demands.specs.Table.{above, notSeven}
 use Rattle.demands.specs.Table02.{someAbove, someFifteen, badCount, shortBuffer}

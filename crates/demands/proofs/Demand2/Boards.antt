@@ -8,10 +8,10 @@ use Prim.Native.Nat.{ℕ}
 use native.Mathlib.Omega.{arith}
 use lib.Dec.{leb}
 use Rattle.words.specs.Answer.{pick}
-use Rattle.walk.specs.Row.{_to_, Asked, category, M, any, A, Member, Row, row, meets, fits, Found, none, found, first, calledA, Fit, misfit, fit, fitWith, fitRow, orElse, fitRows}
-use Rattle.walk.specs.Rows.{signal, warning, annulled, line, route, present, howMany, fitIn}
-use Rattle.walk.specs.declared.Kind.{Kind}
-use Rattle.walk.specs.declared.Placed.{Placed}
+use Rattle.group_rows.specs.Row.{_to_, Asked, category, M, any, A, Member, Row, row, meets, fits, Found, none, found, first, calledA, Fit, misfit, fit, fitWith, fitRow, orElse, fitRows}
+use Rattle.group_rows.specs.Rows.{signal, warning, annulled, line, route, present, howMany, fitIn}
+use Rattle.group_rows.specs.declared.Kind.{Kind}
+use Rattle.group_rows.specs.declared.Placed.{Placed}
 use Rattle.words.proofs.Never.{cannot-be}
 
 -- a line or a route board

@@ -7,23 +7,23 @@ use Prim.Native.Nat.{ℕ}
 use lib.Dec.{eqb, ltb, leb}
 use Rattle.words.specs.Answer.{Outcome, gives, refuses, pick}
 use Rattle.group.specs.Balise.{balises, then, readAll}
-use Rattle.walk.specs.Row.{Figures, all, _to_, Asked, category, M, any, A, Member, Row, row, isCategory, isOneOf, within, Y, Z, meets, fits, Found, none, found, first, calledA, Fit, misfit, fit, fitWith, fitRow, orElse, fitRows}
-use Rattle.walk.specs.Rows.{signal, warning, annulled, line, route, present, nineThen, nineTwo, markerTwo, markerThree, opposite, howMany, fitIn}
+use Rattle.group_rows.specs.Row.{Figures, all, _to_, Asked, category, M, any, A, Member, Row, row, isCategory, isOneOf, within, Y, Z, meets, fits, Found, none, found, first, calledA, Fit, misfit, fit, fitWith, fitRow, orElse, fitRows}
+use Rattle.group_rows.specs.Rows.{signal, warning, annulled, line, route, present, nineThen, nineTwo, markerTwo, markerThree, opposite, howMany, fitIn}
 use Rattle.group.specs.declared.Content.{Content}
 use Rattle.group.specs.Numbers.{numberOf}
 use Rattle.group.specs.Judge.{contentOf, messageOf, judgeRead, judge}
-use Rattle.walk.specs.Fitting.{speedOf, fitting}
+use Rattle.group_rows.specs.Fitting.{speedOf, fitting}
 use Rattle.demands.proofs.Common.Rules.{never}
 use Rattle.demands.proofs.Common.Fits.{said, decide}
-use Rattle.walk.specs.declared.Direction.{Direction}
+use Rattle.group_rows.specs.declared.Direction.{Direction}
 use Rattle.group.specs.declared.Group.{Group}
-use Rattle.walk.specs.declared.Kind.{Kind}
+use Rattle.group_rows.specs.declared.Kind.{Kind}
 use Rattle.group.specs.declared.Message.{Message}
-use Rattle.walk.specs.declared.Part.{Part}
-use Rattle.walk.specs.declared.Placed.{Placed}
+use Rattle.group_rows.specs.declared.Part.{Part}
+use Rattle.group_rows.specs.declared.Placed.{Placed}
 use Rattle.demands.specs.Table.{listOf, partsOf}
 use Rattle.demands.specs.Said.{asA, Its-A}
-use Rattle.line.proofs.Places.{and-parts, or-left, or-right}
+use Rattle.balise_line.proofs.Places.{and-parts, or-left, or-right}
 use Rattle.demands.proofs.Demand2.Boards.{Board, Head, board-head}
 use Rattle.words.proofs.Never.{cannot-be}
 

@@ -6,7 +6,7 @@ use mathlib.Core.List.{List}
 use native.Mathlib.Omega.{arith}
 use Rattle.group.specs.declared.Content.{Content}
 use Rattle.group.specs.declared.Message.{Message}
-use Rattle.walk.specs.declared.Placed.{Placed}
+use Rattle.group_rows.specs.declared.Placed.{Placed}
 use Rattle.demands.specs.Said.{Content-of, of-signal, of-warning, of-route, of-other}
 use Rattle.demands.proofs.Demand2.Messages.{View, signal, warning, route, plain}
 

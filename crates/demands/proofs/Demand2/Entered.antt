@@ -10,7 +10,7 @@ use lib.Dec.{eqb, leb}
 use lib.ListN.{length, getD}
 use borrow.Author.Tests.{le-leb, leb-true}
 use Rattle.words.specs.Answer.{Outcome, gives, refuses, pick}
-use Rattle.walk.specs.Row.{Found, none, found, Y}
+use Rattle.group_rows.specs.Row.{Found, none, found, Y}
 use Rattle.group.specs.Distance.{columns, inColumn, inTable, distance, linkDistance}
 use Rattle.demands.specs.Said.{used}
 use Rattle.demands.specs.Demand2.{noColumn}

@@ -10,14 +10,14 @@ use Rattle.words.specs.Plain.{isCheck, covers, count, even, isCode, onwards, fi
 use Rattle.words.specs.Code.{other, exchanged, readWord}
 use Rattle.telegram.specs.Telegram.{shortWord, longWord, telegram}
 use Rattle.group.specs.Balise.{balises, readAll}
-use Rattle.walk.specs.Row.{fits, first, fitRow, fitRows}
-use Rattle.walk.specs.Rows.{howMany, fitIn}
+use Rattle.group_rows.specs.Row.{fits, first, fitRow, fitRows}
+use Rattle.group_rows.specs.Rows.{howMany, fitIn}
 use Rattle.group.specs.Distance.{distance}
 use Rattle.group.specs.Speed.{signalSpeed, targetFigure}
-use Rattle.walk.specs.Fitting.{routeSpeed, fitting}
+use Rattle.group_rows.specs.Fitting.{routeSpeed, fitting}
 use Rattle.group.specs.Judge.{distanceOf, signalDistance, judgeRead, judge}
-use Rattle.walk.specs.declared.Direction.{Direction}
-use Rattle.walk.specs.declared.Kind.{Kind}
+use Rattle.group_rows.specs.declared.Direction.{Direction}
+use Rattle.group_rows.specs.declared.Kind.{Kind}
 use Rattle.group.specs.Numbers.{numberOf}
 use Rattle.group.specs.declared.Number.{Number}
 use Rattle.group.specs.declared.Told.{Told}
@@ -36,8 +36,8 @@ use Rattle.ride.specs.declared.Linking.{Linking}
 use Rattle.ride.specs.declared.Mark.{Mark}
 use Rattle.ride.specs.declared.Ran.{Ran}
 use Rattle.ride.specs.declared.Ride.{Ride}
-use Rattle.listing.specs.Text.{digits, decimal, seen, text}
-use Rattle.listing.specs.List.{textOf}
+use Rattle.ride_text.specs.Text.{digits, decimal, seen, text}
+use Rattle.ride_text.specs.List.{textOf}
 use Rattle.demands.specs.Table.{badLength}
 use Rattle.demands.specs.Contracts.{Fresh, RunOver}
 use Rattle.demands.specs.Output.{Forty, ridden, oneRide, itsLines, OneRide}

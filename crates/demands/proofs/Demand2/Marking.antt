@@ -10,11 +10,11 @@ use borrow.Author.Tests.{lt-ltb, le-ltb, le-leb, lt-leb, ltb-true, ltb-false, le
 use Rattle.words.specs.Answer.{gives}
 use Rattle.group.specs.Judge.{judge}
 use Rattle.group.specs.declared.Content.{Content}
-use Rattle.walk.specs.declared.Direction.{Direction}
+use Rattle.group_rows.specs.declared.Direction.{Direction}
 use Rattle.group.specs.declared.Group.{Group}
-use Rattle.walk.specs.declared.Kind.{Kind}
+use Rattle.group_rows.specs.declared.Kind.{Kind}
 use Rattle.group.specs.declared.Message.{Message}
-use Rattle.walk.specs.declared.Placed.{Placed}
+use Rattle.group_rows.specs.declared.Placed.{Placed}
 use Rattle.ride.specs.Linking.{markAt, markOf}
 use Rattle.ride.specs.Closing.{knownFrom, markFrom}
 use Rattle.ride.specs.declared.Known.{Known}

@@ -6,19 +6,19 @@ use mathlib.Core.List.{List, [], _∷_, List·Memᴰ, List·Memᴰ·head, List·
 use Prim.Native.Nat.{ℕ}
 use Rattle.words.specs.Answer.{Outcome, gives, refuses}
 use Rattle.group.specs.Balise.{then}
-use Rattle.walk.specs.Row.{Y, Z}
-use Rattle.walk.specs.Fitting.{fitting}
+use Rattle.group_rows.specs.Row.{Y, Z}
+use Rattle.group_rows.specs.Fitting.{fitting}
 use Rattle.group.specs.declared.Content.{Content}
 use Rattle.group.specs.declared.Message.{Message}
 use Rattle.group.specs.Numbers.{numberOr, numberOf}
 use Rattle.group.specs.Judge.{contentOf, messageOf, judgeAs, judgeRead, judge}
-use Rattle.walk.specs.declared.Direction.{Direction}
+use Rattle.group_rows.specs.declared.Direction.{Direction}
 use Rattle.group.specs.declared.Group.{Group}
-use Rattle.walk.specs.declared.Kind.{Kind}
+use Rattle.group_rows.specs.declared.Kind.{Kind}
 use Rattle.group.specs.declared.Number.{Number}
-use Rattle.walk.specs.declared.Part.{Part}
-use Rattle.walk.specs.declared.Picked.{Picked}
-use Rattle.walk.specs.declared.Placed.{Placed}
+use Rattle.group_rows.specs.declared.Part.{Part}
+use Rattle.group_rows.specs.declared.Picked.{Picked}
+use Rattle.group_rows.specs.declared.Placed.{Placed}
 use Rattle.ride.specs.Closing.{numberOn}
 use Rattle.demands.specs.Table.{partsOf}
 use Rattle.demands.specs.Said.{Its-number, figure, no-figure}

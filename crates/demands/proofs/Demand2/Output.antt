@@ -20,16 +20,16 @@ use Rattle.ride.specs.Says.{saysLines}
 use Rattle.ride.specs.declared.Line.{Line}
 use Rattle.ride.specs.declared.Ride.{Ride}
 use Rattle.ride.proofs.Cutting.{records-length}
-use Rattle.listing.specs.Text.{text, seen, decimal, digits}
-use Rattle.listing.specs.Put.{Filled, filled, placed, put}
-use Rattle.listing.specs.List.{textOf, Listing, listOf, listTaken, list}
-use Rattle.listing.specs.Says.{saysDone}
-use Rattle.listing.specs.declared.Done.{Done}
-use Rattle.listing.specs.declared.Listed.{Listed}
-use Rattle.listing.specs.declared.Put.{Put}
-use Rattle.listing.proofs.Judging.{list-taken}
-use Rattle.listing.proofs.Texts.{text-one, text-join}
-use Rattle.listing.proofs.Determined as listing-is
+use Rattle.ride_text.specs.Text.{text, seen, decimal, digits}
+use Rattle.ride_text.specs.Put.{Filled, filled, placed, put}
+use Rattle.ride_text.specs.List.{textOf, Listing, listOf, listTaken, list}
+use Rattle.ride_text.specs.Says.{saysDone}
+use Rattle.ride_text.specs.declared.Done.{Done}
+use Rattle.ride_text.specs.declared.Listed.{Listed}
+use Rattle.ride_text.specs.declared.Put.{Put}
+use Rattle.ride_text.proofs.Judging.{list-taken}
+use Rattle.ride_text.proofs.Texts.{text-one, text-join}
+use Rattle.ride_text.proofs.Determined as listing-is
 use Rattle.demands.specs.Table.{badLength}
 use Rattle.demands.specs.Contracts.{Fresh, PutLine, ListInto}
 use Rattle.demands.specs.Output.{Forty, ridden, output, recordsIn, Quoted, quoted, AllQuoted, Written}

@@ -10,7 +10,7 @@ use Rattle.words.specs.Answer.{pick}
 use Rattle.group.specs.Speed.{targetFigure}
 use Rattle.demands.specs.Said.{Prefixed}
 use Rattle.demands.proofs.Common.Rules.{true-not-false}
-use Rattle.line.proofs.Places.{and-parts, and-true, or-parts, or-left, or-right}
+use Rattle.balise_line.proofs.Places.{and-parts, and-true, or-parts, or-left, or-right}
 
 -- whether the prefix rule applies, as the definition asks it
 abbrev applies : ℕ → ℕ → ℕ → ℕ → Bool

@@ -20,9 +20,9 @@ use Rattle.ride.specs.Over.{linesFor}
 use Rattle.ride.specs.declared.Known.{Known}
 use Rattle.ride.specs.declared.Line.{Line}
 use Rattle.ride.specs.declared.Ride.{Ride}
-use Rattle.listing.specs.List.{textOf, isTaken, taken}
-use Rattle.listing.proofs.Longest.{longest}
-use Rattle.listing.proofs.Texts.{text-one, text-join}
+use Rattle.ride_text.specs.List.{textOf, isTaken, taken}
+use Rattle.ride_text.proofs.Longest.{longest}
+use Rattle.ride_text.proofs.Texts.{text-one, text-join}
 
 -- a line at most
 atMostOne : List Line → Type 0

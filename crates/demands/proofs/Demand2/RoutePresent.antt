@@ -7,19 +7,19 @@ use Prim.Native.Nat.{ℕ}
 use lib.Dec.{eqb, ltb, leb}
 use Rattle.words.specs.Answer.{Outcome, gives, refuses, pick}
 use Rattle.group.specs.Balise.{balises, then, readAll}
-use Rattle.walk.specs.Row.{Row, row, fits, Found, none, found, calledA, Fit, misfit, fit, fitWith, fitRow, orElse, fitRows}
-use Rattle.walk.specs.Rows.{present, opposite, howMany, fitIn}
+use Rattle.group_rows.specs.Row.{Row, row, fits, Found, none, found, calledA, Fit, misfit, fit, fitWith, fitRow, orElse, fitRows}
+use Rattle.group_rows.specs.Rows.{present, opposite, howMany, fitIn}
 use Rattle.group.specs.declared.Content.{Content}
 use Rattle.group.specs.declared.Message.{Message}
 use Rattle.group.specs.Numbers.{numberOf}
 use Rattle.group.specs.Judge.{contentOf, messageOf, judgeRead, judge}
-use Rattle.walk.specs.Fitting.{speedOf, fitting}
-use Rattle.walk.specs.declared.Direction.{Direction}
-use Rattle.walk.specs.declared.Kind.{Kind}
-use Rattle.walk.specs.declared.Placed.{Placed}
-use Rattle.walk.specs.Row.{Y, Z}
+use Rattle.group_rows.specs.Fitting.{speedOf, fitting}
+use Rattle.group_rows.specs.declared.Direction.{Direction}
+use Rattle.group_rows.specs.declared.Kind.{Kind}
+use Rattle.group_rows.specs.declared.Placed.{Placed}
+use Rattle.group_rows.specs.Row.{Y, Z}
 use Rattle.group.specs.declared.Group.{Group}
-use Rattle.line.proofs.Places.{and-parts}
+use Rattle.balise_line.proofs.Places.{and-parts}
 use Rattle.demands.proofs.Common.Rules.{true-not-false, not-true, never}
 use Rattle.demands.proofs.Common.Fits.{said, decide}
 use Rattle.words.proofs.Never.{cannot-be}

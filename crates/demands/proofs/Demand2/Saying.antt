@@ -11,18 +11,18 @@ use borrow.Author.Tests.{le-leb, leb-true}
 use Rattle.words.specs.Answer.{Outcome, gives, refuses, pick}
 use Rattle.words.proofs.Told.{told}
 use Rattle.group.specs.Balise.{balises, then, readAll}
-use Rattle.walk.specs.Row.{Found, none, found, Y}
+use Rattle.group_rows.specs.Row.{Found, none, found, Y}
 use Rattle.group.specs.Distance.{columns, inColumn, inTable, distance, linkDistance, isPreset, noIncrease}
 use Rattle.group.specs.Speed.{signalSpeed, targetFigure}
-use Rattle.walk.specs.Fitting.{routeSpeed}
-use Rattle.walk.proofs.OneWay.{one-way}
+use Rattle.group_rows.specs.Fitting.{routeSpeed}
+use Rattle.group_rows.proofs.OneWay.{one-way}
 use Rattle.group.specs.Judge.{yOf, zOf, B, C, P, distanceOf, signalDistance, judgeRead, judge}
 use Rattle.group.specs.Says.{saysMeasured}
 use Rattle.group.specs.declared.Content.{Content}
 use Rattle.group.specs.declared.Group.{Group}
 use Rattle.group.specs.declared.Measured.{Measured}
 use Rattle.group.specs.declared.Message.{Message}
-use Rattle.walk.specs.declared.Placed.{Placed}
+use Rattle.group_rows.specs.declared.Placed.{Placed}
 use Rattle.group.specs.declared.Told.{Told}
 use Rattle.group.proofs.Determined as group-is
 use Rattle.group.proofs.Entries.{speed-in, speed-out}

@@ -15,13 +15,13 @@ use Rattle.settings.specs.At.{gapAt}
 use Rattle.ride.specs.Over.{records, rideOver}
 use Rattle.ride.specs.declared.Ride.{Ride}
 use Rattle.ride.proofs.Cutting.{records-length}
-use Rattle.listing.specs.Put.{placed}
-use Rattle.listing.specs.List.{textOf, taken, Listing, listOf, listTaken, list}
-use Rattle.listing.specs.Says.{saysDone, saysListed}
-use Rattle.listing.specs.declared.Done.{Done}
-use Rattle.listing.specs.declared.Listed.{Listed}
-use Rattle.listing.proofs.Judging.{list-taken}
-use Rattle.listing.proofs.Determined as listing-is
+use Rattle.ride_text.specs.Put.{placed}
+use Rattle.ride_text.specs.List.{textOf, taken, Listing, listOf, listTaken, list}
+use Rattle.ride_text.specs.Says.{saysDone, saysListed}
+use Rattle.ride_text.specs.declared.Done.{Done}
+use Rattle.ride_text.specs.declared.Listed.{Listed}
+use Rattle.ride_text.proofs.Judging.{list-taken}
+use Rattle.ride_text.proofs.Determined as listing-is
 use Rattle.demands.specs.Table.{badLength}
 use Rattle.demands.specs.Contracts.{ListInto}
 use Rattle.demands.specs.Stores.{Good}

@@ -13,13 +13,13 @@ use Rattle.telegram.specs.declared.Telegram.{Telegram}
 use Rattle.telegram.specs.declared.Found.{Found}
 use Rattle.telegram.proofs.Determined.{found-back}
 use Rattle.telegram.proofs.Law.{withTelegrams}
-use Rattle.line.specs.Line.{OneBalise, Proper, Clean, sentAt, placesOf}
+use Rattle.balise_line.specs.Line.{OneBalise, Proper, Clean, sentAt, placesOf}
 use Rattle.demands.specs.Demand3.{ComesOf, allSent}
-use Rattle.line.proofs.Places.{or-left, or-right}
-use Rattle.line.proofs.Sent.{read-as-sent}
-use Rattle.line.proofs.TooFew.{few-flips-few}
-use Rattle.line.proofs.Stretch.{all-sent}
-use Rattle.line.proofs.Clean.{clean-few, true-places}
+use Rattle.balise_line.proofs.Places.{or-left, or-right}
+use Rattle.balise_line.proofs.Sent.{read-as-sent}
+use Rattle.balise_line.proofs.TooFew.{few-flips-few}
+use Rattle.balise_line.proofs.Stretch.{all-sent}
+use Rattle.balise_line.proofs.Clean.{clean-few, true-places}
 use Rattle.demands.proofs.Demand3.Handed.{answerOf, comes-is}
 
 -- The places listed read alike, each m.

@@ -18,14 +18,14 @@ use Rattle.telegram.specs.declared.Found.{Found}
 use Rattle.telegram.proofs.Determined.{foundOf, found-back}
 use Rattle.telegram.proofs.Handed.{handed}
 use Rattle.telegram.proofs.Law.{Comes as Listed, further as listed-further, ends as listed-ends, withTelegrams, Specified, law, only}
-use Rattle.line.specs.Line.{OneBalise, Proper, sentAt, flipsAt, placesOf}
+use Rattle.balise_line.specs.Line.{OneBalise, Proper, sentAt, flipsAt, placesOf}
 use Rattle.demands.specs.Contracts.{Find}
 use Rattle.demands.specs.Calls.{HandedOut, first, later, Comes, further, ends}
 use Rattle.demands.specs.Demand2.{placeOf}
 use Rattle.demands.specs.Demand3.{TheSent, ComesOf}
-use Rattle.line.proofs.Places.{or-left, or-right, or-parts}
-use Rattle.line.proofs.Sent.{Sent, AllSent, read-as-sent}
-use Rattle.line.proofs.Unflipped.{unflipped-words, unflipped-among}
+use Rattle.balise_line.proofs.Places.{or-left, or-right, or-parts}
+use Rattle.balise_line.proofs.Sent.{Sent, AllSent, read-as-sent}
+use Rattle.balise_line.proofs.Unflipped.{unflipped-words, unflipped-among}
 use Rattle.words.proofs.Never.{cannot-be}
 
 -- A call answers as the specification says.

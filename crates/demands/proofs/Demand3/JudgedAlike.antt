@@ -17,10 +17,10 @@ use Rattle.contact.specs.Judge.{Contact, read, marker, isMarker, judge}
 use Rattle.contact.specs.Says.{saysJudged}
 use Rattle.contact.specs.declared.Judged.{Judged}
 use Rattle.contact.proofs.Judging.{markerOr, fromSurvey, by-survey}
-use Rattle.line.specs.Line.{OneBalise, Proper, placesOf}
+use Rattle.balise_line.specs.Line.{OneBalise, Proper, placesOf}
 use Rattle.demands.specs.Contracts.{JudgeContact}
 use Rattle.demands.specs.Demand3.{TogetherTheSent}
-use Rattle.line.proofs.Sent.{AllSent}
+use Rattle.balise_line.proofs.Sent.{AllSent}
 use Rattle.demands.proofs.Demand3.Together.{Known, Survey, the-survey, known-sent, same-known}
 use Rattle.words.proofs.Never.{cannot-be}
 

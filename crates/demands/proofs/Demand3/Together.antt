@@ -18,11 +18,11 @@ use Rattle.telegram.specs.Survey.{sameWords, allAs, Alike, alike, together, sur
 use Rattle.telegram.specs.Says.{saysSurveyed}
 use Rattle.telegram.specs.declared.Telegram.{Telegram}
 use Rattle.telegram.specs.declared.Surveyed.{Surveyed}
-use Rattle.line.specs.Line.{OneBalise, Proper, placesOf}
+use Rattle.balise_line.specs.Line.{OneBalise, Proper, placesOf}
 use Rattle.demands.specs.Contracts.{Survey as SurveyAllows}
 use Rattle.demands.specs.Demand3.{TheSent, TogetherTheSent}
-use Rattle.line.proofs.Places.{and-true, or-left, or-right}
-use Rattle.line.proofs.Sent.{Sent, AllSent}
+use Rattle.balise_line.proofs.Places.{and-true, or-left, or-right}
+use Rattle.balise_line.proofs.Sent.{Sent, AllSent}
 use Rattle.demands.proofs.Demand3.Handed.{the-sent}
 use Rattle.words.proofs.Never.{cannot-be}
 

@@ -10,11 +10,11 @@ use Rattle.words.specs.Bits.{word}
 use Rattle.words.specs.Plain.{isCheck, covers, count, even, isCode, onwards, figure}
 use Rattle.words.specs.Code.{other, exchanged, readWord}
 use Rattle.telegram.specs.Telegram.{shortWord, longWord, telegram}
-use Rattle.walk.specs.Row.{fits, first, fitRow, fitRows}
-use Rattle.walk.specs.Rows.{howMany, fitIn}
-use Rattle.walk.specs.Fitting.{fitting}
-use Rattle.walk.specs.declared.Direction.{Direction}
-use Rattle.walk.specs.declared.Kind.{Kind}
+use Rattle.group_rows.specs.Row.{fits, first, fitRow, fitRows}
+use Rattle.group_rows.specs.Rows.{howMany, fitIn}
+use Rattle.group_rows.specs.Fitting.{fitting}
+use Rattle.group_rows.specs.declared.Direction.{Direction}
+use Rattle.group_rows.specs.declared.Kind.{Kind}
 use Rattle.group.specs.Balise.{balises, readAll}
 use Rattle.group.specs.Distance.{distance}
 use Rattle.group.specs.Speed.{signalSpeed, targetFigure}

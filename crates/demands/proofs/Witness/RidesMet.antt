@@ -10,19 +10,19 @@ use Rattle.words.specs.Plain.{isCheck, covers, count, even, isCode, onwards, fi
 use Rattle.words.specs.Code.{other, exchanged, readWord}
 use Rattle.telegram.specs.Telegram.{shortWord, longWord, telegram}
 use Rattle.group.specs.Balise.{balises, readAll}
-use Rattle.walk.specs.Row.{fits, first, fitRow, fitRows}
-use Rattle.walk.specs.Rows.{howMany, fitIn}
+use Rattle.group_rows.specs.Row.{fits, first, fitRow, fitRows}
+use Rattle.group_rows.specs.Rows.{howMany, fitIn}
 use Rattle.group.specs.Distance.{distance}
 use Rattle.group.specs.Speed.{signalSpeed, targetFigure}
-use Rattle.walk.specs.Fitting.{routeSpeed, fitting}
+use Rattle.group_rows.specs.Fitting.{routeSpeed, fitting}
 use Rattle.group.specs.Numbers.{numberOf}
 use Rattle.group.specs.Judge.{distanceOf, signalDistance, judgeRead, judge}
 use Rattle.group.specs.declared.Content.{Content}
-use Rattle.walk.specs.declared.Direction.{Direction}
+use Rattle.group_rows.specs.declared.Direction.{Direction}
 use Rattle.group.specs.declared.Group.{Group}
 use Rattle.group.specs.declared.Heard.{Heard}
 use Rattle.group.specs.declared.GroupJudged.{GroupJudged}
-use Rattle.walk.specs.declared.Kind.{Kind}
+use Rattle.group_rows.specs.declared.Kind.{Kind}
 use Rattle.group.specs.declared.Message.{Message}
 use Rattle.group.specs.declared.Number.{Number}
 use Rattle.group.specs.declared.Told.{Told}

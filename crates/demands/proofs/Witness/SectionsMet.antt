@@ -12,11 +12,11 @@ use Rattle.words.specs.Plain.{isCheck, covers, count, even, isCode, onwards, fi
 use Rattle.words.specs.Code.{other, exchanged, readWord}
 use Rattle.telegram.specs.Telegram.{shortWord, longWord, telegram}
 use Rattle.group.specs.Balise.{balises, readAll}
-use Rattle.walk.specs.Row.{fits, first, fitRow, fitRows}
-use Rattle.walk.specs.Rows.{howMany, fitIn}
+use Rattle.group_rows.specs.Row.{fits, first, fitRow, fitRows}
+use Rattle.group_rows.specs.Rows.{howMany, fitIn}
 use Rattle.group.specs.Distance.{distance}
 use Rattle.group.specs.Speed.{signalSpeed, targetFigure}
-use Rattle.walk.specs.Fitting.{routeSpeed, fitting}
+use Rattle.group_rows.specs.Fitting.{routeSpeed, fitting}
 use Rattle.group.specs.Numbers.{numberOf}
 use Rattle.group.specs.Judge.{distanceOf, signalDistance, judgeRead, judge}
 use Rattle.ride.specs.Record.{odometerOf, passedOf, inOrder, checkRecord}
@@ -28,10 +28,10 @@ use Rattle.ride.specs.Joining.{join, takeUp}
 use Rattle.ride.specs.Over.{records, Ridden, rideOver, firstRecords}
 use Rattle.ride.specs.declared.Stepped.{Stepped}
 use Rattle.ride.specs.declared.Ride.{Ride}
-use Rattle.listing.specs.Put.{placed}
-use Rattle.listing.specs.List.{textOf, taken}
-use Rattle.listing.specs.declared.Done.{Done}
-use Rattle.listing.specs.declared.Listed.{Listed}
+use Rattle.ride_text.specs.Put.{placed}
+use Rattle.ride_text.specs.List.{textOf, taken}
+use Rattle.ride_text.specs.declared.Done.{Done}
+use Rattle.ride_text.specs.declared.Listed.{Listed}
 use Rattle.ride.proofs.Determined as ride-is
 use Rattle.demands.specs.Table.{badLength}
 use Rattle.demands.specs.Output.{recordsIn, ridden, oneRide}

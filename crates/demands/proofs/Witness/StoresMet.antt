@@ -25,8 +25,8 @@ use Rattle.ride.specs.State.{freshRide}
 use Rattle.ride.specs.declared.Way.{Way}
 use Rattle.ride.specs.Over.{records, rideOver}
 use Rattle.ride.proofs.Under.{run-through}
-use Rattle.listing.specs.List.{listOf}
-use Rattle.listing.proofs.Judging.{list-taken}
+use Rattle.ride_text.specs.List.{listOf}
+use Rattle.ride_text.proofs.Judging.{list-taken}
 use Rattle.demands.specs.Table.{badLength, notSeven}
 use Rattle.demands.specs.Output.{Forty, recordsIn}
 use Rattle.demands.specs.PlainGap.{Opened}

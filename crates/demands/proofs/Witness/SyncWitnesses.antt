@@ -25,9 +25,9 @@ use Rattle.contact.specs.Judge.{onesAtEnd, allZero, isMarker, judgement, judge}
 use Rattle.contact.specs.Says.{saysJudged}
 use Rattle.contact.specs.declared.Judged.{Judged}
 use Rattle.contact.proofs.Determined.{judgedOf, judged-back}
-use Rattle.line.specs.Line.{OneBalise, Proper, FewFlips, sentBit, receivedBit, inStretch, unequal, flip, sum, flips, syncFlips, lineBit, sentAt, flipsAt}
-use Rattle.line.specs.Forty.{equalBits, EqualBit, AtMostInForty}
-use Rattle.line.proofs.Sent.{sent-parts}
+use Rattle.balise_line.specs.Line.{OneBalise, Proper, FewFlips, sentBit, receivedBit, inStretch, unequal, flip, sum, flips, syncFlips, lineBit, sentAt, flipsAt}
+use Rattle.balise_line.specs.Forty.{equalBits, EqualBit, AtMostInForty}
+use Rattle.balise_line.proofs.Sent.{sent-parts}
 use Rattle.demands.specs.Contracts.{Find, JudgeContact}
 use Rattle.demands.specs.Calls.{further, ends}
 use Rattle.demands.specs.Demand3.{OnlyTheSent, ComesOf}

@@ -23,9 +23,9 @@ use Rattle.contact.specs.declared.Judged.{Judged}
 use Rattle.contact.proofs.Determined.{judgedOf, judged-back}
 use Rattle.words.proofs.Told.{told}
 use Rattle.demands.specs.Contracts.{Find, Survey, JudgeContact}
-use Rattle.line.specs.Line.{OneBalise, Proper, FewFlips, Clean, sentBit, receivedBit, inStretch, unequal, flip, sum, flips, syncFlips, dataFlips}
+use Rattle.balise_line.specs.Line.{OneBalise, Proper, FewFlips, Clean, sentBit, receivedBit, inStretch, unequal, flip, sum, flips, syncFlips, dataFlips}
 use Rattle.demands.specs.Demand3.{ComesOf}
-use Rattle.line.proofs.Computed.{quietAt, few-flips, unflipped, clean}
+use Rattle.balise_line.proofs.Computed.{quietAt, few-flips, unflipped, clean}
 use Rattle.demands.proofs.Demand3.Handed.{specified, comes-is}
 
 -- Figures 1, 8 and 5 are sent between 72 and 0D hex. The stretch of sixteen bytes begins with Y of a telegram and ends with X of

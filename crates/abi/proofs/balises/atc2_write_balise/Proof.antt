@@ -5,9 +5,9 @@ use mathlib.Core.List.{List}
 use Prim.Native.Nat.{ℕ, _≤_}
 use native.Mathlib.Omega.{arith}
 use borrow.Author.Needs.{needs}
-use Rattle.writer.specs.Write.{Writing, write}
-use Rattle.writer.specs.Says.{saysAnswer}
-use Rattle.writer.proofs.Accepted.{few-bytes}
+use Rattle.balise_writer.specs.Write.{Writing, write}
+use Rattle.balise_writer.specs.Says.{saysAnswer}
+use Rattle.balise_writer.proofs.Accepted.{few-bytes}
 use Rattle.abi.specs.Face.{returned, itself}
 use Rattle.abi.proofs.Carried.{carried, as-i32}
 use Rattle.abi.proofs.balises.atc2_write_balise.Statement.{statement}

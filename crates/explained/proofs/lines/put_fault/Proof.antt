@@ -6,7 +6,7 @@ use Prim.Native.Nat.{ℕ}
 use Rattle.text.specs.Text.{codes}
 use Rattle.text.specs.Put.{put}
 use Rattle.text.proofs.Standing.{less, join, join-4, numbered, room-as}
-use Rattle.explainer.specs.Text.{reasonText}
+use Rattle.group_reason.specs.Text.{reasonText}
 use Rattle.explained.proofs.Texts.{fault-is}
 use borrow.Author.Needs.{needs}
 use Rattle.explained.proofs.lines.put_fault.Statement.{statement}

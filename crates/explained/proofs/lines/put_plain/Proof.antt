@@ -1,9 +1,9 @@
 -- As the checker puts it.
 -- Assumes nothing.
 use mathlib.Core.Path.{sym, ap, _∙_}
-use Rattle.listing.specs.declared.Put.{Put}
-use Rattle.listing.specs.Put.{Filled}
-use Rattle.listing.specs.Text.{text}
+use Rattle.ride_text.specs.declared.Put.{Put}
+use Rattle.ride_text.specs.Put.{Filled}
+use Rattle.ride_text.specs.Text.{text}
 use Rattle.explained.proofs.Texts.{asPut, put-alike}
 use borrow.Author.Needs.{needs}
 use Rattle.explained.proofs.lines.put_plain.Statement.{statement}

@@ -6,8 +6,8 @@ use Prim.Native.Nat.{ℕ}
 use Rattle.text.specs.Put.{put}
 use Rattle.text.proofs.Standing.{room-as}
 use Rattle.ride.specs.declared.Line.{Line}
-use Rattle.listing.specs.Text.{text}
-use Rattle.explainer.specs.Text.{reasonText}
+use Rattle.ride_text.specs.Text.{text}
+use Rattle.group_reason.specs.Text.{reasonText}
 use Rattle.explained.specs.Text.{faultText, lineText}
 use Rattle.explained.proofs.Texts.{why-is}
 use borrow.Author.Needs.{needs}

@@ -21,7 +21,7 @@ use Rattle.ride.proofs.Under.{turn}
 use Rattle.text.specs.Put.{placed, put}
 use Rattle.text.proofs.Placing.{placed-length}
 use Rattle.text.proofs.Standing.{stands}
-use Rattle.listing.proofs.Turns.{listing, leftOf, left-next, left-all, both}
+use Rattle.ride_text.proofs.Turns.{listing, leftOf, left-next, left-all, both}
 use Rattle.explained.specs.Text.{linesText}
 use Rattle.explained.specs.Told.{stepText}
 use Rattle.explained.specs.List.{isTaken, taken, listTaken}

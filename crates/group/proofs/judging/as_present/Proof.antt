@@ -3,7 +3,7 @@
 use mathlib.Core.Path.{_≡_, sym, ap, _∙_}
 use lib.ListN.{take}
 use Rattle.words.specs.Answer.{gives, refuses}
-use Rattle.walk.specs.Row.{Y, Z}
+use Rattle.group_rows.specs.Row.{Y, Z}
 use Rattle.group.specs.declared.Number.{Number}
 use Rattle.group.specs.Judge.{contentOf, messageOf}
 use Rattle.group.specs.Inside.{saysContained}

@@ -4,11 +4,11 @@ use mathlib.Core.Path.{_≡_, sym, ap, _∙_}
 use mathlib.Core.List.{List}
 use lib.ListN.{take}
 use Rattle.words.specs.Answer.{Outcome, gives}
-use Rattle.walk.specs.declared.Direction.{Direction}
-use Rattle.walk.specs.declared.Placed.{Placed}
-use Rattle.walk.specs.declared.Picked.{Picked}
-use Rattle.walk.specs.declared.Fitted.{Fitted}
-use Rattle.walk.specs.Fitting.{fitting, saysFitted}
+use Rattle.group_rows.specs.declared.Direction.{Direction}
+use Rattle.group_rows.specs.declared.Placed.{Placed}
+use Rattle.group_rows.specs.declared.Picked.{Picked}
+use Rattle.group_rows.specs.declared.Fitted.{Fitted}
+use Rattle.group_rows.specs.Fitting.{fitting, saysFitted}
 use Rattle.group.specs.declared.Number.{Number}
 use Rattle.group.specs.declared.Content.{Content}
 use Rattle.group.specs.Balise.{then}

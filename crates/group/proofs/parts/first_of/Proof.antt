@@ -5,9 +5,9 @@ use mathlib.Core.Path.{_≡_, refl, sym, ap, subst, _∙_}
 use mathlib.Core.List.{List}
 use native.Mathlib.Omega.{arith}
 use lib.ListN.{length, take}
-use Rattle.walk.specs.declared.Placed.{Placed}
-use Rattle.walk.specs.Row.{any, first}
-use Rattle.walk.proofs.Ahead.{five-again}
+use Rattle.group_rows.specs.declared.Placed.{Placed}
+use Rattle.group_rows.specs.Row.{any, first}
+use Rattle.group_rows.proofs.Ahead.{five-again}
 use Rattle.group.proofs.Looking.{first-yes, first-no, first-none}
 use borrow.Author.Needs.{needs}
 use Rattle.group.proofs.parts.first_of.Statement.{statement}

@@ -3,7 +3,7 @@
 use mathlib.Core.Path.{_≡_}
 use native.Mathlib.Omega.{arith}
 use lib.ListN.{length}
-use Rattle.walk.proofs.Ahead.{one-by-one}
+use Rattle.group_rows.proofs.Ahead.{one-by-one}
 use Rattle.group.proofs.Hearing.{unheard}
 use borrow.Author.Needs.{needs}
 use Rattle.group.proofs.reading.after_first.Statement.{statement}

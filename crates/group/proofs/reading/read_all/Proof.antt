@@ -8,7 +8,7 @@ use native.Mathlib.Omega.{arith}
 use borrow.Author.Needs.{needs}
 use lib.ListN.{length, take, drop, getD, length-set}
 use lib.Seq.{take-all}
-use Rattle.walk.proofs.Ahead.{five-again, head-is, then-ahead}
+use Rattle.group_rows.proofs.Ahead.{five-again, head-is, then-ahead}
 use Rattle.words.specs.Answer.{gives}
 use Rattle.group.specs.declared.Balise.{Balise}
 use Rattle.group.specs.Balise.{partHeard, readAll}

@@ -6,7 +6,7 @@ use mathlib.Core.List.{List, [], _∷_}
 use native.Mathlib.Omega.{arith}
 use lib.ListN.{length, drop}
 use Rattle.settings.specs.At.{gapAt}
-use Rattle.listing.specs.Says.{saysDone, saysListed}
+use Rattle.ride_text.specs.Says.{saysDone, saysListed}
 use Rattle.explained.specs.List.{listTaken}
 use Rattle.lead_text.proofs.OneMore.{alone, took, written-in, not-refused}
 use borrow.Author.Needs.{needs}

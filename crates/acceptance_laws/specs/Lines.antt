@@ -1,0 +1,76 @@
+-- The present groups among a ride's lines, and the one that an entry is met by (document 02, M-113): "an entry is met by the first present
+-- group of its kind whose A place lies within the tolerance."
+-- Assumes nothing.
+use Prim.Native.Nat.{ℕ, suc}
+use mathlib.Core.Bool.{Bool, true, false, _&&_, _||_}
+use mathlib.Core.List.{List, [], _∷_}
+use Rattle.words.specs.Answer.{pick}
+use Rattle.group_rows.specs.declared.Kind.{Kind}
+use Rattle.ride.specs.declared.Line.{Line}
+use Rattle.acceptance.specs.declared.Met.{Met}
+use Rattle.acceptance.specs.declared.Entry.{Entry}
+use Rattle.acceptance.specs.declared.Role.{Role}
+use Rattle.acceptance.specs.declared.Took.{Took}
+use Rattle.acceptance.specs.Taking.{isPresent, isFor}
+
+-- Whether a line is an accepted group of the present direction.
+abbrev pub isGroup : Line → Bool
+isGroup (Line.Group g) = isPresent (g .direction)
+isGroup (Line.Fault place n) = false
+isGroup (Line.Missed place) = false
+isGroup (Line.Record number n) = false
+isGroup (Line.Trace n) = false
+
+-- "the present groups accepted in the ride, counted from the ride's lines"
+unfoldable pub groupsIn : List Line → ℕ
+groupsIn [] = 0
+groupsIn (l ∷ ls) = pick (isGroup l) (suc (groupsIn ls)) (groupsIn ls)
+
+-- The place of a group's A balise and the group's kind; of no other line they are looked at.
+abbrev pub placeIn : Line → ℕ
+placeIn (Line.Group g) = g .place
+placeIn (Line.Fault place n) = 0
+placeIn (Line.Missed place) = 0
+placeIn (Line.Record number n) = 0
+placeIn (Line.Trace n) = 0
+
+abbrev pub kindIn : Line → Kind
+kindIn (Line.Group g) = g .kind
+kindIn (Line.Fault place n) = Kind.Signal
+kindIn (Line.Missed place) = Kind.Signal
+kindIn (Line.Record number n) = Kind.Signal
+kindIn (Line.Trace n) = Kind.Signal
+
+-- Whether a line is a present group of the entry's kind whose A place lies within the tolerance.
+abbrev pub isGroupFor : ℕ → Entry → Line → Bool
+isGroupFor tolerance e l = isGroup l && isFor tolerance (placeIn l) (kindIn l) e
+
+-- Whether some line is such a group,
+unfoldable pub someFor : ℕ → Entry → List Line → Bool
+someFor tolerance e [] = false
+someFor tolerance e (l ∷ ls) = isGroupFor tolerance e l || someFor tolerance e ls
+
+-- and where the first such group lies.
+unfoldable pub firstFor : ℕ → Entry → List Line → Met
+firstFor tolerance e [] = Met.Absent
+firstFor tolerance e (l ∷ ls) = pick (isGroupFor tolerance e l) (Met.At (placeIn l)) (firstFor tolerance e ls)
+
+-- Whether a line was answered wanted, or extra.
+abbrev pub isWanted : Role → Bool
+isWanted (Role.Wanted i) = true
+isWanted Role.Extra = false
+isWanted Role.NoPart = false
+
+abbrev pub isExtra : Role → Bool
+isExtra (Role.Wanted i) = false
+isExtra Role.Extra = true
+isExtra Role.NoPart = false
+
+-- How many lines were.
+unfoldable pub wantedIn : List Took → ℕ
+wantedIn [] = 0
+wantedIn (t ∷ ts) = pick (isWanted (t .answer)) (suc (wantedIn ts)) (wantedIn ts)
+
+unfoldable pub extraIn : List Took → ℕ
+extraIn [] = 0
+extraIn (t ∷ ts) = pick (isExtra (t .answer)) (suc (extraIn ts)) (extraIn ts)

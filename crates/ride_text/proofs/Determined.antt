@@ -1,0 +1,60 @@
+-- Each contract fixes its function's whole answer and the lent buffer then: any two answers that it allows are equal, and so
+-- are the buffers.
+-- Assumes nothing.
+use mathlib.Core.Path.{_≡_, refl, sym, ap, _∙_}
+use mathlib.Core.List.{List}
+use Prim.Native.Nat.{ℕ}
+use lib.Dec.{eqb}
+use contract.Lifetimes.{Lfts}
+use borrow.Fn.Kinds.{Dens, endedOf}
+use denote.Triple.Clauses.{AtExit}
+use denote.Ref.{now}
+use Rattle.words.specs.Answer.{Outcome, gives, refuses, pick}
+use Rattle.settings.specs.declared.Bad.{Bad}
+use Rattle.settings.proofs.Determined.{badOf}
+use Rattle.ride_text.specs.declared.Put.{Put}
+use Rattle.ride_text.specs.declared.Done.{Done}
+use Rattle.ride_text.specs.declared.Listed.{Listed}
+use Rattle.ride_text.specs.Put.{Filled, filled}
+use Rattle.ride_text.specs.List.{Taken, Listing}
+use Rattle.ride_text.specs.Says.{saysDone, saysListed}
+use Rattle.ride_text.proofs.put_line.Kinds as put-line-kinds
+use Rattle.ride_text.proofs.put_line.Reads as put-line-reads
+use Rattle.ride_text.proofs.list.Kinds as list-kinds
+use Rattle.ride_text.proofs.list.Reads as list-reads
+
+-- From what an answer says, the answer.
+abbrev pub doneOf : Outcome Taken → Done
+doneOf (gives t) = Done.Took (t .records) (t .bytes)
+doneOf (refuses n) = pick (eqb n 16) Done.Length (Done.Settings (badOf n))
+
+pub done-back : (d : Done) → doneOf (saysDone d) ≡ d
+done-back (Done.Took records bytes) = refl
+done-back (Done.Settings Bad.Pair) = refl
+done-back (Done.Settings Bad.Gap) = refl
+done-back (Done.Settings Bad.TooHigh) = refl
+done-back (Done.Settings Bad.NotAbove) = refl
+done-back (Done.Settings Bad.Full) = refl
+done-back Done.Length = refl
+
+abbrev pub listedOf : Listing → Listed
+listedOf l = record { ride = l .ride; number = l .number; done = doneOf (l .answer) }
+
+pub listed-back : (r : Listed) (out : List ℕ) → listedOf (saysListed r out) ≡ r
+listed-back r out = ap (λ (d : Done). record { ride = r .ride; number = r .number; done = d }) (done-back (r .done))
+
+pub put-line-determined : (κs : Lfts 1) (a : Dens κs put-line-kinds.ps) (r r′ : Put)
+    (x x′ : AtExit (endedOf 1 put-line-kinds.ps put-line-kinds.r) κs)
+    → put-line-reads.Post κs a r x → put-line-reads.Post κs a r′ x′ → (r ≡ r′) × (now (x .1 .0) ≡ now (x′ .1 .0))
+put-line-determined κs a r r′ x x′ p q =
+    let same : filled r (now (x .1 .0)) ≡ filled r′ (now (x′ .1 .0)) = p ∙ sym q in
+    (ap (λ (f : Filled). f .ends) same, ap (λ (f : Filled). f .buffer) same)
+
+pub list-determined : (κs : Lfts 2) (a : Dens κs list-kinds.ps) (r r′ : Listed)
+    (x x′ : AtExit (endedOf 2 list-kinds.ps list-kinds.r) κs)
+    → list-reads.Post κs a r x → list-reads.Post κs a r′ x′ → (r ≡ r′) × (now (x .1 .1 .1 .1 .0) ≡ now (x′ .1 .1 .1 .1 .0))
+list-determined κs a r r′ x x′ p q =
+    let same : saysListed r (now (x .1 .1 .1 .1 .0)) ≡ saysListed r′ (now (x′ .1 .1 .1 .1 .0)) = p ∙ sym q in (
+      sym (listed-back r (now (x .1 .1 .1 .1 .0))) ∙ ap listedOf same ∙ listed-back r′ (now (x′ .1 .1 .1 .1 .0)),
+      ap (λ (l : Listing). l .out) same,
+    )

@@ -1,0 +1,111 @@
+// The records of a trace, one after the other.
+ghost use mathlib.Core.Path.{_≡_};
+ghost use Prim.Native.Nat.{_+_, _≤_};
+ghost use lib.ListN.{length};
+ghost use Rattle.words.specs.Answer.{gives};
+ghost use Rattle.settings.specs.Versions.{kept};
+ghost use Rattle.settings.specs.Store.{judged};
+ghost use Rattle.settings.specs.At.{heldAt, gapAt};
+ghost use Rattle.ride.specs.Over.{records, linesFor};
+ghost use Rattle.ride.specs.Says.{saysWrong, saysLines, saysGiven};
+ghost use Rattle.ride_text.specs.Put.{placed};
+ghost use Rattle.ride_text.specs.List.{textOf, listTaken};
+ghost use Rattle.ride_text.specs.Says.{saysListed};
+use crate::Done;
+use crate::Listed;
+use crate::lines::put_text;
+use ride::Given;
+use ride::Line;
+use ride::Lines;
+use ride::Reply;
+use ride::Ride;
+use ride::Wrong;
+use settings::Held;
+use settings::Store;
+
+// The number of a refusal.
+fn refusal(wrong: Wrong) -> u8
+    ensures { λ r. ⌜ r ≡ saysWrong wrong ⌝ }
+{
+    match wrong {
+        Wrong::Malformed => 16,
+        Wrong::TooHigh => 18,
+        Wrong::TooLow => 17,
+    }
+}
+
+// The lines of a step in order.
+fn put_lines(lines: Lines, out: &mut [u8], at: usize) -> usize
+    requires { ⌜ at + 128 ≤ length (now out) ⌝ }
+    ensures { λ r. ⌜ r ≡ at + length (textOf (saysLines lines)) ⌝ }
+    ensures { λ r. ⌜ now (out .exit) ≡ placed (textOf (saysLines lines)) (now (out .entry)) at ⌝ }
+{
+    match lines {
+        Lines::None => at,
+        Lines::One(a) => put_text(a, out, at),
+        Lines::Two(a, b) => {
+            let next = put_text(a, out, at);
+            put_text(b, out, next)
+        }
+    }
+}
+
+// The lines of the record with this number: those that it gives, or that it was refused.
+fn put_given(number: u64, given: Given, out: &mut [u8], at: usize) -> usize
+    requires { ⌜ at + 128 ≤ length (now out) ⌝ }
+    ensures { λ r. ⌜ r ≡ at + length (textOf (linesFor number (saysGiven given))) ⌝ }
+    ensures { λ r. ⌜ now (out .exit) ≡ placed (textOf (linesFor number (saysGiven given))) (now (out .entry)) at ⌝ }
+{
+    match given {
+        Given::Refused(wrong) => put_text(Line::Record(number, refusal(wrong)), out, at),
+        Given::Lines(lines) => put_lines(lines, out, at),
+    }
+}
+
+// The records in turn, up to the last, while there is room for the lines of one more and the next number fits. The store is asked only where
+// an odometer leaves the places of the settings that are held; what is held at first is what is in force at place 0. One version alone is in force
+// throughout: then no odometer is looked at for it.
+pub fn over(
+    ride: Ride,
+    store: Store,
+    first: Held,
+    number: u64,
+    trace: &[u8],
+    out: &mut [u8],
+) -> Listed
+    requires { ⌜ (judged store ≡ gives kept) × (first ≡ heldAt store 0) ⌝ }
+    ensures { λ r. ⌜ saysListed r (now (out .exit)) ≡ listTaken (gapAt store) ride number (records (now (trace .entry))) (now (out .entry)) ⌝ }
+{
+    let count = trace.len() / 8;
+    let throughout = store.count == 1;
+    let mut now = ride;
+    let mut held = first;
+    let mut next = number;
+    let mut i: usize = 0;
+    let mut at: usize = 0;
+    while (i < count) & ((out.len() - at >= 128) & (next < u64::MAX)) {
+        if !throughout {
+            let odometer = ride::odometer_at(trace, i);
+            if settings::leaves(held, odometer) {
+                held = settings::hold(store, held, odometer);
+            }
+        }
+        let treated = ride::treat_at(now, held.gap, trace, i);
+        let reply = treated.reply;
+        let Reply::Record(given) = reply else {
+            break;
+        };
+        at = put_given(next, given, out, at);
+        now = treated.ride;
+        next += 1;
+        i += 1;
+    }
+    Listed {
+        ride: now,
+        number: next,
+        done: Done::Took {
+            records: i,
+            bytes: at,
+        },
+    }
+}

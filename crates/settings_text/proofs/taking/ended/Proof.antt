@@ -1,0 +1,16 @@
+-- `ended` looks whether there is a version.
+use borrow.Author.Tests.{eq-eqb, ne-eqb}
+use Rattle.settings_text.specs.Sheet.{ended}
+use Rattle.settings_text.proofs.taking.ended.Statement.{statement}
+use Rattle.settings_text.proofs.taking.ended.Tie as tie
+
+returns : tie.Need-returns
+unfolding ended
+returns c = simp (eq-eqb _ _ (c .if1 .taken))
+
+returns-2 : tie.Need-returns-2
+unfolding ended
+returns-2 c = simp (ne-eqb _ _ (c .if1 .left))
+
+pub ended-spec : {M : Type 1} → statement M
+ended-spec = tie.close (tie.spec returns returns-2)

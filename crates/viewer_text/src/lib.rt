@@ -1,0 +1,30 @@
+// What the program `view` is told and shows: its commands, and where it stands as text.
+// Promises: every line is answered; a text is written whole or not at all, and the bytes around it stay.
+// Specification: specs/Text.antt (what is shown), specs/Commands.antt (the commands).
+ghost use mathlib.Core.Path.{_≡_};
+ghost use Rattle.text.specs.Put.{put, came};
+ghost use Rattle.viewer_text.specs.Text.{state};
+
+mod commands;
+mod lines;
+
+pub use commands::Command;
+pub use commands::read;
+use ride::Ride;
+
+// Where a viewer stands, to the letter, into buf from `at` on, all other bytes as they were, and the place after it; without room nothing is written,
+// and the answer is `at`.
+pub fn put_state(
+    number: usize,
+    count: usize,
+    kept: usize,
+    ride: Ride,
+    buf: &mut [u8],
+    at: usize,
+) -> usize
+    ensures { λ r. ⌜ came r (now (buf .exit)) ≡ put (state number count kept ride) (now (buf .entry)) at ⌝ }
+{
+    let mut space = [0u8; 384];
+    let n = lines::put_all(number, count, kept, ride, &mut space, 0);
+    text::put(&space[..n], buf, at)
+}
