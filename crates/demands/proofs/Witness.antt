@@ -8,4 +8,3 @@ pub mod RidesMet
 pub mod NumbersMet
 pub mod SectionsMet
 pub mod StoresMet
-pub mod BacksMet
