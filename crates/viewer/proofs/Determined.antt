@@ -34,8 +34,8 @@ use Rattle.viewer.proofs.moving.back_at.Kinds as back-at-kinds
 use Rattle.viewer.proofs.moving.back_at.Reads as back-at-reads
 use Rattle.viewer.proofs.going.forwards_at.Kinds as forwards-at-kinds
 use Rattle.viewer.proofs.going.forwards_at.Reads as forwards-at-reads
-use Rattle.viewer.proofs.going.times_to.Kinds as times-to-kinds
-use Rattle.viewer.proofs.going.times_to.Reads as times-to-reads
+use Rattle.viewer.proofs.placing.times_to.Kinds as times-to-kinds
+use Rattle.viewer.proofs.placing.times_to.Reads as times-to-reads
 use Rattle.viewer.proofs.going.backs_at.Kinds as backs-at-kinds
 use Rattle.viewer.proofs.going.backs_at.Reads as backs-at-reads
 use Rattle.words.proofs.Told.{Fixed}

@@ -2,11 +2,12 @@
 -- None of the calls that are made is refused, so many at once are no refusal: they say how many were made, and whether the next one was refused.
 -- Assumes nothing.
 use Prim.Native.Nat.{ℕ, zero, suc, _+_}
+use mathlib.Core.Bool.{Bool, false}
 use mathlib.Core.List.{List, [], _∷_, _++_}
 use lib.Dec.{leb}
 use Rattle.words.specs.Answer.{Outcome, gives, refuses, pick}
 use Rattle.ride.specs.declared.Line.{Line}
-use Rattle.ride.specs.Record.{odometerOf}
+use Rattle.ride.specs.Record.{Entry, checkRecord}
 use Rattle.viewer.specs.declared.Stand.{Stand}
 use Rattle.viewer.specs.Viewing.{Done, done, Forward, forward, Back, back}
 
@@ -60,8 +61,16 @@ backs (suc n) s =
     let b : Back = back s in
     further (b .answer) s (backs n (b .stand))
 
--- How many forwards lead to the first record at or past an odometer place, among those that are left. Without one it is the forward
--- at the end, which is refused.
+-- Whether what a record says is accepted, at or past an odometer place.
+abbrev pub reaches : ℕ → Outcome Entry → Bool
+reaches place (gives e) = leb place (e .odometer)
+reaches place (refuses n) = false
+
+-- Whether a fresh ride accepts a record, at or past the place: a record that is malformed or too high is passed over, in whatever ride.
+unfoldable pub isAt : ℕ → List ℕ → Bool
+isAt place r = reaches place (checkRecord 0 r)
+
+-- How many forwards lead to the first such record among those that are left. Without one it is the forward at the end, which is refused.
 unfoldable pub timesTo : ℕ → List (List ℕ) → ℕ
 timesTo place [] = 1
-timesTo place (r ∷ left) = pick (leb place (odometerOf r)) 0 (timesTo place left + 1)
+timesTo place (r ∷ left) = pick (isAt place r) 0 (timesTo place left + 1)

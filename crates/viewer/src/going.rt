@@ -2,15 +2,13 @@
 ghost use mathlib.Core.Path.{_≡_};
 ghost use Prim.Native.Nat.{_-_};
 ghost use lib.Dec.{eqb, leb};
-ghost use lib.ListN.{drop};
 ghost use Rattle.words.specs.Answer.{gives, refuses, pick};
 ghost use Rattle.settings.specs.Versions.{kept};
 ghost use Rattle.settings.specs.Store.{judged};
 ghost use Rattle.settings.specs.At.{heldAt};
-ghost use Rattle.ride.specs.Over.{records};
 ghost use Rattle.settings.specs.Says.{saysBad};
 ghost use lib.Dec.{ltb};
-ghost use Rattle.viewer.specs.Going.{all, refused, forwards, backs, timesTo};
+ghost use Rattle.viewer.specs.Going.{all, refused, forwards, backs};
 ghost use Rattle.viewer.specs.Says.{saysEnding, saysMoved};
 use crate::Ending;
 use crate::Moved;
@@ -102,25 +100,6 @@ pub fn forwards_at(trace: &[u8], stand: Stand, times: usize) -> Moved
         },
         Asked::InForce(first) => over(trace, stand, first, times),
     }
-}
-
-// How many forwards lead to just before the first record at or past the place, with so many records before the viewer; where there is none, one more
-// than are left.
-pub fn times_to(trace: &[u8], number: usize, place: u64) -> usize
-    ensures { λ r. ⌜ r ≡ timesTo place (drop number (records (now (trace .entry)))) ⌝ }
-{
-    let count = trace.len() / 8;
-    let mut i = number;
-    let mut times: usize = 0;
-    while i < count {
-        let odometer = ride::odometer_at(trace, i);
-        if odometer as u64 >= place {
-            return times;
-        }
-        i += 1;
-        times += 1;
-    }
-    times + 1
 }
 
 // Why going back so many times ends, with so many states kept.

@@ -11,14 +11,15 @@ ghost use Rattle.viewer.specs.Says.{holding, over, saysStarted, saysForw
 mod going;
 mod moving;
 mod opening;
+mod placing;
 
 pub use going::backs_at;
 pub use going::forwards_at;
-pub use going::times_to;
 use group::Group;
 pub use moving::back_at;
 pub use moving::forward_at;
 pub use opening::start_at;
+pub use placing::times_to;
 use ride::Lines;
 use ride::Ride;
 use settings::Bad;
