@@ -1,18 +1,23 @@
 -- `from_file` reads no more than there is room for.
-use mathlib.Core.Path.{sym}
+use mathlib.Core.Path.{refl, sym}
 use native.Mathlib.Omega.{arith}
 use lib.Seq.{length-take-le}
+use Rattle.asked.specs.declared.How.{How}
+use Rattle.asked.proofs.Riding.{nothing-ridden}
 use borrow.Author.Needs.{needs}
 use Rattle.asked.proofs.from_file.Statement.{statement}
 use Rattle.asked.proofs.from_file.Tie as tie
 
-slice-aggregate-read : tie.Need-slice-aggregate-read
-slice-aggregate-read c = sym (length-take-le _ _ (omega arith))
+returns : tie.Need-returns
+returns c = nothing-ridden (c .none .result) How.Said (c .none .ensures) refl refl
+
+slice-aggregate-judged : tie.Need-slice-aggregate-judged
+slice-aggregate-judged c = sym (length-take-le _ _ (omega arith))
 
 pub from-file-spec : {M : Type 1} → statement M
 from-file-spec =
     tie.close
     (tie.spec
-    (λ c κs. search needs) (λ c. search needs) (λ c κs. search needs) (λ c κs. search needs) (λ c κs. search needs) (λ c. search needs)
-    (λ c. search needs) slice-aggregate-read
-    (λ c κs. search needs) (λ c κs. search needs) (λ c. search needs))
+    (λ c κs. search needs) (λ c. search needs) (λ c κs. search needs) (λ c κs. search needs) (λ c κs. search needs) returns
+    (λ c. search needs) slice-aggregate-judged
+    (λ c κs. search needs) (λ c. search needs))
