@@ -1,5 +1,5 @@
 -- Demand 1 for the settings as a text (document 02, M-111): "every call ends with a named reading or a numbered refusal .., given exactly under the condition
--- written there. A refusal hands out no figure, and lent memory and the running state stay untouched". Shown in proofs/Demand1.antt.
+-- written there. A refusal hands out no figure, and lent memory and the running state stay untouched". Shown in proofs/Take.antt, Text.antt, Good.antt and Left.antt.
 -- Assumes nothing.
 use Prim.Native.Nat.{ℕ, _+_}
 use mathlib.Core.Path.{_≡_}
