@@ -4,7 +4,7 @@ ghost use lib.ListN.{length};
 use crate::out::write;
 use acceptance::Acceptance;
 use acceptance::Reported;
-use cards::How;
+use console::Goes;
 use console::Ended;
 use depot::Troubles;
 use ride::Ride;
@@ -109,13 +109,13 @@ fn finish(stand: Stand) {
 }
 
 // What comes after the last block: the report where all cards were read, and a word of what went wrong otherwise.
-fn ended(how: How, stand: Stand) {
+fn ended(how: Goes, stand: Stand) {
     match how {
-        How::End => finish(stand),
-        How::More => {}
-        How::CannotOpen(number) => cards::cannot_open(b"accept", number),
-        How::CannotRead(number) => cards::cannot_read(b"accept", number),
-        How::NoRoom => {}
+        Goes::End => finish(stand),
+        Goes::More => {}
+        Goes::CannotOpen(number) => console::cannot_open(b"accept", number),
+        Goes::CannotRead(number) => console::cannot_read(b"accept", number),
+        Goes::NoRoom => {}
     }
 }
 
@@ -130,17 +130,17 @@ fn ride_on(
     out: &mut [u8],
 ) {
     let mut stand = start;
-    let mut pass = cards::begin(first);
+    let mut pass = console::begin(first);
     let mut turns = u64::MAX;
     while turns > 0 {
-        let got = cards::next_block(pass, lengths, block);
+        let got = console::next_block(pass, lengths, block);
         let read = got.read;
         stand = write_records(stand, store, &block[..read], out);
         if !stand.is_good {
             return;
         }
         let how = got.how;
-        let How::More = how else {
+        let Goes::More = how else {
             ended(how, stand);
             return;
         };

@@ -1,7 +1,7 @@
 // The records of the cards, block by block: in through `list`, out to standard output.
 ghost use mathlib.Core.Path.{_≡_};
 ghost use lib.ListN.{length};
-use cards::How;
+use console::Goes;
 use console::Ended;
 use libc::STDOUT_FILENO;
 use ride::Line;
@@ -87,14 +87,14 @@ fn write_end(ride: Ride) {
 }
 
 // What comes after the last block: the end's line where all cards were read; of a card that cannot be opened any more, or of a read that failed, the launcher is told.
-fn finish(how: How, stand: Stand) {
+fn finish(how: Goes, stand: Stand) {
     let ride = stand.ride;
     match how {
-        How::End => write_end(ride),
-        How::CannotOpen(_) => console::tell(Ended::Unread),
-        How::CannotRead(_) => console::tell(Ended::Unread),
-        How::NoRoom => {}
-        How::More => {}
+        Goes::End => write_end(ride),
+        Goes::CannotOpen(_) => console::tell(Ended::Unread),
+        Goes::CannotRead(_) => console::tell(Ended::Unread),
+        Goes::NoRoom => {}
+        Goes::More => {}
     }
 }
 
@@ -107,17 +107,17 @@ pub fn list_cards(store: Store, first: usize, lengths: &[u64], block: &mut [u8],
         number: 1,
         is_good: true,
     };
-    let mut pass = cards::begin(first);
+    let mut pass = console::begin(first);
     let mut turns = u64::MAX;
     while turns > 0 {
-        let got = cards::next_block(pass, lengths, block);
+        let got = console::next_block(pass, lengths, block);
         let read = got.read;
         stand = write_records(stand, store, &block[..read], out);
         if !stand.is_good {
             return;
         }
         let how = got.how;
-        let How::More = how else {
+        let Goes::More = how else {
             finish(how, stand);
             return;
         };

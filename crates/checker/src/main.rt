@@ -4,8 +4,8 @@
 // Specification: none of its own; what its calls of `list` come to is crates/demands/specs/Sections.antt, what cannot be said of a program's reads and writes stands in docs/EXCEPTIONS.md.
 mod blocks;
 
-use asked::How;
-use cards::Found;
+use console::Given;
+use console::Found;
 use console::Ended;
 use console::tell;
 use settings::Store;
@@ -15,7 +15,7 @@ use settings::Store;
 fn list(store: Store, first: usize) {
     let mut lengths = [0u64; 8192];
     let mut block = io::large_buffer();
-    let found = cards::go_over(first, &mut lengths, &mut block);
+    let found = console::go_over(first, &mut lengths, &mut block);
     match found {
         Found::Cards => {
             let mut out = blocks::room();
@@ -31,14 +31,14 @@ fn list(store: Store, first: usize) {
 }
 
 fn main() {
-    let asked = asked::options(b"checker", false);
+    let asked = console::options(b"checker", false);
     let store = asked.store;
     let first = asked.first;
     let how = asked.how;
     match how {
-        How::Plain => list(store, first),
-        How::Settings => list(store, first),
-        How::Usage => tell(Ended::Usage),
-        How::Said => {}
+        Given::Plain => list(store, first),
+        Given::Settings => list(store, first),
+        Given::Usage => tell(Ended::Usage),
+        Given::Said => {}
     }
 }

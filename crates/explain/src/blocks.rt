@@ -1,7 +1,7 @@
 // The records of the cards, block by block: in through `list`, out to standard output.
 ghost use mathlib.Core.Path.{_≡_};
 ghost use lib.ListN.{length};
-use cards::How;
+use console::Goes;
 use console::Ended;
 use ride::Line;
 use ride::Ride;
@@ -68,14 +68,14 @@ fn write_end(ride: Ride) {
 }
 
 // What comes after the last block: the end's line where all cards were read, or what failed.
-fn finish(how: How, stand: Stand) {
+fn finish(how: Goes, stand: Stand) {
     let ride = stand.ride;
     match how {
-        How::End => write_end(ride),
-        How::CannotOpen(number) => cards::cannot_open(b"explain", number),
-        How::CannotRead(number) => cards::cannot_read(b"explain", number),
-        How::NoRoom => {}
-        How::More => {}
+        Goes::End => write_end(ride),
+        Goes::CannotOpen(number) => console::cannot_open(b"explain", number),
+        Goes::CannotRead(number) => console::cannot_read(b"explain", number),
+        Goes::NoRoom => {}
+        Goes::More => {}
     }
 }
 
@@ -88,17 +88,17 @@ pub fn list_cards(store: Store, first: usize, lengths: &[u64], block: &mut [u8],
         number: 1,
         is_good: true,
     };
-    let mut pass = cards::begin(first);
+    let mut pass = console::begin(first);
     let mut turns = u64::MAX;
     while turns > 0 {
-        let got = cards::next_block(pass, lengths, block);
+        let got = console::next_block(pass, lengths, block);
         let read = got.read;
         stand = write_records(stand, store, &block[..read], out);
         if !stand.is_good {
             return;
         }
         let how = got.how;
-        let How::More = how else {
+        let Goes::More = how else {
             finish(how, stand);
             return;
         };

@@ -3,8 +3,8 @@
 // Specification: none of its own; what cannot be said of a program's reads and writes stands in docs/EXCEPTIONS.md.
 mod blocks;
 
-use asked::How;
-use cards::Found;
+use console::Given;
+use console::Found;
 use settings::Store;
 
 // The line for wrong or missing arguments.
@@ -16,7 +16,7 @@ fn usage() {
 fn explain_cards(store: Store, first: usize) {
     let mut lengths = [0u64; 8192];
     let mut block = io::large_buffer();
-    let found = cards::go_over(first, &mut lengths, &mut block);
+    let found = console::go_over(first, &mut lengths, &mut block);
     match found {
         Found::Cards => {
             let mut out = blocks::room();
@@ -24,23 +24,23 @@ fn explain_cards(store: Store, first: usize) {
         }
         Found::BadLength(_) => blocks::refuse_trace(),
         Found::NoCard => usage(),
-        Found::TooMany => cards::say_found(b"explain", found),
-        Found::CannotOpen(_) => cards::say_found(b"explain", found),
-        Found::CannotRead(_) => cards::say_found(b"explain", found),
-        Found::Once(_) => cards::say_found(b"explain", found),
+        Found::TooMany => console::say_found(b"explain", found),
+        Found::CannotOpen(_) => console::say_found(b"explain", found),
+        Found::CannotRead(_) => console::say_found(b"explain", found),
+        Found::Once(_) => console::say_found(b"explain", found),
     }
 }
 
 // The settings that `-s` names, or the gap of document 01; then the cards.
 fn main() {
-    let asked = asked::options(b"explain", false);
+    let asked = console::options(b"explain", false);
     let store = asked.store;
     let first = asked.first;
     let how = asked.how;
     match how {
-        How::Plain => explain_cards(store, first),
-        How::Settings => explain_cards(store, first),
-        How::Usage => usage(),
-        How::Said => {}
+        Given::Plain => explain_cards(store, first),
+        Given::Settings => explain_cards(store, first),
+        Given::Usage => usage(),
+        Given::Said => {}
     }
 }

@@ -4,7 +4,7 @@
 // in docs/EXCEPTIONS.md.
 mod riding;
 
-use asked::How;
+use console::Given;
 
 fn main() {
     let asked = leads::options(b"live", false);
@@ -12,9 +12,9 @@ fn main() {
     let first = asked.first;
     let how = asked.how;
     match how {
-        How::Plain => riding::all(store, first),
-        How::Settings => riding::all(store, first),
-        How::Usage => console::usage(b"live", b"live S S* [LEAD..], or live -s SETTINGS [LEAD..]"),
-        How::Said => {}
+        Given::Plain => riding::all(store, first),
+        Given::Settings => riding::all(store, first),
+        Given::Usage => console::usage(b"live", b"live S S* [LEAD..], or live -s SETTINGS [LEAD..]"),
+        Given::Said => {}
     }
 }
