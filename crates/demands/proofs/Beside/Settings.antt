@@ -21,7 +21,7 @@ use Rattle.settings.proofs.Holding.{held-given}
 use Rattle.settings.proofs.Laws.{settings}
 use Rattle.demands.specs.Stores.{BeginStore, AddVersion, AskAt}
 use Rattle.demands.specs.Settings.{Made, OneMore, SettingsKept}
-use Rattle.demands.proofs.Demand1.Rides.{gives-not}
+use Rattle.words.proofs.Never.{cannot-be}
 
 -- ---- every store that calls made is good, and has its 32 places
 
@@ -66,7 +66,7 @@ heldIn (refuses n) = holds noVersion ending
 
 given : (r : Asked) (held : Held) → saysAsked r ≡ gives held → r ≡ Asked.InForce held
 given (Asked.InForce h) held e = ap Asked.InForce (ap heldIn e)
-given (Asked.Refused bad) held e = absurd (gives-not (sym e))
+given (Asked.Refused bad) held e = cannot-be cc
 
 asks : (store : Store) (place : ℕ) (held : Held) → AskAt store place (Asked.InForce held) → asked store place ≡ gives held
 asks store place held c = sym (c .1)
