@@ -58,11 +58,10 @@ ended line next = record { line = line; ends = true; next = next; reader = fresh
 
 pub reads-a-line : ReadsALine
 unfolding whole
-reads-a-line line rest one =
-    over fresh line (10 ∷ rest) 0 one
-    ∙ newline-ends (readOn fresh line) rest (0 + length line)
-    ∙ ap (λ (l : Line). ended l (0 + length line + 1)) (reads-words line)
-    ∙ ap (ended (lineOf line)) (omega arith)
+reads-a-line line rest at one =
+    over fresh line (10 ∷ rest) at one
+    ∙ newline-ends (readOn fresh line) rest (at + length line)
+    ∙ ap (λ (l : Line). ended l (at + length line + 1)) (reads-words line)
 
 pub reads-the-last : ReadsTheLast
 unfolding unfinished

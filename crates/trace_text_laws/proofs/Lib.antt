@@ -1,1 +1,4 @@
 pub mod Recording
+pub mod Words
+pub mod Saying
+pub mod LineBack
