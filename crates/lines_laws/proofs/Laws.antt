@@ -12,7 +12,7 @@ use Rattle.words.proofs.Never.{cannot-be}
 use Rattle.lines.specs.declared.Line.{Line}
 use Rattle.lines.specs.declared.Reader.{Reader}
 use Rattle.lines.specs.declared.Got.{Got}
-use Rattle.lines.specs.Text.{newline, upTo}
+use Rattle.lines.specs.Text.{newline, upTo, onto, cut, linesOf}
 use Rattle.lines.specs.Words.{lineOf}
 use Rattle.lines.specs.Reading.{character, fresh, whole, unfinished, lineFrom}
 use Rattle.lines_laws.specs.Laws.{OneLine, ReadsALine, ReadsTheLast, InBlocks}
@@ -71,3 +71,12 @@ pub in-blocks : InBlocks
 unfolding unfinished
 in-blocks r block next at one =
     over r block next at one ∙ ap (λ (x : Reader). lineFrom x next (at + length block)) (sym (ap (λ (g : Got). g .reader) (at-the-end r block at one)))
+
+-- The first line of a text, and the others.
+pub first-line : (line rest : List ℕ) → OneLine line → linesOf (line ++ 10 ∷ rest) ≡ line ∷ linesOf rest
+unfolding cut
+first-line [] rest one = refl
+first-line (c ∷ cs) rest one =
+    let parts = first c cs one in
+    ap (λ (b : Bool). pick b ([] ∷ linesOf (cs ++ 10 ∷ rest)) (onto c (linesOf (cs ++ 10 ∷ rest)))) (parts .0)
+    ∙ ap (onto c) (first-line cs rest (parts .1))

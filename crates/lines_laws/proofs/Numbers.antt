@@ -87,3 +87,18 @@ reads n h =
 pub numbers-back : NumbersBack
 unfolding decimal
 numbers-back = record { a-word = λ n. (decimal-some n, digits-plain (digits 20 n) (all-digits 20 n)); reads = reads }
+
+in-digits : (c : ℕ) (cs : List ℕ) → allDigits (c ∷ cs) ≡ true → (between 48 57 c && allDigits cs) ≡ true
+unfolding allDigits
+in-digits c cs e = e
+
+-- It begins with a digit.
+pub begins-with : (n : ℕ) → (c : ℕ) × (cs : List ℕ) × (decimal n ≡ c ∷ cs) × (c ≤ 57)
+unfolding decimal
+begins-with n = by (digits 20 n) refl (decimal-some n) (all-digits 20 n)
+  where
+    by : (s : List ℕ) → digits 20 n ≡ s → 0 < length s → allDigits s ≡ true → (c : ℕ) × (cs : List ℕ) × (digits 20 n ≡ c ∷ cs) × (c ≤ 57)
+    by [] is some all = absurd (omega arith)
+    by (c ∷ cs) is some all =
+        let parts = and-parts (between 48 57 c) (allDigits cs) (in-digits c cs all) in
+        (c, cs, is, leb-true c 57 (and-parts (leb 48 c) (leb c 57) (parts .0) .1))

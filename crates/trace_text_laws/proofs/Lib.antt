@@ -2,3 +2,6 @@ pub mod Recording
 pub mod Words
 pub mod Saying
 pub mod LineBack
+pub mod Eight
+pub mod Told
+pub mod Texts
