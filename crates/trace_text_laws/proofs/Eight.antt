@@ -72,9 +72,9 @@ pub thing-there : (b : List ℕ) (i place : ℕ) (what : What) → i + 8 ≤ len
 unfolding thingAt
 thing-there b i place what h all is =
     let there : thingAt b i ≡ Said.Thing (placeOf (getD b i 0) (getD b (i + 1) 0) (getD b (i + 2) 0) (getD b (i + 3) 0))
-        (thingOf (getD b (i + 4) 0) (getD b (i + 5) 0) (getD b (i + 6) 0) (getD b (i + 7) 0)) = simp (le-leb (i + 8) (length b) h) in
+    (thingOf (getD b (i + 4) 0) (getD b (i + 5) 0) (getD b (i + 6) 0) (getD b (i + 7) 0)) = simp (le-leb (i + 8) (length b) h) in
     let same : Said.Thing place what ≡ Said.Thing (placeOf (getD b i 0) (getD b (i + 1) 0) (getD b (i + 2) 0) (getD b (i + 3) 0))
-        (thingOf (getD b (i + 4) 0) (getD b (i + 5) 0) (getD b (i + 6) 0) (getD b (i + 7) 0)) = is ∙ there in
+    (thingOf (getD b (i + 4) 0) (getD b (i + 5) 0) (getD b (i + 6) 0) (getD b (i + 7) 0)) = is ∙ there in
     let p : placeOf (getD b i 0) (getD b (i + 1) 0) (getD b (i + 2) 0) (getD b (i + 3) 0) ≡ place = cc in
     let w : thingOf (getD b (i + 4) 0) (getD b (i + 5) 0) (getD b (i + 6) 0) (getD b (i + 7) 0) ≡ what = cc in
     let bytes : Bytes (eight b i) = first-bytes (eight b i) (drop (i + 8) b) (subst Bytes (in-eight b i h) all) in

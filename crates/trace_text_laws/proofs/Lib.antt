@@ -5,3 +5,4 @@ pub mod LineBack
 pub mod Eight
 pub mod Told
 pub mod Texts
+pub mod TextsMet

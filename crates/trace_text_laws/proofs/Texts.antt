@@ -23,7 +23,7 @@ use Rattle.trace_text.specs.Record.{recordOf}
 use Rattle.trace_text.specs.Thing.{thingAt}
 use Rattle.trace_text.specs.Line.{byteText, balise, whatText, recordLine}
 use Rattle.trace_text_laws.specs.Laws.{Bytes, HasRecord, asSaid}
-use Rattle.trace_text_laws.specs.Texts.{Puts, one, over, Printed, none, block, Result, made, Taken, ThereAndBack}
+use Rattle.trace_text_laws.specs.Texts.{Puts, one, over, Printed, none, block, Result, made, Writes, Taken, ThereAndBack}
 use Rattle.trace_text_laws.proofs.Words.{its-figures, Small}
 use Rattle.trace_text_laws.proofs.Saying.{same-record}
 use Rattle.trace_text_laws.proofs.LineBack.{bare, with-newline, says-thing, put-so}
@@ -63,7 +63,7 @@ one-tells number place what bytes known all =
     let begins : bare number place what ≡ starts .0 ∷ (starts .1 ++ (whatText what ++ (codes " # " ++ decimal number))) =
     ap (λ (l : List ℕ). l ++ (whatText what ++ (codes " # " ++ decimal number))) (starts .2) in
     let line = told.one (bare number place what) place (asSaid what) (starts .0) (starts .1 ++ (whatText what ++ (codes " # " ++ decimal number))) begins (starts .3)
-        (says .0) (says .1) (same-record place what ∙ known .is) told.none in
+    (says .0) (says .1) (same-record place what ∙ known .is) told.none in
     subst (λ (l : List ℕ). Tells l bytes) (sym (with-newline number place what)) (subst (Tells (bare number place what ++ (10 ∷ []))) (append-nil bytes) line)
 
 -- What was put from a place on, and that it tells what is left of the block.
@@ -126,7 +126,7 @@ pub there-and-back : ThereAndBack
 there-and-back =
     record {
       of-a-trace = λ blocks text result all printed taken. comes-back result (printed-tells printed all) taken;
-      whole-records = λ text bytes taken. all-whole (taken .lines) (made bytes) (taken .comes) bytes refl;
-      of-a-text = λ text bytes again blocks result taken is all printed then.
-          comes-back result (printed-tells printed (subst Bytes (sym is) all)) then ∙ ap made is;
+      whole-records = λ text records taken. all-whole (taken .lines) (made records) (taken .comes) records refl;
+      of-a-text = λ text again records blocks result taken is all printed then.
+          subst (Writes result) is (comes-back result (printed-tells printed (subst Bytes (sym is) all)) then);
     }

@@ -27,7 +27,7 @@ use Rattle.trace_text.specs.Record.{Made, Recording, recording, recordOf, bytes
 use Rattle.trace_text.specs.Record as recorded
 use Rattle.trace_text.specs.Says.{saysHow, saysRecorded}
 use Rattle.trace_text_laws.specs.Calls.{ReadLine, RecordOf}
-use Rattle.trace_text_laws.specs.Texts.{Result, made, unreadable, refused, before, Comes, no-more, nothing, thing, wrong, bad, Taken}
+use Rattle.trace_text_laws.specs.Texts.{Result, made, unreadable, refused, before, Writes, Comes, no-more, nothing, thing, wrong, bad, Taken}
 
 -- Line after line: each says a thing, and the trace is their records.
 pub data Tells : List ℕ → List ℕ → Type 0 where
@@ -45,8 +45,13 @@ joined-tells {u = u} {b = b} (one {text} {trace} {bytes} line place what c cs st
 
 -- ---- what comes of it
 
-no-lines : (r : Result) → Comes [] r → r ≡ made []
+no-lines : (r : Result) → Comes [] r → Writes r []
 no-lines _ no-more = refl
+
+one-more : (r bytes trace : List ℕ) (rest : Result) → r ≡ bytes → Writes rest trace → Writes (before r rest) (bytes ++ trace)
+one-more r bytes trace (made rs) is e = ap₂ (λ (a b : List ℕ). a ++ b) is e
+one-more r bytes trace unreadable is e = e
+one-more r bytes trace (refused n) is e = e
 
 -- A line that says nothing.
 says-nothing : (l : Line) (ls : List Line) (r : Result) → said l ≡ Said.Nothing → Comes (l ∷ ls) r → Comes ls r
@@ -64,11 +69,11 @@ same-thing place place′ what what′ l e f =
     ap₂ recordOf p w
 
 says-thing : (l : Line) (ls : List Line) (place : ℕ) (what : What) (bytes trace : List ℕ) (r : Result) → said l ≡ Said.Thing place what → recordOf place what ≡ gives bytes
-    → ((s : Result) → Comes ls s → s ≡ made trace) → Comes (l ∷ ls) r → r ≡ made (bytes ++ trace)
+    → ((s : Result) → Comes ls s → Writes s trace) → Comes (l ∷ ls) r → Writes r (bytes ++ trace)
 says-thing l ls place what bytes trace r is has others (nothing reads rest) = cannot-be (let e : Said.Nothing ≡ Said.Thing place what = reads .1 ∙ is in cc)
 says-thing l ls place what bytes trace _ is has others (thing {rest = rest} {place = p} {what = w} r reads records how more) =
     let told : saysRecorded r ≡ recording (gives bytes) = records .1 ∙ ap recording (same-thing place p what w l (reads .1) is ∙ has) in
-    ap₂ before (ap (λ (x : Recording). x .bytes) told) (others rest more)
+    one-more (r .bytes) bytes trace rest (ap (λ (x : Recording). x .bytes) told) (others rest more)
 says-thing l ls place what bytes trace _ is has others (wrong reads) = cannot-be (let e : Said.Unreadable ≡ Said.Thing place what = reads .1 ∙ is in cc)
 says-thing l ls place what bytes trace _ is has others (bad {place = p} {n = n} {what = w} r reads records how) =
     let told : saysRecorded r ≡ recording (gives bytes) = records .1 ∙ ap recording (same-thing place p what w l (reads .1) is ∙ has) in
@@ -79,7 +84,7 @@ empty-line : said (lineOf []) ≡ Said.Nothing
 unfolding said lineOf wordsOf upTo cut some keptAll noWords
 empty-line = refl
 
-of-lines : {text trace : List ℕ} → Tells text trace → (r : Result) → Comes (keptOf (linesOf text)) r → r ≡ made trace
+of-lines : {text trace : List ℕ} → Tells text trace → (r : Result) → Comes (keptOf (linesOf text)) r → Writes r trace
 unfolding cut
 of-lines none r comes = no-lines r (says-nothing (lineOf []) [] r empty-line comes)
 of-lines (one {text} {trace} {bytes} line place what c cs starts digit is-line says is rest) r comes =
@@ -102,7 +107,7 @@ no-mark (one {text} line place what c cs starts digit is-line says is rest) =
         go a true e = cannot-be cc
 
 -- So what is taken of it is the trace.
-pub comes-back : {text trace : List ℕ} (r : Result) → Tells text trace → Taken text r → r ≡ made trace
+pub comes-back : {text trace : List ℕ} (r : Result) → Tells text trace → Taken text r → Writes r trace
 unfolding linesIn
 comes-back {text} {trace} r tells taken =
     let lines = all-lines (taken .first) (taken .others) (taken .lines) (taken .enough) (taken .read) in
@@ -131,22 +136,22 @@ made-eight place what r records how = by (recordOf place what) refl (records .1)
     by (refuses n) is e = cannot-be (let z : _≡_ {A = Outcome Made} (gives recorded.made) (refuses n) = sym (ap saysHow how) ∙ ap (λ (x : Recording). x .answer) e in cc)
 
 Whole : Result → Type 0
-Whole r = (bytes : List ℕ) → r ≡ made bytes → length bytes % 8 ≡ 0
+Whole r = (records : List (List ℕ)) → r ≡ made records → length (joined records) % 8 ≡ 0
 
 more-whole : (eight : List ℕ) (rest : Result) → length eight ≡ 8 → Whole rest → Whole (before eight rest)
 unfolding Whole
-more-whole eight (made bs) is others bytes e =
-    let same : bytes ≡ eight ++ bs = cc in
-    let left = others bs refl in
-    ap (λ (l : List ℕ). length l % 8) same ∙ ap (λ (n : ℕ). n % 8) (length-append eight bs) ∙ (let z : (length eight + length bs) % 8 ≡ 0 = omega arith in z)
-more-whole eight unreadable is others bytes e = cannot-be cc
-more-whole eight (refused n) is others bytes e = cannot-be cc
+more-whole eight (made rs) is others records e =
+    let same : records ≡ eight ∷ rs = cc in
+    let left = others rs refl in
+    ap (λ (l : List (List ℕ)). length (joined l) % 8) same ∙ ap (λ (n : ℕ). n % 8) (length-append eight (joined rs)) ∙ (let z : (length eight + length (joined rs)) % 8 ≡ 0 = omega arith in z)
+more-whole eight unreadable is others records e = cannot-be cc
+more-whole eight (refused n) is others records e = cannot-be cc
 
-pub all-whole : (ls : List Line) (r : Result) → Comes ls r → (bytes : List ℕ) → r ≡ made bytes → length bytes % 8 ≡ 0
+pub all-whole : (ls : List Line) (r : Result) → Comes ls r → (records : List (List ℕ)) → r ≡ made records → length (joined records) % 8 ≡ 0
 unfolding Whole
-all-whole _ _ no-more bytes e = let same : bytes ≡ [] = cc in ap (λ (l : List ℕ). length l % 8) same
-all-whole _ r (nothing {ls = ls} reads rest) bytes e = all-whole ls r rest bytes e
-all-whole _ _ (thing {ls = ls} {rest = rest} {place = place} {what = what} r reads records how more) bytes e =
-    more-whole (r .bytes) rest (made-eight place what r records how) (λ bs f. all-whole ls rest more bs f) bytes e
-all-whole _ _ (wrong reads) bytes e = cannot-be cc
-all-whole _ _ (bad r reads records how) bytes e = cannot-be cc
+all-whole _ _ no-more rs e = let same : rs ≡ [] = cc in ap (λ (l : List (List ℕ)). length (joined l) % 8) same
+all-whole _ r (nothing {ls = ls} reads rest) rs e = all-whole ls r rest rs e
+all-whole _ _ (thing {ls = ls} {rest = rest} {place = place} {what = what} r reads records how more) rs e =
+    more-whole (r .bytes) rest (made-eight place what r records how) (λ others f. all-whole ls rest more others f) rs e
+all-whole _ _ (wrong reads) rs e = cannot-be cc
+all-whole _ _ (bad r reads records how) rs e = cannot-be cc

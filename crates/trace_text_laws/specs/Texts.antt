@@ -34,17 +34,23 @@ pub data Printed : List (List ℕ) → List ℕ → Type 0 where
 
 -- ---- `trace`
 
--- What comes of a text: bytes, or a line that is unreadable, or refused with a number.
+-- What comes of a text: records, or a line that is unreadable, or refused with a number.
 pub data Result : Type 0 where
-  made : List ℕ → Result
+  made : List (List ℕ) → Result
   unreadable : Result
   refused : ℕ → Result
 
--- The bytes of a record before those that follow.
+-- A record before those that follow.
 abbrev pub before : List ℕ → Result → Result
-before bytes (made rest) = made (bytes ++ rest)
-before bytes unreadable = unreadable
-before bytes (refused n) = refused n
+before r (made rest) = made (r ∷ rest)
+before r unreadable = unreadable
+before r (refused n) = refused n
+
+-- These bytes are written: the records, one after the other. Of a text with a wrong line none are.
+abbrev pub Writes : Result → List ℕ → Type 0
+Writes (made records) bytes = joined records ≡ bytes
+Writes unreadable bytes = ⊥
+Writes (refused n) bytes = ⊥
 
 -- Line after line: `read` says what it says, `record_of` makes its record; the first wrong line decides. Every answer is one that its contract allows.
 pub data Comes : List Line → Result → Type 0 where
@@ -70,9 +76,9 @@ pub record Taken (text : List ℕ) (result : Result) : Type 0 where
 
 pub record ThereAndBack : Type 0 where
   -- For every trace of whole records, reading the text of its records gives it back, in whatever blocks it is printed and read.
-  pub of-a-trace : (blocks : List (List ℕ)) (text : List ℕ) (result : Result) → Bytes (joined blocks) → Printed blocks text → Taken text result → result ≡ made (joined blocks)
+  pub of-a-trace : (blocks : List (List ℕ)) (text : List ℕ) (result : Result) → Bytes (joined blocks) → Printed blocks text → Taken text result → Writes result (joined blocks)
   -- A text that is read gives whole records,
-  pub whole-records : (text bytes : List ℕ) → Taken text (made bytes) → length bytes % 8 ≡ 0
+  pub whole-records : (text : List ℕ) (records : List (List ℕ)) → Taken text (made records) → length (joined records) % 8 ≡ 0
   -- and the text of what it gives is read as the same records.
-  pub of-a-text : (text bytes again : List ℕ) (blocks : List (List ℕ)) (result : Result) → Taken text (made bytes)
-      → joined blocks ≡ bytes → Bytes bytes → Printed blocks again → Taken again result → result ≡ made bytes
+  pub of-a-text : (text again : List ℕ) (records blocks : List (List ℕ)) (result : Result) → Taken text (made records)
+      → joined blocks ≡ joined records → Bytes (joined records) → Printed blocks again → Taken again result → Writes result (joined records)
