@@ -54,7 +54,7 @@ one-more r bytes trace unreadable is e = e
 one-more r bytes trace (refused n) is e = e
 
 -- A line that says nothing.
-says-nothing : (l : Line) (ls : List Line) (r : Result) → said l ≡ Said.Nothing → Comes (l ∷ ls) r → Comes ls r
+pub says-nothing : (l : Line) (ls : List Line) (r : Result) → said l ≡ Said.Nothing → Comes (l ∷ ls) r → Comes ls r
 says-nothing l ls r is (nothing reads rest) = rest
 says-nothing l ls _ is (thing {place = place} {what = what} r reads records how rest) = cannot-be (let e : Said.Thing place what ≡ Said.Nothing = reads .1 ∙ is in cc)
 says-nothing l ls _ is (wrong reads) = cannot-be (let e : Said.Unreadable ≡ Said.Nothing = reads .1 ∙ is in cc)
@@ -68,16 +68,22 @@ same-thing place place′ what what′ l e f =
     let w : what′ ≡ what = cc in
     ap₂ recordOf p w
 
-says-thing : (l : Line) (ls : List Line) (place : ℕ) (what : What) (bytes trace : List ℕ) (r : Result) → said l ≡ Said.Thing place what → recordOf place what ≡ gives bytes
-    → ((s : Result) → Comes ls s → Writes s trace) → Comes (l ∷ ls) r → Writes r (bytes ++ trace)
-says-thing l ls place what bytes trace r is has others (nothing reads rest) = cannot-be (let e : Said.Nothing ≡ Said.Thing place what = reads .1 ∙ is in cc)
-says-thing l ls place what bytes trace _ is has others (thing {rest = rest} {place = p} {what = w} r reads records how more) =
+pub split : (l : Line) (ls : List Line) (place : ℕ) (what : What) (bytes : List ℕ) (r : Result) → said l ≡ Said.Thing place what → recordOf place what ≡ gives bytes → Comes (l ∷ ls) r
+    → (rest : Result) × Comes ls rest × (r ≡ before bytes rest)
+split l ls place what bytes r is has (nothing reads rest) = cannot-be (let e : Said.Nothing ≡ Said.Thing place what = reads .1 ∙ is in cc)
+split l ls place what bytes _ is has (thing {rest = rest} {place = p} {what = w} r reads records how more) =
     let told : saysRecorded r ≡ recording (gives bytes) = records .1 ∙ ap recording (same-thing place p what w l (reads .1) is ∙ has) in
-    one-more (r .bytes) bytes trace rest (ap (λ (x : Recording). x .bytes) told) (others rest more)
-says-thing l ls place what bytes trace _ is has others (wrong reads) = cannot-be (let e : Said.Unreadable ≡ Said.Thing place what = reads .1 ∙ is in cc)
-says-thing l ls place what bytes trace _ is has others (bad {place = p} {n = n} {what = w} r reads records how) =
+    (rest, more, ap (λ (b : List ℕ). before b rest) (ap (λ (x : Recording). x .bytes) told))
+split l ls place what bytes _ is has (wrong reads) = cannot-be (let e : Said.Unreadable ≡ Said.Thing place what = reads .1 ∙ is in cc)
+split l ls place what bytes _ is has (bad {place = p} {n = n} {what = w} r reads records how) =
     let told : saysRecorded r ≡ recording (gives bytes) = records .1 ∙ ap recording (same-thing place p what w l (reads .1) is ∙ has) in
     cannot-be (let e : _≡_ {A = Outcome Made} (refuses n) (gives recorded.made) = sym how ∙ ap (λ (x : Recording). x .answer) told in cc)
+
+says-thing : (l : Line) (ls : List Line) (place : ℕ) (what : What) (bytes trace : List ℕ) (r : Result) → said l ≡ Said.Thing place what → recordOf place what ≡ gives bytes
+    → ((s : Result) → Comes ls s → Writes s trace) → Comes (l ∷ ls) r → Writes r (bytes ++ trace)
+says-thing l ls place what bytes trace r is has others comes =
+    let parts = split l ls place what bytes r is has comes in
+    subst (λ (x : Result). Writes x (bytes ++ trace)) (sym (parts .2)) (one-more bytes bytes trace (parts .0) refl (others (parts .0) (parts .1)))
 
 -- An empty line says nothing.
 empty-line : said (lineOf []) ≡ Said.Nothing

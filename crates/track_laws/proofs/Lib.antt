@@ -7,3 +7,5 @@ pub mod Chain
 pub mod WholeWay
 pub mod Noise
 pub mod TextMet
+pub mod Writing
+pub mod ByCalls
