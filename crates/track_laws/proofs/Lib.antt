@@ -9,3 +9,5 @@ pub mod Noise
 pub mod TextMet
 pub mod Writing
 pub mod ByCalls
+pub mod WayMet
+pub mod WayRecorded
