@@ -8,8 +8,6 @@ use denote.Ref.{now}
 use borrow.Fn.Kinds.{Dens, endedOf}
 use denote.Triple.Clauses.{AtExit}
 use Rattle.text.specs.Put.{Put, came}
-use Rattle.acceptance_text.proofs.put_group.Kinds as put-group-kinds
-use Rattle.acceptance_text.proofs.put_group.Reads as put-group-reads
 use Rattle.acceptance_text.proofs.put_entry.Kinds as put-entry-kinds
 use Rattle.acceptance_text.proofs.put_entry.Reads as put-entry-reads
 use Rattle.acceptance_text.proofs.put_sum.Kinds as put-sum-kinds
@@ -25,10 +23,6 @@ use Rattle.acceptance_text.proofs.put_refused.Reads as put-refused-read
 -- A place and a buffer that came of the same text.
 same-put : {r r′ : ℕ} {x x′ : List ℕ} → came r x ≡ came r′ x′ → (r ≡ r′) × (x ≡ x′)
 same-put e = (ap (λ (v : Put). v .next) e, ap (λ (v : Put). v .buffer) e)
-
-pub put-group-determined : (κs : Lfts 1) (a : Dens κs put-group-kinds.ps) (r r′ : ℕ) (x x′ : AtExit (endedOf 1 put-group-kinds.ps put-group-kinds.r) κs)
-    → put-group-reads.Post κs a r x → put-group-reads.Post κs a r′ x′ → (r ≡ r′) × (now (x .1 .1 .1 .0) ≡ now (x′ .1 .1 .1 .0))
-put-group-determined κs a r r′ x x′ p q = same-put (p ∙ sym q)
 
 pub put-entry-determined : (κs : Lfts 1) (a : Dens κs put-entry-kinds.ps) (r r′ : ℕ) (x x′ : AtExit (endedOf 1 put-entry-kinds.ps put-entry-kinds.r) κs)
     → put-entry-reads.Post κs a r x → put-entry-reads.Post κs a r′ x′ → (r ≡ r′) × (now (x .1 .1 .0) ≡ now (x′ .1 .1 .0))

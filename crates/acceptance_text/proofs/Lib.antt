@@ -1,3 +1,6 @@
 pub mod Pieces
-pub mod Determined
+pub mod Takings
+pub mod Ends
+pub mod Turns
 pub mod Examples
+pub mod Determined
