@@ -1,5 +1,6 @@
 pub mod Near
 pub mod Meeting
+pub mod Placed
 pub mod Cases
 pub mod Over
 pub mod Parts

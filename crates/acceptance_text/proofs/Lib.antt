@@ -2,5 +2,6 @@ pub mod Pieces
 pub mod Takings
 pub mod Ends
 pub mod Turns
+pub mod Blocks
 pub mod Examples
 pub mod Determined

@@ -61,7 +61,7 @@ part-short (Line.Trace n) part = omega arith
 -- ---- some lines
 
 -- A line more has 64 bytes of text more at most.
-one-short : (t : Taking) (l : Line) → length (takeOne t l .text) ≤ length (t .text) + 64
+pub one-short : (t : Taking) (l : Line) → length (takeOne t l .text) ≤ length (t .text) + 64
 unfolding takeOne
 one-short t l =
     let p : List ℕ = partLine l (takeLine (t .run) l .answer) in

@@ -67,6 +67,18 @@ rides-alike gaps ride t m n (r ∷ rs) =
     ∙ rides-alike gaps (s .ride) (takeAll t (linesFor n (s .lines))) (suc m) (suc n) rs
     ∙ sym (take-on t (linesFor n (s .lines)) (one n .lines))
 
+-- A record's lines, and then those of the others.
+pub record-first : (gaps : ℕ → ℕ) (ride : Ride) (t : Taking) (r : List ℕ) (rs : List (List ℕ))
+    → takeAll t (rideOver gaps ride 1 (r ∷ rs) .lines)
+    ≡ takeAll (takeAll t (linesFor 0 (treat ride (gaps (odometerOf r)) r .lines))) (rideOver gaps (treat ride (gaps (odometerOf r)) r .ride) 1 rs .lines)
+unfolding rideOver
+record-first gaps ride t r rs =
+    let s : Step = treat ride (gaps (odometerOf r)) r in
+    let two : Ridden = rideOver gaps (s .ride) 2 rs in
+    take-on t (linesFor 1 (s .lines)) (two .lines)
+    ∙ ap (λ (v : Taking). takeAll v (two .lines)) (any-number t 1 0 (s .lines))
+    ∙ rides-alike gaps (s .ride) (takeAll t (linesFor 0 (s .lines))) 2 1 rs
+
 -- ---- from a record on
 
 abbrev advance : ℕ → Ride → Taking → List ℕ → Advance
@@ -105,12 +117,8 @@ from-next gaps ride t i r rs out e =
     let two : Ridden = rideOver gaps (s .ride) 2 (take n rs) in
     let one : Ridden = rideOver gaps (s .ride) 1 (take n rs) in
     let counted : i + suc n ≡ i + 1 + n = omega arith in
-    let lines : takeAll t (linesFor 1 (s .lines) ++ two .lines) ≡ takeAll u (one .lines) =
-        take-on t (linesFor 1 (s .lines)) (two .lines)
-        ∙ ap (λ (v : Taking). takeAll v (two .lines)) (any-number t 1 0 (s .lines))
-        ∙ rides-alike gaps (s .ride) u 2 1 (take n rs) in
     ap (λ (b : Bool). after gaps ride t i (r ∷ rs) out (pick b (suc n) 0)) e
-    ∙ ap (λ (v : Taking). advance (i + suc n) (two .ride) v out) lines
+    ∙ ap (λ (v : Taking). advance (i + suc n) (two .ride) v out) (record-first gaps ride t r (take n rs))
     ∙ ap (λ (k : ℕ). advance k (two .ride) (takeAll u (one .lines)) out) counted
     ∙ ap (λ (v : Ride). advance (i + 1 + n) v (takeAll u (one .lines)) out) (unnumbered gaps (s .ride) 2 1 (take n rs))
 
