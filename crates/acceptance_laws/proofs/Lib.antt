@@ -7,4 +7,8 @@ pub mod Parts
 pub mod Plan
 pub mod Reports
 pub mod Accepted
+pub mod Blocks
+pub mod Carried
+pub mod Riding
+pub mod Witness
 pub mod Depot

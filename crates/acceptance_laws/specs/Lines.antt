@@ -66,3 +66,21 @@ wantedIn (t ∷ ts) = pick (isWanted (t .answer)) (suc (wantedIn ts)) (wantedIn 
 unfoldable pub extraIn : List Took → ℕ
 extraIn [] = 0
 extraIn (t ∷ ts) = pick (isExtra (t .answer)) (suc (extraIn ts)) (extraIn ts)
+
+-- What went wrong, counted from the ride's lines: the faults,
+unfoldable pub faultsIn : List Line → ℕ
+faultsIn [] = 0
+faultsIn (Line.Fault place n ∷ ls) = suc (faultsIn ls)
+faultsIn (Line.Group g ∷ ls) = faultsIn ls
+faultsIn (Line.Missed place ∷ ls) = faultsIn ls
+faultsIn (Line.Record number n ∷ ls) = faultsIn ls
+faultsIn (Line.Trace n ∷ ls) = faultsIn ls
+
+-- and the refused records.
+unfoldable pub refusedIn : List Line → ℕ
+refusedIn [] = 0
+refusedIn (Line.Record number n ∷ ls) = suc (refusedIn ls)
+refusedIn (Line.Group g ∷ ls) = refusedIn ls
+refusedIn (Line.Fault place n ∷ ls) = refusedIn ls
+refusedIn (Line.Missed place ∷ ls) = refusedIn ls
+refusedIn (Line.Trace n ∷ ls) = refusedIn ls

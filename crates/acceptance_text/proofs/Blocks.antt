@@ -1,5 +1,4 @@
--- What a block comes to, for whoever calls `accept` again and again: it takes no more records than there are, what it writes has room, and with 128 bytes a
--- record it takes them all.
+-- What a block comes to, for whoever calls `accept` again and again: it takes no more records than there are, and with 128 bytes a record it takes them all.
 -- Assumes nothing.
 use Prim.Native.Nat.{ℕ, zero, suc, _+_, _*_, _≤_}
 use native.Mathlib.Omega.{arith}
@@ -7,8 +6,8 @@ use mathlib.Core.Path.{_≡_, refl, sym, ap, subst, _∙_}
 use mathlib.Core.Bool.{Bool, true, false}
 use mathlib.Core.List.{List, [], _∷_, _++_}
 use lib.Dec.{leb}
-use lib.ListN.{length, take, length-append}
-use borrow.Author.Tests.{le-leb, leb-true}
+use lib.ListN.{length, length-append}
+use borrow.Author.Tests.{le-leb}
 use Rattle.words.specs.Answer.{Outcome, gives, refuses, pick}
 use Rattle.group.specs.declared.Group.{Group}
 use Rattle.ride.specs.declared.Known.{Known}
@@ -18,12 +17,11 @@ use Rattle.ride.specs.Record.{Entry, odometerOf, checkRecord}
 use Rattle.ride.specs.Joining.{isBehind}
 use Rattle.ride.specs.Linking.{missedPlace}
 use Rattle.ride.specs.Closing.{Closing, close, leave}
-use Rattle.ride.specs.Step.{Step, isMissed, missedLines, closeBehind, goOn, refuseOr, treat, end}
-use Rattle.ride.specs.Over.{linesFor, rideOver}
+use Rattle.ride.specs.Step.{Step, isMissed, missedLines, closeBehind, goOn, refuseOr, treat}
+use Rattle.ride.specs.Over.{linesFor}
 use Rattle.acceptance_text.specs.Taking.{Taking, takeOne, takeAll}
 use Rattle.acceptance_text.specs.Accept.{hasRoom, taken}
 use Rattle.acceptance_text.proofs.Takings.{one-short}
-use Rattle.acceptance_text.proofs.Turns.{record-first}
 
 -- ---- the text of a record's lines
 
@@ -99,33 +97,3 @@ taken-one gaps room ride t (r ∷ rs) some h =
     let n : ℕ = taken gaps room (s .ride) (takeAll t (linesFor 0 (s .lines))) rs in
     let more : 1 ≤ suc n = omega arith in
     subst (λ (k : ℕ). 1 ≤ k) (sym (ap (λ (b : Bool). pick b (suc n) 0) (le-leb (length (t .text) + 128) room h))) more
-
--- ---- what is written has room
-
-module _ (gaps : ℕ → ℕ) (room : ℕ) (ride : Ride) (t : Taking) (r : List ℕ) (rs : List (List ℕ)) where
-  abbrev s : Step
-  s = treat ride (gaps (odometerOf r)) r
-
-  abbrev u : Taking
-  u = takeAll t (linesFor 0 (s .lines))
-
-  abbrev n : ℕ
-  n = taken gaps room (s .ride) u rs
-
-  one-fits : (b : Bool) → hasRoom room t ≡ b → length (t .text) ≤ room
-      → (length (u .text) ≤ room → length (takeAll u (rideOver gaps (s .ride) 1 (take n rs) .lines) .text) ≤ room)
-      → length (takeAll t (rideOver gaps ride 1 (take (pick b (suc n) 0) (r ∷ rs)) .lines) .text) ≤ room
-  unfolding rideOver takeAll
-  one-fits true e h more =
-      let short : length (u .text) ≤ room = omega (arith, record-short ride (gaps (odometerOf r)) r t, leb-true (length (t .text) + 128) room e) in
-      subst (λ (v : Taking). length (v .text) ≤ room) (sym (record-first gaps ride t r (take n rs))) (more short)
-  one-fits false e h more = h
-
-pub taken-fits : (gaps : ℕ → ℕ) (room : ℕ) (ride : Ride) (t : Taking) (rs : List (List ℕ)) → length (t .text) ≤ room
-    → length (takeAll t (rideOver gaps ride 1 (take (taken gaps room ride t rs) rs) .lines) .text) ≤ room
-unfolding taken rideOver takeAll
-taken-fits gaps room ride t [] h = h
-taken-fits gaps room ride t (r ∷ rs) h =
-    let s : Step = treat ride (gaps (odometerOf r)) r in
-    let u : Taking = takeAll t (linesFor 0 (s .lines)) in
-    one-fits gaps room ride t r rs (hasRoom room t) refl h (λ (k : length (u .text) ≤ room). taken-fits gaps room (s .ride) u rs k)

@@ -55,14 +55,17 @@ unfolding finish
 no-end g out h = rw (lt-leb 128 (length out) h)
 
 -- What the end comes to, where there is room.
-abbrev finished : Ride → Taking → List ℕ → Finish
+abbrev pub finished : Ride → Taking → List ℕ → Finish
 finished ride t out =
     record { ending = Ending.Wrote (length (t .text)); going = record { ride = ride; run = t .run; troubles = t .troubles }; out = placed (t .text) out 0 }
+
+pub finish-is : (g : Going) (out : List ℕ) → 128 ≤ length out → finish g out ≡ finished (end (g .ride) .ride) (takeAll (began g) (end (g .ride) .lines)) out
+unfolding finish
+finish-is g out h = rw (le-leb 128 (length out) h)
 
 pub at-end : (g : Going) (out : List ℕ) (e : Ended) (w : Written) (x : List ℕ) → 128 ≤ length out → saysEnded e ≡ end (g .ride)
     → written w x ≡ writes (takeAll (began g) (saysLines (e .lines))) out 0
     → _≡_ {A = Finish} (record { ending = Ending.Wrote (w .next); going = record { ride = e .ride; run = w .run; troubles = w .troubles }; out = x }) (finish g out)
-unfolding finish
 at-end g out e w x h is wrote =
     let t : Taking = takeAll (began g) (saysLines (e .lines)) in
     let s = stands {t = t .text} (omega (arith, lines-short (began g) (e .lines))) (ap (λ (z : Writing). z .text) wrote) in
@@ -71,4 +74,4 @@ at-end g out e w x h is wrote =
     ∙ ap₂ (λ (r : Acceptance) (q : Troubles). record { ending = Ending.Wrote (length (t .text)); going = record { ride = e .ride; run = r; troubles = q }; out = placed (t .text) out 0 })
     (ap (λ (z : Writing). z .run) wrote) (ap (λ (z : Writing). z .troubles) wrote)
     ∙ ap (λ (z : End). finished (z .ride) (takeAll (began g) (z .lines)) out) is
-    ∙ rw (le-leb 128 (length out) h)
+    ∙ sym (finish-is g out h)
