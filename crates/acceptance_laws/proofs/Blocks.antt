@@ -164,7 +164,7 @@ module _ (store : Store) (good : Good store) where
         text = ap₂ _++_ text-then (later .text ∙ ap (λ (u : Taking). u .text) total-then) ∙ ap (λ (u : Taking). u .text) (sym (total-goes gaps g left n few));
         after =
             later .after ∙ ap₂ standing ride-then total-then
-            ∙ ap₂ (λ (r : Ride) (u : Taking). standing r u) (sym (ride-goes gaps g left n few)) refl
+            ∙ ap (λ (r : Ride). standing r (total gaps then rest)) (sym (ride-goes gaps g left n few))
             ∙ ap (λ (u : Taking). standing (rideOver gaps (g .ride) 1 (records left) .ride) u) (sym (total-goes gaps g left n few));
       }
 

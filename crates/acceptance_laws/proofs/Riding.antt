@@ -1,6 +1,6 @@
 -- A ride's lines, by its steps and by the program's calls: both come to the run over the ride's own lines.
 -- Assumes nothing.
-use Prim.Native.Nat.{ℕ, suc, _%_, _≤_}
+use Prim.Native.Nat.{ℕ, suc, _+_, _%_, _≤_}
 use native.Mathlib.Omega.{arith}
 use native.Mathlib.Nat.{zero-add}
 use mathlib.Core.Path.{_≡_, refl, sym, ap, ap₂, subst, _∙_}
@@ -138,7 +138,7 @@ module _ (store : Store) (cards : List (List ℕ)) (f : Ride) (r : Run) (calls :
 
   pub carried : Carried r calls last
   carried =
-      let zero-up = λ (n : ℕ). ap upToMost (zero-add n) in
+      let zero-up : (n : ℕ) → upToMost (0 + n) ≡ upToMost n = λ n. ap upToMost (zero-add n) in
       record {
         run = run-is ∙ run-taken (began start) (r .lines) ∙ sym (taken .1);
         lines =
