@@ -1,4 +1,4 @@
--- The text of a trace, there and back (issue N2): "for every trace of whole records, reading the text of its records gives it back; for every text that is read, the
+-- The text of a trace, there and back: "for every trace of whole records, reading the text of its records gives it back; for every text that is read, the
 -- text of what it gives is read as the same records". Shown in proofs/Texts.antt.
 -- Assumes nothing.
 use Prim.Native.Nat.{ℕ, _+_, _%_, _≤_}

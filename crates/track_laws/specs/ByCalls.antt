@@ -1,5 +1,5 @@
 -- The whole way by calls: what `track` writes of a text, what `record` makes of that, and what `trace` makes of the text, for any answers that the contracts of the functions
--- that they call allow (docs/LEAD.md, item 6 of its issue). Shown in proofs/ByCalls.antt.
+-- that they call allow (docs/LEAD.md). Shown in proofs/ByCalls.antt.
 -- Assumes nothing.
 use Prim.Native.Nat.{ℕ, _≤_, _<_}
 use mathlib.Core.Path.{_≡_}
