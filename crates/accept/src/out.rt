@@ -27,6 +27,6 @@ pub fn refuse_trace() {
 // That the plan is refused.
 pub fn refuse(number: u8) {
     let mut text = [0u8; 128];
-    let count = depot::put_refused(number, &mut text, 0);
+    let count = acceptance_text::put_refused(number, &mut text, 0);
     refuse_by(&text, count);
 }

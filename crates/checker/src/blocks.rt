@@ -1,8 +1,8 @@
 // The records of the cards, block by block: in through `list`, out to standard output.
 ghost use mathlib.Core.Path.{_≡_};
 ghost use lib.ListN.{length};
-use console::Goes;
 use console::Ended;
+use console::Goes;
 use libc::STDOUT_FILENO;
 use ride::Line;
 use ride::Lines;

@@ -4,9 +4,9 @@
 // Specification: none of its own; what its calls of `list` come to is crates/demands/specs/Sections.antt, what cannot be said of a program's reads and writes stands in docs/EXCEPTIONS.md.
 mod blocks;
 
-use console::Given;
-use console::Found;
 use console::Ended;
+use console::Found;
+use console::Given;
 use console::tell;
 use settings::Store;
 

@@ -2,9 +2,9 @@
 ghost use Prim.Native.Nat.{_≤_};
 ghost use lib.ListN.{length};
 use crate::counts;
-use console::Goes;
 use compaction::Size;
 use compaction::Waiting;
+use console::Goes;
 use libc::STDOUT_FILENO;
 use settings::Store;
 

@@ -5,8 +5,8 @@
 mod blocks;
 mod counts;
 
-use console::Given;
 use console::Found;
+use console::Given;
 use settings::Store;
 
 // Given it is called.

@@ -1,7 +1,7 @@
 // What a program says on standard error: one line that begins with its name.
-use crate::streams::write;
 use crate::status::Ended;
 use crate::status::tell;
+use crate::streams::write;
 use libc::STDERR_FILENO;
 use libc::STDOUT_FILENO;
 

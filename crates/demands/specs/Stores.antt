@@ -18,7 +18,7 @@ use Rattle.settings.specs.declared.Begun.{Begun}
 use Rattle.settings.specs.declared.Added.{Added}
 use Rattle.settings.specs.declared.Asked.{Asked}
 use Rattle.settings.specs.Versions.{kept}
-use Rattle.settings.specs.Store.{judged, lastPlace}
+use Rattle.settings.specs.Store.{noStore, judged, lastPlace}
 use Rattle.settings.specs.At.{heldAt}
 use Rattle.settings.specs.Says.{saysVerdict, saysAsked}
 use Rattle.contact.specs.Says.{saysJudgedUnder}
@@ -115,7 +115,7 @@ pub record StoresDecided : Type 0 where
       (storeRules store (row 18 (tooHigh odometer) ∷ judgeRules b start len (heldAt store odometer .s) (heldAt store odometer .t)))
       (saysJudgedUnder r)
 
--- "the store is unchanged"; a store that is not opened is none.
+-- "the store is unchanged"; where none is opened there is none: `noStore`, whose count is 0, whatever was asked.
 pub record StoresUntouched : Type 0 where
-  pub begin : (gap s t : ℕ) (r : Begun) (n : ℕ) → BeginStore gap s t r → saysVerdict (r .verdict) ≡ refuses n → r .store .count ≡ 0
+  pub begin : (gap s t : ℕ) (r : Begun) (n : ℕ) → BeginStore gap s t r → saysVerdict (r .verdict) ≡ refuses n → r .store ≡ noStore
   pub add : (store : Store) (v : Version) (r : Added) (n : ℕ) → AddVersion store v r → saysVerdict (r .verdict) ≡ refuses n → r .store ≡ store

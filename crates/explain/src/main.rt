@@ -3,8 +3,8 @@
 // Specification: none of its own; what cannot be said of a program's reads and writes stands in docs/EXCEPTIONS.md.
 mod blocks;
 
-use console::Given;
 use console::Found;
+use console::Given;
 use settings::Store;
 
 // The line for wrong or missing arguments.

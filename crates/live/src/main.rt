@@ -14,7 +14,10 @@ fn main() {
     match how {
         Given::Plain => riding::all(store, first),
         Given::Settings => riding::all(store, first),
-        Given::Usage => console::usage(b"live", b"live S S* [LEAD..], or live -s SETTINGS [LEAD..]"),
+        Given::Usage => console::usage(
+            b"live",
+            b"live S S* [LEAD..], or live -s SETTINGS [LEAD..]",
+        ),
         Given::Said => {}
     }
 }

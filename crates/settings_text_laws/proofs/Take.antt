@@ -92,4 +92,3 @@ take-decided = record {
       how-of (ByRules (storeRules store (versionRules (lastPlace store) v (row 25 (full (store .count)) ∷ [])))) (changed store (add store v)) r
       (to-a-store store v some ∙ sym (states store line v r c e)) (added-so store v);
 }
-

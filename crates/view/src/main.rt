@@ -7,8 +7,8 @@ mod out;
 mod reading;
 mod session;
 
-use console::Given;
 use console::Found;
+use console::Given;
 use settings::Store;
 
 fn usage() {
