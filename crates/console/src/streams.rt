@@ -29,3 +29,10 @@ pub fn refuse_here(program: &[u8], number: u8) {
         tell(Ended::Refused);
     }
 }
+
+// `trace refused 16` on standard output, alone, in document 01's words.
+pub fn refuse_trace(program: &[u8]) {
+    if put(program, b"trace refused 16\n", 17) {
+        tell(Ended::Refused);
+    }
+}

@@ -5,7 +5,6 @@
 mod blocks;
 
 use console::Found;
-use libc::STDOUT_FILENO;
 
 // Goes over the cards twice: once for their lengths, once for the records.
 fn main() {
@@ -14,9 +13,7 @@ fn main() {
     let found = console::go_over(1, &mut lengths, &mut block);
     match found {
         Found::Cards => blocks::write_cards(&lengths, &mut block),
-        Found::BadLength(_) => {
-            io::write_all(STDOUT_FILENO, b"trace refused 16\n");
-        }
+        Found::BadLength(_) => console::refuse_trace(b"records"),
         Found::NoCard => console::usage(b"records", b"records CARD.."),
         Found::TooMany => console::say_found(b"records", found),
         Found::CannotOpen(_) => console::say_found(b"records", found),
