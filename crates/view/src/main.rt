@@ -1,19 +1,19 @@
 // A ride looked at step by step, forward and back: commands from standard input, a line each, and where the viewer stands after each.
-// Promises: it is safe and it ends; where it stands, the lines and the commands are those of the crates viewer, ride, explained, trace_text and viewer_text.
+// Promises: it is safe and it ends; where it stands, the lines and the commands are those of the crates viewer, ride_text, trace_text and viewer_text.
 // Specification: none of its own; what cannot be said of a program's reads and writes stands in docs/EXCEPTIONS.md.
 mod beginning;
 mod going;
 mod input;
-mod passing;
 mod out;
 mod parts;
+mod passing;
 mod reading;
 mod screen;
 mod session;
 
-use asked::How;
 use beginning::From;
-use cards::Found;
+use console::Found;
+use console::Given;
 use settings::Store;
 
 fn usage() {
@@ -24,15 +24,15 @@ fn usage() {
 fn look(store: Store, from: From, first: usize) {
     let mut lengths = [0u64; 8192];
     let mut block = io::large_buffer();
-    let found = cards::go_over(first, &mut lengths, &mut block);
+    let found = console::go_over(first, &mut lengths, &mut block);
     match found {
         Found::Cards => reading::open(store, from, first, &lengths),
-        Found::BadLength(_) => out::refuse_trace(),
+        Found::BadLength(_) => console::refuse_trace(b"view"),
         Found::NoCard => usage(),
-        Found::TooMany => cards::say_found(b"view", found),
-        Found::CannotOpen(_) => cards::say_found(b"view", found),
-        Found::CannotRead(_) => cards::say_found(b"view", found),
-        Found::Once(_) => cards::say_found(b"view", found),
+        Found::TooMany => console::say_found(b"view", found),
+        Found::CannotOpen(_) => console::say_found(b"view", found),
+        Found::CannotRead(_) => console::say_found(b"view", found),
+        Found::Once(_) => console::say_found(b"view", found),
     }
 }
 
@@ -48,14 +48,14 @@ fn begin(store: Store, first: usize) {
 }
 
 fn main() {
-    let asked = asked::options(b"view", false);
+    let asked = console::options(b"view", false);
     let store = asked.store;
     let first = asked.first;
     let how = asked.how;
     match how {
-        How::Plain => begin(store, first),
-        How::Settings => begin(store, first),
-        How::Usage => usage(),
-        How::Said => {}
+        Given::Plain => begin(store, first),
+        Given::Settings => begin(store, first),
+        Given::Usage => usage(),
+        Given::Said => {}
     }
 }

@@ -1,10 +1,7 @@
 // What is written: refusals, where the viewer stands, and the list of commands.
-use console::Ended;
 use libc::STDERR_FILENO;
 use libc::STDIN_FILENO;
 use libc::STDOUT_FILENO;
-use ride::Line;
-use ride_text::Put;
 use viewer::Ending;
 use viewer::Stand;
 
@@ -14,17 +11,6 @@ pub enum Told {
     Stopped(Ending),
     NoLine,
     Help,
-}
-
-// `trace refused 16`, alone.
-pub fn refuse_trace() {
-    let mut line = [0u8; 64];
-    let Put::Next(n) = ride_text::put_line(Line::Trace(16), &mut line, 0) else {
-        return;
-    };
-    if console::put(b"view", &line, n) {
-        console::tell(Ended::Refused);
-    }
 }
 
 // `refused 22: WORDS`.

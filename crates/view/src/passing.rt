@@ -18,7 +18,7 @@ pub struct Listed {
 
 // The lines of some records, the first with this number, in this state, into out.
 pub fn list(ride: Ride, store: Store, number: u64, block: &[u8], out: &mut [u8]) -> Listed {
-    let listed = explained::list(ride, store, number, block, out);
+    let listed = ride_text::list(ride_text::REASONS, ride, store, number, block, out);
     let done = listed.done;
     let after = listed.ride;
     let Done::Took { records: _, bytes } = done else {
@@ -58,7 +58,13 @@ pub fn write_passed(trace: &[u8], from: Stand, number: usize) {
     let mut at = from.number;
     while at < to {
         let end = end_of(at, to);
-        let listed = list(ride, store, next(at) as u64, records(trace, at, end), &mut out);
+        let listed = list(
+            ride,
+            store,
+            next(at) as u64,
+            records(trace, at, end),
+            &mut out,
+        );
         ride = listed.ride;
         console::put(b"view", &out, listed.bytes);
         at = end;
@@ -73,7 +79,13 @@ pub fn number_of(trace: &[u8], from: Stand, word: &[u8]) -> usize {
     let mut ride = from.ride;
     let mut at = from.number;
     while at < to {
-        let listed = list(ride, store, next(at) as u64, records(trace, at, at + 1), &mut out);
+        let listed = list(
+            ride,
+            store,
+            next(at) as u64,
+            records(trace, at, at + 1),
+            &mut out,
+        );
         ride = listed.ride;
         at += 1;
         if viewer_text::has(between(&out, 0, listed.bytes), word) {

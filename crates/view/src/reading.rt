@@ -5,8 +5,8 @@ ghost use lib.ListN.{length};
 use crate::beginning::From;
 use crate::parts::between;
 use crate::session;
-use cards::How;
-use cards::Pass;
+use console::Goes;
+use console::Pass;
 use libc::STDERR_FILENO;
 use settings::Store;
 
@@ -38,7 +38,7 @@ fn fits(lengths: &[u64]) -> bool {
 struct Step {
     pass: Pass,
     have: usize,
-    how: How,
+    how: Goes,
 }
 
 // The next block after those that the buffer has.
@@ -46,7 +46,7 @@ fn next(pass: Pass, lengths: &[u64], trace: &mut [u8], have: usize) -> Step
     requires { ⌜ have ≤ length (now trace) ⌝ }
     ensures { λ r. ⌜ r .have ≤ length (now (trace .entry)) ⌝ }
 {
-    let block = cards::next_block(pass, lengths, &mut trace[have..]);
+    let block = console::next_block(pass, lengths, &mut trace[have..]);
     let how = block.how;
     let then = block.pass;
     Step {
@@ -57,30 +57,30 @@ fn next(pass: Pass, lengths: &[u64], trace: &mut [u8], have: usize) -> Step
 }
 
 // Whether more may come; what failed is said.
-fn goes_on(how: How) -> bool {
+fn goes_on(how: Goes) -> bool {
     match how {
-        How::More => true,
-        How::End => false,
-        How::CannotOpen(number) => {
-            cards::cannot_open(b"view", number);
+        Goes::More => true,
+        Goes::End => false,
+        Goes::CannotOpen(number) => {
+            console::cannot_open(b"view", number);
             false
         }
-        How::CannotRead(number) => {
-            cards::cannot_read(b"view", number);
+        Goes::CannotRead(number) => {
+            console::cannot_read(b"view", number);
             false
         }
-        How::NoRoom => false,
+        Goes::NoRoom => false,
     }
 }
 
 // Whether a pass ended well: with the last card, or with the buffer full.
-fn ended_well(how: How) -> bool {
+fn ended_well(how: Goes) -> bool {
     match how {
-        How::End => true,
-        How::NoRoom => true,
-        How::More => false,
-        How::CannotOpen(_) => false,
-        How::CannotRead(_) => false,
+        Goes::End => true,
+        Goes::NoRoom => true,
+        Goes::More => false,
+        Goes::CannotOpen(_) => false,
+        Goes::CannotRead(_) => false,
     }
 }
 
@@ -159,7 +159,7 @@ fn look_in(step: Step, before: u64, trace: &[u8], place: u64) -> Sought {
 
 // Goes over the cards to the first record at or past the place. No run uses up the turns.
 fn seek(first: usize, lengths: &[u64], trace: &mut [u8], place: u64) -> Sought {
-    let begun = cards::begin(first);
+    let begun = console::begin(first);
     let mut sought = Sought {
         pass: begun,
         have: 0,
@@ -192,22 +192,27 @@ fn say_none() {
 }
 
 // That a fresh ride begins at a record, and that not all records after it have room, if so.
-fn say_fresh(before: u64, place: u64, how: How) {
+fn say_fresh(before: u64, place: u64, how: Goes) {
     let mut line = [0u8; 192];
-    let a = text::put_number(b"view: a fresh ride from record ", more(before, 1), &mut line, 0);
+    let a = text::put_number(
+        b"view: a fresh ride from record ",
+        more(before, 1),
+        &mut line,
+        0,
+    );
     let b = text::put_number(b" on, the first at or past ", place, &mut line, a);
     let c = text::put(rest(how), &mut line, b);
     console::write(STDERR_FILENO, &line, c);
 }
 
-// How that line ends.
-fn rest<'a>(how: How) -> &'a [u8] {
+// Goes that line ends.
+fn rest<'a>(how: Goes) -> &'a [u8] {
     match how {
-        How::NoRoom => b"; of those after it the first 524288 have room\n",
-        How::More => b"\n",
-        How::End => b"\n",
-        How::CannotOpen(_) => b"\n",
-        How::CannotRead(_) => b"\n",
+        Goes::NoRoom => b"; of those after it the first 524288 have room\n",
+        Goes::More => b"\n",
+        Goes::End => b"\n",
+        Goes::CannotOpen(_) => b"\n",
+        Goes::CannotRead(_) => b"\n",
     }
 }
 
@@ -219,7 +224,12 @@ fn open_from(store: Store, place: u64, first: usize, lengths: &[u64]) {
         return;
     }
     shift(&mut trace, sought.at);
-    let step = fill(sought.pass, lengths, &mut trace, kept(sought.have, sought.at));
+    let step = fill(
+        sought.pass,
+        lengths,
+        &mut trace,
+        kept(sought.have, sought.at),
+    );
     let how = step.how;
     if ended_well(how) {
         say_fresh(sought.before, place, how);
@@ -250,7 +260,7 @@ fn open_all(store: Store, first: usize, lengths: &[u64]) {
         return;
     }
     let mut trace = room();
-    let step = fill(cards::begin(first), lengths, &mut trace, 0);
+    let step = fill(console::begin(first), lengths, &mut trace, 0);
     let how = step.how;
     if ended_well(how) {
         session::hold(store, between(&trace, 0, step.have));

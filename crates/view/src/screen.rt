@@ -1,14 +1,14 @@
 // What a terminal shows: the last twelve lines of the ride, the state, the six records around it, and the one that comes next.
 ghost use mathlib.Core.Path.{_≡_};
 ghost use lib.ListN.{length};
-use crate::passing::end_of;
-use crate::passing::list;
-use crate::passing::next;
 use crate::out;
 use crate::out::Told;
 use crate::parts::between;
 use crate::parts::records;
 use crate::parts::smaller;
+use crate::passing::end_of;
+use crate::passing::list;
+use crate::passing::next;
 use libc::STDOUT_FILENO;
 use viewer::Stand;
 
@@ -35,7 +35,13 @@ fn fill(trace: &[u8], from: Stand, number: usize, tail: &mut [u8]) -> usize {
     let mut bytes: usize = 0;
     while at < to {
         let end = end_of(at, to);
-        let listed = list(ride, store, next(at) as u64, records(trace, at, end), &mut out);
+        let listed = list(
+            ride,
+            store,
+            next(at) as u64,
+            records(trace, at, end),
+            &mut out,
+        );
         ride = listed.ride;
         bytes = add(tail, bytes, between(&out, 0, listed.bytes));
         at = end;

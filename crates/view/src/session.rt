@@ -6,10 +6,10 @@ use crate::going::forth;
 use crate::going::to_number;
 use crate::going::to_place;
 use crate::input;
-use crate::passing;
 use crate::out;
 use crate::out::Told;
 use crate::parts::between;
+use crate::passing;
 use crate::screen;
 use settings::Store;
 use viewer::Begun;
@@ -157,7 +157,7 @@ pub fn hold(store: Store, trace: &[u8]) {
     let stand = opened.stand;
     let begun = opened.begun;
     let Begun::Open = begun else {
-        out::refuse_trace();
+        console::refuse_trace(b"view");
         return;
     };
     obey_all(trace, stand, out::is_terminal());

@@ -9,8 +9,8 @@ ghost use Rattle.viewer_text.specs.Text.{state};
 mod ahead;
 mod commands;
 mod finding;
-mod state;
 mod screen;
+mod state;
 mod trimming;
 
 pub use ahead::put_next;

@@ -59,14 +59,7 @@ fn put_mark(ahead: bool, buf: &mut [u8]) -> usize
 }
 
 // The line of a record, marked or not.
-fn put_marked(
-    ahead: bool,
-    number: u64,
-    place: u32,
-    what: What,
-    buf: &mut [u8],
-    at: usize,
-) -> usize
+fn put_marked(ahead: bool, number: u64, place: u32, what: What, buf: &mut [u8], at: usize) -> usize
     ensures { λ r. ⌜ came r (now (buf .exit)) ≡ put (marked ahead number place what) (now (buf .entry)) at ⌝ }
 {
     let mut space = [0u8; 136];
@@ -77,13 +70,7 @@ fn put_marked(
 
 // The line of the record at an index, marked where so many records lie before the viewer, into buf from `at` on, and the place after it; without room, or
 // where there is no such record, buf stays as it is, and the answer is `at`.
-pub fn put_beside(
-    trace: &[u8],
-    i: usize,
-    number: usize,
-    buf: &mut [u8],
-    at: usize,
-) -> usize
+pub fn put_beside(trace: &[u8], i: usize, number: usize, buf: &mut [u8], at: usize) -> usize
     ensures { λ r. ⌜ came r (now (buf .exit)) ≡ put (beside (now (trace .entry)) i number) (now (buf .entry)) at ⌝ }
 {
     if i >= trace.len() / 8 {
