@@ -59,7 +59,7 @@ pub record Opens (store : Store) (trace : List ℕ) : Type 0 where
 one-kept : (k : Kept) → k ≡ kept
 one-kept kept = refl
 
-opens-by : (o : Outcome Kept) (d : Bool) (store : Store) (trace : List ℕ) → judged store ≡ o → eqb (length trace % 8) 0 ≡ d
+pub opens-by : (o : Outcome Kept) (d : Bool) (store : Store) (trace : List ℕ) → judged store ≡ o → eqb (length trace % 8) 0 ≡ d
     → gives done ≡ start store trace .answer → Opens store trace
 unfolding start
 opens-by (gives k) true store trace e h o = record { good = e ∙ ap gives (one-kept k); held = rw (e, h); stand = rw (e, h) }

@@ -34,7 +34,7 @@ forward-by true (gives k) s t n e = no-refusal _ n e
 forward-by true (refuses m) s t n e = refl
 forward-by false o s t n e = refl
 
-forward-stays : (trace : List ℕ) (s : Stand) (n : ℕ) → forward trace s .answer ≡ refuses n → forward trace s .stand ≡ s
+pub forward-stays : (trace : List ℕ) (s : Stand) (n : ℕ) → forward trace s .answer ≡ refuses n → forward trace s .stand ≡ s
 unfolding forward
 forward-stays trace s n e = forward-by (ltb (s .number) (length trace / 8)) (judged (s .settings)) s (stepOf s (recordAt trace (s .number))) n e
 
@@ -43,7 +43,7 @@ back-by : (b : Bool) (s t : Stand) (n : ℕ) → pick {A = Back} b (record { ans
 back-by true s t n e = refl
 back-by false s t n e = no-refusal _ n e
 
-back-stays : (s : Stand) (n : ℕ) → goesBack s .answer ≡ refuses n → goesBack s .stand ≡ s
+pub back-stays : (s : Stand) (n : ℕ) → goesBack s .answer ≡ refuses n → goesBack s .stand ≡ s
 unfolding goesBack
 back-stays s n e = back-by (eqb (s .kept) 0) s (returned s) n e
 
