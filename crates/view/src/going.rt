@@ -1,6 +1,5 @@
 // Going as a command asks.
 use crate::passing;
-use viewer::Ending;
 use viewer::Moved;
 use viewer::Stand;
 
@@ -38,13 +37,4 @@ pub fn to_number(trace: &[u8], from: Stand, before: usize, terminal: bool) -> Mo
 pub fn to_place(trace: &[u8], from: Stand, place: u64, terminal: bool) -> Moved {
     let before = viewer::times_to(trace, 0, place);
     to_number(trace, from, before, terminal)
-}
-
-// What many calls come to that made none.
-pub fn nowhere(stand: Stand) -> Moved {
-    Moved {
-        stand,
-        steps: 0,
-        ending: Ending::All,
-    }
 }

@@ -5,7 +5,6 @@ mod beginning;
 mod going;
 mod input;
 mod out;
-mod parts;
 mod passing;
 mod reading;
 mod screen;

@@ -5,12 +5,21 @@ use libc::STDOUT_FILENO;
 use viewer::Ending;
 use viewer::Stand;
 
-// What is said before the state is shown: nothing, why no further step was made, that no line has the word, or the list of commands.
-pub enum Told {
-    Nothing,
-    Stopped(Ending),
-    NoLine,
-    Help,
+// What is said before the state is shown: nothing, the refusal of the next step (its number), that no line has the word, or the list of commands.
+pub const NOTHING: u8 = 0;
+
+pub const NO_LINE: u8 = 1;
+
+pub const HELP: u8 = 2;
+
+// What is said of why no further step was made: an opened viewer's settings are good, so 22 or 23.
+pub fn told_of(ending: Ending) -> u8 {
+    match ending {
+        Ending::All => NOTHING,
+        Ending::NothingKept => 22,
+        Ending::AtEnd => 23,
+        Ending::Settings(_) => NOTHING,
+    }
 }
 
 // `refused 22: WORDS`.
@@ -20,30 +29,29 @@ fn refuse(number: u8) {
     console::put(b"view", &line, n);
 }
 
-// The refusal of the next step, if it would be refused: an opened viewer's settings are good, so 22 or 23.
-fn tell_ending(ending: Ending) {
-    match ending {
-        Ending::All => {}
-        Ending::NothingKept => refuse(22),
-        Ending::AtEnd => refuse(23),
-        Ending::Settings(_) => {}
+// Says it.
+pub fn tell(told: u8) {
+    if told == NOTHING {
+        return;
     }
+    if told == NO_LINE {
+        no_line();
+        return;
+    }
+    if told == HELP {
+        help();
+        return;
+    }
+    refuse(told);
 }
 
-// What is said.
-pub fn tell(told: Told) {
-    match told {
-        Told::Nothing => {}
-        Told::Stopped(ending) => tell_ending(ending),
-        Told::NoLine => {
-            io::write_all(STDOUT_FILENO, b"no further line has it\n");
-        }
-        Told::Help => help(),
-    }
+// That no line has the word.
+fn no_line() {
+    io::write_all(STDOUT_FILENO, b"no further line has it\n");
 }
 
 // Where the viewer stands, if it can be written.
-pub fn show(trace: &[u8], stand: Stand) -> bool {
+fn show_state(trace: &[u8], stand: Stand) -> bool {
     let mut lines = [0u8; 512];
     let ride = stand.ride;
     let n = viewer_text::put_state(
@@ -62,6 +70,12 @@ pub fn show_next(trace: &[u8], stand: Stand) -> bool {
     let mut line = [0u8; 128];
     let n = viewer_text::put_next(trace, stand.number, &mut line, 0);
     console::put(b"view", &line, n)
+}
+
+// What is said, and where the viewer stands, if it can be written.
+pub fn show(trace: &[u8], stand: Stand, told: u8) -> bool {
+    tell(told);
+    show_state(trace, stand)
 }
 
 // The list of commands.

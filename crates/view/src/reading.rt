@@ -3,7 +3,6 @@ ghost use mathlib.Core.Path.{_≡_};
 ghost use Prim.Native.Nat.{_≤_};
 ghost use lib.ListN.{length};
 use crate::beginning::From;
-use crate::parts::between;
 use crate::session;
 use console::Goes;
 use console::Pass;
@@ -42,10 +41,14 @@ struct Step {
 }
 
 // The next block after those that the buffer has.
-fn next(pass: Pass, lengths: &[u64], trace: &mut [u8], have: usize) -> Step
-    requires { ⌜ have ≤ length (now trace) ⌝ }
-    ensures { λ r. ⌜ r .have ≤ length (now (trace .entry)) ⌝ }
-{
+fn next(pass: Pass, lengths: &[u64], trace: &mut [u8], have: usize) -> Step {
+    if have > trace.len() {
+        return Step {
+            pass,
+            have: 0,
+            how: Goes::NoRoom,
+        };
+    }
     let block = console::next_block(pass, lengths, &mut trace[have..]);
     let how = block.how;
     let then = block.pass;
@@ -85,18 +88,16 @@ fn ended_well(how: Goes) -> bool {
 }
 
 // The cards, one after the other, into the buffer, after so many bytes; a full buffer ends it. No run uses up the turns.
-fn fill(pass: Pass, lengths: &[u64], trace: &mut [u8], have: usize) -> Step
-    requires { ⌜ have ≤ length (now trace) ⌝ }
-    ensures { λ r. ⌜ r .have ≤ length (now (trace .entry)) ⌝ }
-{
-    let mut step = next(pass, lengths, trace, have);
+fn fill(begun: Pass, lengths: &[u64], trace: &mut [u8], had: usize) -> Step {
+    let mut step = next(begun, lengths, trace, had);
     let mut turns = u64::MAX;
     while turns > 0 {
         let how = step.how;
         if !goes_on(how) {
             return step;
         }
-        step = next(step.pass, lengths, trace, step.have);
+        let pass = step.pass;
+        step = next(pass, lengths, trace, step.have);
         turns -= 1;
     }
     step
@@ -135,25 +136,33 @@ fn more(before: u64, count: usize) -> u64 {
 
 // What a block gives: the record at or past the place, if it has one.
 fn look_in(step: Step, before: u64, trace: &[u8], place: u64) -> Sought {
-    let block = between(trace, 0, step.have);
-    let times = viewer::times_to(block, 0, place);
-    let count = block.len() / 8;
+    let have = step.have;
     let pass = step.pass;
-    if times < count {
+    if have > trace.len() {
         return Sought {
             pass,
-            have: step.have,
-            before: more(before, times),
-            at: times * 8,
-            is_there: true,
+            have: 0,
+            before,
+            at: 0,
+            is_there: false,
+        };
+    }
+    let times = viewer::times_to(&trace[..have], 0, place);
+    if times >= have / 8 {
+        return Sought {
+            pass,
+            have,
+            before: more(before, have / 8),
+            at: 0,
+            is_there: false,
         };
     }
     Sought {
         pass,
-        have: step.have,
-        before: more(before, count),
-        at: 0,
-        is_there: false,
+        have,
+        before: more(before, times),
+        at: times * 8,
+        is_there: true,
     }
 }
 
@@ -169,7 +178,8 @@ fn seek(first: usize, lengths: &[u64], trace: &mut [u8], place: u64) -> Sought {
     };
     let mut turns = u64::MAX;
     while turns > 0 {
-        let step = next(sought.pass, lengths, trace, 0);
+        let pass = sought.pass;
+        let step = next(pass, lengths, trace, 0);
         let how = step.how;
         sought = look_in(step, sought.before, trace, place);
         if sought.is_there {
@@ -191,7 +201,18 @@ fn say_none() {
     console::fail(b"view", b"no record is at or past that place");
 }
 
-// That a fresh ride begins at a record, and that not all records after it have room, if so.
+// How the line ends that says where a fresh ride begins: whether not all records after it have room.
+fn put_rest(how: Goes, buf: &mut [u8], at: usize) -> usize {
+    match how {
+        Goes::NoRoom => text::put(b"; of those after it the first 524288 have room\n", buf, at),
+        Goes::More => text::put(b"\n", buf, at),
+        Goes::End => text::put(b"\n", buf, at),
+        Goes::CannotOpen(_) => text::put(b"\n", buf, at),
+        Goes::CannotRead(_) => text::put(b"\n", buf, at),
+    }
+}
+
+// That a fresh ride begins at a record.
 fn say_fresh(before: u64, place: u64, how: Goes) {
     let mut line = [0u8; 192];
     let a = text::put_number(
@@ -201,19 +222,24 @@ fn say_fresh(before: u64, place: u64, how: Goes) {
         0,
     );
     let b = text::put_number(b" on, the first at or past ", place, &mut line, a);
-    let c = text::put(rest(how), &mut line, b);
+    let c = put_rest(how, &mut line, b);
     console::write(STDERR_FILENO, &line, c);
 }
 
-// Goes that line ends.
-fn rest<'a>(how: Goes) -> &'a [u8] {
-    match how {
-        Goes::NoRoom => b"; of those after it the first 524288 have room\n",
-        Goes::More => b"\n",
-        Goes::End => b"\n",
-        Goes::CannotOpen(_) => b"\n",
-        Goes::CannotRead(_) => b"\n",
+// What is left of a number of bytes.
+fn left(have: usize, at: usize) -> usize {
+    if have < at {
+        return 0;
     }
+    have - at
+}
+
+// Looks at the first bytes of a buffer.
+fn hold_front(store: Store, trace: &[u8], have: usize) {
+    if have > trace.len() {
+        return;
+    }
+    session::hold(store, &trace[..have]);
 }
 
 // Looks at the cards from the first record at or past the place on, as at a fresh ride.
@@ -228,26 +254,13 @@ fn open_from(store: Store, place: u64, first: usize, lengths: &[u64]) {
         sought.pass,
         lengths,
         &mut trace,
-        kept(sought.have, sought.at),
+        left(sought.have, sought.at),
     );
     let how = step.how;
     if ended_well(how) {
         say_fresh(sought.before, place, how);
-        session::hold(store, between(&trace, 0, step.have));
+        hold_front(store, &trace, step.have);
     }
-}
-
-// What is left of a number of bytes in the buffer.
-fn kept(have: usize, at: usize) -> usize
-    ensures { λ r. ⌜ r ≤ 4194304 ⌝ }
-{
-    if have < at {
-        return 0;
-    }
-    if have - at > 4194304 {
-        return 0;
-    }
-    have - at
 }
 
 // Looks at all records of the cards.
@@ -263,7 +276,7 @@ fn open_all(store: Store, first: usize, lengths: &[u64]) {
     let step = fill(console::begin(first), lengths, &mut trace, 0);
     let how = step.how;
     if ended_well(how) {
-        session::hold(store, between(&trace, 0, step.have));
+        hold_front(store, &trace, step.have);
     }
 }
 

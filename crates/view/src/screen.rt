@@ -2,27 +2,38 @@
 ghost use mathlib.Core.Path.{_≡_};
 ghost use lib.ListN.{length};
 use crate::out;
-use crate::out::Told;
-use crate::parts::between;
-use crate::parts::records;
-use crate::parts::smaller;
 use crate::passing::end_of;
-use crate::passing::list;
-use crate::passing::next;
+use crate::passing::list_at;
+use crate::passing::smaller;
 use libc::STDOUT_FILENO;
 use viewer::Stand;
 
 // How many lines of the ride are shown.
 const LINES: usize = 12;
 
-// The last lines of those that stand in `tail`, so many bytes, and of some more, into `tail`; how many bytes they have.
-fn add(tail: &mut [u8], bytes: usize, more: &[u8]) -> usize {
+// The last lines of a text into buf from `at` on, and the place after them.
+fn put_last(text: &[u8], buf: &mut [u8], at: usize) -> usize {
+    let from = viewer_text::last_lines(text, LINES);
+    if from > text.len() {
+        return at;
+    }
+    text::put(&text[from..], buf, at)
+}
+
+// The same of the first bytes of a text.
+fn put_last_of(text: &[u8], count: usize, buf: &mut [u8], at: usize) -> usize {
+    if count > text.len() {
+        return at;
+    }
+    put_last(&text[..count], buf, at)
+}
+
+// The last lines of those that stand in `tail`, so many bytes, and of the first bytes of some more, into `tail`; how many bytes they have.
+fn add(tail: &mut [u8], bytes: usize, more: &[u8], count: usize) -> usize {
     let mut both = [0u8; 4096];
-    let new = viewer_text::last_lines(more, LINES);
-    let n = text::put(between(tail, 0, bytes), &mut both, 0);
-    let m = text::put(between(more, new, more.len()), &mut both, n);
-    let from = viewer_text::last_lines(between(&both, 0, m), LINES);
-    text::put(between(&both, from, m), tail, 0)
+    let n = put_last_of(tail, bytes, &mut both, 0);
+    let m = put_last_of(more, count, &mut both, n);
+    put_last_of(&both, m, tail, 0)
 }
 
 // The last lines of the records from where a viewer stood up to so many, into `tail`; how many bytes they have.
@@ -33,89 +44,111 @@ fn fill(trace: &[u8], from: Stand, number: usize, tail: &mut [u8]) -> usize {
     let mut ride = from.ride;
     let mut at = from.number;
     let mut bytes: usize = 0;
-    while at < to {
+    let mut turns = trace.len() / 8;
+    while (at < to) & (turns > 0) {
         let end = end_of(at, to);
-        let listed = list(
-            ride,
-            store,
-            next(at) as u64,
-            records(trace, at, end),
-            &mut out,
-        );
-        ride = listed.ride;
-        bytes = add(tail, bytes, between(&out, 0, listed.bytes));
+        let lines = list_at(ride, store, trace, at, end, &mut out);
+        ride = lines.ride;
+        bytes = add(tail, bytes, &out, lines.bytes);
         at = end;
+        turns -= 1;
     }
     bytes
 }
 
 // Whether as many lines as are shown stand in a text.
-fn is_full(tail: &[u8], bytes: usize) -> bool {
-    viewer_text::last_lines(between(tail, 0, bytes), LINES - 1) > 0
+fn is_full(text: &[u8], count: usize) -> bool {
+    if count > text.len() {
+        return false;
+    }
+    viewer_text::last_lines(&text[..count], LINES - 1) > 0
 }
 
 // Writes the last lines of the ride: from the oldest state that is kept on, and, where that is not enough, from the first record on.
-fn write_lines(trace: &[u8], stand: Stand) -> bool {
+fn write_lines(trace: &[u8], stand: Stand) {
     let mut tail = [0u8; 2048];
-    let moved = viewer::backs_at(stand, stand.kept);
-    let oldest = moved.stand;
     let number = stand.number;
+    let kept = stand.kept;
+    let moved = viewer::backs_at(stand, kept);
+    let oldest = moved.stand;
     let near = fill(trace, oldest, number, &mut tail);
     if is_full(&tail, near) | (oldest.number == 0) {
-        return console::put(b"view", &tail, near);
+        console::put(b"view", &tail, near);
+        return;
     }
+    write_all_lines(trace, stand);
+}
+
+// The same from the first record on.
+fn write_all_lines(trace: &[u8], stand: Stand) {
+    let mut tail = [0u8; 2048];
     let store = stand.settings;
+    let number = stand.number;
     let opened = viewer::start_at(store, trace);
     let fresh = opened.stand;
-    let all = fill(trace, fresh, number, &mut tail);
-    console::put(b"view", &tail, all)
+    let bytes = fill(trace, fresh, number, &mut tail);
+    console::put(b"view", &tail, bytes);
 }
 
 // Writes the records around the viewer, the one that comes next marked.
-fn write_around(trace: &[u8], number: usize) -> bool {
+fn write_around(trace: &[u8], number: usize) {
     let mut lines = io::buffer();
-    let mut i = viewer_text::first_around(number, trace.len() / 8);
-    let mut left: usize = 6;
+    let first = viewer_text::first_around(number, trace.len() / 8);
+    let mut i: usize = 0;
     let mut at: usize = 0;
-    while left > 0 {
-        at = viewer_text::put_beside(trace, i, number, &mut lines, at);
-        i = next(i);
-        left -= 1;
+    while i < 6 {
+        at = put_beside(trace, first, i, number, &mut lines, at);
+        i += 1;
     }
-    console::put(b"view", &lines, at)
+    console::put(b"view", &lines, at);
 }
 
-// Whether the list of commands is asked for: then it stands in the place of the lines.
-fn is_help(told: Told) -> bool {
-    match told {
-        Told::Help => true,
-        Told::Nothing => false,
-        Told::Stopped(_) => false,
-        Told::NoLine => false,
+// The line of the record so many after the first.
+fn put_beside(
+    trace: &[u8],
+    first: usize,
+    i: usize,
+    number: usize,
+    buf: &mut [u8],
+    at: usize,
+) -> usize {
+    if i > usize::MAX - first {
+        return at;
     }
+    viewer_text::put_beside(trace, first + i, number, buf, at)
 }
 
-// On a terminal, in the place of what it showed before.
-fn show_here(trace: &[u8], stand: Stand, told: Told) -> bool {
-    if !io::write_all(STDOUT_FILENO, b"\x1b[2J\x1b[H") {
-        console::cannot_write(b"view");
+// Clears the terminal, if it can be written.
+fn clear() -> bool {
+    if io::write_all(STDOUT_FILENO, b"\x1b[2J\x1b[H") {
+        return true;
+    }
+    console::cannot_write(b"view");
+    false
+}
+
+// On a terminal, in the place of what it showed before. The list of commands stands in the place of the lines.
+fn show_here(trace: &[u8], stand: Stand, told: u8) -> bool {
+    if !clear() {
         return false;
     }
-    if !is_help(told) {
+    if told != out::HELP {
         write_lines(trace, stand);
     }
-    out::tell(told);
-    let state = out::show(trace, stand);
+    if !out::show(trace, stand, told) {
+        return false;
+    }
     write_around(trace, stand.number);
-    state & out::show_next(trace, stand)
+    out::show_next(trace, stand)
 }
 
 // Shows what is said and where the viewer stands, if it can be written.
-pub fn show(trace: &[u8], stand: Stand, told: Told, terminal: bool) -> bool {
+pub fn show(trace: &[u8], stand: Stand, told: u8, terminal: bool) -> bool {
     if terminal {
         return show_here(trace, stand, told);
     }
-    out::tell(told);
-    let state = out::show(trace, stand);
-    state && out::show_next(trace, stand)
+    if !out::show(trace, stand, told) {
+        return false;
+    }
+    out::show_next(trace, stand)
 }

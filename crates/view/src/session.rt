@@ -1,14 +1,11 @@
 // A session: where the viewer stands is shown at the start and after each command.
 ghost use mathlib.Core.Path.{_≡_};
 ghost use lib.ListN.{length};
-use crate::going;
 use crate::going::forth;
 use crate::going::to_number;
 use crate::going::to_place;
 use crate::input;
 use crate::out;
-use crate::out::Told;
-use crate::parts::between;
 use crate::passing;
 use crate::screen;
 use settings::Store;
@@ -20,7 +17,7 @@ use viewer_text::Command;
 // Where a command leads, and what is said of it.
 struct After {
     stand: Stand,
-    told: Told,
+    told: u8,
 }
 
 // A move, and why it made no further step.
@@ -29,20 +26,40 @@ fn after(moved: Moved) -> After {
     let ending = moved.ending;
     After {
         stand,
-        told: Told::Stopped(ending),
+        told: out::told_of(ending),
     }
+}
+
+// The same place, and what is said.
+fn stay(stand: Stand, told: u8) -> After {
+    After { stand, told }
 }
 
 // Forward past the next line that has the word.
 fn find(trace: &[u8], stand: Stand, word: &[u8], terminal: bool) -> After {
     let before = passing::number_of(trace, stand, word);
     if before == 0 {
-        return After {
-            stand,
-            told: Told::NoLine,
-        };
+        return stay(stand, out::NO_LINE);
     }
     after(to_number(trace, stand, before, terminal))
+}
+
+// The same with the word that stands in a line from one place up to another.
+fn find_in(
+    trace: &[u8],
+    stand: Stand,
+    line: &[u8],
+    from: usize,
+    to: usize,
+    terminal: bool,
+) -> After {
+    if to > line.len() {
+        return stay(stand, out::HELP);
+    }
+    if from > to {
+        return stay(stand, out::HELP);
+    }
+    find(trace, stand, &line[from..to], terminal)
 }
 
 // One command but `q`, which stands in a line.
@@ -53,19 +70,37 @@ fn obey(trace: &[u8], stand: Stand, line: &[u8], terminal: bool) -> After {
         Command::Back(times) => after(viewer::backs_at(stand, times as usize)),
         Command::Go(before) => after(to_number(trace, stand, before as usize, terminal)),
         Command::Place(place) => after(to_place(trace, stand, place, terminal)),
-        Command::Find { from, to } => find(trace, stand, between(line, from, to), terminal),
-        Command::Again => help(stand),
-        Command::Quit => after(going::nowhere(stand)),
-        Command::Unknown => help(stand),
+        Command::Find { from, to } => find_in(trace, stand, line, from, to, terminal),
+        Command::Again => stay(stand, out::HELP),
+        Command::Quit => stay(stand, out::NOTHING),
+        Command::Unknown => stay(stand, out::HELP),
     }
 }
 
-// The list of commands.
-fn help(stand: Stand) -> After {
-    After {
-        stand,
-        told: Told::Help,
+// What a line asks for, of which so many bytes are there.
+fn command_of(line: &[u8], count: usize) -> Command {
+    if count > line.len() {
+        return Command::Unknown;
     }
+    viewer_text::read(&line[..count])
+}
+
+// One line: what it asks for, or, where that is the same again, the line that is kept.
+fn turn(
+    trace: &[u8],
+    stand: Stand,
+    command: Command,
+    last: &[u8],
+    kept: usize,
+    terminal: bool,
+) -> After {
+    if is_unknown(command) {
+        return stay(stand, out::HELP);
+    }
+    if kept > last.len() {
+        return stay(stand, out::HELP);
+    }
+    obey(trace, stand, &last[..kept], terminal)
 }
 
 // Whether a line is one that Enter repeats: a command.
@@ -110,18 +145,21 @@ fn is_unknown(command: Command) -> bool {
     }
 }
 
-// A line that is kept for Enter alone: the line itself where it is a command, else the one before; how many bytes it has.
-fn keep(command: Command, line: &[u8], last: &mut [u8], count: usize) -> usize {
-    if is_command(command) {
-        return text::put(line, last, 0);
+// A line that is kept for Enter alone: the line itself, of which so many bytes are there, where it is a command, else the one before; how many bytes it has.
+fn keep(command: Command, line: &[u8], count: usize, last: &mut [u8], kept: usize) -> usize {
+    if !is_command(command) {
+        return kept;
     }
-    count
+    if count > line.len() {
+        return kept;
+    }
+    text::put(&line[..count], last, 0)
 }
 
 // The commands up to `q`, the end of the input, or where nothing can be written any more. No run uses up the turns.
 fn obey_all(trace: &[u8], first: Stand, terminal: bool) {
     let mut stand = first;
-    let mut told = Told::Nothing;
+    let mut told: u8 = 0;
     let mut line = [0u8; 256];
     let mut last = [0u8; 256];
     let mut kept: usize = 0;
@@ -132,19 +170,16 @@ fn obey_all(trace: &[u8], first: Stand, terminal: bool) {
         }
         out::prompt();
         let got = input::next(&mut line);
+        let count = got.count;
         if got.is_end {
             return;
         }
-        let command = viewer_text::read(between(&line, 0, got.count));
+        let command = command_of(&line, count);
         if is_quit(command) {
             return;
         }
-        kept = keep(command, between(&line, 0, got.count), &mut last, kept);
-        let then = if is_unknown(command) {
-            help(stand)
-        } else {
-            obey(trace, stand, between(&last, 0, kept), terminal)
-        };
+        kept = keep(command, &line, count, &mut last, kept);
+        let then = turn(trace, stand, command, &last, kept, terminal);
         stand = then.stand;
         told = then.told;
         turns -= 1;
