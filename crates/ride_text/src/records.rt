@@ -75,7 +75,13 @@ fn put_given(
 {
     match given {
         Given::Refused(wrong) => {
-            put_text(reasons, closed, Line::Record(number, refusal(wrong)), out, at)
+            put_text(
+                reasons,
+                closed,
+                Line::Record(number, refusal(wrong)),
+                out,
+                at,
+            )
         }
         Given::Lines(lines) => put_lines(reasons, closed, lines, out, at),
     }
