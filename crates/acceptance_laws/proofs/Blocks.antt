@@ -144,22 +144,22 @@ module _ (store : Store) (good : Good store) where
       let few : n ≤ length left / 8 = omega (arith, within, ap length (lent .front), length-append (c .block) (lent .rest)) in
       let fits : n * 8 ≤ length (c .block) = omega (arith, within) in
       let those : take n (records (c .block)) ≡ firstRecords n left =
-          take-records n (recordsIn (c .block)) (c .block) within ∙ sym (front-records n (c .block) (lent .rest) fits) ∙ ap (firstRecords n) (sym (lent .front)) in
+      take-records n (recordsIn (c .block)) (c .block) within ∙ sym (front-records n (c .block) (lent .rest) fits) ∙ ap (firstRecords n) (sym (lent .front)) in
       let first : Ridden = rideOver gaps (g .ride) 1 (firstRecords n left) in
       let t : Taking = takeAll (began g) (first .lines) in
       let then : Going = standing (first .ride) t in
       let rest : List ℕ = drop (n * 8) left in
       let going-then : c .answer .going ≡ then =
-          going-is g store (c .block) (c .before) (c .answer) (c .after) good (lent .whole) call
-          ∙ ap (λ (rs : List (List ℕ)). standing (rideOver gaps (g .ride) 1 rs .ride) (takeAll (began g) (rideOver gaps (g .ride) 1 rs .lines))) those in
+      going-is g store (c .block) (c .before) (c .answer) (c .after) good (lent .whole) call
+      ∙ ap (λ (rs : List (List ℕ)). standing (rideOver gaps (g .ride) 1 rs .ride) (takeAll (began g) (rideOver gaps (g .ride) 1 rs .lines))) those in
       let text-then : take (bytesOf (c .answer .progress)) (c .after) ≡ t .text =
-          text-is g store (c .block) (c .before) (c .answer) (c .after) good (lent .whole) call
-          ∙ ap (λ (rs : List (List ℕ)). takeAll (began g) (rideOver gaps (g .ride) 1 rs .lines) .text) those in
+      text-is g store (c .block) (c .before) (c .answer) (c .after) good (lent .whole) call
+      ∙ ap (λ (rs : List (List ℕ)). takeAll (began g) (rideOver gaps (g .ride) 1 rs .lines) .text) those in
       let rest-is : drop (taken (c .answer .progress) * 8) left ≡ rest =
-          ap (λ (k : ℕ). drop (k * 8) left) (ap taken (progress-is g store (c .block) (c .before) (c .answer) (c .after) good (lent .whole) call)) in
+      ap (λ (k : ℕ). drop (k * 8) left) (ap taken (progress-is g store (c .block) (c .before) (c .answer) (c .after) good (lent .whole) call)) in
       let total-then : total gaps (c .answer .going) (drop (taken (c .answer .progress) * 8) left) ≡ total gaps then rest = ap₂ (total gaps) going-then rest-is in
       let ride-then : rideOver gaps (c .answer .going .ride) 1 (records (drop (taken (c .answer .progress) * 8) left)) .ride ≡ rideOver gaps (first .ride) 1 (records rest) .ride =
-          ap₂ (λ (h : Going) (l : List ℕ). rideOver gaps (h .ride) 1 (records l) .ride) going-then rest-is in
+      ap₂ (λ (h : Going) (l : List ℕ). rideOver gaps (h .ride) 1 (records l) .ride) going-then rest-is in
       record {
         text = ap₂ _++_ text-then (later .text ∙ ap (λ (u : Taking). u .text) total-then) ∙ ap (λ (u : Taking). u .text) (sym (total-goes gaps g left n few));
         after =

@@ -135,10 +135,10 @@ one-then-one run troubles l m v w b x y at h e f =
     let t : Taking = takeOne (started run troubles) l in
     let u : Taking = takeOne (started (t .run) (t .troubles)) m in
     let second : written w y ≡ writes u x (v .next) =
-        f ∙ ap₂ (λ (r : Acceptance) (q : Troubles). writes (takeOne (started r q) m) x (v .next)) (ap (λ (z : Writing). z .run) e) (ap (λ (z : Writing). z .troubles) e) in
+    f ∙ ap₂ (λ (r : Acceptance) (q : Troubles). writes (takeOne (started r q) m) x (v .next)) (ap (λ (z : Writing). z .run) e) (ap (λ (z : Writing). z .troubles) e) in
     let both : takeOne t m ≡ behind (t .text) u = after-text (t .run) (t .troubles) (t .text) (m ∷ []) in
     let room : at + length (t .text ++ u .text) ≤ length b =
-        omega (arith, length-append (t .text) (u .text), one-short (started run troubles) l, one-short (started (t .run) (t .troubles)) m) in
+    omega (arith, length-append (t .text) (u .text), one-short (started run troubles) l, one-short (started (t .run) (t .troubles)) m) in
     let text = join b at (t .text) (u .text) room (ap (λ (z : Writing). z .text) e) (ap (λ (z : Writing). z .text) second) in
     ap₂ (λ (r : Acceptance) (q : Troubles). record { run = r; troubles = q; text = came (w .next) y }) (ap (λ (z : Writing). z .run) second) (ap (λ (z : Writing). z .troubles) second)
     ∙ ap (λ (p : Put). record { run = u .run; troubles = u .troubles; text = p }) text

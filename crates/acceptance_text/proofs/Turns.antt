@@ -184,15 +184,15 @@ module _ (gaps : ℕ → ℕ) (start : Going) (trace out₀ : List ℕ) (now : R
       let text-ends : w .next ≡ length (way .text ++ u .text) = put .put .0 ∙ ap (λ (k : ℕ). k + length (u .text)) (way .ends) ∙ sym (length-append (way .text) (u .text)) in
       let ended : at ≡ 0 + length (way .text) = way .ends ∙ sym (zero-add (length (way .text))) in
       let stood : out′ ≡ placed (way .text ++ u .text) out₀ 0 =
-          put .put .1
-          ∙ ap (λ (b : List ℕ). placed (u .text) b at) (way .buffer)
-          ∙ ap (placed (u .text) (placed (way .text) out₀ 0)) ended
-          ∙ placed-join (way .text) out₀ 0 within (u .text) in
+      put .put .1
+      ∙ ap (λ (b : List ℕ). placed (u .text) b at) (way .buffer)
+      ∙ ap (placed (u .text) (placed (way .text) out₀ 0)) ended
+      ∙ placed-join (way .text) out₀ 0 within (u .text) in
       let then : Taking = record { run = w .run; troubles = w .troubles; text = way .text ++ u .text } in
       let then-is : then ≡ takeAll so-far (linesFor 0 (s .lines)) =
-          ap₂ (λ (a : Acceptance) (b : Troubles). record { run = a; troubles = b; text = way .text ++ u .text }) (ap (λ (x : Writing). x .run) wrote) (ap (λ (x : Writing). x .troubles) wrote)
-          ∙ sym (after-text run troubles (way .text) (linesFor 0 (saysGiven g)))
-          ∙ ap (λ (o : Outcome (List Line)). takeAll so-far (linesFor 0 o)) lines-are in
+      ap₂ (λ (a : Acceptance) (b : Troubles). record { run = a; troubles = b; text = way .text ++ u .text }) (ap (λ (x : Writing). x .run) wrote) (ap (λ (x : Writing). x .troubles) wrote)
+      ∙ sym (after-text run troubles (way .text) (linesFor 0 (saysGiven g)))
+      ∙ ap (λ (o : Outcome (List Line)). takeAll so-far (linesFor 0 o)) lines-are in
       record {
         text = way .text ++ u .text;
         ends = text-ends;

@@ -69,7 +69,7 @@ settles gaps gap w next t dropped s e is d =
     let ride-is : t .ride ≡ treat (w .ride) gap (w .bytes) .ride = ap (λ (x : Treatment). x .ride) is in
     let reply-is : saysReply (t .reply) ≡ gives (treated (treat (w .ride) gap (w .bytes) .lines)) = ap (λ (x : Treatment). x .reply) is in
     let dropped-is : dropped ≡ isDropped (w .ride) gap (w .bytes) next =
-        d ∙ ap₂ (λ (o : Outcome Standing) (x : Ride). eqb (kindOf (w .bytes)) 3 && (quietReply o && isAccepted (checkRecord (x .odometer) next))) reply-is ride-is in
+    d ∙ ap₂ (λ (o : Outcome Standing) (x : Ride). eqb (kindOf (w .bytes)) 3 && (quietReply o && isAccepted (checkRecord (x .odometer) next))) reply-is ride-is in
     one-waits gaps w next (t .ride) dropped e (ride-is ∙ ap (λ (x : Step). x .ride) (s .treats (w .ride)))
     (dropped-is ∙ drops-same (w .ride) gap own (w .bytes) next (s .treats (w .ride)))
 
