@@ -35,7 +35,7 @@ TABS.Balise = {
       if (!r.trap && r.status === 0) cable = fileOf('cable', r.stdout);
     }
     if (cable) parts.push(block(await Bench.run('listen', [call.name(cable), ...given.pair], call.files), { title: 'Heard', save: 'heard.txt' }));
-    if (has('audible')) parts.push(block(await Bench.run('audible', given.pair), { title: 'What can never be heard with this pair', save: 'audible.txt' }));
+    if (has('audible')) parts.push(block(await Bench.run('audible', given.pair), { title: 'What can never be heard with this pair', save: 'audible.txt', short: true }));
     show(...parts);
   },
 };

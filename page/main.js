@@ -88,6 +88,7 @@ addEventListener('dragleave', () => document.body.classList.remove('over'));
 addEventListener('drop', (e) => { e.preventDefault(); document.body.classList.remove('over'); add([...e.dataTransfer.files]); });
 for (const name of Object.keys(RIDES)) if (!RIDES[name].needs || has(RIDES[name].needs)) $('samples').append(button(name, () => { takeSample(name); return changed(); }, { className: 'small' }));
 
+$('how').textContent = 'or drop them anywhere' + (has('trace') ? '; a text (.txt) is made a trace first' : '') + (has('record') ? '; a .lead is recorded' : '');
 $('commit').textContent = ABOUT.commit;
 $('kit').textContent = ABOUT.kit;
 for (const [name, [own, native]] of Object.entries(ABOUT.sums)) $('sums').append(make('tr', {}, make('td', {}, name), make('td', {}, make('code', {}, own), make('br'), make('code', {}, native))));

@@ -40,7 +40,7 @@ function callOf(r, into) {
 }
 
 // One run. how.title: a heading. how.save: the name under which it is saved. how.into: the file of the call, for programs that write bytes. how.body: elements in place of its lines.
-// how.buttons: further buttons.
+// how.buttons: further buttons. how.short: a long list that is scrolled in its own box.
 function block(r, how) {
   const part = make('section', { className: 'block' });
   if (how.title) part.append(make('h3', {}, how.title));
@@ -48,7 +48,7 @@ function block(r, how) {
   if (how.body) part.append(...how.body);
   else if (r.stdout.length || !r.stderr.length) {
     const b = beginning(how.text || r.stdout);
-    part.append(b.text || b.lines ? make('pre', { tabIndex: 0 }, b.text) : make('pre', { className: 'empty' }, 'The program wrote no line.'));
+    part.append(b.text || b.lines ? make('pre', { tabIndex: 0, className: how.short ? 'short' : '' }, b.text) : make('pre', { className: 'empty' }, 'The program wrote no line.'));
     if (!b.whole) part.append(make('p', { className: 'bad' }, 'Only the beginning of ' + plural(b.lines, 'line') + ' is shown. Saved, it is whole.'));
   }
   part.append(callOf(r, how.into));

@@ -107,11 +107,11 @@ portable() { # TEXT
 }
 
 # A module's code for another processor. The lines that name x86-64 are left out, so that clang puts the target's own in; whatever it says then stops the build.
-compile_for() { # TEXT OBJECT SAID WORDS..
+compile_for() { # TEXT OBJECT SAID -c|-S WORDS..
     text=$1 object=$2 said=$3
     shift 3
     sed -e '/^target datalayout = /d' -e '/^target triple = /d' -e '/^attributes /s/ "target-cpu"="x86-64"//' "$text" >"$object.ll"
-    "$clang" --no-default-config -fintegrated-cc1 -fno-crash-diagnostics -Wno-override-module -O3 -ffunction-sections -fdata-sections -mllvm -trap-unreachable "$@" -c -x ir "$object.ll" -o "$object" 2>"$said" ||
+    "$clang" --no-default-config -fintegrated-cc1 -fno-crash-diagnostics -Wno-override-module -O3 -ffunction-sections -fdata-sections -mllvm -trap-unreachable "$@" -x ir "$object.ll" -o "$object" 2>"$said" ||
         { cat "$said" >&2; die "$text is not compiled"; }
     [ ! -s "$said" ] || { cat "$said" >&2; die "$text: clang said the above"; }
     rm -f "$object.ll" "$said"

@@ -1,15 +1,19 @@
 // node serve.js ROOM WASM DATA: stands for ./run with the programs as WebAssembly, for as many callers at a time as there are. ROOM/requests is a pipe; a caller (tests/page/stand-in) writes its process
-// number there, after it has left its folder and its words in ROOM/call.PID, and waits for the status on the pipe ROOM/reply.PID. Its files, descriptors and folder are reached
+// number there, after it has left its closed descriptors, its folder and its words in ROOM/call.PID, and waits for the status on the pipe ROOM/reply.PID. Its files, descriptors and folder are reached
 // through /proc/PID. Each call is a thread's, which may wait for a pipe. DATA is the page's own data.js: the launcher's words.
 'use strict';
 const { Worker, isMainThread, parentPort, workerData } = require('worker_threads'), fs = require('fs'), path = require('path'), vm = require('vm');
 const Host = require('../../page/host.js');
 
-// A descriptor of the caller that is written to: at once, and what goes wrong is an errno.
+// A descriptor of the caller that is written to: at once, and what goes wrong is an errno. What goes to a plain file is left in ROOM/out.PID or err.PID, and the caller writes it, since only
+// it knows where in the file it stands.
 function sinkOf(pid, fd) {
-  let to;
-  try { to = fs.openSync('/proc/' + pid + '/fd/' + fd, 'a'); } catch (_) { return null; }
-  const errno = { ENOSPC: 28, EIO: 5, EBADF: 9 };
+  const name = '/proc/' + pid + '/fd/' + fd, s = fs.statSync(name);
+  if (s.isFile()) {
+    const kept = new Host.Sink();
+    return { put: (bytes) => kept.put(bytes), close: () => { if (kept.length) fs.writeFileSync(workerData.room + '/' + (fd === 1 ? 'out.' : 'err.') + pid, kept.bytes()); } };
+  }
+  const to = fs.openSync(name, 'a'), errno = { ENOSPC: 28, EIO: 5, EBADF: 9 };
   return {
     close: () => fs.closeSync(to),
     put(bytes) {
@@ -46,20 +50,17 @@ function sourceOf(name, opened, from) {
 
 const programs = new Map();
 async function call(pid) {
-  const [folder, name, ...args] = fs.readFileSync(workerData.room + '/call.' + pid, 'utf8').split('\0').slice(0, -1), opened = [];
+  const [shut, folder, name, ...args] = fs.readFileSync(workerData.room + '/call.' + pid, 'utf8').split('\0').slice(0, -1), opened = [];
   const here = (n) => (/^\/dev\/(stdin)$/.test(n) ? '/proc/' + pid + '/fd/0' : n.replace(/^\/(dev|proc\/self)\/fd\//, '/proc/' + pid + '/fd/'));
   const file = (n) => (n === '' ? undefined : sourceOf(path.resolve(folder, here(n)), opened, 0));
-  const out = sinkOf(pid, 1), err = sinkOf(pid, 2), closed = [];
+  const closed = shut.split(' ').filter((w) => w).map(Number), out = closed.includes(1) ? null : sinkOf(pid, 1), err = closed.includes(2) ? null : sinkOf(pid, 2);
   let status = 2;
   try {
-    if (!out) closed.push(1);
-    if (!err) closed.push(2);
     const bytes = workerData.wasm + '/' + name + '.wasm';
     if (!fs.existsSync(bytes)) { err.put(Buffer.from('stand-in: there is no program ' + name + '\n')); return 2; }
     if (!programs.has(name)) programs.set(name, await Host.load(fs.readFileSync(bytes)));
-    let from = 0;
-    try { from = Number(/pos:\s*(\d+)/.exec(fs.readFileSync('/proc/' + pid + '/fdinfo/0', 'utf8'))[1]); } catch (_) { closed.push(0); }
-    const stdin = sourceOf('/proc/' + pid + '/fd/0', opened, from) || new Uint8Array(0);
+    const at = closed.includes(0) ? 'pos: 0' : fs.readFileSync('/proc/' + pid + '/fdinfo/0', 'utf8');
+    const stdin = closed.includes(0) ? undefined : sourceOf('/proc/' + pid + '/fd/0', opened, Number(/pos:\s*(\d+)/.exec(at)[1]));
     const r = await Host.run(programs.get(name), { args, file, stdin, out: out || new Host.Sink(), err: err || new Host.Sink(), closed });
     if (r.trap) { if (err) err.put(Buffer.from(name + ': trap: ' + r.trap + '\n')); return 134; }
     const ended = Host.ended(name, r.told, workerData.launcher);
@@ -98,7 +99,7 @@ if (isMainThread) {
   parentPort.on('message', async (pid) => {
     let status = 70;
     try { status = await call(pid); } catch (e) { console.error(e); }
-    try { fs.writeFileSync(workerData.room + '/reply.' + pid, status + '\n', { flag: 'r+' }); } catch (_) {}
+    try { fs.writeFileSync(workerData.room + '/reply.' + pid, status + '\n'); } catch (_) {}
     parentPort.postMessage('idle');
   });
 }
