@@ -4,7 +4,7 @@ TABS.Lead = {
   needs: ['record'], asks: false,
   controls() {
     const leads = given.leads.map((f, i) => make('li', {}, make('b', {}, f.name), make('span', { className: 'size' }, number(f.bytes.length) + ' bytes, ' + plural(Math.floor(f.bytes.length / 16), 'frame')), button('remove', () => { given.leads.splice(i, 1); changed(); }, { className: 'small', ariaLabel: 'remove ' + f.name })));
-    return [row(picker('pickLead', 'Add a lead ..', '.lead', true), given.settings ? make('span', { className: 'soft' }, 'with the sync words of ' + given.settings.name) : make('span', { className: 'row' }, 'Sync words', ...pairFields())), make('ol', { className: 'cards' }, ...leads)];
+    return [row(picker('pickLead', 'Add a lead ..', '.lead', true), given.settings ? make('span', { className: 'soft' }, 'with the sync words of ' + given.settings.name) : make('span', { className: 'row' }, 'Sync words', pairFields())), make('ol', { className: 'cards' }, ...leads)];
   },
   async run() {
     if (!given.leads.length) return show(hint('No lead yet: drop one, choose one above, or try a sample. It is recorded, and the trace becomes the card of this page.'));
@@ -22,7 +22,7 @@ TABS.Lead = {
 TABS.Balise = {
   needs: ['balise', 'listen'], asks: false,
   controls() {
-    return [row(field('telegram', 'Telegram', given.telegram, 9, (v) => { given.telegram = v; }), ...pairFields(), field('count', 'telegrams', given.count, 4, (v) => { given.count = v; }), field('quiet', 'quiet bytes around', given.quiet, 4, (v) => { given.quiet = v; })),
+    return [row(field('telegram', 'Telegram', given.telegram, 9, (v) => { given.telegram = v; }), pairFields(), field('count', 'telegrams', given.count, 4, (v) => { given.count = v; }), field('quiet', 'quiet bytes around', given.quiet, 4, (v) => { given.quiet = v; })),
       make('p', { className: 'soft' }, 'Three figures, as 1 8 5, or 12 and a number, as 12 1612.'),
       row(picker('pickCable', 'Listen to a file ..', '.cable'), given.cable ? make('span', {}, make('b', {}, given.cable.name), ' ', button('remove', () => { given.cable = null; changed(); }, { className: 'small' })) : make('span', { className: 'soft' }, 'a line as bytes, in place of the balise'))];
   },

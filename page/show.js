@@ -23,8 +23,8 @@ function beginning(bytes) {
   return { text: textOf(bytes.subarray(0, end)).replace(/\n$/, ''), lines, whole: lines <= SHOWN && bytes.length <= MOST };
 }
 function hexOf(bytes) {
-  const rows = [];
-  for (let at = 0; at < Math.min(bytes.length, 256); at += 16) rows.push([...bytes.subarray(at, at + 16)].map((b) => b.toString(16).padStart(2, '0').toUpperCase()).join(' '));
+  const rows = [], each = innerWidth < 480 ? 8 : 16;
+  for (let at = 0; at < Math.min(bytes.length, 256); at += each) rows.push([...bytes.subarray(at, Math.min(at + each, 256))].map((b) => b.toString(16).padStart(2, '0').toUpperCase()).join(' '));
   return rows.join('\n') + (bytes.length > 256 ? '\n..' : '');
 }
 

@@ -9,7 +9,7 @@ async function overRide(name, saveAs, how) {
   show(block(r, { save: saveAs, ...how }));
   return r;
 }
-const pairFields = () => [field('syncS', 'S', given.pair[0], 3, (v) => { given.pair[0] = v; }), field('syncT', 'S*', given.pair[1], 3, (v) => { given.pair[1] = v; })];
+const pairFields = () => make('span', { className: 'pair' }, field('syncS', 'S', given.pair[0], 3, (v) => { given.pair[0] = v; }), ' ', field('syncT', 'S*', given.pair[1], 3, (v) => { given.pair[1] = v; }));
 
 const TABS = {
   Listing: { needs: ['checker'], asks: true, run: () => overRide('checker', 'listing.txt') },

@@ -1,7 +1,7 @@
 // node drive.js CHROMIUM ROOT ROOM: drives target/page/page.html in a headless Chromium, as a person does: drops, files, keys, buttons. What it shows and saves is compared with what the native programs write.
 // Its last line is 'N passed, M failed'. With SHOTS=FOLDER it leaves pictures of every tab there, at 400 and at 1,200 pixels.
 'use strict';
-const fs = require('fs'), path = require('path'), { spawnSync } = require('child_process');
+const fs = require('fs'), http = require('http'), path = require('path'), { spawnSync } = require('child_process');
 const Chromium = require('./chromium.js');
 const [chromium, root, room] = process.argv.slice(2), samples = path.join(root, 'samples'), shots = process.env.SHOTS;
 let passed = 0, failed = 0;
@@ -191,7 +191,15 @@ const lines = (name, ...args) => native(name, args).stdout.replace(/\n$/, '');
     report('the foot has the commit', !commit || (await c.evaluate('$("commit").textContent')).startsWith(commit), await c.evaluate('$("commit").textContent'));
     report('and the sums', await c.evaluate('$("sums").children.length === Object.keys(PROGRAMS).length'), 'not');
     report('nothing is fetched', c.requests.every((u) => u.startsWith('file://' + root + '/target/page/page.html') || u.startsWith('blob:null/') || u.startsWith('about:')), c.requests.filter((u) => !u.startsWith('blob:')).join(' '));
-    report('nothing could be', await c.evaluate('fetch("http://127.0.0.1:9/").then(() => false, () => true)') && await c.evaluate('new Promise((yes) => { const i = new Image(); i.onload = () => yes(false); i.onerror = () => yes(true); i.src = "http://127.0.0.1:9/x.png"; })'), 'it could');
+    let asked = 0;
+    const server = http.createServer((_, answer) => { asked++; answer.writeHead(200, { 'Access-Control-Allow-Origin': '*' }); answer.end('x'); });
+    await new Promise((yes) => server.listen(0, '127.0.0.1', yes));
+    const place = 'http://127.0.0.1:' + server.address().port + '/';
+    await c.evaluate('Promise.allSettled([fetch("' + place + '"), new Promise((yes) => { const i = new Image(); i.onload = i.onerror = yes; i.src = "' + place + 'x.png"; })])');
+    await c.evaluate('navigator.sendBeacon("' + place + '", "x")').catch(() => false);
+    await pause(100);
+    server.close();
+    report('nothing could be', asked === 0, asked);
     report('no script failed', c.errors.length === 0, c.errors.join(' '));
   } catch (e) { failed++; console.log('FAILED page: ' + e.stack); }
   await c.stop();
