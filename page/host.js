@@ -45,8 +45,8 @@
         if (!f || !f.data) return BigInt(fail(EBADF));
         if (!buf) return BigInt(fail(EFAULT));
         if (f.data.folder) return BigInt(fail(EISDIR));
-        // Where standard input comes bit by bit (node, a pipe), more of it is asked for when it is needed.
-        if (f.data.more && f.at >= f.data.length) f.data = f.data.more(f.data);
+        // Where it comes piece by piece (node, a pipe), the next one is asked for when it is needed.
+        if (f.data.more && f.at >= f.data.length) { f.data = f.data.more(); f.at = 0; }
         const got = f.data.subarray(f.at, f.at + buf.length);
         buf.set(got);
         f.at += got.length;

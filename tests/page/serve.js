@@ -37,13 +37,13 @@ function sourceOf(name, opened, from) {
   opened.push(fd);
   if (s.isFile()) { const whole = new Uint8Array(fs.readFileSync(fd)); return Object.assign(from ? whole.slice(from) : whole, { plain: true }); }
   const piece = Buffer.alloc(65536);
-  const more = (had) => {
-    let n = 0;
-    for (;;) try { n = fs.readSync(fd, piece, 0, piece.length, null); break; } catch (e) { if (e.code !== 'EAGAIN') break; Atomics.wait(new Int32Array(new SharedArrayBuffer(4)), 0, 0, 5); }
-    const all = new Uint8Array(had.length + n);
-    all.set(had);
-    all.set(piece.subarray(0, n), had.length);
-    return Object.assign(all, { once: true, more });
+  const more = () => {
+    for (;;) {
+      try { return Object.assign(new Uint8Array(piece.subarray(0, fs.readSync(fd, piece, 0, piece.length, null))), { once: true, more }); } catch (e) {
+        if (e.code !== 'EAGAIN') return Object.assign(new Uint8Array(0), { once: true, more });
+        Atomics.wait(new Int32Array(new SharedArrayBuffer(4)), 0, 0, 5);
+      }
+    }
   };
   return Object.assign(new Uint8Array(0), { once: true, more });
 }
