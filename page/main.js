@@ -29,7 +29,7 @@ function busy(began) {
   let read = '';
   const tell = () => {
     const seconds = Math.floor((performance.now() - began) / 1000);
-    $('busy').replaceChildren('Working' + (read ? ' (' + read + ')' : '') + ' .. ' + seconds + ' s ', button('Stop', () => { turn++; Bench.stop(); $('busy').replaceChildren('Stopped.'); show(); document.body.dataset.done = String(turn); }, { className: 'small', id: 'stop' }));
+    $('busy').replaceChildren('Working' + (read ? ' (' + read + ')' : '') + ' .. ' + seconds + ' s ', button('Stop', () => { turn++; Bench.stop(); $('busy').replaceChildren('Stopped.'); $('panel').setAttribute('aria-busy', 'false'); show(); document.body.dataset.done = String(turn); }, { className: 'small', id: 'stop' }));
   };
   Bench.going = (name, bytes) => { read = name + ', ' + (bytes / 1e6).toFixed(1) + ' MB read'; };
   let each = 0;

@@ -66,7 +66,10 @@ function framed(bytes) {
   const frame = make('iframe', { title: 'Picture of the ride' });
   frame.setAttribute('sandbox', 'allow-same-origin allow-modals');
   frame.srcdoc = textOf(bytes);
-  const fit = () => { try { frame.style.height = frame.contentDocument.documentElement.scrollHeight + 4 + 'px'; } catch (_) { frame.style.height = '80vh'; } };
+  const fit = () => {
+    frame.style.height = '0';
+    try { frame.style.height = frame.contentDocument.documentElement.scrollHeight + 4 + 'px'; } catch (_) { frame.style.height = '80vh'; }
+  };
   frame.onload = fit;
   addEventListener('resize', fit);
   return frame;
