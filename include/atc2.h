@@ -92,29 +92,29 @@ int32_t atc2_why_telegram(uint8_t x, uint8_t y, uint8_t z);
 
 /* The first place in the stretch of len bits from bit start on, with the sync words s and t: 0, and out = place, telegram as above.
  * -4: the pair does not differ in seven bits; -5: the stretch is not inside the n bytes, or too long; -6: no place. */
-int32_t atc2_find(const uint8_t *buf, size_t n, size_t start, size_t len, uint8_t s, uint8_t t, uint64_t out[2]);
+int32_t atc2_find(const uint8_t *buf, uint64_t n, uint64_t start, uint64_t len, uint8_t s, uint8_t t, uint64_t out[2]);
 
 /* The judgement of one contact: 1, and out = telegram, first place, number of places; 2: a marker, out as it was.
  * -4 and -5 as above; -7: its places differ; -8: neither telegram nor marker. */
-int32_t atc2_judge(const uint8_t *buf, size_t n, size_t start, size_t len, uint8_t s, uint8_t t, uint64_t out[3]);
+int32_t atc2_judge(const uint8_t *buf, uint64_t n, uint64_t start, uint64_t len, uint8_t s, uint8_t t, uint64_t out[3]);
 
 /* The beginning of a search for contacts in a stretch: 0, and search = next bit, bits left, history (65535).
  * -5: the stretch is not inside the n bytes, or too long. */
-int32_t atc2_begin(const uint8_t *buf, size_t n, size_t start, size_t len, struct atc2_search *search);
+int32_t atc2_begin(const uint8_t *buf, uint64_t n, uint64_t start, uint64_t len, struct atc2_search *search);
 
 /* The next contact of a search: 1, and out = start, length, and search moves on past its closing bit; 0: no further one opens, both as they were.
  * -5 as above; -9: a contact is cut by the end. A history above 65535 counts by its low sixteen bits. */
-int32_t atc2_next_contact(const uint8_t *buf, size_t n, struct atc2_search *search, uint64_t out[2]);
+int32_t atc2_next_contact(const uint8_t *buf, uint64_t n, struct atc2_search *search, uint64_t out[2]);
 
 /* A test balise: n telegrams, 2 to 1000, of the figures x, y, z (for x = 12: of the number y, and z is not looked at) into buf,
  * S first, the sync words in turn, one to close: 4 * n + 1, the number of bytes written; bytes after them stay.
  * -2: a figure above 15 or a number above 2047; -3: a figure of 15; -4: the pair; -20: n; -21: fewer than 4 * n + 1 bytes; in this order. */
-int32_t atc2_write_balise(uint8_t x, uint16_t y, uint8_t z, uint8_t s, uint8_t t, uint32_t n, uint8_t *buf, size_t len);
+int32_t atc2_write_balise(uint8_t x, uint16_t y, uint8_t z, uint8_t s, uint8_t t, uint32_t n, uint8_t *buf, uint64_t len);
 
 /* A trace of n bytes made smaller in place, for a fresh ride with this gap in dm: its new length in bytes. Dropped are position records that were
  * accepted, gave no line, are not the last and have an accepted record after them; bytes beyond the new length stay.
  * -19: the gap; -16: n is no multiple of 8; in this order. */
-int64_t atc2_compact(uint32_t gap, uint8_t *trace, size_t n);
+int64_t atc2_compact(uint32_t gap, uint8_t *trace, uint64_t n);
 
 /* The distance in decimetres of a figure 1 to 14 in column BY 0 to 14 of table DF.
  * -15 for any other column or figure. */
