@@ -1,0 +1,71 @@
+// Settings: a store opened, added to, and read from a text.
+ghost use mathlib.Core.Path.{_≡_};
+ghost use lib.IntN.{pos, negℤ};
+ghost use Rattle.settings.specs.Says.{saysBad};
+ghost use Rattle.settings.specs.Store.{begin, add};
+ghost use Rattle.state_bytes.specs.Stores.{storeIn};
+ghost use Rattle.abi.specs.Face.{returned};
+ghost use Rattle.abi.specs.Stores.{keptNumber, storeLeft, storeAfter};
+use settings::Bad;
+use settings::Verdict;
+
+// What is returned of a refusal of the settings.
+pub fn refused(bad: Bad) -> i32
+    ensures { λ r. ⌜ r ≡ negℤ (pos (saysBad bad)) ⌝ }
+{
+    match bad {
+        Bad::Pair => -4,
+        Bad::Gap => -19,
+        Bad::TooHigh => -18,
+        Bad::NotAbove => -24,
+        Bad::Full => -25,
+    }
+}
+
+// 0, with a store of one version, at place 0, in `store`; -4 or -19.
+#[no_mangle]
+pub extern "C" fn atc2_settings_begin(gap: u32, s: u8, t: u8, store: &mut [u8; 1032]) -> i32
+    ensures { λ r. ⌜ r ≡ returned keptNumber (begin gap s t .answer) ⌝ }
+    ensures { λ _. ⌜ now (store .exit) ≡ storeLeft (begin gap s t) (now (store .entry)) ⌝ }
+    ensures { λ _. ⌜ storeIn (now (store .exit)) ≡ storeAfter (begin gap s t) (storeIn (now (store .entry))) ⌝ }
+{
+    let begun = settings::begin(gap, s, t);
+    let made = begun.store;
+    let verdict = begun.verdict;
+    match verdict {
+        Verdict::Kept => {
+            let bytes = state_bytes::store_bytes(made);
+            *store = bytes;
+            0
+        }
+        Verdict::Refused(bad) => refused(bad),
+    }
+}
+
+// 0, with one version more in `store`; the store's own refusal, -4, -19, -18, -24 or -25.
+#[no_mangle]
+pub extern "C" fn atc2_settings_add(
+    store: &mut [u8; 1032],
+    place: u32,
+    gap: u32,
+    s: u8,
+    t: u8,
+) -> i32
+    ensures { λ r. ⌜ r ≡ returned keptNumber (add (storeIn (now (store .entry))) (record { place = place; gap = gap; s = s; t = t }) .answer) ⌝ }
+    ensures { λ _. ⌜ now (store .exit) ≡ storeLeft (add (storeIn (now (store .entry))) (record { place = place; gap = gap; s = s; t = t })) (now (store .entry)) ⌝ }
+    ensures { λ _. ⌜ storeIn (now (store .exit)) ≡ storeAfter (add (storeIn (now (store .entry))) (record { place = place; gap = gap; s = s; t = t })) (storeIn (now (store .entry))) ⌝ }
+{
+    let lent = *store;
+    let held = state_bytes::store_in(&lent);
+    let added = settings::add(held, place, gap, s, t);
+    let made = added.store;
+    let verdict = added.verdict;
+    match verdict {
+        Verdict::Kept => {
+            let bytes = state_bytes::store_bytes(made);
+            *store = bytes;
+            0
+        }
+        Verdict::Refused(bad) => refused(bad),
+    }
+}
