@@ -4,8 +4,10 @@ use Prim.Native.Nat.{ℕ}
 use mathlib.Core.List.{List}
 use Rattle.words.specs.Answer.{Outcome, gives, refuses}
 use Rattle.settings.specs.declared.Store.{Store}
-use Rattle.settings.specs.Versions.{Kept}
+use Rattle.settings.specs.Versions.{Kept, kept}
 use Rattle.settings.specs.Store.{Change}
+use Rattle.settings_text.specs.declared.How.{How}
+use Rattle.settings_text.specs.declared.Sheet.{Sheet}
 use Rattle.state_bytes.specs.Stores.{storeBytes}
 use Rattle.abi.specs.Face.{left}
 
@@ -24,3 +26,13 @@ thenHolds (refuses n) after before = before
 
 abbrev pub storeAfter : Change → Store → Store
 storeAfter change before = thenHolds (change .answer) (change .store) before
+
+-- What a text comes to, as an answer: the documents have no number for a line that is unreadable and for a text that is too long; here 100 and 101.
+abbrev pub howAnswer : How → Outcome Kept
+howAnswer How.Fine = gives kept
+howAnswer (How.Refused n) = refuses n
+howAnswer How.Unreadable = refuses 100
+howAnswer How.TooLong = refuses 101
+
+abbrev pub changeOf : Sheet → Change
+changeOf sheet = record { answer = howAnswer (sheet .how); store = sheet .store }

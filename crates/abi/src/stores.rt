@@ -1,26 +1,15 @@
 // Settings: a store opened, added to, and read from a text.
 ghost use mathlib.Core.Path.{_≡_};
-ghost use lib.IntN.{pos, negℤ};
-ghost use Rattle.settings.specs.Says.{saysBad};
+ghost use lib.IntN.{pos};
 ghost use Rattle.settings.specs.Store.{begin, add};
 ghost use Rattle.state_bytes.specs.Stores.{storeIn};
+ghost use Rattle.settings_text.specs.Sheet.{sheet};
 ghost use Rattle.abi.specs.Face.{returned};
-ghost use Rattle.abi.specs.Stores.{keptNumber, storeLeft, storeAfter};
-use settings::Bad;
+ghost use Rattle.abi.specs.Stores.{keptNumber, storeLeft, storeAfter, changeOf};
+use crate::refusal::below_zero;
+use crate::refusal::of_settings;
 use settings::Verdict;
-
-// What is returned of a refusal of the settings.
-pub fn refused(bad: Bad) -> i32
-    ensures { λ r. ⌜ r ≡ negℤ (pos (saysBad bad)) ⌝ }
-{
-    match bad {
-        Bad::Pair => -4,
-        Bad::Gap => -19,
-        Bad::TooHigh => -18,
-        Bad::NotAbove => -24,
-        Bad::Full => -25,
-    }
-}
+use settings_text::How;
 
 // 0, with a store of one version, at place 0, in `store`; -4 or -19.
 #[no_mangle]
@@ -38,7 +27,7 @@ pub extern "C" fn atc2_settings_begin(gap: u32, s: u8, t: u8, store: &mut [u8; 1
             *store = bytes;
             0
         }
-        Verdict::Refused(bad) => refused(bad),
+        Verdict::Refused(bad) => of_settings(bad),
     }
 }
 
@@ -66,6 +55,37 @@ pub extern "C" fn atc2_settings_add(
             *store = bytes;
             0
         }
-        Verdict::Refused(bad) => refused(bad),
+        Verdict::Refused(bad) => of_settings(bad),
     }
+}
+
+// 0, with the store of a text's settings in `store`; the refusal of its first bad line, -100 if it is unreadable, -101 for a text that is too long.
+#[no_mangle]
+pub extern "C" fn atc2_settings_read(text: &[u8], store: &mut [u8; 1032]) -> i32
+    ensures { λ r. ⌜ r ≡ returned keptNumber (changeOf (sheet (now (text .entry))) .answer) ⌝ }
+    ensures { λ _. ⌜ now (store .exit) ≡ storeLeft (changeOf (sheet (now (text .entry)))) (now (store .entry)) ⌝ }
+    ensures { λ _. ⌜ storeIn (now (store .exit)) ≡ storeAfter (changeOf (sheet (now (text .entry)))) (storeIn (now (store .entry))) ⌝ }
+{
+    let read = settings_text::read(text);
+    let made = read.store;
+    let how = read.how;
+    match how {
+        How::Fine => {
+            let bytes = state_bytes::store_bytes(made);
+            *store = bytes;
+            0
+        }
+        How::Refused(number) => below_zero(number),
+        How::Unreadable => -100,
+        How::TooLong => -101,
+    }
+}
+
+// The number of the first bad line of a text, counted from 1; 0 where none is to be named.
+#[no_mangle]
+pub extern "C" fn atc2_settings_line(text: &[u8]) -> i64
+    ensures { λ r. ⌜ r ≡ pos (sheet (now (text .entry)) .line) ⌝ }
+{
+    let read = settings_text::read(text);
+    read.line as i64
 }

@@ -1,6 +1,6 @@
-// A store of settings, a ride and an ear as bytes that a caller lends and keeps: every figure of a state is eight bytes, the highest first.
-// Promises: what is made of a state reads back as that state; any bytes at all read as some state.
-// Specification: specs/Figures.antt (figures and bytes), Stores.antt, Rides.antt, Ears.antt (the figures of each state, and the state in some bytes).
+// A store of settings as bytes that a caller lends and keeps: every figure of a store is eight bytes, the highest first.
+// Promises: what is made of a store reads back as that store; any bytes at all read as some store.
+// Specification: specs/Figures.antt (figures and bytes), Stores.antt (the figures of a store, and the store in some bytes).
 ghost use mathlib.Core.Path.{_≡_};
 ghost use Rattle.state_bytes.specs.Stores.{storeBytes, storeIn};
 
