@@ -10,7 +10,7 @@ REFUSALS = {
     4: "sync pair doesn't differ in seven bits", 5: "stretch beyond the buffer, or above 16,777,216 bits", 6: "no place in the stretch", 7: "places differ",
     8: "contact neither telegram nor marker", 9: "contact cut by the end of the record", 15: "distance not allowed", 16: "trace length not a multiple of 8",
     18: "place above 4,000,000,000", 19: "gap outside 1 to 200", 20: "number of telegrams outside 2 to 1,000", 21: "buffer too short",
-    24: "place not above the last one", 25: "more than 32 versions", 100: "line unreadable", 101: "text too long",
+    24: "place not above the last one", 25: "more than 32 versions", 100: "line unreadable", 101: "text too long", 102: "first place not 0",
 }
 STORE = 1032
 

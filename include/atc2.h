@@ -39,7 +39,8 @@ enum {
     ATC2_NOT_ABOVE = -24,    /* place of a version not above the last one */
     ATC2_FULL = -25,         /* more than 32 versions */
     ATC2_UNREADABLE = -100,  /* ours: a line of a text that is no line of settings */
-    ATC2_TEXT_LONG = -101    /* ours: a text of more than 1,048,576 bytes */
+    ATC2_TEXT_LONG = -101,   /* ours: a text of more than 1,048,576 bytes */
+    ATC2_FIRST_PLACE = -102  /* ours: the first version of a text is not at place 0 */
 };
 
 /* What atc2_judge and atc2_next_contact answer where they do not refuse. */
@@ -145,7 +146,7 @@ int32_t atc2_settings_begin(uint32_t gap, uint8_t s, uint8_t t, uint8_t *store);
 int32_t atc2_settings_add(uint8_t *store, uint32_t place, uint32_t gap, uint8_t s, uint8_t t);
 
 /* The settings of a text (n bytes), a line `PLACE GAP S S*` for each version, as the programs read them with -s: 0, and store holds them.
- * The refusal of the first bad line; -100: it is unreadable; -101: the text is too long; -19: there is no version. */
+ * The refusal of the first bad line; -100: it is unreadable; -102: the first place is not 0; -101: the text is too long; -19: there is no version. */
 int32_t atc2_settings_read(const uint8_t *text, uint64_t n, uint8_t *store);
 
 /* The number of the first bad line of such a text, counted from 1; 0 where all are fine or none is to be named. */

@@ -16,6 +16,7 @@ int main(int argc, char **argv)
     int32_t r = atc2_settings_read(text, n, store);
     if (r == 0) printf("settings fine\n");
     else if (r == ATC2_UNREADABLE) printf("settings line %lld unreadable\n", (long long)atc2_settings_line(text, n));
+    else if (r == ATC2_FIRST_PLACE) printf("settings line %lld: the first place is not 0\n", (long long)atc2_settings_line(text, n));
     else printf("settings line %lld refused %d\n", (long long)atc2_settings_line(text, n), -r);
     return r != 0;
 }

@@ -330,6 +330,7 @@ static void settings(void)
     same("settings_add to bytes that are no store", atc2_settings_add(store, 1, 40, 0x72, 0x0D), ATC2_FULL);
     same("settings_read no version", settings_of("# nothing\n", store), ATC2_GAP);
     same("settings_read unreadable", settings_of("0 40 72\n", store), ATC2_UNREADABLE);
+    same("settings_read first place not 0", settings_of("1 40 72 0D\n", store), ATC2_FIRST_PLACE);
     same("settings refused leave all bytes", alike(store, before), ATC2_STORE);
     same("settings_begin", atc2_settings_begin(40, 0x72, 0x0D, store), 0);
     for (int i = 0; i < ATC2_STORE; i++) before[i] = store[i];

@@ -6,7 +6,7 @@ use Rattle.words.specs.Answer.{Outcome, gives, refuses}
 use Rattle.settings.specs.declared.Store.{Store}
 use Rattle.settings.specs.Versions.{Kept, kept}
 use Rattle.settings.specs.Store.{Change}
-use Rattle.settings_text.specs.declared.How.{How}
+use Rattle.settings_text.specs.declared.Condition.{Condition}
 use Rattle.settings_text.specs.declared.Sheet.{Sheet}
 use Rattle.state_bytes.specs.Stores.{storeBytes}
 use Rattle.abi.specs.Face.{left}
@@ -27,12 +27,14 @@ thenHolds (refuses n) after before = before
 abbrev pub storeAfter : Change → Store → Store
 storeAfter change before = thenHolds (change .answer) (change .store) before
 
--- What a text comes to, as an answer: the documents have no number for a line that is unreadable and for a text that is too long; here 100 and 101.
-abbrev pub howAnswer : How → Outcome Kept
-howAnswer How.Fine = gives kept
-howAnswer (How.Refused n) = refuses n
-howAnswer How.Unreadable = refuses 100
-howAnswer How.TooLong = refuses 101
+-- What a text comes to, as an answer: the documents have no number for a line that is unreadable, a text that is too long and a first place that is not
+-- 0; here 100, 101 and 102.
+abbrev pub howAnswer : Condition → Outcome Kept
+howAnswer Condition.Fine = gives kept
+howAnswer (Condition.Refused n) = refuses n
+howAnswer Condition.Unreadable = refuses 100
+howAnswer Condition.TooLong = refuses 101
+howAnswer Condition.FirstPlace = refuses 102
 
 abbrev pub changeOf : Sheet → Change
 changeOf sheet = record { answer = howAnswer (sheet .how); store = sheet .store }

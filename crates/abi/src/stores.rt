@@ -9,7 +9,7 @@ ghost use Rattle.abi.specs.Stores.{keptNumber, storeLeft, storeAfter, ch
 use crate::refusal::below_zero;
 use crate::refusal::of_settings;
 use settings::Verdict;
-use settings_text::How;
+use settings_text::Condition;
 
 // 0, with a store of one version, at place 0, in `store`; -4 or -19.
 #[no_mangle]
@@ -59,7 +59,8 @@ pub extern "C" fn atc2_settings_add(
     }
 }
 
-// 0, with the store of a text's settings in `store`; the refusal of its first bad line, -100 if it is unreadable, -101 for a text that is too long.
+// 0, with the store of a text's settings in `store`; the refusal of its first bad line, -100 if it is
+// unreadable, -102 if it is the first and its place is not 0, -101 for a text that is too long.
 #[no_mangle]
 pub extern "C" fn atc2_settings_read(text: &[u8], store: &mut [u8; 1032]) -> i32
     ensures { λ r. ⌜ r ≡ returned keptNumber (changeOf (sheet (now (text .entry))) .answer) ⌝ }
@@ -70,14 +71,15 @@ pub extern "C" fn atc2_settings_read(text: &[u8], store: &mut [u8; 1032]) -> i32
     let made = read.store;
     let how = read.how;
     match how {
-        How::Fine => {
+        Condition::Fine => {
             let bytes = state_bytes::store_bytes(made);
             *store = bytes;
             0
         }
-        How::Refused(number) => below_zero(number),
-        How::Unreadable => -100,
-        How::TooLong => -101,
+        Condition::Refused(number) => below_zero(number),
+        Condition::Unreadable => -100,
+        Condition::TooLong => -101,
+        Condition::FirstPlace => -102,
     }
 }
 

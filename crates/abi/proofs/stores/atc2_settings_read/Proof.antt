@@ -6,7 +6,7 @@ use mathlib.Core.List.{List}
 use Rattle.words.specs.Answer.{Outcome, gives, refuses}
 use Rattle.settings.specs.declared.Store.{Store}
 use Rattle.settings.specs.Versions.{Kept, kept}
-use Rattle.settings_text.specs.declared.How.{How}
+use Rattle.settings_text.specs.declared.Condition.{Condition}
 use Rattle.settings_text.specs.declared.Sheet.{Sheet}
 use Rattle.settings_text.specs.Sheet.{sheet}
 use Rattle.state_bytes.specs.Stores.{storeIn}
@@ -18,7 +18,7 @@ use Rattle.abi.proofs.stores.atc2_settings_read.Statement.{statement}
 use Rattle.abi.proofs.stores.atc2_settings_read.Tie as tie
 
 -- The answer of a text, by how it is.
-answered : (w : tie.After-read) {how : How} → w .read .result .how ≡ how → howAnswer how ≡ howAnswer (sheet (w .before .before .args .text .now) .how)
+answered : (w : tie.After-read) {how : Condition} → w .read .result .how ≡ how → howAnswer how ≡ howAnswer (sheet (w .before .before .args .text .now) .how)
 answered w e = ap howAnswer (sym e) ∙ ap (λ (x : Sheet). howAnswer (x .how)) (w .read .ensures)
 
 returns : tie.Need-returns
@@ -51,11 +51,20 @@ returns-4 c =
     let x = sheet (a .text .now) in
     unstored (howAnswer (x .how)) (x .store) (a .store .now) 101 _ (answered w (c .enum-told3 .given .1)) refl
 
+returns-5 : tie.Need-returns-5
+returns-5 c =
+    let w = c .before .before .before in
+    let a = w .before .before .args in
+    let x = sheet (a .text .now) in
+    unstored (howAnswer (x .how)) (x .store) (a .store .now) 102 _ (answered w (c .enum-told4 .given .1)) refl
+
 pub atc2-settings-read-spec : {M : Type 1} → statement M
 atc2-settings-read-spec =
     tie.close
     (tie.spec
-    (λ c κs. search needs) (λ c. search needs) (λ c κs. search needs) (λ c. search needs) (λ c κs. search needs) (λ c. search needs) (λ c. search needs) returns
+    (λ c κs. search needs) (λ c. search needs) (λ c κs. search needs) (λ c. search needs) (λ c κs. search needs) (λ c. search needs) (λ c. search needs)
+    (λ c. search needs) returns
     returns-2
     returns-3
-    returns-4)
+    returns-4
+    returns-5)
