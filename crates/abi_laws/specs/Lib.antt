@@ -2,3 +2,4 @@ pub mod Calls
 pub mod Demand1
 pub mod Settings
 pub mod Handed
+pub mod Sent

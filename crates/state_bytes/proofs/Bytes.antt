@@ -89,10 +89,13 @@ low : (n : ℕ) → highFirst (n / 16777216 % 256) (n / 65536 % 256) (n / 256 % 
 low n = rw (first n, second n, third n, fourth n) where
   first : (n : ℕ) → n / 16777216 % 256 ≡ n % 4294967296 / 16777216
   first n = omega arith
+
   second : (n : ℕ) → n % 4294967296 / 16777216 * 256 + n / 65536 % 256 ≡ n % 4294967296 / 65536
   second n = omega arith
+
   third : (n : ℕ) → n % 4294967296 / 65536 * 256 + n / 256 % 256 ≡ n % 4294967296 / 256
   third n = omega arith
+
   fourth : (n : ℕ) → n % 4294967296 / 256 * 256 + n % 256 ≡ n % 4294967296
   fourth n = omega arith
 

@@ -63,13 +63,13 @@ module _ (versions : List Version) (count : ℕ) (bytes : List ℕ) where
         of-these _ _ _ _ _ _ _ _
         (low-32 _ _ first (size i 0 h (omega arith))) (low-32 _ _ (figure i 1 h (omega arith)) (size i 1 h (omega arith)))
         (low-8 _ _ (figure i 2 h (omega arith)) (size i 2 h (omega arith))) (low-8 _ _ (figure i 3 h (omega arith)) (size i 3 h (omega arith))) where
-      of-these : (p q g h s u t v : ℕ) → p ≡ q → g ≡ h → s ≡ u → t ≡ v
-          → _≡_ {A = Version} (record { place = p; gap = g; s = s; t = t }) (record { place = q; gap = h; s = u; t = v })
-      of-these p q g h s u t v a b c d = cc
+          of-these : (p q g h s u t v : ℕ) → p ≡ q → g ≡ h → s ≡ u → t ≡ v
+              → _≡_ {A = Version} (record { place = p; gap = g; s = s; t = t }) (record { place = q; gap = h; s = u; t = v })
+          of-these p q g h s u t v a b c d = cc
 
     pub store-back : storeIn bytes ≡ record { versions = versions; count = count }
     unfolding storeIn
     store-back =
         ap₂ made (sym (is-each (versionAt bytes) 32 noVersion versions long version-back)) (back 128 (omega arith) ∙ count-is) where
-      made : List Version → ℕ → Store
-      made vs n = record { versions = vs; count = n }
+          made : List Version → ℕ → Store
+          made vs n = record { versions = vs; count = n }

@@ -5,8 +5,8 @@ ghost use lib.ListN.{length, getD};
 ghost use Rattle.settings.specs.Store.{noVersion};
 ghost use Rattle.state_bytes.specs.Stores.{versionFigure, widthOf, figuresOf, versionAt, storeIn};
 use crate::figures::figure_at;
-use crate::figures::low32;
 use crate::figures::low8;
+use crate::figures::low32;
 use settings::Store;
 use settings::Version;
 

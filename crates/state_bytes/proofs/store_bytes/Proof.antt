@@ -20,11 +20,10 @@ returns c =
     let store = at-figures .before .before .args .store in
     let vs = store .versions in
     let n = store .count in
-    let long : length (f .result) ≡ 129 = ap length (f .ensures .0) ∙ store-figures vs n (sp .last .1 .0) in
-    (
+    let long : length (f .result) ≡ 129 = ap length (f .ensures .0) ∙ store-figures vs n (sp .last .1 .0) in (
       sp .ensures .0 ∙ ap bytesOf (f .ensures .0),
       store-back vs n (sp .last .1 .0) (f .ensures .1 .1) (f .ensures .1 .0)
-      (λ i h. sp .ensures .1 i (subst (λ (m : ℕ). i < m) (sym long) h) ∙ ap (λ (l : List ℕ). getD l i 0) (f .ensures .0))
+          (λ i h. sp .ensures .1 i (subst (λ (m : ℕ). i < m) (sym long) h) ∙ ap (λ (l : List ℕ). getD l i 0) (f .ensures .0)),
     )
 
 pub store-bytes-spec : {M : Type 1} → statement M

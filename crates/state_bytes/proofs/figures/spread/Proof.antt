@@ -30,11 +30,10 @@ loop-again c =
     let figures = c .before .before .before .before .before .before .args .figures .now in
     let rule : ℕ → ℕ = λ (j : ℕ). byteOf (getD figures (j / 8) 0) (j % 8) in
     let inside : l .j < length (l .bytes) = omega arith in
-    let wrote : rule (l .j) ≡ c .byte-of .result = sym (c .byte-of .ensures) in
-    (
+    let wrote : rule (l .j) ≡ c .byte-of .result = sym (c .byte-of .ensures) in (
       length-set (l .bytes) (l .j) (c .byte-of .result) ∙ l .inv .0,
       subst (λ (n : ℕ). l .j + 1 ≤ n) (sym (length-set (l .bytes) (l .j) (c .byte-of .result))) (omega arith),
-      subst (λ (b : ℕ). (i : ℕ) → i < l .j + 1 → getD (set (l .bytes) (l .j) b) i 0 ≡ rule i) wrote (more rule 0 (l .bytes) (l .j) inside (l .inv .2))
+      subst (λ (b : ℕ). (i : ℕ) → i < l .j + 1 → getD (set (l .bytes) (l .j) b) i 0 ≡ rule i) wrote (more rule 0 (l .bytes) (l .j) inside (l .inv .2)),
     )
 
 loop-less : tie.Need-loop-less Inv-loop μ-loop

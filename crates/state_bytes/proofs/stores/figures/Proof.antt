@@ -35,12 +35,11 @@ loop-again c =
     let versions = c .before .before .before .before .args .t1 in
     let wrote = c .version-figure .ensures in
     let inside : l .j < length (l .figures) = subst (λ (n : ℕ). l .j < n) (sym (l .inv .0)) (omega arith) in
-    let v = c .version-figure .result in
-    (
+    let v = c .version-figure .result in (
       length-set (l .figures) (l .j) v ∙ l .inv .0,
       omega arith,
       subst (λ (b : ℕ). (i : ℕ) → i < l .j + 1 → getD (set (l .figures) (l .j) b) i 0 ≡ rule versions i) (sym (wrote .0)) (more (rule versions) 0 (l .figures) (l .j) inside (l .inv .2)),
-      and-then (λ (i : ℕ). rule versions i < widthOf (i % 4)) (l .j) (l .inv .3) (subst (λ (n : ℕ). n < widthOf (l .j % 4)) (wrote .0) (wrote .1))
+      and-then (λ (i : ℕ). rule versions i < widthOf (i % 4)) (l .j) (l .inv .3) (subst (λ (n : ℕ). n < widthOf (l .j % 4)) (wrote .0) (wrote .1)),
     )
 
 returns : tie.Need-returns Inv-loop μ-loop
