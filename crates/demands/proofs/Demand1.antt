@@ -17,7 +17,6 @@ pub mod Compacting
 pub mod Writes
 pub mod Bare
 pub mod Stores
-pub mod ManyCalls
 pub mod Viewing
 pub mod Plans
 use mathlib.Core.Path.{ap, ap₂, _∙_}

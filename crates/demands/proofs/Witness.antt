@@ -9,4 +9,3 @@ pub mod ReasonsMet
 pub mod NumbersMet
 pub mod SectionsMet
 pub mod StoresMet
-pub mod BacksMet

@@ -1,17 +1,16 @@
 -- Demand 1 for the viewer of document 02's M-108: "19, then 16 refuse it"; "22 for back exactly if the kept count is 0; 23 for forward exactly at
 -- the end; both leave the viewer unchanged." Each function stands here twice: over a viewer, with what its contract allows as
--- viewer/specs/Laws.antt says it, and over a plain slice (`.._at`). Many at once: up to the first refusal.
+-- viewer/specs/Laws.antt says it, and over a plain slice (`.._at`). Many at once (`forwards_at`,
+-- `backs_at`) refuse nothing: they say how many calls were made (`Going` of viewer_laws/specs/Session.antt).
 -- Assumes nothing.
-use Prim.Native.Nat.{ℕ, zero, suc, _-_, _/_}
+use Prim.Native.Nat.{ℕ}
 use mathlib.Core.Path.{_≡_}
-use mathlib.Core.List.{List, [], _∷_}
-use lib.Dec.{ltb}
-use lib.ListN.{length}
+use mathlib.Core.List.{List, []}
 use contract.Lifetimes.{Lfts}
 use denote.Ref.{RefT, now}
 use borrow.Fn.Kinds.{endedOf}
 use denote.Triple.Clauses.{AtExit}
-use Rattle.words.specs.Answer.{Outcome, refuses}
+use Rattle.words.specs.Answer.{refuses}
 use Rattle.settings.specs.declared.Store.{Store}
 use Rattle.ride.specs.declared.Lines.{Lines}
 use Rattle.ride.specs.State.{noGroup}
@@ -32,11 +31,7 @@ use Rattle.viewer.proofs.forward_at.Kinds as forward-kinds
 use Rattle.viewer.proofs.forward_at.Reads as forward-reads
 use Rattle.viewer.proofs.back_at.Kinds as back-kinds
 use Rattle.viewer.proofs.back_at.Reads as back-reads
-use Rattle.viewer.proofs.forwards_at.Kinds as forwards-kinds
-use Rattle.viewer.proofs.forwards_at.Reads as forwards-reads
-use Rattle.viewer.proofs.backs_at.Kinds as backs-kinds
-use Rattle.viewer.proofs.backs_at.Reads as backs-reads
-use Rattle.demands.specs.Rules.{Rule, row, Decided, Is}
+use Rattle.demands.specs.Rules.{Decided, Is}
 use Rattle.demands.specs.Lists.{forwardRules, backRules}
 use Rattle.demands.specs.Stores.{storeRules, traceRules}
 
@@ -58,27 +53,7 @@ ForwardAt trace s r =
 abbrev pub BackAt : Stand → Came → Type 0
 BackAt s r = (e : AtExit (endedOf 0 back-kinds.ps back-kinds.r) tt) × back-reads.Post tt (s, tt) r e
 
--- The contract of `forwards_at` allows the answer r for this trace, from where a viewer stands, for so many times.
-abbrev pub ForwardsAt : List ℕ → Stand → ℕ → Came → Type 0
-ForwardsAt trace s times r =
-    (κs : Lfts 1) × (lent : RefT (List ℕ)) × (e : AtExit (endedOf 1 forwards-kinds.ps forwards-kinds.r) κs)
-    × (now lent ≡ trace) × forwards-reads.Post κs (lent, (s, (times, tt))) r e
-
--- The contract of `backs_at` allows the answer r, from where a viewer stands, for so many times.
-abbrev pub BacksAt : Stand → ℕ → Came → Type 0
-BacksAt s times r = (e : AtExit (endedOf 0 backs-kinds.ps backs-kinds.r) tt) × backs-reads.Post tt (s, (times, tt)) r e
-
 -- ---- demand 1
-
--- Many forwards at once: none is always done; others are judged as the first of them, and then 23 where fewer records are left.
-abbrev pub forwardsRules : List ℕ → Stand → ℕ → List (Rule (Outcome Done))
-forwardsRules trace s zero = []
-forwardsRules trace s (suc more) =
-    forwardRules trace (s .number) (storeRules (s .settings) (row 23 (ltb (length trace / 8 - s .number) (suc more)) ∷ []))
-
--- Many backs at once: 22 where fewer states are kept.
-abbrev pub backsRules : ℕ → ℕ → List (Rule (Outcome Done))
-backsRules kept times = row 22 (ltb kept times) ∷ []
 
 -- Opening: the settings' own refusals (of a gap, 19), then 16. Back: 22. Forward: 23; a viewer that no call made may hold settings that are refused,
 -- and then forward at a record is refused with their number.
@@ -93,8 +68,6 @@ pub record ViewersDecided : Type 0 where
   pub forward-at : (trace : List ℕ) (s : Stand) (r : Went) → ForwardAt trace s r
       → Decided (Is done) (forwardRules trace (s .number) (storeRules (s .settings) [])) (saysHow (r .how))
   pub back-at : (s : Stand) (r : Came) → BackAt s r → Decided (Is done) (backRules (s .kept)) (saysHow (r .how))
-  pub forwards-at : (trace : List ℕ) (s : Stand) (times : ℕ) (r : Came) → ForwardsAt trace s times r → Decided (Is done) (forwardsRules trace s times) (saysHow (r .how))
-  pub backs-at : (s : Stand) (times : ℕ) (r : Came) → BacksAt s times r → Decided (Is done) (backsRules (s .kept) times) (saysHow (r .how))
 
 -- What a refusal leaves: "both leave the viewer unchanged", and a refused forward gives no line and closes no group. A refused opening answers a viewer over an
 -- empty slice, with nothing kept: forward is 23 there, and back 22.
@@ -109,8 +82,3 @@ pub record ViewersUntouched : Type 0 where
   pub forward-at : (trace : List ℕ) (s : Stand) (r : Went) (n : ℕ) → ForwardAt trace s r → saysHow (r .how) ≡ refuses n
       → (r .stand ≡ s) × (r .lines ≡ Lines.None) × (r .closed ≡ noGroup)
   pub back-at : (s : Stand) (r : Came) (n : ℕ) → BackAt s r → saysHow (r .how) ≡ refuses n → r .stand ≡ s
-  -- many at once stop where one more is refused with the same number
-  pub forwards-at : (trace : List ℕ) (s : Stand) (times : ℕ) (r : Came) (n : ℕ) (next : Went) → ForwardsAt trace s times r → saysHow (r .how) ≡ refuses n
-      → ForwardAt trace (r .stand) next → saysHow (next .how) ≡ refuses n
-  pub backs-at : (s : Stand) (times : ℕ) (r : Came) (n : ℕ) (next : Came) → BacksAt s times r → saysHow (r .how) ≡ refuses n
-      → BackAt (r .stand) next → saysHow (next .how) ≡ refuses n

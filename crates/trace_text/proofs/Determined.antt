@@ -22,6 +22,8 @@ use Rattle.trace_text.proofs.thing_at.Kinds as thing-at-kinds
 use Rattle.trace_text.proofs.thing_at.Reads as thing-at-reads
 use Rattle.trace_text.proofs.put_record.Kinds as put-record-kinds
 use Rattle.trace_text.proofs.put_record.Reads as put-record-reads
+use Rattle.trace_text.proofs.put_thing.Kinds as put-thing-kinds
+use Rattle.trace_text.proofs.put_thing.Reads as put-thing-reads
 
 -- From what an answer says, the answer.
 abbrev pub howOf : Outcome Made → How
@@ -53,4 +55,11 @@ pub put-record-determined : (κs : Lfts 1) (a : Dens κs put-record-kinds.ps) (r
     → put-record-reads.Post κs a r x → put-record-reads.Post κs a r′ x′ → (r ≡ r′) × (now (x .1 .1 .1 .0) ≡ now (x′ .1 .1 .1 .0))
 put-record-determined κs a r r′ x x′ p q =
     let same : came r (now (x .1 .1 .1 .0)) ≡ came r′ (now (x′ .1 .1 .1 .0)) = p ∙ sym q in
+    (ap (λ (v : Put). v .next) same, ap (λ (v : Put). v .buffer) same)
+
+pub put-thing-determined : (κs : Lfts 1) (a : Dens κs put-thing-kinds.ps) (r r′ : ℕ)
+    (x x′ : AtExit (endedOf 1 put-thing-kinds.ps put-thing-kinds.r) κs)
+    → put-thing-reads.Post κs a r x → put-thing-reads.Post κs a r′ x′ → (r ≡ r′) × (now (x .1 .1 .0) ≡ now (x′ .1 .1 .0))
+put-thing-determined κs a r r′ x x′ p q =
+    let same : came r (now (x .1 .1 .0)) ≡ came r′ (now (x′ .1 .1 .0)) = p ∙ sym q in
     (ap (λ (v : Put). v .next) same, ap (λ (v : Put). v .buffer) same)

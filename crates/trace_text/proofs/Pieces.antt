@@ -13,7 +13,7 @@ use Rattle.text.specs.Text.{codes, decimal}
 use Rattle.text.proofs.Decimal.{decimal-length}
 use Rattle.text.proofs.Standing.{numbered}
 use Rattle.trace_text.specs.declared.What.{What}
-use Rattle.trace_text.specs.Line.{byteText, balise, whatText, recordLine}
+use Rattle.trace_text.specs.Line.{byteText, balise, whatText, thingText, recordLine}
 
 pub number-is : (x y z : ℕ) → x ≡ 12 → numbered " 12 " y ≡ balise x y z
 unfolding balise
@@ -30,6 +30,10 @@ raw-is kind x y z = simp append-assoc
 pub line-is : (number place : ℕ) (what : What) → numbered "" place ++ whatText what ++ numbered " # " number ++ codes "\n" ≡ recordLine number place what
 unfolding recordLine
 line-is number place what = simp append-assoc
+
+pub thing-is : (place : ℕ) (what : What) → numbered "" place ++ whatText what ≡ thingText place what
+unfolding thingText
+thing-is place what = simp append-assoc
 
 by-twelve : (b : Bool) (x y : List ℕ) → length x ≤ 63 → length y ≤ 63 → length (pick b x y) ≤ 63
 by-twelve true x y h k = h
@@ -54,3 +58,8 @@ what-length (What.Raw kind x y z) = omega arith
 pub line-length : (number place : ℕ) (what : What) → length (recordLine number place what) ≤ 128
 unfolding recordLine
 line-length number place what = simp length-append (omega (arith, decimal-length number, decimal-length place, what-length what))
+
+-- And what lies at a place is no longer than this.
+pub thing-length : (place : ℕ) (what : What) → length (thingText place what) ≤ 83
+unfolding thingText
+thing-length place what = simp length-append (omega (arith, decimal-length place, what-length what))

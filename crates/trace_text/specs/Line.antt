@@ -27,6 +27,10 @@ whatText What.Unreadable = codes " unreadable"
 whatText What.Position = codes " position"
 whatText (What.Raw kind x y z) = codes " raw" ++ byteText kind ++ byteText x ++ byteText y ++ byteText z
 
+-- What lies at a place, without its number: `1000 1 8 5`.
+unfoldable pub thingText : ℕ → What → List ℕ
+thingText place what = decimal place ++ whatText what
+
 -- The line of what lies at a place, with the number of its record.
 unfoldable pub recordLine : ℕ → ℕ → What → List ℕ
 recordLine number place what = decimal place ++ whatText what ++ codes " # " ++ decimal number ++ codes "\n"

@@ -7,7 +7,7 @@ ghost use Rattle.trace_text.specs.Said.{said, thing};
 ghost use Rattle.trace_text.specs.Record.{recordOf, recording};
 ghost use Rattle.trace_text.specs.Says.{saysRecorded};
 ghost use Rattle.trace_text.specs.Thing.{thingAt};
-ghost use Rattle.trace_text.specs.Line.{recordLine};
+ghost use Rattle.trace_text.specs.Line.{thingText, recordLine};
 ghost use Rattle.text.specs.Put.{put, came};
 
 mod making;
@@ -111,5 +111,15 @@ pub fn put_record(number: u64, place: u32, what: What, buf: &mut [u8], at: usize
 {
     let mut space = [0u8; 128];
     let n = putting::put_line(number, place, what, &mut space, 0);
+    text::put(&space[..n], buf, at)
+}
+
+// What lies at a place, as `put_record` writes it before the number, into buf from `at` on, and the place after it; without room buf stays as it is, and the
+// answer is `at`.
+pub fn put_thing(place: u32, what: What, buf: &mut [u8], at: usize) -> usize
+    ensures { λ r. ⌜ came r (now (buf .exit)) ≡ put (thingText place what) (now (buf .entry)) at ⌝ }
+{
+    let mut space = [0u8; 128];
+    let n = putting::put_thing(place, what, &mut space, 0);
     text::put(&space[..n], buf, at)
 }

@@ -5,7 +5,7 @@ ghost use lib.ListN.{length};
 ghost use mathlib.Core.List.{_++_};
 ghost use Rattle.text.specs.Put.{put, came};
 ghost use Rattle.trace_text.specs.declared.What.{What};
-ghost use Rattle.trace_text.specs.Line.{hexSign, byteText, balise, whatText, recordLine};
+ghost use Rattle.trace_text.specs.Line.{hexSign, byteText, balise, whatText, thingText, recordLine};
 use crate::What;
 use text::put;
 use text::put_number;
@@ -75,6 +75,15 @@ fn put_what(what: What, buf: &mut [u8], at: usize) -> usize
         What::Position => put(b" position", buf, at),
         What::Raw { kind, x, y, z } => put_raw(kind, x, y, z, buf, at),
     }
+}
+
+// The place, and what lies there.
+pub fn put_thing(place: u32, what: What, buf: &mut [u8], at: usize) -> usize
+    requires { ⌜ at + length (thingText place what) ≤ length (now buf) ⌝ }
+    ensures { λ r. ⌜ came r (now (buf .exit)) ≡ put (thingText place what) (now (buf .entry)) at ⌝ }
+{
+    let a = put_number(b"", place as u64, buf, at);
+    put_what(what, buf, a)
 }
 
 // The line.

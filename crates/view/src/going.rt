@@ -1,80 +1,50 @@
-// Going as a command asks, and the lines of the records that are passed.
-ghost use Prim.Native.Nat.{_+_, _/_, _<_, _≤_};
-ghost use lib.ListN.{length};
-use ride::Ride;
-use ride_text::Done;
-use ride_text::PLAIN;
-use settings::Store;
-use viewer::Came;
+// Going as a command asks.
+use crate::passing;
+use viewer::Ending;
+use viewer::Moved;
 use viewer::Stand;
 
-// The smaller of two.
-fn smaller(a: usize, b: usize) -> usize
-    ensures { λ r. ⌜ (r ≤ a) × (r ≤ b) ⌝ }
-{
-    if a < b {
-        return a;
+// Forward so often; the lines of the records that are passed are written where no terminal shows them.
+pub fn forth(trace: &[u8], from: Stand, times: usize, terminal: bool) -> Moved {
+    let moved = viewer::forwards_at(trace, from, times);
+    let stand = moved.stand;
+    if !terminal {
+        passing::write_passed(trace, from, stand.number);
     }
-    b
+    moved
 }
 
-// Where a block ends: 512 records on, for whose lines the buffer surely has room, or at the last.
-fn end_of(number: usize, to: usize) -> usize
-    requires { ⌜ number < to ⌝ }
-    ensures { λ r. ⌜ (number < r) × (r ≤ to) ⌝ }
-{
-    if to - number > 512 {
-        return number + 512;
-    }
-    to
-}
-
-// Writes the lines of some records, the first with this number, in this state; the state after them.
-fn write_block(ride: Ride, store: Store, number: u64, records: &[u8], out: &mut [u8]) -> Ride {
-    let listed = ride_text::list(PLAIN, ride, store, number, records, out);
-    let done = listed.done;
-    let after = listed.ride;
-    let Done::Took { records: _, bytes } = done else {
-        return after;
-    };
-    console::put(b"view", out, bytes);
-    after
-}
-
-// Writes the lines of the records that were passed, from where a viewer stood.
-fn write_passed(trace: &[u8], from: Stand, number: usize) {
-    let to = smaller(number, trace.len() / 8);
+// A fresh viewer that has gone so many records forward.
+fn afresh(trace: &[u8], from: Stand, times: usize) -> Moved {
     let store = from.settings;
-    let mut out = io::large_buffer();
-    let mut ride = from.ride;
-    let mut at = from.number;
-    while at < to {
-        let end = end_of(at, to);
-        let first = at as u64 + 1;
-        ride = write_block(ride, store, first, &trace[at * 8..end * 8], &mut out);
-        at = end;
-    }
+    let opened = viewer::start_at(store, trace);
+    let stand = opened.stand;
+    viewer::forwards_at(trace, stand, times)
 }
 
-// Forward so often, and writes the lines of the records that are passed.
-pub fn forth(trace: &[u8], from: Stand, times: usize) -> Came {
-    let came = viewer::forwards_at(trace, from, times);
-    let stand = came.stand;
-    write_passed(trace, from, stand.number);
-    came
-}
-
-// Forward to the first record at or past the place.
-pub fn to_place(trace: &[u8], from: Stand, place: u64) -> Came {
-    let times = viewer::times_to(trace, from.number, place);
-    forth(trace, from, times)
-}
-
-// To where so many records lie before the viewer.
-pub fn to_number(trace: &[u8], from: Stand, before: usize) -> Came {
+// To where so many records lie before the viewer: forward; back as far as the history goes; or, further back, as a fresh viewer.
+pub fn to_number(trace: &[u8], from: Stand, before: usize, terminal: bool) -> Moved {
     let number = from.number;
-    if before < number {
+    if before >= number {
+        return forth(trace, from, before - number, terminal);
+    }
+    if number - before <= from.kept {
         return viewer::backs_at(from, number - before);
     }
-    forth(trace, from, before - number)
+    afresh(trace, from, before)
+}
+
+// To just before the first record at or past the place, but for those that will be refused.
+pub fn to_place(trace: &[u8], from: Stand, place: u64, terminal: bool) -> Moved {
+    let before = viewer::times_to(trace, 0, place);
+    to_number(trace, from, before, terminal)
+}
+
+// What many calls come to that made none.
+pub fn nowhere(stand: Stand) -> Moved {
+    Moved {
+        stand,
+        steps: 0,
+        ending: Ending::All,
+    }
 }

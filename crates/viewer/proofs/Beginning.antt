@@ -1,13 +1,14 @@
 -- What the walk of `start` rests on: the answer and its types, what a slice owns, and that what is made has its type.
 -- Assumes nothing.
-use mathlib.Core.Path.{_≡_, refl, ap, _∙_, subst}
+use mathlib.Core.Path.{_≡_, refl, sym, ap, _∙_, subst}
 use Prim.Native.Nat.{ℕ}
 use mathlib.Core.List.{List, [], _∷_}
 use mathlib.Core.Option.{some}
 use denote.Struct.Laws as LL
 use Rattle.viewer.proofs.Walking.{Holds, URA, Lifetime, Ty, Tys, tyStruct, tcons, tnil, named, Val, WT, hasTy, ent, sep, Lft, Fml, fieldAt, Heap, Atoms, sem, Given, Is, u8, RefT, NamedLft, now, namedLft, ShrSlice, shr-slice-tells, shr-slice-copy}
-use Rattle.viewer.specs.Viewing.{Start}
-use Rattle.viewer.specs.Says.{saysOpened, saysStarted}
+use Rattle.words.specs.Answer.{Outcome, gives, refuses}
+use Rattle.viewer.specs.Viewing.{Done, Start}
+use Rattle.viewer.specs.Says.{saysBegun, traceOf, saysOpened, Slice, very, lies, sliceOf, lentTo, Holding, holding, saysStarted}
 use Rattle.viewer.specs.declared.Opened.{Opened}
 use Rattle.viewer.specs.declared.Started.{Started}
 use Rattle.viewer.proofs.Begun.Laws as Begun′
@@ -41,11 +42,30 @@ gave-1 = refl
 abbrev pub answer : RefT (List ℕ) → Opened → Started
 answer s m = record { viewer = viewer s (m .stand); begun = m .begun }
 
+-- the bytes of its slice
+abbrev bytesOf : Slice → List ℕ
+bytesOf (very held) = now held
+bytesOf (lies at bytes) = bytes
+
+held-bytes : (o : Outcome Done) (s : RefT (List ℕ)) → bytesOf (sliceOf o s) ≡ now s
+held-bytes (gives d) s = refl
+held-bytes (refuses n) s = refl
+
+lent-bytes : (o : Outcome Done) (t : RefT (List ℕ)) → bytesOf (lentTo o t) ≡ traceOf o (now t)
+lent-bytes (gives d) t = refl
+lent-bytes (refuses n) t = refl
+
 -- what it says
-pub answered : (found : Start) (trace : List ℕ) (s : RefT (List ℕ)) (m : Opened) → saysOpened m trace ≡ found → now s ≡ found .trace → saysStarted (answer s m) ≡ found
-answered found trace s m e h =
-    ap {B = Start} (λ (x : Start). record { answer = x .answer; trace = now s; stand = x .stand }) e
-    ∙ ap {B = Start} (λ (t : List ℕ). record { answer = found .answer; trace = t; stand = found .stand }) h
+pub answered : (found : Start) (t s : RefT (List ℕ)) (m : Opened) → saysOpened m (now t) ≡ found → sliceOf (found .answer) s ≡ lentTo (found .answer) t
+    → saysStarted (answer s m) ≡ holding t found
+answered found t s m e h =
+    let o : Outcome Done = saysBegun (m .begun) in
+    let same : saysBegun (m .begun) ≡ found .answer = ap (λ (x : Start). x .answer) e in
+    let held : sliceOf (saysBegun (m .begun)) s ≡ lentTo (saysBegun (m .begun)) t = subst (λ (x : Outcome Done). sliceOf x s ≡ lentTo x t) (sym same) h in
+    let bytes : now s ≡ traceOf o (now t) = sym (held-bytes o s) ∙ ap bytesOf held ∙ lent-bytes o t in
+    ap {B = Holding} (λ (x : Slice). record { slice = x; start = record { answer = o; trace = now s; stand = m .stand } }) held
+    ∙ ap {B = Holding} (λ (b : List ℕ). record { slice = lentTo o t; start = record { answer = o; trace = b; stand = m .stand } }) bytes
+    ∙ ap (holding t) e
 
 abbrev pub Got : Opened → Val → Fml
 Got m u = N.the-row .own m (u ∷ [])

@@ -1,11 +1,10 @@
--- Each contract fixes the whole answer: any two answers that it allows are equal. Of a viewer that was opened it fixes the bytes of its slice,
--- not where they lie.
+-- Each contract fixes the whole answer: any two answers that it allows are equal; of a viewer that was refused, as far as a machine tells them apart.
 -- Assumes nothing.
 use Prim.Native.Nat.{ℕ}
 use mathlib.Core.Path.{_≡_, refl, sym, ap, _∙_}
 use mathlib.Core.List.{List, []}
 use lib.Dec.{eqb}
-use denote.Ref.{RefT, now}
+use denote.Ref.{RefT}
 use Rattle.words.specs.Answer.{Outcome, gives, refuses, pick}
 use Rattle.settings.specs.declared.Bad.{Bad}
 use Rattle.settings.specs.declared.Store.{Store}
@@ -17,12 +16,15 @@ use Rattle.viewer.specs.declared.How.{How}
 use Rattle.viewer.specs.declared.Opened.{Opened}
 use Rattle.viewer.specs.declared.Went.{Went}
 use Rattle.viewer.specs.declared.Came.{Came}
+use Rattle.viewer.specs.declared.Ending.{Ending}
+use Rattle.viewer.specs.declared.Moved.{Moved}
 use Rattle.viewer.specs.declared.Viewer.{Viewer}
 use Rattle.viewer.specs.declared.Started.{Started}
 use Rattle.viewer.specs.declared.Forwarded.{Forwarded}
 use Rattle.viewer.specs.declared.Backed.{Backed}
 use Rattle.viewer.specs.Viewing.{Done, Start, Forward, Back}
-use Rattle.viewer.specs.Says.{saysBegun, saysHow, saysOpened, saysWent, saysCame, Over, saysForwarded, saysBacked, saysStarted}
+use Rattle.viewer.specs.Going.{Ending as Ends, all, refused, Moved as Moves}
+use Rattle.viewer.specs.Says.{saysBegun, saysHow, saysOpened, saysWent, saysCame, saysEnding, saysMoved, sliceOf, Holding, Over, saysForwarded, saysBacked, saysStarted}
 use Rattle.viewer.specs.Laws.{Starts, Forwards, Backs}
 use Rattle.viewer.proofs.opening.start_at.Kinds as start-at-kinds
 use Rattle.viewer.proofs.opening.start_at.Reads as start-at-reads
@@ -32,8 +34,8 @@ use Rattle.viewer.proofs.moving.back_at.Kinds as back-at-kinds
 use Rattle.viewer.proofs.moving.back_at.Reads as back-at-reads
 use Rattle.viewer.proofs.going.forwards_at.Kinds as forwards-at-kinds
 use Rattle.viewer.proofs.going.forwards_at.Reads as forwards-at-reads
-use Rattle.viewer.proofs.going.times_to.Kinds as times-to-kinds
-use Rattle.viewer.proofs.going.times_to.Reads as times-to-reads
+use Rattle.viewer.proofs.placing.times_to.Kinds as times-to-kinds
+use Rattle.viewer.proofs.placing.times_to.Reads as times-to-reads
 use Rattle.viewer.proofs.going.backs_at.Kinds as backs-at-kinds
 use Rattle.viewer.proofs.going.backs_at.Reads as backs-at-reads
 use Rattle.words.proofs.Told.{Fixed}
@@ -86,6 +88,26 @@ cameOf b = record { stand = b .stand; how = howOf (b .answer) }
 came-back : (c : Came) → cameOf (saysCame c) ≡ c
 came-back c = ap (λ (h : How). record { stand = c .stand; how = h }) (how-back (c .how))
 
+abbrev endingOf : Ends → Ending
+endingOf all = Ending.All
+endingOf (refused n) = pick (eqb n 22) Ending.NothingKept (pick (eqb n 23) Ending.AtEnd (Ending.Settings (badOf n)))
+
+ending-back : (e : Ending) → endingOf (saysEnding e) ≡ e
+ending-back Ending.All = refl
+ending-back Ending.NothingKept = refl
+ending-back Ending.AtEnd = refl
+ending-back (Ending.Settings Bad.Pair) = refl
+ending-back (Ending.Settings Bad.Gap) = refl
+ending-back (Ending.Settings Bad.TooHigh) = refl
+ending-back (Ending.Settings Bad.NotAbove) = refl
+ending-back (Ending.Settings Bad.Full) = refl
+
+abbrev movedOf : Moves → Moved
+movedOf m = record { stand = m .stand; steps = m .steps; ending = endingOf (m .ending) }
+
+moved-back : (m : Moved) → movedOf (saysMoved m) ≡ m
+moved-back m = ap (λ (e : Ending). record { stand = m .stand; steps = m .steps; ending = e }) (ending-back (m .ending))
+
 -- ---- over a lent trace
 
 pub start-at-determined : Fixed 1 start-at-kinds.ps start-at-kinds.r start-at-reads.Post
@@ -98,27 +120,28 @@ pub back-at-determined : Fixed 0 back-at-kinds.ps back-at-kinds.r back-at-reads.
 back-at-determined κs a r r′ x x′ p q = sym (came-back r) ∙ ap cameOf (p ∙ sym q) ∙ came-back r′
 
 pub forwards-at-determined : Fixed 1 forwards-at-kinds.ps forwards-at-kinds.r forwards-at-reads.Post
-forwards-at-determined κs a r r′ x x′ p q = sym (came-back r) ∙ ap cameOf (p ∙ sym q) ∙ came-back r′
+forwards-at-determined κs a r r′ x x′ p q = sym (moved-back r) ∙ ap movedOf (p ∙ sym q) ∙ moved-back r′
 
 pub times-to-determined : Fixed 1 times-to-kinds.ps times-to-kinds.r times-to-reads.Post
 times-to-determined κs a r r′ x x′ p q = p ∙ sym q
 
 pub backs-at-determined : Fixed 0 backs-at-kinds.ps backs-at-kinds.r backs-at-reads.Post
-backs-at-determined κs a r r′ x x′ p q = sym (came-back r) ∙ ap cameOf (p ∙ sym q) ∙ came-back r′
+backs-at-determined κs a r r′ x x′ p q = sym (moved-back r) ∙ ap movedOf (p ∙ sym q) ∙ moved-back r′
 
 -- ---- over a viewer
 
--- A viewer that was opened: how it went, where it stands, and the bytes of its slice.
+-- A viewer that was opened: its answer, where it stands, and its slice, the very one where it was not refused; of one that was refused where the slice lies and its bytes,
+-- which is all that a machine has of it (its name is the prover's).
 pub record Alike (r r′ : Started) : Type 0 where
   pub begun : r .begun ≡ r′ .begun
   pub stand : r .viewer .stand ≡ r′ .viewer .stand
-  pub trace : now (r .viewer .trace) ≡ now (r′ .viewer .trace)
+  pub slice : sliceOf (saysBegun (r .begun)) (r .viewer .trace) ≡ sliceOf (saysBegun (r′ .begun)) (r′ .viewer .trace)
 
 alike : (r r′ : Started) → saysStarted r ≡ saysStarted r′ → Alike r r′
 alike r r′ e = record {
-  begun = sym (begun-back (r .begun)) ∙ ap (λ (s : Start). begunOf (s .answer)) e ∙ begun-back (r′ .begun);
-  stand = ap (λ (s : Start). s .stand) e;
-  trace = ap (λ (s : Start). s .trace) e;
+  begun = sym (begun-back (r .begun)) ∙ ap (λ (h : Holding). begunOf (h .start .answer)) e ∙ begun-back (r′ .begun);
+  stand = ap (λ (h : Holding). h .start .stand) e;
+  slice = ap (λ (h : Holding). h .slice) e;
 }
 
 pub start-determined : (store : Store) (trace : RefT (List ℕ)) (r r′ : Started) → Starts store trace r → Starts store trace r′ → Alike r r′

@@ -30,10 +30,10 @@ use Rattle.viewer.specs.declared.Forwarded.{Forwarded}
 use Rattle.viewer.specs.declared.Backed.{Backed}
 use Rattle.viewer.specs.Stand.{opened, passed, returned}
 use Rattle.viewer.specs.Viewing.{Forward, stepOf, done}
-use Rattle.viewer.specs.Says.{over}
+use Rattle.viewer.specs.Says.{holding, over}
 use Rattle.viewer.specs.History.{Call, forth, back}
 use Rattle.viewer.specs.Going.{forwards, linesPassed}
-use Rattle.viewer.specs.Laws.{Starts, Forwards, Backs, Lead, Views, often}
+use Rattle.viewer.specs.Laws.{Starts, Forwards, Backs, Lead, Views}
 use Rattle.viewer.proofs.Calls.{open-done, forward-end, forward-step, back-none, back-done}
 use Rattle.viewer.proofs.Laws.{viewing}
 use Rattle.viewer.proofs.Often.{many-at-once}
@@ -67,7 +67,7 @@ abbrev started : Started
 started = record { viewer = at s0; begun = Begun.Open }
 
 starts : Starts (plain 40) lent started
-starts = open-done (plain 40) bytes (plain-good 40 refl) refl
+starts = ap (holding lent) (open-done (plain 40) bytes (plain-good 40 refl) refl)
 
 -- ---- back: nothing is kept
 
@@ -146,13 +146,7 @@ where-it-stands = (refl, refl)
 met : Views (gapAt (plain 40)) bytes calls (at s3)
 met = viewing .after-any (plain 40) lent started calls (at s3) starts refl lead
 
--- ---- many at once: three forwards, one too many, come to where two lead; and the lines of the two
-
-thrice : Lead (often 3 forth) (at s0) (at s2)
-thrice = (went1, first-passed, (went2, second-passed, (refused23, at-end, refl)))
-
-often-met : forwards 3 bytes s0 .stand ≡ s2
-often-met = many-at-once .forward-often 3 (at s0) (at s2) thrice
+-- ---- many at once: the lines of two records
 
 lines-met : _≡_ {A = Ridden} (record { lines = linesPassed 2 bytes s0; ride = forwards 2 bytes s0 .stand .ride })
     (rideOver (gapAt (plain 40)) (s0 .ride) (s0 .number + 1) (take 2 (drop (s0 .number) (records bytes))))

@@ -21,8 +21,8 @@ use Rattle.viewer.specs.declared.Begun.{Begun}
 use Rattle.viewer.specs.declared.Viewer.{Viewer}
 use Rattle.viewer.specs.declared.Started.{Started}
 use Rattle.viewer.specs.Stand.{opened}
-use Rattle.viewer.specs.Viewing.{Done, done, Start, start, Forward, forward, Back}
-use Rattle.viewer.specs.Says.{Over, saysBegun}
+use Rattle.viewer.specs.Viewing.{Done, done, start, Forward, forward, Back}
+use Rattle.viewer.specs.Says.{Holding, Over, saysBegun}
 use Rattle.viewer.specs.History.{Plain, first, goForth, Call, forth, back, called, plainly, straight}
 use Rattle.viewer.specs.Laws.{Starts, Lead, Shows, Views, Viewing}
 use Rattle.viewer.proofs.Straight.{Held, first-held, plainly-held}
@@ -68,14 +68,14 @@ opens-by (refuses n) d store trace e h o = never _ n (rw e at o)
 
 opens : (store : Store) (trace : RefT (List ℕ)) (r : Started) → Starts store trace r → r .begun ≡ Begun.Open → Opens store (now trace)
 opens store trace r s b =
-    opens-by (judged store) (eqb (length (now trace) % 8) 0) store (now trace) refl refl (ap saysBegun (sym b) ∙ ap (λ (x : Start). x .answer) s)
+    opens-by (judged store) (eqb (length (now trace) % 8) 0) store (now trace) refl refl (ap saysBegun (sym b) ∙ ap (λ (x : Holding). x .start .answer) s)
 
 views : (store : Store) (trace : RefT (List ℕ)) (r : Started) (cs : List Call) (w : Viewer) → Starts store trace r → r .begun ≡ Begun.Open → Lead cs (r .viewer) w
     → Views (gapAt store) (now trace) cs w
 views store trace r cs w s b l =
     let o = opens store trace r s b in
-    let held : now (r .viewer .trace) ≡ now trace = ap (λ (x : Start). x .trace) s ∙ o .held in
-    let stand : r .viewer .stand ≡ opened store = ap (λ (x : Start). x .stand) s ∙ o .stand in
+    let held : now (r .viewer .trace) ≡ now trace = ap (λ (x : Holding). x .start .trace) s ∙ o .held in
+    let stand : r .viewer .stand ≡ opened store = ap (λ (x : Holding). x .start .stand) s ∙ o .stand in
     let a = lead-alike store (now trace) cs (r .viewer) w first held (o .good) (rw stand (opened-alike store)) l in
     record {
       shows = record { number = a .number; kept = a .kept; ride = a .ride };

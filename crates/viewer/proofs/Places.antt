@@ -2,18 +2,17 @@
 -- Assumes nothing.
 use Prim.Native.Nat.{ℕ, zero, suc, _+_, _*_, _/_, _≤_, _<_}
 use mathlib.Core.Path.{_≡_, refl, sym, ap, _∙_}
+use mathlib.Core.Bool.{Bool, true, false}
 use mathlib.Core.List.{List, [], _∷_}
 use native.Mathlib.Omega.{arith}
 use native.Mathlib.Numerals.{add-one}
-use borrow.Author.Tests.{le-leb, lt-leb}
 use lib.ListN.{length, getD, drop}
 use lib.Seq.{drop-cons, drop-drop}
-use Rattle.ride.specs.Record.{odometerOf}
-use Rattle.ride.specs.At.{recordAt, odometerAt}
+use Rattle.words.specs.Answer.{pick}
+use Rattle.ride.specs.At.{recordAt}
 use Rattle.ride.specs.Over.{firstRecords, records}
 use Rattle.ride.proofs.Cutting.{records-length}
-use Rattle.ride.proofs.Under.{odometer-there}
-use Rattle.viewer.specs.Going.{timesTo}
+use Rattle.viewer.specs.Going.{isAt, timesTo}
 
 record-at : (m i : ℕ) (trace : List ℕ) → i < m → getD (firstRecords m trace) i [] ≡ recordAt trace i
 unfolding firstRecords
@@ -41,21 +40,16 @@ drop-past (suc i) (r ∷ l) h =
     drop-past i l less
 
 -- at or past the place, before it, and where no record is left
-pub times-there : (place : ℕ) (trace : List ℕ) (i odometer : ℕ) → i < length trace / 8 → odometer ≡ odometerAt trace i → place ≤ odometer
-    → timesTo place (drop i (records trace)) ≡ 0
+pub times-there : (place : ℕ) (trace : List ℕ) (i : ℕ) → i < length trace / 8 → isAt place (recordAt trace i) ≡ true → timesTo place (drop i (records trace)) ≡ 0
 unfolding timesTo
-times-there place trace i odometer h is there =
-    let own : odometer ≡ odometerOf (recordAt trace i) = is ∙ sym (odometer-there trace i h) in
-    let past : place ≤ odometerOf (recordAt trace i) = rw (← own) there in
-    ap (timesTo place) (left-next trace i h) ∙ rw (le-leb place (odometerOf (recordAt trace i)) past) refl
+times-there place trace i h there =
+    ap (timesTo place) (left-next trace i h) ∙ ap (λ (b : Bool). pick b 0 (timesTo place (drop (i + 1) (records trace)) + 1)) there
 
-pub times-next : (place : ℕ) (trace : List ℕ) (i odometer : ℕ) → i < length trace / 8 → odometer ≡ odometerAt trace i → odometer < place
+pub times-next : (place : ℕ) (trace : List ℕ) (i : ℕ) → i < length trace / 8 → isAt place (recordAt trace i) ≡ false
     → timesTo place (drop i (records trace)) ≡ timesTo place (drop (i + 1) (records trace)) + 1
 unfolding timesTo
-times-next place trace i odometer h is before =
-    let own : odometer ≡ odometerOf (recordAt trace i) = is ∙ sym (odometer-there trace i h) in
-    let short : odometerOf (recordAt trace i) < place = rw (← own) before in
-    ap (timesTo place) (left-next trace i h) ∙ rw (lt-leb place (odometerOf (recordAt trace i)) short) refl
+times-next place trace i h short =
+    ap (timesTo place) (left-next trace i h) ∙ ap (λ (b : Bool). pick b 0 (timesTo place (drop (i + 1) (records trace)) + 1)) short
 
 pub times-none : (place : ℕ) (trace : List ℕ) (i : ℕ) → length trace / 8 ≤ i → timesTo place (drop i (records trace)) ≡ 1
 unfolding timesTo

@@ -20,7 +20,7 @@ use Rattle.ride.specs.Record.{odometerOf}
 use Rattle.ride.specs.Step.{Step, treat}
 use Rattle.ride.specs.At.{recordAt}
 use Rattle.viewer.specs.declared.Stand.{Stand}
-use Rattle.viewer.specs.Stand.{opened, oneMore, passed, noRide, returned}
+use Rattle.viewer.specs.Stand.{opened, oneMore, passed, returned}
 use Rattle.viewer.specs.Viewing.{stepOf, forward, back as goesBack}
 use Rattle.viewer.specs.History.{Plain, first, goForth, backTo, goBack, Call, forth, back, called, plainly}
 use Rattle.viewer.proofs.Calls.{forward-end, forward-step, back-none, back-done}
@@ -35,7 +35,7 @@ pub record Alike (store : Store) (s : Stand) (p : Plain) : Type 0 where
   pub long : length (s .last) ≡ 256
   pub few : s .kept ≤ 256
   pub held : s .kept ≤ s .number
-  pub ring : (k : ℕ) → k < s .kept → getD (s .last) ((s .number - 1 - k) % 256) noRide ≡ getD (p .history) k noRide
+  pub ring : (k : ℕ) → k < s .kept → getD (s .last) ((s .number - 1 - k) % 256) freshRide ≡ getD (p .history) k freshRide
 
 no-place : (k : ℕ) → k < 0 → ⊥
 no-place k h = omega arith
@@ -91,17 +91,17 @@ module _ (store : Store) (s : Stand) (p : Plain) (h : Alike store s p) where
   ringOn = set (s .last) (s .number % 256) (s .ride)
 
   -- the place that is written holds the state before the record, the others what they held
-  ring-on : (k : ℕ) → k < s .kept + 1 → k < 256 → getD ringOn ((s .number + 1 - 1 - k) % 256) noRide ≡ getD (p .ride ∷ p .history) k noRide
+  ring-on : (k : ℕ) → k < s .kept + 1 → k < 256 → getD ringOn ((s .number + 1 - 1 - k) % 256) freshRide ≡ getD (p .ride ∷ p .history) k freshRide
   ring-on zero less near =
       let same : s .number + 1 - 1 - 0 ≡ s .number = omega arith in
       let fits : s .number % 256 < length (s .last) = omega (arith, h .long) in
-      ap (λ (n : ℕ). getD ringOn (n % 256) noRide) same ∙ getD-set-same (s .last) (s .number % 256) (s .ride) noRide fits ∙ h .ride
+      ap (λ (n : ℕ). getD ringOn (n % 256) freshRide) same ∙ getD-set-same (s .last) (s .number % 256) (s .ride) freshRide fits ∙ h .ride
   ring-on (suc k) less near =
       let same : s .number + 1 - 1 - suc k ≡ s .number - 1 - k = omega arith in
       let there : k < s .kept = omega arith in
       let held = h .held in
-      ap (λ (n : ℕ). getD ringOn (n % 256) noRide) same
-      ∙ getD-set-other (s .last) (s .number % 256) ((s .number - 1 - k) % 256) (s .ride) noRide (λ e. omega arith)
+      ap (λ (n : ℕ). getD ringOn (n % 256) freshRide) same
+      ∙ getD-set-other (s .last) (s .number % 256) ((s .number - 1 - k) % 256) (s .ride) freshRide (λ e. omega arith)
       ∙ h .ring k there
 
   pub passed-alike : (next : Ride) (after : Ride) → next ≡ after
@@ -149,20 +149,20 @@ back-by [] store s p e h =
     rw (← back-none s (ap (λ (n : ℕ). eqb n 0) none)) h
 back-by (y ∷ history) store s p e h =
     let some : s .kept ≡ suc (length history) = h .kept ∙ ap length e in
-    let at : (k : ℕ) → k < suc (length history) → getD (s .last) ((s .number - 1 - k) % 256) noRide ≡ getD (y ∷ history) k noRide =
-    λ k less. h .ring k (rw some less) ∙ ap (λ (l : List Ride). getD l k noRide) e in
+    let at : (k : ℕ) → k < suc (length history) → getD (s .last) ((s .number - 1 - k) % 256) freshRide ≡ getD (y ∷ history) k freshRide =
+    λ k less. h .ring k (rw some less) ∙ ap (λ (l : List Ride). getD l k freshRide) e in
     rw (← back-done s (ne-eqb (s .kept) 0 (λ z. omega arith)))
     (record {
       set-to = h .set-to;
       number = ap (λ (n : ℕ). n - 1) (h .number);
       kept = omega arith;
-      ride = let same : s .number - 1 ≡ s .number - 1 - 0 = omega arith in ap (λ (n : ℕ). getD (s .last) (n % 256) noRide) same ∙ at 0 (omega arith);
+      ride = let same : s .number - 1 ≡ s .number - 1 - 0 = omega arith in ap (λ (n : ℕ). getD (s .last) (n % 256) freshRide) same ∙ at 0 (omega arith);
       long = h .long;
       few = omega (arith, h .few);
       held = omega (arith, h .held);
       ring = λ k less.
           let same : s .number - 1 - 1 - k ≡ s .number - 1 - suc k = omega arith in
-          ap (λ (n : ℕ). getD (s .last) (n % 256) noRide) same ∙ at (suc k) (omega arith);
+          ap (λ (n : ℕ). getD (s .last) (n % 256) freshRide) same ∙ at (suc k) (omega arith);
     })
 
 -- ---- any call

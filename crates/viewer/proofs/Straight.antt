@@ -16,7 +16,6 @@ use Rattle.ride.specs.At.{recordAt}
 use Rattle.ride.specs.Over.{firstRecords, records, Ridden, rideOver}
 use Rattle.ride.proofs.Cutting.{more-records, take-records}
 use Rattle.ride.proofs.Sections.{ride-on}
-use Rattle.viewer.specs.Stand.{noRide}
 use Rattle.viewer.specs.History.{Plain, first, goForth, backTo, goBack, Call, forth, back, called, plainly, straight}
 
 -- one record more
@@ -36,7 +35,7 @@ one-more gaps trace n h =
     ∙ ap (λ (x : Ride). treat x (gaps (odometerOf r)) r .ride) (sym here)
 
 -- a list up to a length, by its places
-pub taken-at : (n k : ℕ) (l : List Ride) → k < n → getD (take n l) k noRide ≡ getD l k noRide
+pub taken-at : (n k : ℕ) (l : List Ride) → k < n → getD (take n l) k freshRide ≡ getD l k freshRide
 taken-at zero k l h = absurd (omega arith)
 taken-at (suc n) k [] h = refl
 taken-at (suc n) zero (x ∷ l) h = refl
@@ -56,7 +55,7 @@ pub record Held (gaps : ℕ → ℕ) (trace : List ℕ) (p : Plain) : Type 0 whe
   pub within : p .number ≤ length trace / 8
   pub few : length (p .history) ≤ p .number
   pub here : p .ride ≡ straight gaps trace (p .number)
-  pub past : (k : ℕ) → k < length (p .history) → getD (p .history) k noRide ≡ straight gaps trace (p .number - 1 - k)
+  pub past : (k : ℕ) → k < length (p .history) → getD (p .history) k freshRide ≡ straight gaps trace (p .number - 1 - k)
 
 pub first-held : (gaps : ℕ → ℕ) (trace : List ℕ) → Held gaps trace first
 unfolding rideOver
@@ -67,7 +66,7 @@ first-held gaps trace = record { within = omega arith; few = omega arith; here =
 
 -- a state more
 past-on : (gaps : ℕ → ℕ) (trace : List ℕ) (p : Plain) → Held gaps trace p → (k : ℕ) → k < length (p .history) + 1
-    → getD (p .ride ∷ p .history) k noRide ≡ straight gaps trace (p .number + 1 - 1 - k)
+    → getD (p .ride ∷ p .history) k freshRide ≡ straight gaps trace (p .number + 1 - 1 - k)
 past-on gaps trace p h zero less =
     let same : p .number + 1 - 1 - 0 ≡ p .number = omega arith in
     h .here ∙ ap (straight gaps trace) (sym same)
@@ -98,8 +97,8 @@ back-by [] gaps trace p e h = h
 back-by (s ∷ history) gaps trace p e h =
     let long : length (p .history) ≡ suc (length history) = ap length e in
     let few = h .few in
-    let at : (k : ℕ) → k < suc (length history) → getD (s ∷ history) k noRide ≡ straight gaps trace (p .number - 1 - k) =
-    λ k less. ap (λ (l : List Ride). getD l k noRide) (sym e) ∙ h .past k (rw long less) in
+    let at : (k : ℕ) → k < suc (length history) → getD (s ∷ history) k freshRide ≡ straight gaps trace (p .number - 1 - k) =
+    λ k less. ap (λ (l : List Ride). getD l k freshRide) (sym e) ∙ h .past k (rw long less) in
     record {
       within = omega (arith, h .within);
       few = omega arith;

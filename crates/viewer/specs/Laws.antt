@@ -1,7 +1,7 @@
 -- What is promised of a viewer (document 02, M-108), over the contracts of `start`, `forward` and `back`: "After any sequence of calls its
 -- state is the one that a fresh ride over the records before its number has." That it holds: proofs/Laws.antt.
 -- Assumes nothing.
-use Prim.Native.Nat.{ℕ, zero, suc, _+_, _/_, _<_, _≤_}
+use Prim.Native.Nat.{ℕ, _+_, _/_, _<_, _≤_}
 use mathlib.Core.Path.{_≡_}
 use mathlib.Core.List.{List, [], _∷_}
 use lib.ListN.{length, take, drop}
@@ -19,15 +19,15 @@ use Rattle.viewer.specs.declared.Started.{Started}
 use Rattle.viewer.specs.declared.Forwarded.{Forwarded}
 use Rattle.viewer.specs.declared.Backed.{Backed}
 use Rattle.viewer.specs.Viewing.{done, start, forward, back as goesBack}
-use Rattle.viewer.specs.Says.{over, saysHow, saysStarted, saysForwarded, saysBacked}
-use Rattle.viewer.specs.Going.{forwards, backs, linesPassed}
+use Rattle.viewer.specs.Says.{holding, over, saysHow, saysStarted, saysForwarded, saysBacked}
+use Rattle.viewer.specs.Going.{forwards, linesPassed}
 use Rattle.viewer.specs.History.{Plain, first, Call, forth, back, plainly, straight}
 
 -- What the contracts allow: `start` answers r, `forward` and `back` of a viewer answer r. The kit states the contract of a function that takes or hands out a struct
 -- with a slice as a formula over what is lent, and a crate's own specs/ cannot name it: so the clauses stand here again, and proofs/Tied.antt shows that the contracts
 -- ensure them.
 abbrev pub Starts : Store → RefT (List ℕ) → Started → Type 0
-Starts store trace r = saysStarted r ≡ start store (now trace)
+Starts store trace r = saysStarted r ≡ holding trace (start store (now trace))
 
 abbrev pub Forwards : Viewer → Forwarded → Type 0
 Forwards v r = saysForwarded r ≡ over (v .trace) (forward (now (v .trace)) (v .stand))
@@ -69,18 +69,9 @@ pub record Refusing : Type 0 where
   pub forward-done : (v : Viewer) (r : Forwarded) → Forwards v r → v .stand .number < length (now (v .trace)) / 8 → judged (v .stand .settings) ≡ gives kept
       → saysHow (r .how) ≡ gives done
 
--- So many calls of one kind.
-abbrev pub often : ℕ → Call → List Call
-often zero c = []
-often (suc n) c = c ∷ often n c
-
--- Many at once, as `f 20` and `b 20` of the program `view` ask.
+-- The records that many forwards pass, as `f 20` of the program `view` asks: they give the lines of a ride over them from the state before them,
+-- and the viewer has that ride's state.
 pub record ManyAtOnce : Type 0 where
-  -- what is shown after so many forwards or backs at once is what so many single calls come to, refused ones too
-  pub forward-often : (n : ℕ) (v w : Viewer) → Lead (often n forth) v w → forwards n (now (v .trace)) (v .stand) .stand ≡ w .stand
-  pub back-often : (n : ℕ) (v w : Viewer) → Lead (often n back) v w → backs n (v .stand) .stand ≡ w .stand
-  -- the records that are passed give the lines of a ride over them from the state before them, which is what `ride_text` writes; and the viewer
-  -- has that ride's state
   pub lines : (n : ℕ) (trace : List ℕ) (s : Stand) → judged (s .settings) ≡ gives kept → s .number + n ≤ length trace / 8
       → _≡_ {A = Ridden} (record { lines = linesPassed n trace s; ride = forwards n trace s .stand .ride })
       (rideOver (gapAt (s .settings)) (s .ride) (s .number + 1) (take n (drop (s .number) (records trace))))

@@ -1,6 +1,6 @@
 pub mod Stand
 pub mod Viewing
-pub mod Says
 pub mod Going
+pub mod Says
 pub mod History
 pub mod Laws

@@ -11,11 +11,14 @@ use Rattle.viewer.specs.declared.How.{How}
 use Rattle.viewer.specs.declared.Opened.{Opened}
 use Rattle.viewer.specs.declared.Went.{Went}
 use Rattle.viewer.specs.declared.Came.{Came}
+use Rattle.viewer.specs.declared.Ending.{Ending}
+use Rattle.viewer.specs.declared.Moved.{Moved}
 use Rattle.viewer.specs.declared.Viewer.{Viewer}
 use Rattle.viewer.specs.declared.Started.{Started}
 use Rattle.viewer.specs.declared.Forwarded.{Forwarded}
 use Rattle.viewer.specs.declared.Backed.{Backed}
 use Rattle.viewer.specs.Viewing.{Done, done, Start, Forward, Back}
+use Rattle.viewer.specs.Going.{Ending as Ends, all, refused, Moved as Moves}
 
 -- Settings that are refused have their own number ("gap outside 1 to 200" is 19); "trace length not a multiple of 8" is 16.
 abbrev pub saysBegun : Begun → Outcome Done
@@ -47,9 +50,47 @@ saysWent w = record { answer = saysHow (w .how); lines = saysLines (w .lines); c
 abbrev pub saysCame : Came → Back
 saysCame c = record { answer = saysHow (c .how); stand = c .stand }
 
--- A viewer that was opened: its trace is the bytes of the slice that it holds.
-abbrev pub saysStarted : Started → Start
-saysStarted s = record { answer = saysBegun (s .begun); trace = now (s .viewer .trace); stand = s .viewer .stand }
+-- Why many calls made no further step, by the same numbers.
+abbrev pub saysEnding : Ending → Ends
+saysEnding Ending.All = all
+saysEnding Ending.NothingKept = refused 22
+saysEnding Ending.AtEnd = refused 23
+saysEnding (Ending.Settings bad) = refused (saysBad bad)
+
+-- Going many times.
+abbrev pub saysMoved : Moved → Moves
+saysMoved m = record { steps = m .steps; ending = saysEnding (m .ending); stand = m .stand }
+
+-- A slice that a viewer holds: the very one that was lent; or where it lies, a block and an offset, and its bytes.
+pub data Slice : Type 0 where
+  very : RefT (List ℕ) → Slice
+  lies : ℕ × ℕ → List ℕ → Slice
+
+-- What is said of the slice of a viewer with this answer,
+abbrev pub sliceOf : Outcome Done → RefT (List ℕ) → Slice
+sliceOf (gives d) held = very held
+sliceOf (refuses n) held = lies (held .ptr) (held .now)
+
+-- and what it is to be: the very one that was lent, or, where it was refused, an empty one at its place.
+abbrev pub lentTo : Outcome Done → RefT (List ℕ) → Slice
+lentTo (gives d) lent = very lent
+lentTo (refuses n) lent = lies (lent .ptr) []
+
+-- A viewer that was opened: its slice, and what opening answered.
+pub record Holding : Type 0 where
+  pub slice : Slice
+  pub start : Start
+
+abbrev pub saysStarted : Started → Holding
+saysStarted s =
+    record {
+      slice = sliceOf (saysBegun (s .begun)) (s .viewer .trace);
+      start = record { answer = saysBegun (s .begun); trace = now (s .viewer .trace); stand = s .viewer .stand };
+    }
+
+-- What it is to be, over a lent trace.
+abbrev pub holding : RefT (List ℕ) → Start → Holding
+holding lent s = record { slice = lentTo (s .answer) lent; start = s }
 
 -- A call over a viewer answers the viewer of the same slice, and what the call gave.
 pub record Over (A : Type 0) : Type 0 where

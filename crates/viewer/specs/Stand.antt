@@ -1,15 +1,11 @@
 -- Where a viewer stands (document 02, M-108): how many records lie before it, the state there, and "a history of the last 256 states". The
--- history is a ring: the state before record n, the first with 0, stands at n % 256.
+-- history is a ring of 256 places: the state before record n, the first with 0, stands at n % 256.
 -- Assumes nothing.
 use Prim.Native.Nat.{ℕ, _+_, _-_, _%_}
 use lib.Dec.{ltb}
 use lib.ListN.{getD, set, replicate}
 use Rattle.words.specs.Answer.{pick}
-use mathlib.Core.List.{[]}
-use Rattle.group.specs.declared.Number.{Number}
-use Rattle.group.specs.declared.Told.{Told}
 use Rattle.settings.specs.declared.Store.{Store}
-use Rattle.ride.specs.declared.Linking.{Linking}
 use Rattle.ride.specs.declared.Ride.{Ride}
 use Rattle.ride.specs.State.{freshRide}
 use Rattle.viewer.specs.declared.Stand.{Stand}
@@ -33,22 +29,13 @@ passed s next =
       settings = s .settings;
     }
 
--- What stands past the ring's 256 places: nothing is ever read there.
-abbrev pub noRide : Ride
-noRide =
-    record {
-      odometer = 0;
-      group = record { kept = []; count = 0; last = 0 };
-      known = record { linking = Linking.Unset; main = Told.Unknown; target = Told.Unknown; number = Number.None };
-    }
-
 -- One record back, to the state that was kept last; the kept count "falls by one with a back".
 unfoldable pub returned : Stand → Stand
 returned s =
     record {
       number = s .number - 1;
       kept = s .kept - 1;
-      ride = getD (s .last) ((s .number - 1) % 256) noRide;
+      ride = getD (s .last) ((s .number - 1) % 256) freshRide;
       last = s .last;
       settings = s .settings;
     }

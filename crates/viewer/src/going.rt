@@ -2,38 +2,37 @@
 ghost use mathlib.Core.Path.{_≡_};
 ghost use Prim.Native.Nat.{_-_};
 ghost use lib.Dec.{eqb, leb};
-ghost use lib.ListN.{drop};
 ghost use Rattle.words.specs.Answer.{gives, refuses, pick};
 ghost use Rattle.settings.specs.Versions.{kept};
 ghost use Rattle.settings.specs.Store.{judged};
 ghost use Rattle.settings.specs.At.{heldAt};
-ghost use Rattle.ride.specs.Over.{records};
-ghost use Rattle.viewer.specs.Viewing.{done};
-ghost use Rattle.viewer.specs.Going.{forwards, backs, timesTo};
-ghost use Rattle.viewer.specs.Says.{saysHow, saysCame};
-use crate::Came;
-use crate::How;
+ghost use Rattle.settings.specs.Says.{saysBad};
+ghost use lib.Dec.{ltb};
+ghost use Rattle.viewer.specs.Going.{all, refused, forwards, backs};
+ghost use Rattle.viewer.specs.Says.{saysEnding, saysMoved};
+use crate::Ending;
+use crate::Moved;
 use crate::Stand;
-use crate::moving::forward_at;
 use crate::moving::one_more;
 use settings::Asked;
+use settings::Bad;
 use settings::Held;
 
-// How going forward ended with so many times left: at the end, if any.
-fn ended(left: usize) -> How
-    ensures { λ r. ⌜ saysHow r ≡ pick (eqb left 0) (gives done) (refuses 23) ⌝ }
+// Why going forward ended with so many times left: at the end, if any.
+fn ended(left: usize) -> Ending
+    ensures { λ r. ⌜ saysEnding r ≡ pick (eqb left 0) all (refused 23) ⌝ }
 {
     if left == 0 {
-        return How::Done;
+        return Ending::All;
     }
-    How::AtEnd
+    Ending::AtEnd
 }
 
 // Forward so many times, or to the end. The store is asked only where an odometer leaves the places of the settings that are held; what is
 // held at first is what is in force at place 0.
-fn over(trace: &[u8], from: Stand, first: Held, times: usize) -> Came
+fn over(trace: &[u8], from: Stand, first: Held, times: usize) -> Moved
     requires { ⌜ (judged (from .settings) ≡ gives kept) × (first ≡ heldAt (from .settings) 0) ⌝ }
-    ensures { λ r. ⌜ saysCame r ≡ forwards times (now (trace .entry)) from ⌝ }
+    ensures { λ r. ⌜ saysMoved r ≡ forwards times (now (trace .entry)) from ⌝ }
 {
     let count = trace.len() / 8;
     let store = from.settings;
@@ -63,62 +62,54 @@ fn over(trace: &[u8], from: Stand, first: Held, times: usize) -> Came
         last,
         settings: store,
     };
-    Came {
+    Moved {
         stand,
-        how: ended(left),
+        steps: times - left,
+        ending: ended(left),
     }
 }
 
-// `forward_at` so many times, up to the first refusal: where the viewer then stands, and how that went.
-pub fn forwards_at(trace: &[u8], stand: Stand, times: usize) -> Came
-    ensures { λ r. ⌜ saysCame r ≡ forwards times (now (trace .entry)) stand ⌝ }
+// Why no step is made with settings that are refused: at the end, or for them.
+fn refusal(number: usize, count: usize, bad: Bad) -> Ending
+    ensures { λ r. ⌜ saysEnding r ≡ pick (ltb number count) (refused (saysBad bad)) (refused 23) ⌝ }
+{
+    if number < count {
+        return Ending::Settings(bad);
+    }
+    Ending::AtEnd
+}
+
+// `forward_at` so many times, or until the next one is refused: where the viewer then stands, how many steps were made, and why no further one.
+pub fn forwards_at(trace: &[u8], stand: Stand, times: usize) -> Moved
+    ensures { λ r. ⌜ saysMoved r ≡ forwards times (now (trace .entry)) stand ⌝ }
 {
     if times == 0 {
-        return Came {
+        return Moved {
             stand,
-            how: How::Done,
+            steps: 0,
+            ending: Ending::All,
         };
     }
     let store = stand.settings;
     let asked = settings::at(store, 0);
     match asked {
-        Asked::Refused(_) => {
-            let went = forward_at(trace, stand);
-            let here = went.stand;
-            let how = went.how;
-            Came { stand: here, how }
-        }
+        Asked::Refused(bad) => Moved {
+            stand,
+            steps: 0,
+            ending: refusal(stand.number, trace.len() / 8, bad),
+        },
         Asked::InForce(first) => over(trace, stand, first, times),
     }
 }
 
-// How many forwards lead to just before the first record at or past the place, with so many records before the viewer; where there is none, one more
-// than are left.
-pub fn times_to(trace: &[u8], number: usize, place: u64) -> usize
-    ensures { λ r. ⌜ r ≡ timesTo place (drop number (records (now (trace .entry)))) ⌝ }
-{
-    let count = trace.len() / 8;
-    let mut i = number;
-    let mut times: usize = 0;
-    while i < count {
-        let odometer = ride::odometer_at(trace, i);
-        if odometer as u64 >= place {
-            return times;
-        }
-        i += 1;
-        times += 1;
-    }
-    times + 1
-}
-
-// How going back so many times ends, with so many states kept.
-fn kept_for(times: usize, kept: usize) -> How
-    ensures { λ r. ⌜ saysHow r ≡ pick (leb times kept) (gives done) (refuses 22) ⌝ }
+// Why going back so many times ends, with so many states kept.
+fn kept_for(times: usize, kept: usize) -> Ending
+    ensures { λ r. ⌜ saysEnding r ≡ pick (leb times kept) all (refused 22) ⌝ }
 {
     if times <= kept {
-        return How::Done;
+        return Ending::All;
     }
-    How::NothingKept
+    Ending::NothingKept
 }
 
 // The smaller of two.
@@ -141,21 +132,25 @@ fn less(number: usize, by: usize) -> usize
     number - by
 }
 
-// `back_at` so many times, up to the first refusal: where the viewer then stands, and how that went.
-pub fn backs_at(stand: Stand, times: usize) -> Came
-    ensures { λ r. ⌜ saysCame r ≡ backs times stand ⌝ }
+// `back_at` so many times, or until the next one is refused: where the viewer then stands, how many steps were made, and why no further one.
+pub fn backs_at(stand: Stand, times: usize) -> Moved
+    ensures { λ r. ⌜ saysMoved r ≡ backs times stand ⌝ }
 {
-    let how = kept_for(times, stand.kept);
+    let ending = kept_for(times, stand.kept);
     let far = smaller(times, stand.kept);
     if far == 0 {
-        return Came { stand, how };
+        return Moved {
+            stand,
+            steps: 0,
+            ending,
+        };
     }
     let number = less(stand.number, far);
     let last = stand.last;
     let settings = stand.settings;
     let at = number % 256;
     let ride = last[at];
-    Came {
+    Moved {
         stand: Stand {
             number,
             kept: stand.kept - far,
@@ -163,6 +158,7 @@ pub fn backs_at(stand: Stand, times: usize) -> Came
             last,
             settings,
         },
-        how,
+        steps: far,
+        ending,
     }
 }

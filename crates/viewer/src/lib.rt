@@ -3,22 +3,23 @@
 // Specification: specs/Stand.antt (where it stands, and the last 256 states), Viewing.antt (the calls), Going.antt (many at once), Says.antt (the
 // answers); what is promised: Laws.antt.
 // Laws: after any calls number, kept count and state are those of a plain definition with a history as a list (`Viewing` of specs/Laws.antt); 22 and 23
-// leave the viewer (`Refusing`); many at once come to as many single calls (`ManyAtOnce`).
+// leave the viewer (`Refusing`); many at once are so many single calls, none of them refused (`ManyAtOnce`).
 ghost use mathlib.Core.Path.{_≡_};
 ghost use Rattle.viewer.specs.Viewing.{start, forward, back};
-ghost use Rattle.viewer.specs.Says.{over, saysStarted, saysForwarded, saysBacked};
+ghost use Rattle.viewer.specs.Says.{holding, over, saysStarted, saysForwarded, saysBacked};
 
 mod going;
 mod moving;
 mod opening;
+mod placing;
 
 pub use going::backs_at;
 pub use going::forwards_at;
-pub use going::times_to;
 use group::Group;
 pub use moving::back_at;
 pub use moving::forward_at;
 pub use opening::start_at;
+pub use placing::times_to;
 use ride::Lines;
 use ride::Ride;
 use settings::Bad;
@@ -63,10 +64,26 @@ pub struct Went {
     pub how: How,
 }
 
-// What going back answers, and what going many times answers.
+// What going back answers.
 pub struct Came {
     pub stand: Stand,
     pub how: How,
+}
+
+// Why many calls made no further step: all that were asked for were made, or the next one is refused: nothing is kept (22), at the end (23), or for
+// settings that no opening lets in (their number).
+pub enum Ending {
+    All,
+    NothingKept,
+    AtEnd,
+    Settings(Bad),
+}
+
+// What going many times answers: where the viewer stands, how many steps were made, none of which was refused, and why no further one.
+pub struct Moved {
+    pub stand: Stand,
+    pub steps: usize,
+    pub ending: Ending,
 }
 
 // A viewer: the lent trace, and where it stands.
@@ -95,9 +112,10 @@ pub struct Backed<'a> {
     pub how: How,
 }
 
-// A viewer at the first record of the trace, with a fresh ride and nothing kept; or the settings' own refusal, then 16, and a viewer of an empty trace.
+// A viewer at the first record of the very trace that is lent, with a fresh ride and nothing kept; or the settings' own refusal, then 16, and a viewer of
+// an empty trace.
 pub fn start<'a>(store: Store, trace: &'a [u8]) -> Started<'a>
-    ensures { λ r. ⌜ saysStarted r ≡ start store (now (trace .entry)) ⌝ }
+    ensures { λ r. ⌜ saysStarted r ≡ holding (trace .entry) (start store (now (trace .entry))) ⌝ }
 {
     let opened = start_at(store, trace);
     let seen = opening::seen(store, trace);

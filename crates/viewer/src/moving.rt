@@ -13,8 +13,10 @@ ghost use Rattle.ride.specs.Says.{saysWrong, saysLines, saysGiven};
 ghost use Rattle.ride.specs.State.{noGroup};
 ghost use Rattle.viewer.specs.Stand.{oneMore, passed};
 ghost use Rattle.viewer.specs.Viewing.{byStep, forward, back};
-ghost use Rattle.viewer.specs.Says.{saysHow, saysWent, saysCame};
+ghost use Rattle.viewer.specs.Going.{answerOf};
+ghost use Rattle.viewer.specs.Says.{saysHow, saysEnding, saysWent, saysCame};
 use crate::Came;
+use crate::Ending;
 use crate::How;
 use crate::Stand;
 use crate::Went;
@@ -148,9 +150,27 @@ pub fn forward_at(trace: &[u8], stand: Stand) -> Went
     }
 }
 
+// How a single call went, by why it made no further step.
+fn how_of(ending: Ending) -> How
+    ensures { λ r. ⌜ saysHow r ≡ answerOf (saysEnding ending) ⌝ }
+{
+    match ending {
+        Ending::All => How::Done,
+        Ending::NothingKept => How::NothingKept,
+        Ending::AtEnd => How::AtEnd,
+        Ending::Settings(bad) => How::Settings(bad),
+    }
+}
+
 // As `back`, for a stand: one record back, or 22 where no state is kept.
 pub fn back_at(stand: Stand) -> Came
     ensures { λ r. ⌜ saysCame r ≡ back stand ⌝ }
 {
-    backs_at(stand, 1)
+    let moved = backs_at(stand, 1);
+    let ending = moved.ending;
+    let here = moved.stand;
+    Came {
+        stand: here,
+        how: how_of(ending),
+    }
 }

@@ -2,7 +2,7 @@
 ghost use mathlib.Core.Path.{_≡_};
 ghost use Rattle.viewer.specs.Stand.{opened};
 ghost use Rattle.viewer.specs.Viewing.{start};
-ghost use Rattle.viewer.specs.Says.{saysBegun, saysOpened};
+ghost use Rattle.viewer.specs.Says.{saysBegun, saysOpened, sliceOf, lentTo};
 use crate::Begun;
 use crate::Opened;
 use crate::Stand;
@@ -49,9 +49,9 @@ pub fn start_at(store: Store, trace: &[u8]) -> Opened
     Opened { stand, begun }
 }
 
-// What of the trace the viewer holds: all of it, or nothing where it is refused.
+// The slice that the viewer holds: the very one that is lent, or nothing of it where it is refused.
 pub fn seen<'a>(store: Store, trace: &'a [u8]) -> &'a [u8]
-    ensures { λ r. ⌜ now r ≡ start store (now (trace .entry)) .trace ⌝ }
+    ensures { λ r. ⌜ sliceOf (start store (now (trace .entry)) .answer) r ≡ lentTo (start store (now (trace .entry)) .answer) (trace .entry) ⌝ }
 {
     let asked = settings::at(store, 0);
     let Asked::InForce(_) = asked else {

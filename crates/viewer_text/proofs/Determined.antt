@@ -12,6 +12,16 @@ use Rattle.viewer_text.proofs.put_state.Kinds as put-state-kinds
 use Rattle.viewer_text.proofs.put_state.Reads as put-state-reads
 use Rattle.viewer_text.proofs.commands.read.Kinds as read-kinds
 use Rattle.viewer_text.proofs.commands.read.Reads as read-reads
+use Rattle.viewer_text.proofs.ahead.put_next.Kinds as put-next-kinds
+use Rattle.viewer_text.proofs.ahead.put_next.Reads as put-next-reads
+use Rattle.viewer_text.proofs.screen.put_beside.Kinds as put-beside-kinds
+use Rattle.viewer_text.proofs.screen.put_beside.Reads as put-beside-reads
+use Rattle.viewer_text.proofs.screen.last_lines.Kinds as last-lines-kinds
+use Rattle.viewer_text.proofs.screen.last_lines.Reads as last-lines-reads
+use Rattle.viewer_text.proofs.screen.first_around.Kinds as first-around-kinds
+use Rattle.viewer_text.proofs.screen.first_around.Reads as first-around-reads
+use Rattle.viewer_text.proofs.finding.has.Kinds as has-kinds
+use Rattle.viewer_text.proofs.finding.has.Reads as has-reads
 use Rattle.words.proofs.Told.{Fixed}
 
 pub put-state-determined : (κs : Lfts 1) (a : Dens κs put-state-kinds.ps) (r r′ : ℕ)
@@ -23,3 +33,26 @@ put-state-determined κs a r r′ x x′ p q =
 
 pub read-determined : Fixed 1 read-kinds.ps read-kinds.r read-reads.Post
 read-determined κs a r r′ x x′ p q = p ∙ sym q
+
+pub last-lines-determined : Fixed 1 last-lines-kinds.ps last-lines-kinds.r last-lines-reads.Post
+last-lines-determined κs a r r′ x x′ p q = p ∙ sym q
+
+pub first-around-determined : Fixed 0 first-around-kinds.ps first-around-kinds.r first-around-reads.Post
+first-around-determined κs a r r′ x x′ p q = p ∙ sym q
+
+pub has-determined : Fixed 2 has-kinds.ps has-kinds.r has-reads.Post
+has-determined κs a r r′ x x′ p q = p ∙ sym q
+
+pub put-next-determined : (κs : Lfts 2) (a : Dens κs put-next-kinds.ps) (r r′ : ℕ)
+    (x x′ : AtExit (endedOf 2 put-next-kinds.ps put-next-kinds.r) κs)
+    → put-next-reads.Post κs a r x → put-next-reads.Post κs a r′ x′ → (r ≡ r′) × (now (x .1 .1 .0) ≡ now (x′ .1 .1 .0))
+put-next-determined κs a r r′ x x′ p q =
+    let same : came r (now (x .1 .1 .0)) ≡ came r′ (now (x′ .1 .1 .0)) = p ∙ sym q in
+    (ap (λ (v : Put). v .next) same, ap (λ (v : Put). v .buffer) same)
+
+pub put-beside-determined : (κs : Lfts 2) (a : Dens κs put-beside-kinds.ps) (r r′ : ℕ)
+    (x x′ : AtExit (endedOf 2 put-beside-kinds.ps put-beside-kinds.r) κs)
+    → put-beside-reads.Post κs a r x → put-beside-reads.Post κs a r′ x′ → (r ≡ r′) × (now (x .1 .1 .1 .0) ≡ now (x′ .1 .1 .1 .0))
+put-beside-determined κs a r r′ x x′ p q =
+    let same : came r (now (x .1 .1 .1 .0)) ≡ came r′ (now (x′ .1 .1 .1 .0)) = p ∙ sym q in
+    (ap (λ (v : Put). v .next) same, ap (λ (v : Put). v .buffer) same)

@@ -1,6 +1,7 @@
 -- The words of the guide, computed.
 -- Assumes nothing.
 use mathlib.Core.Path.{_≡_, refl}
+use mathlib.Core.Bool.{true, false}
 use Rattle.text.specs.Text.{codes, digits, decimal}
 use Rattle.figures.specs.Figures.{allDigits, continued, decimal as figures}
 use Rattle.group.specs.declared.Number.{Number}
@@ -8,7 +9,8 @@ use Rattle.group.specs.declared.Told.{Told}
 use Rattle.ride.specs.declared.Linking.{Linking}
 use Rattle.ride.specs.State.{noGroup, nothingKnown, freshRide}
 use Rattle.viewer_text.specs.Text.{place, group, linking, speed, figure, speeds, state}
-use Rattle.viewer_text.specs.Commands.{by, alone, command}
+use Rattle.viewer_text.specs.Finding.{small, standsAt, standsBefore, has}
+use Rattle.viewer_text.specs.Commands.{by, alone, leading, endsAt, commandIn, command}
 use Rattle.viewer_text.specs.declared.commands.Command.{Command}
 
 -- at the start
@@ -23,5 +25,15 @@ unfolding state place group linking speed figure speeds decimal digits noGroup
 after-a-signal = refl
 
 pub letters : (command (codes "f") ≡ Command.Forward 1) × (command (codes "b 20") ≡ Command.Back 20) × (command (codes "g 1200") ≡ Command.Go 1199) × (command (codes "q") ≡ Command.Quit) × (command (codes "g 0") ≡ Command.Unknown)
-unfolding command by alone figures allDigits continued
+unfolding command commandIn leading endsAt small by alone figures allDigits continued
 letters = (refl, refl, refl, refl, refl)
+
+-- blanks around a command, capitals and CR
+pub loosely : (command (codes "  F 20 \r") ≡ Command.Forward 20) × (command (codes "Q\r") ≡ Command.Quit) × (command (codes " \r") ≡ Command.Again)
+unfolding command commandIn leading endsAt small by alone figures allDigits continued
+loosely = (refl, refl, refl)
+
+-- a word
+pub finds : (command (codes "/fault") ≡ Command.Find 1 6) × (has (codes "1000 fault 12: no row\n") (codes "FAULT") ≡ true) × (has (codes "1000 present line\n") (codes "fault") ≡ false)
+unfolding command commandIn leading endsAt small has standsBefore standsAt
+finds = (refl, refl, refl)

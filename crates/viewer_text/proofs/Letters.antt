@@ -1,29 +1,51 @@
--- A line, by how long it is.
+-- What stands in a line, by what its tests say.
 -- Assumes nothing.
-use Prim.Native.Nat.{ℕ, suc, _≤_}
-use mathlib.Core.Path.{_≡_, refl}
-use mathlib.Core.List.{List, [], _∷_}
+use Prim.Native.Nat.{ℕ, zero, suc, _+_, _-_, _≤_, _<_}
+use mathlib.Core.Path.{_≡_, refl, ap, _∙_}
+use mathlib.Core.Bool.{Bool, true, false}
+use mathlib.Core.List.{List}
 use native.Mathlib.Omega.{arith}
-use lib.Dec.{eqb}
-use lib.ListN.{length, getD, drop}
+use borrow.Author.Tests.{eq-eqb, ne-eqb, le-leb, lt-leb}
+use lib.ListN.{length, getD, take, drop}
 use Rattle.words.specs.Answer.{pick}
 use Rattle.figures.specs.Figures.{decimal}
-use Rattle.viewer_text.specs.Commands.{largest, alone, numbered, command}
+use Rattle.viewer_text.specs.Finding.{small}
+use Rattle.viewer_text.specs.Commands.{largest, alone, numbered, blank, leading, endsAt, commandIn, command}
 use Rattle.viewer_text.specs.declared.commands.Command.{Command}
 
-pub no-letter : (l : List ℕ) → length l ≡ 0 → Command.Unknown ≡ command l
-unfolding command
-no-letter [] h = refl
-no-letter (a ∷ l) h = absurd (omega arith)
+-- a line ends within its signs
+ends-by : (b : Bool) (n : ℕ) (line : List ℕ) → endsAt n line ≤ n → pick b (endsAt n line) (suc n) ≤ suc n
+ends-by true n line h = omega arith
+ends-by false n line h = omega arith
 
-pub one-letter : (l : List ℕ) → length l ≡ 1 → alone (getD l 0 0) ≡ command l
-unfolding command
-one-letter [] h = absurd (omega arith)
-one-letter (a ∷ []) h = refl
-one-letter (a ∷ b ∷ l) h = absurd (omega arith)
+pub ends-within : (n : ℕ) (line : List ℕ) → endsAt n line ≤ n
+unfolding endsAt
+ends-within zero line = omega arith
+ends-within (suc n) line = ends-by (blank (getD line n 0)) n line (ends-within n line)
 
-pub more-letters : (l : List ℕ) → 2 ≤ length l → pick (eqb (getD l 1 0) 32) (numbered (getD l 0 0) (decimal (drop 2 l) largest)) Command.Unknown ≡ command l
+-- the line without the blanks around it
+pub trimmed : (line : List ℕ) (from to : ℕ) → from ≡ leading line → to ≡ endsAt (length line) line → commandIn line from to ≡ command line
 unfolding command
-more-letters [] h = absurd (omega arith)
-more-letters (a ∷ []) h = absurd (omega arith)
-more-letters (a ∷ b ∷ l) h = refl
+trimmed line from to b e = ap (λ (f : ℕ). commandIn line f to) b ∙ ap (commandIn line (leading line)) e
+
+pub again-is : (line : List ℕ) (from to : ℕ) → to ≤ from → Command.Again ≡ commandIn line from to
+unfolding commandIn
+again-is line from to h = rw (le-leb to from h)
+
+pub alone-is : (line : List ℕ) (from to : ℕ) → from < to → to - from ≡ 1 → alone (small (getD line from 0)) ≡ commandIn line from to
+unfolding commandIn
+alone-is line from to h e = rw (lt-leb to from h, eq-eqb (to - from) 1 e)
+
+pub find-is : (line : List ℕ) (from to : ℕ) → from < to → (to - from ≡ 1 → ⊥) → small (getD line from 0) ≡ 47 → Command.Find (from + 1) to ≡ commandIn line from to
+unfolding commandIn
+find-is line from to h e s = rw (lt-leb to from h, ne-eqb (to - from) 1 e, eq-eqb (small (getD line from 0)) 47 s)
+
+pub unknown-is : (line : List ℕ) (from to : ℕ) → from < to → (to - from ≡ 1 → ⊥) → (small (getD line from 0) ≡ 47 → ⊥) → blank (getD line (from + 1) 0) ≡ false
+    → Command.Unknown ≡ commandIn line from to
+unfolding commandIn
+unknown-is line from to h e s b = rw (lt-leb to from h, ne-eqb (to - from) 1 e, ne-eqb (small (getD line from 0)) 47 s, b)
+
+pub number-is : (line : List ℕ) (from to : ℕ) → from < to → (to - from ≡ 1 → ⊥) → (small (getD line from 0) ≡ 47 → ⊥) → blank (getD line (from + 1) 0) ≡ true
+    → numbered (small (getD line from 0)) (decimal (take (to - (from + 2)) (drop (from + 2) line)) largest) ≡ commandIn line from to
+unfolding commandIn
+number-is line from to h e s b = rw (lt-leb to from h, ne-eqb (to - from) 1 e, ne-eqb (small (getD line from 0)) 47 s, b)

@@ -1,4 +1,5 @@
-pub mod Pieces
+pub mod Scanning
 pub mod Letters
+pub mod Pieces
 pub mod Determined
 pub mod Examples

@@ -1,13 +1,17 @@
 -- The commands of the program `view`, a line each without its newline: a letter, and after a space a number where one is asked for.
--- It asks (`Command`) for so many records forward or back, to go to where so many lie before, forward to a place, the end, or nothing that is known.
+-- It asks (`Command`) for so many records forward or back, to go to where so many lie before, to a place, to the next line of the ride with a word, for the
+-- same again, the end, or nothing that is known. Blanks around it do not count, nor does whether its letter is a capital.
 -- Assumes nothing.
-use Prim.Native.Nat.{ℕ, _-_}
+use Prim.Native.Nat.{ℕ, zero, suc, _+_, _-_}
+use mathlib.Core.Bool.{Bool, _||_}
 use mathlib.Core.List.{List, [], _∷_}
-use lib.Dec.{eqb}
+use lib.Dec.{eqb, leb}
+use lib.ListN.{length, getD, take, drop}
 use Rattle.words.specs.Answer.{pick}
 use Rattle.words.specs.Limits.{largest64}
 use Rattle.figures.specs.Figures.{decimal}
 use Rattle.figures.specs.declared.Figure.{Figure}
+use Rattle.viewer_text.specs.Finding.{small}
 use Rattle.viewer_text.specs.declared.commands.Command.{Command}
 
 -- The largest number that is asked for: a larger one means it.
@@ -33,8 +37,29 @@ numbered letter (Figure.Number n) = by letter n
 numbered letter Figure.Above = by letter largest
 numbered letter Figure.Odd = Command.Unknown
 
--- A line: a letter alone, or a letter, a space and a number.
+-- A blank: a space, a tab, or the CR that stands before the newline on some machines.
+abbrev pub blank : ℕ → Bool
+blank c = eqb c 32 || eqb c 9 || eqb c 13
+
+-- How many blanks a line begins with.
+unfoldable pub leading : List ℕ → ℕ
+leading [] = 0
+leading (c ∷ cs) = pick (blank c) (leading cs + 1) 0
+
+-- Where the last of the first n signs ends that is no blank.
+unfoldable pub endsAt : ℕ → List ℕ → ℕ
+endsAt zero line = 0
+endsAt (suc n) line = pick (blank (getD line n 0)) (endsAt n line) (suc n)
+
+-- What stands in a line from one place up to another: nothing asks for the same again; a letter alone; a slash and a word; a letter, a blank and a number.
+unfoldable pub commandIn : List ℕ → ℕ → ℕ → Command
+commandIn line from to =
+    pick (leb to from) Command.Again
+    (pick (eqb (to - from) 1) (alone (small (getD line from 0)))
+    (pick (eqb (small (getD line from 0)) 47) (Command.Find (from + 1) to)
+    (pick (blank (getD line (from + 1) 0)) (numbered (small (getD line from 0)) (decimal (take (to - (from + 2)) (drop (from + 2) line)) largest))
+    Command.Unknown)))
+
+-- A line, without the blanks around it.
 unfoldable pub command : List ℕ → Command
-command [] = Command.Unknown
-command (letter ∷ []) = alone letter
-command (letter ∷ c ∷ digits) = pick (eqb c 32) (numbered letter (decimal digits largest)) Command.Unknown
+command line = commandIn line (leading line) (endsAt (length line) line)

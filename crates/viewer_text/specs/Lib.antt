@@ -1,3 +1,5 @@
 pub mod Text
 pub mod Pieces
+pub mod Finding
 pub mod Commands
+pub mod Screen

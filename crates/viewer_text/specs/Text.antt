@@ -1,13 +1,16 @@
 -- What the program `view` shows of where it stands, as text: how many records lie before it, of how many, and how many states are kept; then the
--- state of the ride, a line each.
+-- state of the ride, a line each, and the record that comes next.
 --     3 of 12, kept 3
 --       odometer 5000
 --       no group
 --       linking 4000 from 1000
 --       main 130, target 80, number none
+--       next 6000 position
 -- Assumes nothing.
-use Prim.Native.Nat.{ℕ}
+use Prim.Native.Nat.{ℕ, _*_, _/_}
 use mathlib.Core.List.{List, _++_}
+use lib.Dec.{ltb}
+use lib.ListN.{length}
 use Rattle.words.specs.Answer.{pick}
 use Rattle.text.specs.Text.{codes, decimal}
 use Rattle.group.specs.declared.Group.{Group}
@@ -18,6 +21,10 @@ use Rattle.ride.specs.declared.Known.{Known}
 use Rattle.ride.specs.declared.Ride.{Ride}
 use Rattle.ride.specs.State.{isOpen}
 use Rattle.ride.specs.Closing.{firstPlace}
+use Rattle.trace_text.specs.declared.What.{What}
+use Rattle.trace_text.specs.declared.Said.{Said}
+use Rattle.trace_text.specs.Line.{thingText}
+use Rattle.trace_text.specs.Thing.{thingAt}
 
 -- `3 of 12, kept 3`, and the last accepted odometer.
 unfoldable pub place : ℕ → ℕ → ℕ → ℕ → List ℕ
@@ -56,3 +63,19 @@ speeds known =
 unfoldable pub state : ℕ → ℕ → ℕ → Ride → List ℕ
 state number count kept ride =
     place number count kept (ride .odometer) ++ group (ride .group) ++ linking (ride .known .linking) ++ speeds (ride .known)
+
+-- `next 1000 1 8 5`: the record that a viewer stands before, in the words of `records`; or that there is none.
+unfoldable pub nextIs : ℕ → What → List ℕ
+nextIs place what = codes "  next " ++ thingText place what ++ codes "\n"
+
+abbrev pub noNext : List ℕ
+noNext = codes "  no further record\n"
+
+abbrev pub nextSaid : Said → List ℕ
+nextSaid Said.Nothing = noNext
+nextSaid (Said.Thing place what) = nextIs place what
+nextSaid Said.Unreadable = noNext
+
+-- The record that stands after so many others of a trace.
+unfoldable pub next : List ℕ → ℕ → List ℕ
+next trace number = pick (ltb number (length trace / 8)) (nextSaid (thingAt trace (number * 8))) noNext

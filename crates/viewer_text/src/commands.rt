@@ -1,14 +1,20 @@
 // The commands, a line each without its newline.
 ghost use mathlib.Core.Path.{_≡_};
 ghost use Rattle.viewer_text.specs.Commands.{by, alone, command};
+use crate::finding::small;
+use crate::trimming;
+use crate::trimming::is_blank;
 use figures::Figure;
 
-// What a line asks for: so many records forward or back, to where so many lie before, forward to a place, the end, or nothing that is known.
+// What a line asks for: so many records forward or back, to where so many lie before, to a place, to the next line of the ride that has a word (which stands
+// in the line, from one place up to another), the same again, the end, or nothing that is known.
 pub enum Command {
     Forward(u64),
     Back(u64),
     Go(u64),
     Place(u64),
+    Find { from: usize, to: usize },
+    Again,
     Quit,
     Unknown,
 }
@@ -51,22 +57,27 @@ fn alone(letter: u8) -> Command
     Command::Unknown
 }
 
-// What a line asks for: a letter alone, or a letter, a space and a number (`g N`: to where N - 1 records lie before); a number that is too large is the
-// largest; anything else is unknown.
+// What a line asks for, whatever blanks are around it and whether its letter is a capital: a letter alone, or a letter, a blank and a number (`g N`: to
+// where N - 1 records lie before); a slash and a word; a number that is too large is the largest; nothing asks for the same again; anything else is unknown.
 pub fn read(line: &[u8]) -> Command
     ensures { λ r. ⌜ r ≡ command (now (line .entry)) ⌝ }
 {
-    if line.len() == 0 {
-        return Command::Unknown;
+    let from = trimming::begin(line);
+    let to = trimming::end(line);
+    if to <= from {
+        return Command::Again;
     }
-    let letter = line[0];
-    if line.len() == 1 {
+    let letter = small(line[from]);
+    if to - from == 1 {
         return alone(letter);
     }
-    if line[1] != b' ' {
+    if letter == b'/' {
+        return Command::Find { from: from + 1, to };
+    }
+    if !is_blank(line[from + 1]) {
         return Command::Unknown;
     }
-    match figures::decimal(&line[2..], u64::MAX) {
+    match figures::decimal(&line[from + 2..to], u64::MAX) {
         Figure::Number(n) => by(letter, n),
         Figure::Above => by(letter, u64::MAX),
         Figure::Odd => Command::Unknown,

@@ -4,6 +4,7 @@ use Prim.Native.Nat.{ℕ, _/_, _%_}
 use mathlib.Core.Path.{_≡_, refl, sym, ap, subst, _∙_}
 use mathlib.Core.Bool.{Bool, true, false, not}
 use mathlib.Core.List.{List, [], _∷_}
+use borrow.Author.Tests.{leb-true, leb-false, lt-ltb, le-ltb}
 use lib.Dec.{eqb, leb, ltb}
 use lib.ListN.{length}
 use denote.Ref.{now}
@@ -19,9 +20,7 @@ use Rattle.viewer.specs.declared.Stand.{Stand}
 use Rattle.viewer.specs.declared.Viewer.{Viewer}
 use Rattle.viewer.specs.Stand.{opened, returned}
 use Rattle.viewer.specs.Viewing.{Done, done, Start, unopened, opens, start, Forward, stays, byStep, under, stepOf, forward, Back, back}
-use Rattle.viewer.specs.Going.{forwards, backs}
-use Rattle.viewer.specs.Says.{Over, over}
-use Rattle.viewer.proofs.Often.{forwards-stopped, backs-stopped}
+use Rattle.viewer.specs.Says.{Holding, Over, over}
 use Rattle.demands.specs.Table.{badLength}
 use Rattle.demands.specs.Table02.{nothingKept, atEnd}
 use Rattle.demands.specs.Rules.{Rule, row, Decided, Is}
@@ -31,7 +30,6 @@ use Rattle.demands.specs.Viewing.{ViewersDecided, ViewersUntouched}
 use Rattle.demands.proofs.Common.Rules.{true-not-false}
 use Rattle.demands.proofs.Demand1.Rides.{gives-not}
 use Rattle.demands.proofs.Demand1.StoreRules.{store-so}
-use Rattle.demands.proofs.Demand1.ManyCalls.{past, forwards-so, backs-so}
 
 -- ---- opening
 
@@ -56,6 +54,13 @@ start-so store trace =
     (store-so (Is done) (λ k. whole store trace t .answer) (row 16 (not t) ∷ []) store (whole-so store trace t))
 
 -- ---- forward and back
+
+past : (a b : ℕ) → leb a b ≡ not (ltb b a)
+past a b = go (leb a b) refl
+  where
+    go : (t : Bool) → leb a b ≡ t → t ≡ not (ltb b a)
+    go true e = ap not (sym (le-ltb b a (leb-true a b e)))
+    go false e = ap not (sym (lt-ltb b a (leb-false a b e)))
 
 under-then : (s : Stand) (o : Outcome Kept) (f : Forward) → then o (λ k. f .answer) ≡ under s o f .answer
 under-then s (gives k) f = refl
@@ -86,7 +91,7 @@ back-so s = go (eqb (s .kept) 0)
 
 pub viewers-decided : ViewersDecided
 viewers-decided = record {
-  start = λ store trace r c. let e = ap (λ (x : Start). x .answer) c in rw e (start-so store (now trace));
+  start = λ store trace r c. let e = ap (λ (x : Holding). x .start .answer) c in rw e (start-so store (now trace));
   forward = λ v r c. let e = ap (λ (o : Over Forward). o .answer .answer) c in rw e (forward-so (now (v .trace)) (v .stand));
   back = λ v r c. let e = ap (λ (o : Over Back). o .answer .answer) c in rw e (back-so (v .stand));
   start-at = λ store trace r c.
@@ -96,10 +101,6 @@ viewers-decided = record {
       let e = ap (λ (f : Forward). f .answer) (c .4 ∙ ap (λ (t : List ℕ). forward t s) (c .3)) in
       rw e (forward-so trace s);
   back-at = λ s r c. let e = ap (λ (b : Back). b .answer) (c .1) in rw e (back-so s);
-  forwards-at = λ trace s times r c.
-      let e = ap (λ (b : Back). b .answer) (c .4 ∙ ap (λ (t : List ℕ). forwards times t s) (c .3)) in
-      rw e (forwards-so times trace s);
-  backs-at = λ s times r c. let e = ap (λ (b : Back). b .answer) (c .1) in rw e (backs-so times s);
 }
 
 -- ---- what a refusal leaves
@@ -145,7 +146,8 @@ pub viewers-untouched : ViewersUntouched
 unfolding opened
 viewers-untouched = record {
   start = λ store trace r n c e.
-      let left = c ∙ start-left store (now trace) n (sym (ap (λ (x : Start). x .answer) c) ∙ e) in
+      let begun = ap (λ (x : Holding). x .start) c in
+      let left = begun ∙ start-left store (now trace) n (sym (ap (λ (x : Start). x .answer) begun) ∙ e) in
       (ap (λ (x : Start). x .trace) left, ap (λ (x : Start). x .stand .number) left, ap (λ (x : Start). x .stand .kept) left);
   forward = λ v r n c e.
       let left = c ∙ ap (over (v .trace)) (forward-left (now (v .trace)) (v .stand) n (sym (ap (λ (o : Over Forward). o .answer .answer) c) ∙ e)) in
@@ -162,11 +164,4 @@ viewers-untouched = record {
       let left = is ∙ forward-left trace s n (sym (ap (λ (f : Forward). f .answer) is) ∙ e) in
       (ap (λ (f : Forward). f .stand) left, no-lines (r .lines) (ap (λ (f : Forward). f .lines) left), ap (λ (f : Forward). f .closed) left);
   back-at = λ s r n c e. ap (λ (b : Back). b .stand) (c .1) ∙ back-left s n (sym (ap (λ (b : Back). b .answer) (c .1)) ∙ e);
-  forwards-at = λ trace s times r n next c e f.
-      let is = c .4 ∙ ap (λ (t : List ℕ). forwards times t s) (c .3) in
-      let stopped = forwards-stopped times n trace s (sym (ap (λ (b : Back). b .answer) is) ∙ e) in
-      ap (λ (g : Forward). g .answer) (f .4 ∙ ap (λ (t : List ℕ). forward t (r .stand)) (f .3)) ∙ ap (λ (t : Stand). forward trace t .answer) (ap (λ (b : Back). b .stand) is) ∙ stopped;
-  backs-at = λ s times r n next c e f.
-      let stopped = backs-stopped times n s (sym (ap (λ (b : Back). b .answer) (c .1)) ∙ e) in
-      ap (λ (b : Back). b .answer) (f .1) ∙ ap (λ (t : Stand). back t .answer) (ap (λ (b : Back). b .stand) (c .1)) ∙ stopped;
 }

@@ -8,7 +8,7 @@ use types.Kit.{some as some′}
 use denote.Struct.Laws as LL
 use Rattle.viewer.proofs.Walking.{Holds, URA, Lifetime, Ty, Tys, tyStruct, tcons, tnil, Local, local, valueLocal, Fn, named, erased, Val, WT, hasTy, SProp, ent, sep, emp, via, fst∗, snd∗, exE, id⊢, Lft, Share, Fml, ftrue, flft, fat, fullShare, Memory, fieldAt, Routine, Heap, Calls, Loops, WpFn, Tables, Atoms, sem, Lfts, Fun, fact, givenOf, tables, tablesOf, Given, ‵, raw, _⊛_, given, ⋆, later, _$_, _∵_, !, qed, by, move, drop, use1, use2, use3, split, join, learn, pick, rewrite, fsplit, fjoin, suffices, frame, await, done, whole, sub, look-in, agg, look, init, forget, stop, fld, from, load, of-opd, and-then, no-more, assigns, land, returns, enter, alloc1, alloc0, params1, pass1, pass0, free1, free0, FmC, fmOf, WpFn-mono, RattleType, owns, Is, shows, u8, RefT, NamedLft, now, plain, namedLft, ShrSlice, slice-vals, shr-slice-tells, shr-slice-lawful, shr-slice-copy, only, peeks, heard, nothing, all-own, own-open, own-shut, Values, Contract, Triple, calls-at, Vals, onEntry, Meets, tripleOf, entered, cited, says, Stays, stay-none, stay-none-slice, walkOf, goes-none, goes-none-slice, Walks, ends-at, walked, walk-meets, yes, ensured, lasts}
 use Rattle.viewer.specs.Viewing.{Start, start as starts}
-use Rattle.viewer.specs.Says.{saysOpened}
+use Rattle.viewer.specs.Says.{saysOpened, sliceOf, lentTo}
 use Rattle.viewer.specs.declared.Opened.{Opened}
 use Rattle.viewer.specs.declared.Started.{Started}
 use Rattle.viewer.proofs.Stand as P
@@ -124,14 +124,14 @@ module _ {M : Type 1} (𝓤 : URA M) (H : Heap 𝓤) (A : Atoms 𝓤) (W : Given
   said : (m : Opened) → ent 𝓤 (ensured 𝓤 H A at.ended (at.clauses 𝓤 H A mem run) (κ, tt) args tt m) (fact 𝓤 (saysOpened m (now s) ≡ found))
   said m = exE 𝓤 _ (λ ws. snd∗ 𝓤 (sem 𝓤 H A (lasts at.ended (κ, tt) args ws)) (fact 𝓤 (saysOpened m (now s) ≡ found)))
 
-  seen-said : (x : RefT (List ℕ)) → ent 𝓤 (ensured 𝓤 H A seen.ended (seen.clauses 𝓤 H A mem run) (κ, tt) args tt x) (fact 𝓤 (now x ≡ found .trace))
-  seen-said x = exE 𝓤 _ (λ ws. snd∗ 𝓤 (sem 𝓤 H A (lasts seen.ended (κ, tt) args ws)) (fact 𝓤 (now x ≡ found .trace)))
+  seen-said : (x : RefT (List ℕ)) → ent 𝓤 (ensured 𝓤 H A seen.ended (seen.clauses 𝓤 H A mem run) (κ, tt) args tt x) (fact 𝓤 (sliceOf (found .answer) x ≡ lentTo (found .answer) s))
+  seen-said x = exE 𝓤 _ (λ ws. snd∗ 𝓤 (sem 𝓤 H A (lasts seen.ended (κ, tt) args ws)) (fact 𝓤 (sliceOf (found .answer) x ≡ lentTo (found .answer) s)))
 
-  exits : (m : Opened) (u : Val) (x : RefT (List ℕ)) → saysOpened m (now s) ≡ found → now x ≡ found .trace
+  exits : (m : Opened) (u : Val) (x : RefT (List ℕ)) → saysOpened m (now s) ≡ found → sliceOf (found .answer) x ≡ lentTo (found .answer) s
       → ent 𝓤 (⋆ 𝓤 H A (‵ (Lent κ x (slice x)) ∷ (‵ (flft κ q) ⊛ ‵ ftrue) ∷ ‵ (Got m u) ∷ ‵ Had ∷ ‵ Owned ∷ [])) (Post (machs (answer x m)))
   exits m u x e h =
       qed W (‵ (Lent κ x (slice x)) ∷ (‵ (flft κ q) ⊛ ‵ ftrue) ∷ ‵ (Got m u) ∷ ‵ Had ∷ ‵ Owned ∷ []) ∵
-      suffices ! _ (ends-at 𝓤 H A start.ended stayed (start.clauses 𝓤 H A mem run) W (((κ, tt), (q, tt), tt, args, passed), tt) (machs (answer x m)) (answer x m) (tt, (tt, tt)) (tt, (tt, tt))) $ says ! (answered found (now s) x m e h) $
+      suffices ! _ (ends-at 𝓤 H A start.ended stayed (start.clauses 𝓤 H A mem run) W (((κ, tt), (q, tt), tt, args, passed), tt) (machs (answer x m)) (answer x m) (tt, (tt, tt)) (tt, (tt, tt))) $ says ! (answered found s x m e h) $
       move ! (1 ∷ []) $ frame ! $ nothing ! $ move ! (3 ∷ 0 ∷ []) $ fjoin ! $ move ! (3 ∷ 0 ∷ []) $ fjoin ! $ frame ! $
       -- [the slice; what the first call gave]
       move ! (1 ∷ 0 ∷ []) $ use1 W (given (u ∷ [] ≡ LL.vals N.the-type N′.the-laws m) (‵ (all-own (N.the-type .parts) N′.the-laws (m .stand, (m .begun, tt))))) (own-open 𝓤 H A W N.the-type N′.the-laws (m .stand, (m .begun, tt)) u) $ learn ! (λ _. fsplit ! $
@@ -158,7 +158,7 @@ module _ {M : Type 1} (𝓤 : URA M) (H : Heap 𝓤) (A : Atoms 𝓤) (W : Given
         -- [what is asked; what the call gave; Had; …]
         calls-at ! fm (Seen 𝓤 H A mem run) known-seen to-see (and-then ! (load ! (from ! (stop !)) (look ! 14 refl)) (and-then ! (load ! (from ! (stop !)) (look ! 12 refl)) (no-more !))) (λ v.
         use1 W (later (some′ (λ (x : RefT (List ℕ)). ((‵ (flft κ q) ⊛ ‵ ftrue) ⊛ ‵ (Lent κ x v)) ⊛ raw (ensured 𝓤 H A seen.ended (seen.clauses 𝓤 H A mem run) (κ, tt) args tt x)))) (id⊢ 𝓤 _) $ await ! tt $ pick ! (λ x.
-        split ! $ move ! (1 ∷ []) $ use1 W (raw (fact 𝓤 (now x ≡ found .trace))) (seen-said x) $ heard ! (now x ≡ found .trace) (λ h. split ! $ move ! (1 ∷ []) $
+        split ! $ move ! (1 ∷ []) $ use1 W (raw (fact 𝓤 (sliceOf (found .answer) x ≡ lentTo (found .answer) s))) (seen-said x) $ heard ! (sliceOf (found .answer) x ≡ lentTo (found .answer) s) (λ h. split ! $ move ! (1 ∷ []) $
         -- [the slice; the token; what the first call gave; Had; …]
         peeks ! (ShrSlice (named 0) κ u8) (Is (ShrSlice (named 0) κ u8)) (shows 𝓤 H A (ShrSlice (named 0) κ u8)) x (v ∷ []) (λ held.
         land ! (from ! (stop !)) (init ! 9 refl (shr-slice-lawful 𝓤 H A W erased κ u8 .typed x (v ∷ []) held .0)) $

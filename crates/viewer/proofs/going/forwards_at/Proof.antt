@@ -1,7 +1,8 @@
--- `forwards_at` asks whether any forward is wanted, then whether the settings are good; if not, the first forward is the last.
+-- `forwards_at` asks whether any forward is wanted, then whether the settings are good; if not, none is made.
 use mathlib.Core.Path.{ap, sym, _∙_}
 use Rattle.settings.specs.Says.{saysAsked, saysBad}
 use Rattle.settings.proofs.Holding.{held-given, store-refused}
+use Rattle.viewer.specs.Going.{Ending, stopped}
 use Rattle.viewer.proofs.Many.{forwards-none, forwards-refused}
 use borrow.Author.Needs.{needs}
 use Rattle.viewer.proofs.going.forwards_at.Statement.{statement}
@@ -17,18 +18,18 @@ over-requires c κs =
     let k = c .before in
     let q = k .before .before in
     let a = q .before .before .before .before .args in
-    let held = held-given (a .stand .settings) 0 _ (sym (q .at .ensures) ∙ ap saysAsked (k .asked .given .1)) in
+    let held = held-given (a .stand .settings) 0 _ (sym (q .at .ensures) ∙ ap saysAsked (k .asked2 .given .1)) in
     (held .0, held .2)
 
 returns-2 : tie.Need-returns-2
 returns-2 c =
-    let w = c .before in
-    let k = w .before in
+    let k = c .before .before in
     let q = k .before .before in
     let e = q .before .before in
     let a = e .before .before .args in
-    forwards-refused (a .times) (a .trace .now) (a .stand) _ (w .forward-at .result) (e .if1 .left)
-    (store-refused (a .stand .settings) _ (sym (q .at .ensures) ∙ ap saysAsked (k .enum-told .given .1))) (w .forward-at .ensures)
+    ap (λ (x : Ending). stopped x (a .stand)) (c .refusal .ensures)
+    ∙ forwards-refused (a .times) (a .trace .now) (a .stand) _ (e .if1 .left)
+    (store-refused (a .stand .settings) _ (sym (q .at .ensures) ∙ ap saysAsked (k .asked .given .1)))
 
 returns-3 : tie.Need-returns-3
 returns-3 c = c .over .ensures

@@ -2,10 +2,10 @@
 use mathlib.Core.Path.{_≡_, refl, ap, sym, _∙_}
 use mathlib.Core.Bool.{Bool, true, false, _&&_}
 use mathlib.Core.Logic.{⊎-elim}
-use Prim.Native.Nat.{ℕ, _+_, _-_, _/_, _%_, _<_}
+use Prim.Native.Nat.{ℕ, _+_, _-_, _/_, _%_, _<_, _≤_}
 use native.Mathlib.Omega.{arith}
 use borrow.Author.Tests.{ltb-true}
-use lib.Dec.{ltb}
+use lib.Dec.{eqb, ltb}
 use lib.ListN.{length, set}
 use Rattle.settings.specs.declared.Store.{Store}
 use Rattle.settings.specs.At.{heldFor}
@@ -16,12 +16,11 @@ use Rattle.ride.specs.At.{Treatment}
 use Rattle.ride.proofs.At.{at-record}
 use Rattle.ride.proofs.Under.{turn}
 use mathlib.Core.List.{List}
-use Rattle.words.specs.Answer.{Outcome}
+use Rattle.words.specs.Answer.{pick}
 use Rattle.viewer.specs.declared.Stand.{Stand}
 use Rattle.viewer.specs.Stand.{passed}
-use Rattle.viewer.specs.Viewing.{Done, Back}
-use Rattle.viewer.specs.Going.{forwards}
-use Rattle.viewer.proofs.Many.{forwards-next, forwards-stop}
+use Rattle.viewer.specs.Going.{Ending, all, refused, Moved, after, forwards}
+use Rattle.viewer.proofs.Many.{after-after, after-none, forwards-next, forwards-stop}
 use borrow.Author.Needs.{needs}
 use Rattle.viewer.proofs.going.over.Statement.{statement}
 use Rattle.viewer.proofs.going.over.Tie as tie
@@ -33,7 +32,9 @@ here number kept ride last store = record { number = number; kept = kept; ride =
 
 abbrev Inv-loop : tie.InvT-loop
 Inv-loop trace times count store held₀ number₀ kept₀ now₀ last₀ left₀ held number kept now last left =
-    Holding store held × (forwards left trace (here number kept now last store) ≡ forwards left₀ trace (here number₀ kept₀ now₀ last₀ store))
+    Holding store held
+    × (left ≤ times)
+    × (after (times - left) (forwards left trace (here number kept now last store)) ≡ forwards times trace (here number₀ kept₀ now₀ last₀ store))
 
 abbrev μ-loop : tie.MeasureT-loop
 μ-loop trace times count store held₀ number₀ kept₀ now₀ last₀ left₀ held number kept now last left = left
@@ -41,7 +42,11 @@ abbrev μ-loop : tie.MeasureT-loop
 loop-holds : tie.Need-loop-holds Inv-loop μ-loop
 loop-holds c =
     let s = c .before .before .before .before in
-    (rw (s .pre .1) (holding-at (s .args .from .settings) 0 (s .pre .0)), refl)
+    let none : s .args .times - s .args .times ≡ 0 = omega arith in (
+      rw (s .pre .1) (holding-at (s .args .from .settings) 0 (s .pre .0)),
+      omega arith,
+      after-none (s .args .times - s .args .times) (forwards (s .args .times) (s .args .trace .now) (s .args .from)) none,
+    )
 
 -- what the loop's test says: a time is left, and a record
 test : (c : tie.In-loop Inv-loop μ-loop) → (0 < c .before .loop .left) × (c .before .loop .number < length (c .before .before .before .before .before .before .args .trace .now) / 8)
@@ -82,22 +87,35 @@ loop-again c =
     (j .if1 .came) in
     let turned = turn store (l .loop .held) (j .if1 .held) (l .loop .now) trace (l .loop .number) (o .odometer-at .result) (s .pre .0) (l .loop .inv .0)
     (left .1) (o .odometer-at .ensures) for in
-    let treated = r .treat-at .ensures ∙ sym (at-record (l .loop .now) (j .if1 .held .gap) trace (l .loop .number) (turned .0 .gap) (left .1)) in (
+    let treated = r .treat-at .ensures ∙ sym (at-record (l .loop .now) (j .if1 .held .gap) trace (l .loop .number) (turned .0 .gap) (left .1)) in
+    let most : l .loop .left ≤ a .times = l .loop .inv .1 in
+    let passes : ℕ → Stand = λ k. here (l .loop .number + 1) k (r .treat-at .result .ride) (set (l .loop .last) (l .loop .number % 256) (l .loop .now)) store in
+    let steps : a .times - (l .loop .left - 1) ≡ a .times - l .loop .left + 1 = omega (arith, left .0) in (
       turned .0,
-      ap (λ (k : ℕ). forwards (l .loop .left - 1) trace (record { number = l .loop .number + 1; kept = k; ride = r .treat-at .result .ride; last = set (l .loop .last) (l .loop .number % 256) (l .loop .now); settings = store })) (m .one-more .ensures)
-          ∙ forwards-next (l .loop .left) trace stand (r .treat-at .result .ride) (left .0) (left .1) (s .pre .0)
-          (ap (λ (x : Treatment). x .ride) treated ∙ ap (λ (x : Step). x .ride) (turned .1))
-          ∙ l .loop .inv .1,
+      omega arith,
+      ap (λ (k : ℕ). after (a .times - (l .loop .left - 1)) (forwards (l .loop .left - 1) trace (passes k))) (m .one-more .ensures)
+          ∙ ap (λ (n : ℕ). after n (forwards (l .loop .left - 1) trace (passed stand (r .treat-at .result .ride)))) steps
+          ∙ sym (after-after (a .times - l .loop .left) 1 (forwards (l .loop .left - 1) trace (passed stand (r .treat-at .result .ride))))
+          ∙ ap (after (a .times - l .loop .left))
+          (forwards-next (l .loop .left) trace stand (r .treat-at .result .ride) (left .0) (left .1) (s .pre .0)
+          (ap (λ (x : Treatment). x .ride) treated ∙ ap (λ (x : Step). x .ride) (turned .1)))
+          ∙ l .loop .inv .2,
     )
 
 returns : tie.Need-returns Inv-loop μ-loop
 returns c =
-    let l = c .before .before in
+    let e = c .before in
+    let l = e .before in
     let a = l .before .before .before .before .before .args in
     let stand = here (l .loop .number) (l .loop .kept) (l .loop .now) (l .loop .last) (a .from .settings) in
-    ap {B = Back} (λ (o : Outcome Done). record { answer = o; stand = stand }) (c .ended .ensures)
-    ∙ forwards-stop (l .loop .left) (a .trace .now) stand (c .before .loop-test .left)
-    ∙ l .loop .inv .1
+    let none : a .times - l .loop .left + 0 ≡ a .times - l .loop .left = omega arith in
+    ap {B = Moved} (λ (e : Ending). record { steps = a .times - l .loop .left; ending = e; stand = stand }) (c .ended .ensures)
+    ∙ ap {B = Moved} (λ (n : ℕ). record { steps = n; ending = pick (eqb (l .loop .left) 0) all (refused 23); stand = stand }) (sym none)
+    ∙ ap (after (a .times - l .loop .left)) (forwards-stop (l .loop .left) (a .trace .now) stand (e .loop-test .left))
+    ∙ l .loop .inv .2
+
+sub-steps : tie.Need-sub-t17 Inv-loop μ-loop
+sub-steps c = omega (arith, c .before .loop .inv .1)
 
 pub over-spec : {M : Type 1} → statement M
 over-spec =
@@ -111,4 +129,5 @@ over-spec =
     sub-left
     loop-less
     loop-again
+    sub-steps
     (λ c κs. tt) returns)
