@@ -33,18 +33,16 @@ judged b start len s t m first count e = (([], tt), lent b, (lent b, (start, (le
 sent : (o : OneBalise) → OnlyTheSent o → SentFromC o
 sent o only = record {
   find = λ before r after p m c e.
-      let so : TheSent o p m = only .every p m (first (found (o .buffer) (o .start) (o .len) (o .s) (o .t) p m e)) in
-      (
+      let so : TheSent o p m = only .every p m (first (found (o .buffer) (o .start) (o .len) (o .s) (o .t) p m e)) in (
         handed-out .find (o .buffer) (o .start) (o .len) (o .s) (o .t) before r after (at p (gives m)) c e .1 ∙ ap (λ (x : Telegram). p ∷ asOne x ∷ []) (so .as-sent),
-        so .true-place
+        so .true-place,
       );
   judge = λ before r after m first count c e.
       let so : TheSent o first m =
-      only .judge (Judged.Read m first count) (judged (o .buffer) (o .start) (o .len) (o .s) (o .t) m first count e) .first-sent m first count refl in
-      (
+      only .judge (Judged.Read m first count) (judged (o .buffer) (o .start) (o .len) (o .s) (o .t) m first count e) .first-sent m first count refl in (
         handed-out .judge (o .buffer) (o .start) (o .len) (o .s) (o .t) before r after (read (gives m) first count) c e .1
-        ∙ ap (λ (x : Telegram). asOne x ∷ first ∷ count ∷ []) (so .as-sent),
-        so .true-place
+            ∙ ap (λ (x : Telegram). asOne x ∷ first ∷ count ∷ []) (so .as-sent),
+        so .true-place,
       );
 }
 
