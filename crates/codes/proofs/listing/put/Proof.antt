@@ -2,8 +2,8 @@
 use Prim.Native.Nat.{_-_}
 use lib.ListN.{length}
 use borrow.Author.Needs.{needs}
-use Rattle.codes.proofs.lines.put.Statement.{statement}
-use Rattle.codes.proofs.lines.put.Tie as tie
+use Rattle.codes.proofs.listing.put.Statement.{statement}
+use Rattle.codes.proofs.listing.put.Tie as tie
 
 abbrev Inv-loop : tie.InvT-loop
 Inv-loop words first figure₀ figure = Unit {0}
