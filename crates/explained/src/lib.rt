@@ -4,12 +4,15 @@
 ghost use mathlib.Core.Path.{_≡_};
 ghost use Rattle.text.specs.Put.{put, came};
 ghost use Rattle.ride_text.specs.Says.{saysListed};
+ghost use Rattle.explained.specs.Text.{lineText};
 ghost use Rattle.explained.specs.Told.{endText};
 ghost use Rattle.explained.specs.List.{list};
 
 mod lines;
 mod records;
 
+use group::Group;
+use ride::Line;
 use ride::Ride;
 use ride_text::Done;
 use ride_text::Listed;
@@ -51,5 +54,14 @@ pub fn put_end(ride: Ride, buf: &mut [u8], at: usize) -> usize
     let given = ended.lines;
     let mut space = [0u8; 320];
     let n = lines::put_lines(closed, given, &mut space, 0);
+    text::put(&space[..n], buf, at)
+}
+
+// One line, where this group closed, likewise.
+pub fn put_line(closed: Group, line: Line, buf: &mut [u8], at: usize) -> usize
+    ensures { λ r. ⌜ came r (now (buf .exit)) ≡ put (lineText closed line) (now (buf .entry)) at ⌝ }
+{
+    let mut space = [0u8; 160];
+    let n = lines::put_said(closed, line, &mut space, 0);
     text::put(&space[..n], buf, at)
 }

@@ -41,7 +41,7 @@ fn put_fault(place: u64, n: u8, reason: Reason, buf: &mut [u8], at: usize) -> us
 }
 
 // A line, where this group closed.
-fn put_said(closed: Group, line: Line, buf: &mut [u8], at: usize) -> usize
+pub fn put_said(closed: Group, line: Line, buf: &mut [u8], at: usize) -> usize
     requires { ⌜ at + length (lineText closed line) ≤ length (now buf) ⌝ }
     ensures { λ r. ⌜ came r (now (buf .exit)) ≡ put (lineText closed line) (now (buf .entry)) at ⌝ }
 {
