@@ -18,22 +18,27 @@ static uint32_t exchanged(uint32_t word)
     return word ^ unlike ^ unlike << 1;
 }
 
+/* "Check 2^k makes the count of ones even over the positions whose number has 2^k in it": these positions, as a mask that the
+   compiler makes of this sentence. */
+#define AT(k, p) ((uint32_t)(((p) & (k)) != 0) << (p))
+#define FOUR(k, p) (AT(k, p) | AT(k, p + 1) | AT(k, p + 2) | AT(k, p + 3))
+#define OVER(k) (FOUR(k, 0) | FOUR(k, 4) | FOUR(k, 8) | FOUR(k, 12))
+
 static int32_t read_word(uint32_t sent)
 {
-    /* The masks are those of the plain word with the same bits exchanged. */
-    if (is_odd(sent & 0xFF00) || is_odd(sent & 0xE8E8) || is_odd(sent & 0xD4D4) || is_odd(sent & 0xB2B2) || is_odd(sent))
-        return -1;
     uint32_t h = exchanged(sent);
+    if (is_odd(h & OVER(8)) || is_odd(h & OVER(4)) || is_odd(h & OVER(2)) || is_odd(h & OVER(1)) || is_odd(h))
+        return -1;
     return (int32_t)(h >> 9 << 4 | (h >> 5 & 7) << 1 | (h >> 3 & 1));
 }
 
 static int32_t write_word(uint32_t figure)
 {
     uint32_t h = figure >> 4 << 9 | (figure >> 1 & 7) << 5 | (figure & 1) << 3;
-    h |= (uint32_t)is_odd(h & 0xFF00) << 8;
-    h |= (uint32_t)is_odd(h & 0xF0F0) << 4;
-    h |= (uint32_t)is_odd(h & 0xCCCC) << 2;
-    h |= (uint32_t)is_odd(h & 0xAAAA) << 1;
+    h |= (uint32_t)is_odd(h & OVER(8)) << 8;
+    h |= (uint32_t)is_odd(h & OVER(4)) << 4;
+    h |= (uint32_t)is_odd(h & OVER(2)) << 2;
+    h |= (uint32_t)is_odd(h & OVER(1)) << 1;
     h |= (uint32_t)is_odd(h);
     return (int32_t)exchanged(h);
 }

@@ -1,13 +1,13 @@
 // The depot's acceptance run: a plan of the test track, the cards of a ride, and the report.
-// Promises: it is safe and it ends; what it prints is made by the crates depot and acceptance, record by record.
+// Promises: it is safe and it ends; what it prints is made by the crates acceptance_text and acceptance, block by block.
 // Specification: none of its own; what cannot be said of a program's reads and writes stands in docs/EXCEPTIONS.md.
 mod out;
 mod plans;
 mod riding;
 
 use acceptance::PlanJudged;
-use asked::How;
-use cards::Found;
+use console::Found;
+use console::Given;
 use plans::Tolerance;
 use settings::Store;
 
@@ -20,29 +20,29 @@ fn usage() {
 fn ride_over(store: Store, run: acceptance::Acceptance, cards: usize) {
     let mut lengths = [0u64; 8192];
     let mut block = io::large_buffer();
-    let found = cards::go_over(cards, &mut lengths, &mut block);
+    let found = console::go_over(cards, &mut lengths, &mut block);
     match found {
         Found::Cards => riding::accept(store, run, cards, &lengths, &mut block),
         Found::BadLength(_) => out::refuse_trace(),
         Found::NoCard => usage(),
-        Found::TooMany => cards::say_found(b"accept", found),
-        Found::CannotOpen(_) => cards::say_found(b"accept", found),
-        Found::CannotRead(_) => cards::say_found(b"accept", found),
-        Found::Once(_) => cards::say_found(b"accept", found),
+        Found::TooMany => console::say_found(b"accept", found),
+        Found::CannotOpen(_) => console::say_found(b"accept", found),
+        Found::CannotRead(_) => console::say_found(b"accept", found),
+        Found::Once(_) => console::say_found(b"accept", found),
     }
 }
 
 // The plan of the argument `first`, with this tolerance, and the ride that the cards after it hold.
 fn by_plan(store: Store, first: usize, tolerance: u32, cards: usize) {
-    let fd = cards::open_card(first);
+    let fd = console::open_card(first);
     if fd < 0 {
-        cards::cannot_open(b"accept", first);
+        console::cannot_open(b"accept", first);
         return;
     }
     let read = plans::read(fd, tolerance);
     libc::close(fd);
     if read.failed {
-        cards::cannot_read(b"accept", first);
+        console::cannot_read(b"accept", first);
         return;
     }
     let run = read.plan;
@@ -72,14 +72,14 @@ fn accept(store: Store, first: usize) {
 }
 
 fn main() {
-    let asked = asked::options(b"accept", false);
+    let asked = console::options(b"accept", false);
     let store = asked.store;
     let first = asked.first;
     let how = asked.how;
     match how {
-        How::Plain => accept(store, first),
-        How::Settings => accept(store, first),
-        How::Usage => usage(),
-        How::Said => {}
+        Given::Plain => accept(store, first),
+        Given::Settings => accept(store, first),
+        Given::Usage => usage(),
+        Given::Said => {}
     }
 }

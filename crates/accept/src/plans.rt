@@ -37,7 +37,7 @@ pub fn asked_for(number: usize) -> Tolerance {
 // The plan of the open file, with this tolerance. A plan has 512 bytes at most; a longer file shows by one byte more.
 pub fn read(fd: i32, tolerance: u32) -> Plan {
     let mut bytes = [0u8; 513];
-    let got = cards::fill(fd, &mut bytes);
+    let got = console::fill(fd, &mut bytes);
     let count = got.count;
     let planned = acceptance::plan(&bytes[..count], tolerance);
     let plan = planned.plan;

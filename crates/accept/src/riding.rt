@@ -1,15 +1,15 @@
-// The records of the cards, block by block: each treated with the gap in force, its lines taken, and what they are written.
+// The records of the cards, block by block: in through `accept`, the lines of the groups out to standard output; then the end, and the report.
 ghost use mathlib.Core.Path.{_≡_};
 ghost use lib.ListN.{length};
 use crate::out::write;
 use acceptance::Acceptance;
 use acceptance::Reported;
-use cards::How;
+use acceptance_text::Ending;
+use acceptance_text::Going;
+use acceptance_text::Progress;
+use acceptance_text::Troubles;
 use console::Ended;
-use depot::Troubles;
-use ride::Ride;
-use settings::Asked;
-use settings::Held;
+use console::Goes;
 use settings::Store;
 
 // Room for the lines of a block: 128 bytes for each of its records.
@@ -19,42 +19,32 @@ fn room() -> [u8; 1048576]
     [0; 1048576]
 }
 
-// Where the ride stands: the state, the run, what went wrong so far, the settings that are held, and whether all writes so far succeeded.
+// Where the run stands, and whether all writes so far succeeded.
 struct Stand {
-    ride: Ride,
-    run: Acceptance,
-    troubles: Troubles,
-    held: Held,
+    going: Going,
     is_good: bool,
 }
 
-// Takes the records and writes the lines of their groups.
+// Takes the records and writes the lines of their groups. Where out has 128 bytes for each of them, one call of `accept` takes them all.
 fn write_records(from: Stand, store: Store, records: &[u8], out: &mut [u8]) -> Stand {
-    let count = records.len() / 8;
-    let mut ride = from.ride;
-    let mut run = from.run;
-    let mut troubles = from.troubles;
-    let mut held = from.held;
-    let mut at: usize = 0;
-    let mut i: usize = 0;
-    while i < count {
-        let odometer = ride::odometer_at(records, i);
-        if settings::leaves(held, odometer) {
-            held = settings::hold(store, held, odometer);
-        }
-        let walked = depot::accept_at(ride, run, troubles, held.gap, records, i, out, at);
-        ride = walked.ride;
-        run = walked.run;
-        troubles = walked.troubles;
-        at = walked.next;
-        i += 1;
-    }
+    let before = from.going;
+    let answer = acceptance_text::accept(before, store, records, out);
+    let going = answer.going;
+    let progress = answer.progress;
+    let Progress::Took {
+        records: count,
+        bytes,
+    } = progress
+    else {
+        return Stand {
+            going,
+            is_good: false,
+        };
+    };
+    let is_written = write(out, bytes);
     Stand {
-        ride,
-        run,
-        troubles,
-        held,
-        is_good: write(out, at),
+        going,
+        is_good: is_written & (count == records.len() / 8),
     }
 }
 
@@ -67,7 +57,7 @@ fn write_entries(run: Acceptance) -> bool {
             break;
         };
         let mut text = [0u8; 128];
-        let count = depot::put_entry(i, entry, &mut text, 0);
+        let count = acceptance_text::put_entry(i, entry, &mut text, 0);
         if !write(&text, count) {
             return false;
         }
@@ -80,10 +70,10 @@ fn write_entries(run: Acceptance) -> bool {
 fn write_last(run: Acceptance, faults: u64, refused: u64) {
     let sums = acceptance::sum_up(run);
     let mut text = [0u8; 384];
-    let next = depot::put_sum(sums, &mut text, 0);
-    let count = depot::put_last(sums, faults, refused, &mut text, next);
+    let next = acceptance_text::put_sum(sums, &mut text, 0);
+    let count = acceptance_text::put_last(sums, faults, refused, &mut text, next);
     if write(&text, count) {
-        if !depot::is_passed(sums) {
+        if !acceptance_text::is_passed(sums) {
             console::tell(Ended::Refused);
         }
     }
@@ -91,31 +81,32 @@ fn write_last(run: Acceptance, faults: u64, refused: u64) {
 
 // The end of the ride, and the report.
 fn finish(stand: Stand) {
-    let ride = stand.ride;
-    let run = stand.run;
-    let troubles = stand.troubles;
-    let ended = ride::end(ride);
-    let lines = ended.lines;
+    let before = stand.going;
     let mut text = [0u8; 128];
-    let written = depot::take_lines(run, lines, &mut text, 0);
-    let after = written.run;
-    let faults = depot::faults_after(troubles.faults, lines);
-    if !write(&text, written.next) {
+    let finished = acceptance_text::finish(before, &mut text);
+    let ending = finished.ending;
+    let Ending::Wrote(count) = ending else {
+        return;
+    };
+    if !write(&text, count) {
         return;
     }
-    if write_entries(after) {
-        write_last(after, faults, troubles.refused);
+    let going = finished.going;
+    let run = going.run;
+    let troubles = going.troubles;
+    if write_entries(run) {
+        write_last(run, troubles.faults, troubles.refused);
     }
 }
 
 // What comes after the last block: the report where all cards were read, and a word of what went wrong otherwise.
-fn ended(how: How, stand: Stand) {
+fn ended(how: Goes, stand: Stand) {
     match how {
-        How::End => finish(stand),
-        How::More => {}
-        How::CannotOpen(number) => cards::cannot_open(b"accept", number),
-        How::CannotRead(number) => cards::cannot_read(b"accept", number),
-        How::NoRoom => {}
+        Goes::End => finish(stand),
+        Goes::More => {}
+        Goes::CannotOpen(number) => console::cannot_open(b"accept", number),
+        Goes::CannotRead(number) => console::cannot_read(b"accept", number),
+        Goes::NoRoom => {}
     }
 }
 
@@ -130,17 +121,17 @@ fn ride_on(
     out: &mut [u8],
 ) {
     let mut stand = start;
-    let mut pass = cards::begin(first);
+    let mut pass = console::begin(first);
     let mut turns = u64::MAX;
     while turns > 0 {
-        let got = cards::next_block(pass, lengths, block);
+        let got = console::next_block(pass, lengths, block);
         let read = got.read;
         stand = write_records(stand, store, &block[..read], out);
         if !stand.is_good {
             return;
         }
         let how = got.how;
-        let How::More = how else {
+        let Goes::More = how else {
             ended(how, stand);
             return;
         };
@@ -151,18 +142,16 @@ fn ride_on(
 
 // The ride over the cards from this argument on, from a fresh ride and a run that has not begun.
 pub fn accept(store: Store, run: Acceptance, first: usize, lengths: &[u64], block: &mut [u8]) {
-    let Asked::InForce(held) = settings::at(store, 0) else {
-        return;
-    };
     let ride = ride::fresh();
     let start = Stand {
-        ride,
-        run,
-        troubles: Troubles {
-            faults: 0,
-            refused: 0,
+        going: Going {
+            ride,
+            run,
+            troubles: Troubles {
+                faults: 0,
+                refused: 0,
+            },
         },
-        held,
         is_good: true,
     };
     let mut out = room();

@@ -17,6 +17,9 @@ use Rattle.acceptance.specs.Plan.{Good, good, Planning}
 use Rattle.acceptance.specs.Says.{saysPlanJudged, saysPlanned}
 use Rattle.acceptance.proofs.plan.Kinds as plan-kinds
 use Rattle.acceptance.proofs.plan.Reads as plan-reads
+use Rattle.words.proofs.Told.{Fixed}
+use Rattle.acceptance.proofs.taking.one_more.Kinds as one-more-kinds
+use Rattle.acceptance.proofs.taking.one_more.Reads as one-more-reads
 use Rattle.acceptance.proofs.take.Kinds as take-kinds
 use Rattle.acceptance.proofs.take.Reads as take-reads
 use Rattle.acceptance.proofs.report.Kinds as report-kinds
@@ -56,3 +59,6 @@ report-determined a r r′ x x′ p q = p ∙ sym q
 pub sum-up-determined : (a : Dens tt sum-up-kinds.ps) (r r′ : Sums) (x x′ : AtExit (endedOf 0 sum-up-kinds.ps sum-up-kinds.r) tt)
     → sum-up-reads.Post tt a r x → sum-up-reads.Post tt a r′ x′ → r ≡ r′
 sum-up-determined a r r′ x x′ p q = p ∙ sym q
+
+pub one-more-determined : Fixed 0 one-more-kinds.ps one-more-kinds.r one-more-reads.Post
+one-more-determined κs a r r′ x x′ p q = p ∙ sym q

@@ -14,6 +14,7 @@ mod taking;
 
 use group_rows::Kind;
 use ride::Line;
+pub use taking::one_more;
 
 // Whether an entry was met: not, or by a group with this A place.
 pub enum Met {

@@ -117,8 +117,8 @@ fn after_wanted(run: Acceptance, i: usize, place: u64) -> Acceptance
     }
 }
 
-// One more, up to the largest count.
-fn one_more(n: u64) -> u64
+// One more; the largest number of 64 bits stands for that many or more.
+pub fn one_more(n: u64) -> u64
     ensures { λ r. ⌜ r ≡ oneMore n ⌝ }
 {
     if n < u64::MAX {

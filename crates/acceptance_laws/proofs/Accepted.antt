@@ -23,13 +23,14 @@ use Rattle.acceptance.specs.Plan.{entriesOf, noEntry, apart, planWith, plan}
 use Rattle.acceptance.specs.Taking.{planned, isFor, noPart, takeLine}
 use Rattle.acceptance.specs.Report.{report, metIn, sumUp}
 use Rattle.acceptance_laws.specs.Contracts.{Reports, SumsUp}
-use Rattle.acceptance_laws.specs.Lines.{isGroup, groupsIn, placeIn, kindIn, isGroupFor, someFor, firstFor, wantedIn, extraIn}
+use Rattle.acceptance_laws.specs.Lines.{isGroup, groupsIn, isGroupFor, someFor, firstFor, wantedIn, extraIn}
 use Rattle.acceptance_laws.specs.Accepted.{Run, ended, entries, entry, part, Accepted}
 use Rattle.acceptance_laws.specs.Accepted as claim
+use Rattle.acceptance_laws.proofs.Placed.{placeIn, kindIn, group-for}
 use Rattle.acceptance_laws.proofs.Near.{and-right, only-one}
 use Rattle.acceptance_laws.proofs.Meeting.{with}
 use Rattle.acceptance_laws.proofs.Over.{runOver, answersTo, metAll, wanted-over, extra-over, groups-over}
-use Rattle.acceptance_laws.proofs.Parts.{answer-at, absent-first, plan-length, entry-after, first-wanted, wanted-first, others-none}
+use Rattle.acceptance_laws.proofs.Parts.{answer-at, absent-first, plan-length, entry-after, first-wanted, wanted-first, other-extra, extra-other, others-none}
 use Rattle.acceptance_laws.proofs.Plan.{no, good-plan, plan-entries, plan-tolerance, plan-extra, unmet, met-within, none-met}
 use Rattle.acceptance_laws.proofs.Reports.{taken-are, some-at, reported, not-reported, sums-are}
 
@@ -142,12 +143,29 @@ module _ (r : Run) where
       let all = wanted-first s (take k (r .lines)) apart-is l i fresh (sym (part-is k h) ∙ p) in
       (omega (arith, size, all .0), sym (for-is i l) ∙ all .1, sym (some-is i (take k (r .lines))) ∙ all .2)
 
+  -- It is the first such group of no entry: of the run's, and so of the plan's.
+  abbrev MetNone : ℕ → Type 0
+  MetNone k = (i : ℕ) → i < entries r → claim.isFor r i k → claim.noneBefore r i k → ⊥
+
+  other-is-extra : (k : ℕ) → k < length (r .lines) → isGroup (getD (r .lines) k (Line.Trace 0)) ≡ true → MetNone k → part r k ≡ Role.Extra
+  other-is-extra k h t n =
+      let l : Line = getD (r .lines) k (Line.Trace 0) in
+      part-is k h
+      ∙ other-extra s (take k (r .lines)) apart-is l fresh t
+      (λ i j f m. n i (omega (arith, size)) (sym (for-is i l) ∙ f) (sym (some-is i (take k (r .lines))) ∙ m))
+
+  extra-is-other : (k : ℕ) → k < length (r .lines) → part r k ≡ Role.Extra → (isGroup (getD (r .lines) k (Line.Trace 0)) ≡ true) × MetNone k
+  extra-is-other k h p =
+      let l : Line = getD (r .lines) k (Line.Trace 0) in
+      let all = extra-other s (take k (r .lines)) apart-is l fresh (sym (part-is k h) ∙ p) in
+      (all .0, λ i j f m. all .1 i (omega (arith, size)) (for-is i l ∙ f) (some-is i (take k (r .lines)) ∙ m))
+
   one-entry : (l : Line) (i j : ℕ) → i < entries r → j < entries r
       → isGroupFor (r .tolerance) (entry r i) l ≡ true → isGroupFor (r .tolerance) (entry r j) l ≡ true → i ≡ j
   one-entry l i j h k p q =
       only-one (r .tolerance) (placeIn l) (kindIn l) (entriesOf (r .bytes)) (facts .0) i j h k
-      (and-right (isGroup l) (isFor (r .tolerance) (placeIn l) (kindIn l) (entry r i)) p)
-      (and-right (isGroup l) (isFor (r .tolerance) (placeIn l) (kindIn l) (entry r j)) q)
+      (and-right (isGroup l) (isFor (r .tolerance) (placeIn l) (kindIn l) (entry r i)) (sym (group-for (r .tolerance) (entry r i) l) ∙ p))
+      (and-right (isGroup l) (isFor (r .tolerance) (placeIn l) (kindIn l) (entry r j)) (sym (group-for (r .tolerance) (entry r j) l) ∙ q))
 
   -- Of two lines answered wanted for one entry neither comes first.
   not-before : (k m i : ℕ) → k < length (r .lines) → m < length (r .lines) → part r k ≡ Role.Wanted i → part r m ≡ Role.Wanted i → k < m → ⊥
@@ -179,6 +197,8 @@ accepted r =
       extra = extra r;
       first-is-wanted = first-is-wanted r;
       wanted-is-first = wanted-is-first r;
+      other-is-extra = other-is-extra r;
+      extra-is-other = extra-is-other r;
       no-part = λ k h n. part-is r k h ∙ others-none (runOver (r .planned .plan) (take k (r .lines))) (getD (r .lines) k (Line.Trace 0)) n;
       one-entry = one-entry r;
       one-group = one-group r;

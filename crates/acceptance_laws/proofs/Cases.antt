@@ -18,7 +18,8 @@ use Rattle.acceptance.specs.declared.Role.{Role}
 use Rattle.acceptance.specs.declared.Took.{Took}
 use Rattle.acceptance.specs.Plan.{noEntry, apart}
 use Rattle.acceptance.specs.Taking.{planned, isPresent, isFor, waiting, metAt, afterWanted, afterExtra, takeGroup, noPart, takeLine}
-use Rattle.acceptance_laws.specs.Lines.{isGroup, placeIn, kindIn, isGroupFor}
+use Rattle.acceptance_laws.specs.Lines.{isGroup, isGroupFor}
+use Rattle.acceptance_laws.proofs.Placed.{placeIn, kindIn, group-for}
 use Rattle.acceptance_laws.proofs.Meeting.{metOnce, with, meet, one-met, none-met}
 
 -- The index of the entry that waits for the group that a line is.
@@ -89,12 +90,17 @@ not-met place (Met.At q) = refl
 pub others-stay : (tolerance : ℕ) (l : Line) (es : List Entry) → isGroup l ≡ false → map (afterLine tolerance l) es ≡ es
 others-stay tolerance l es g =
     map-stays (afterLine tolerance l)
-    (λ (e : Entry). ap (λ (b : Bool). with e (metOnce (b && isFor tolerance (placeIn l) (kindIn l) e) (placeIn l) (e .met))) g ∙ ap (with e) (not-met (placeIn l) (e .met))) es
+    (λ (e : Entry).
+    ap (λ (b : Bool). with e (metOnce b (placeIn l) (e .met))) (group-for tolerance e l)
+    ∙ ap (λ (b : Bool). with e (metOnce (b && isFor tolerance (placeIn l) (kindIn l) e) (placeIn l) (e .met))) g
+    ∙ ap (with e) (not-met (placeIn l) (e .met))) es
 
 group-meets : (tolerance : ℕ) (l : Line) (es : List Entry) → isGroup l ≡ true → map (meet tolerance (placeIn l) (kindIn l)) es ≡ map (afterLine tolerance l) es
 group-meets tolerance l es g =
     map-same (meet tolerance (placeIn l) (kindIn l)) (afterLine tolerance l)
-    (λ (e : Entry). ap (λ (b : Bool). with e (metOnce (b && isFor tolerance (placeIn l) (kindIn l) e) (placeIn l) (e .met))) (sym g)) es
+    (λ (e : Entry).
+    ap (λ (b : Bool). with e (metOnce (b && isFor tolerance (placeIn l) (kindIn l) e) (placeIn l) (e .met))) (sym g)
+    ∙ ap (λ (b : Bool). with e (metOnce b (placeIn l) (e .met))) (sym (group-for tolerance e l))) es
 
 -- The entry written anew, within the plan.
 pub wanted-plan : (s : Acceptance) (i place : ℕ) → i < length (planned s) → planned (afterWanted s i place) ≡ set (planned s) i (metAt place (getD (planned s) i noEntry))

@@ -19,8 +19,12 @@ use Rattle.acceptance.specs.Report.{metIn, sumUp}
 use Rattle.demands.specs.Plans.{Plans}
 use Rattle.acceptance_laws.specs.Lines.{firstFor}
 use Rattle.acceptance_laws.specs.Accepted.{Run}
-use Rattle.acceptance_laws.specs.Depot.{groupAt, TooNear, Depot}
+use Rattle.acceptance_laws.specs.Depot.{rideLines, Blocks, groupAt, TooNear, Depot}
 use Rattle.acceptance_laws.proofs.Accepted.{accepted}
+use Rattle.acceptance_laws.proofs.Over.{answersTo}
+use Rattle.acceptance_laws.proofs.Blocks.{one-taken, all-taken}
+use Rattle.acceptance_laws.proofs.Riding.{by-step, carried, decided, untouched}
+use Rattle.acceptance_laws.proofs.Witness.{answered, such-calls}
 
 -- ---- a run
 
@@ -39,6 +43,10 @@ read = record { plan = start; judged = PlanJudged.Good }
 is-plan : Plans bytes 5 read
 unfolding plan wellFormed allGood isGood apart entryOf placeOf kindOf firstRecords planWith bytes lent start read
 is-plan = (([], tt), lent, (lent, (5, tt)), refl, refl)
+
+is-good : read .judged ≡ PlanJudged.Good
+unfolding read
+is-good = refl
 
 first : Line
 first = groupAt 1003 Kind.Signal
@@ -78,13 +86,40 @@ too-near : TooNear
 unfolding firstFor takeLine takeGroup waiting afterWanted afterExtra plan wellFormed allGood isGood apart entryOf placeOf kindOf firstRecords planWith
 too-near = record { for-both = (refl, refl); left-absent = refl; though-there = refl; refused = refl }
 
+-- ---- over any ride
+
+ride-run : (gaps : ℕ → ℕ) (cards : List (List ℕ)) → Run
+ride-run gaps cards =
+    record {
+      bytes = bytes;
+      tolerance = 5;
+      planned = read;
+      lines = rideLines gaps cards;
+      answers = answersTo (read .plan) (rideLines gaps cards);
+      is-plan = is-plan;
+      is-good = is-good;
+      are-taken = answered (read .plan) (rideLines gaps cards);
+    }
+
+blocks : Blocks
+blocks =
+    record {
+      whole = carried;
+      goes-on = λ going store c good whole some room call. one-taken going store (c .block) (c .before) (c .answer) (c .after) good whole call some room;
+      all-at-once = λ going store c good whole room call. all-taken going store (c .block) (c .before) (c .answer) (c .after) good whole call room;
+      decided = decided;
+      untouched = λ going store block before r after n c e. untouched going store block before r after c n e;
+    }
+
 pub depot : Depot
-unfolding the-run first second
+unfolding the-run first second ride-run
 depot =
     record {
       any-lines = accepted;
-      any-ride = λ gaps cards r is. accepted r;
-      by-step = λ gaps cards r f steps e fresh stepped ends is. accepted r;
+      by-step = by-step;
+      by-blocks = blocks;
       such-a-run = (the-run, refl);
+      such-a-ride = λ gaps cards. (ride-run gaps cards, refl);
+      such-calls = such-calls;
       too-near = too-near;
     }

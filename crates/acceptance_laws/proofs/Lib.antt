@@ -1,9 +1,14 @@
 pub mod Near
 pub mod Meeting
+pub mod Placed
 pub mod Cases
 pub mod Over
 pub mod Parts
 pub mod Plan
 pub mod Reports
 pub mod Accepted
+pub mod Blocks
+pub mod Carried
+pub mod Riding
+pub mod Witness
 pub mod Depot

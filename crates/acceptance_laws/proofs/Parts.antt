@@ -16,7 +16,8 @@ use Rattle.acceptance.specs.declared.Role.{Role}
 use Rattle.acceptance.specs.declared.Took.{Took}
 use Rattle.acceptance.specs.Plan.{noEntry, apart}
 use Rattle.acceptance.specs.Taking.{planned, isAbsent, isFor, waits, takeLine}
-use Rattle.acceptance_laws.specs.Lines.{isGroup, placeIn, kindIn, isGroupFor, someFor, firstFor}
+use Rattle.acceptance_laws.specs.Lines.{isGroup, isGroupFor, someFor, firstFor}
+use Rattle.acceptance_laws.proofs.Placed.{placeIn, kindIn, group-for, first-of}
 use Rattle.acceptance_laws.proofs.Near.{and-left, and-right, only-one}
 use Rattle.acceptance_laws.proofs.Meeting.{waits-there, not-later}
 use Rattle.acceptance_laws.proofs.Cases.{Case, none, wanted, extra, case, waitsFor}
@@ -34,7 +35,7 @@ answer-at s (l ∷ ls) (suc k) d h = answer-at (takeLine s l .state) ls k d (ome
 pub absent-first : (tolerance : ℕ) (e : Entry) (ls : List Line) → isAbsent (firstFor tolerance e ls) ≡ not (someFor tolerance e ls)
 unfolding firstFor someFor
 absent-first tolerance e [] = refl
-absent-first tolerance e (l ∷ ls) = by-test (isGroupFor tolerance e l) (absent-first tolerance e ls)
+absent-first tolerance e (l ∷ ls) = ap isAbsent (first-of tolerance e l ls) ∙ by-test (isGroupFor tolerance e l) (absent-first tolerance e ls)
   where
     by-test : (b : Bool) → isAbsent (firstFor tolerance e ls) ≡ not (someFor tolerance e ls)
         → isAbsent (pick b (Met.At (placeIn l)) (firstFor tolerance e ls)) ≡ not (b || someFor tolerance e ls)
@@ -91,14 +92,14 @@ module _ (s : Acceptance) (ls : List Line) (a : apart (s .tolerance) (planned s)
     waits-now =
         waits-is s ls a i h fresh (placeIn l) (kindIn l)
         ∙ both (not (someFor (s .tolerance) e ls)) (isFor (s .tolerance) (placeIn l) (kindIn l) e) (ap not first)
-        (and-right (isGroup l) (isFor (s .tolerance) (placeIn l) (kindIn l) e) for)
+        (and-right (isGroup l) (isFor (s .tolerance) (placeIn l) (kindIn l) e) (sym (group-for (s .tolerance) e l) ∙ for))
 
     within-now : i < length (planned now)
     within-now = omega (arith, plan-length s ls a)
 
     by-case : Case now l → takeLine now l .answer ≡ Role.Wanted i
     by-case (none g is) =
-        let t : isGroup l ≡ true = and-left (isGroup l) (isFor (s .tolerance) (placeIn l) (kindIn l) e) for in
+        let t : isGroup l ≡ true = and-left (isGroup l) (isFor (s .tolerance) (placeIn l) (kindIn l) e) (sym (group-for (s .tolerance) e l) ∙ for) in
         no (cc)
     by-case (wanted g w is) =
         let there = waits-there (now .tolerance) (placeIn l) (kindIn l) (planned now) (waitsFor now l) refl w in
@@ -127,7 +128,8 @@ module _ (s : Acceptance) (ls : List Line) (a : apart (s .tolerance) (planned s)
         waits-there (now .tolerance) (placeIn l) (kindIn l) (planned now) i (sym same) (omega arith) in
         let both-hold = sym (waits-is s ls a i h (fresh i) (placeIn l) (kindIn l)) ∙ there in (
           h,
-          both (isGroup l) (isFor (s .tolerance) (placeIn l) (kindIn l) e) g (and-right (not (someFor (s .tolerance) e ls)) (isFor (s .tolerance) (placeIn l) (kindIn l) e) both-hold),
+          group-for (s .tolerance) e l
+              ∙ both (isGroup l) (isFor (s .tolerance) (placeIn l) (kindIn l) e) g (and-right (not (someFor (s .tolerance) e ls)) (isFor (s .tolerance) (placeIn l) (kindIn l) e) both-hold),
           flip (someFor (s .tolerance) e ls) (and-left (not (someFor (s .tolerance) e ls)) (isFor (s .tolerance) (placeIn l) (kindIn l) e) both-hold),
         )
     by-answer (extra g w is) p =
@@ -137,6 +139,40 @@ module _ (s : Acceptance) (ls : List Line) (a : apart (s .tolerance) (planned s)
     pub wanted-first : takeLine now l .answer ≡ Role.Wanted i
         → (i < length (planned s)) × (isGroupFor (s .tolerance) e l ≡ true) × (someFor (s .tolerance) e ls ≡ false)
     wanted-first p = by-answer (case now l) p
+
+-- ---- an extra group: a present one that is the first for no entry
+
+module _ (s : Acceptance) (ls : List Line) (a : apart (s .tolerance) (planned s) ≡ true) (l : Line) (fresh : (i : ℕ) → getD (planned s) i noEntry .met ≡ Met.Absent) where
+  abbrev MetNone : Type 0
+  MetNone =
+      (i : ℕ) → i < length (planned s) → isGroupFor (s .tolerance) (getD (planned s) i noEntry) l ≡ true
+      → someFor (s .tolerance) (getD (planned s) i noEntry) ls ≡ false → ⊥
+
+  other-by : isGroup l ≡ true → MetNone → Case (runOver s ls) l → takeLine (runOver s ls) l .answer ≡ Role.Extra
+  other-by t n (none g is) = no (cc)
+  other-by t n (wanted g w is) =
+      let i : ℕ = waitsFor (runOver s ls) l in
+      let all = wanted-first s ls a l i fresh (ap (λ (x : Took). x .answer) is) in
+      absurd (n i (all .0) (all .1) (all .2))
+  other-by t n (extra g w is) = ap (λ (x : Took). x .answer) is
+
+  pub other-extra : isGroup l ≡ true → MetNone → takeLine (runOver s ls) l .answer ≡ Role.Extra
+  other-extra t n = other-by t n (case (runOver s ls) l)
+
+  group-by : takeLine (runOver s ls) l .answer ≡ Role.Extra → Case (runOver s ls) l → isGroup l ≡ true
+  group-by p (none g is) =
+      let z : Role.NoPart ≡ Role.Extra = sym (ap (λ (x : Took). x .answer) is) ∙ p in
+      no (cc)
+  group-by p (wanted g w is) = g
+  group-by p (extra g w is) = g
+
+  met-none : takeLine (runOver s ls) l .answer ≡ Role.Extra → MetNone
+  met-none p i h f n =
+      let z : Role.Wanted i ≡ Role.Extra = sym (first-wanted s ls a l i h (fresh i) f n) ∙ p in
+      no (cc)
+
+  pub extra-other : takeLine (runOver s ls) l .answer ≡ Role.Extra → (isGroup l ≡ true) × MetNone
+  extra-other p = (group-by p (case (runOver s ls) l), met-none p)
 
 -- A line that is no present group takes no part.
 by-kind : (s : Acceptance) (l : Line) → isGroup l ≡ false → Case s l → takeLine s l .answer ≡ Role.NoPart

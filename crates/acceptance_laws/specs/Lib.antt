@@ -1,4 +1,5 @@
 pub mod Contracts
 pub mod Lines
 pub mod Accepted
+pub mod Calls
 pub mod Depot

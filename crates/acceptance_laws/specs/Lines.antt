@@ -5,7 +5,6 @@ use Prim.Native.Nat.{ℕ, suc}
 use mathlib.Core.Bool.{Bool, true, false, _&&_, _||_}
 use mathlib.Core.List.{List, [], _∷_}
 use Rattle.words.specs.Answer.{pick}
-use Rattle.group_rows.specs.declared.Kind.{Kind}
 use Rattle.ride.specs.declared.Line.{Line}
 use Rattle.acceptance.specs.declared.Met.{Met}
 use Rattle.acceptance.specs.declared.Entry.{Entry}
@@ -26,34 +25,27 @@ unfoldable pub groupsIn : List Line → ℕ
 groupsIn [] = 0
 groupsIn (l ∷ ls) = pick (isGroup l) (suc (groupsIn ls)) (groupsIn ls)
 
--- The place of a group's A balise and the group's kind; of no other line they are looked at.
-abbrev pub placeIn : Line → ℕ
-placeIn (Line.Group g) = g .place
-placeIn (Line.Fault place n) = 0
-placeIn (Line.Missed place) = 0
-placeIn (Line.Record number n) = 0
-placeIn (Line.Trace n) = 0
-
-abbrev pub kindIn : Line → Kind
-kindIn (Line.Group g) = g .kind
-kindIn (Line.Fault place n) = Kind.Signal
-kindIn (Line.Missed place) = Kind.Signal
-kindIn (Line.Record number n) = Kind.Signal
-kindIn (Line.Trace n) = Kind.Signal
-
--- Whether a line is a present group of the entry's kind whose A place lies within the tolerance.
+-- Whether a line is a present group of the entry's kind whose A place lies within the tolerance; no other line is.
 abbrev pub isGroupFor : ℕ → Entry → Line → Bool
-isGroupFor tolerance e l = isGroup l && isFor tolerance (placeIn l) (kindIn l) e
+isGroupFor tolerance e (Line.Group g) = isPresent (g .direction) && isFor tolerance (g .place) (g .kind) e
+isGroupFor tolerance e (Line.Fault place n) = false
+isGroupFor tolerance e (Line.Missed place) = false
+isGroupFor tolerance e (Line.Record number n) = false
+isGroupFor tolerance e (Line.Trace n) = false
 
 -- Whether some line is such a group,
 unfoldable pub someFor : ℕ → Entry → List Line → Bool
 someFor tolerance e [] = false
 someFor tolerance e (l ∷ ls) = isGroupFor tolerance e l || someFor tolerance e ls
 
--- and where the first such group lies.
+-- and where the A balise of the first such group lies.
 unfoldable pub firstFor : ℕ → Entry → List Line → Met
 firstFor tolerance e [] = Met.Absent
-firstFor tolerance e (l ∷ ls) = pick (isGroupFor tolerance e l) (Met.At (placeIn l)) (firstFor tolerance e ls)
+firstFor tolerance e (Line.Group g ∷ ls) = pick (isGroupFor tolerance e (Line.Group g)) (Met.At (g .place)) (firstFor tolerance e ls)
+firstFor tolerance e (Line.Fault place n ∷ ls) = firstFor tolerance e ls
+firstFor tolerance e (Line.Missed place ∷ ls) = firstFor tolerance e ls
+firstFor tolerance e (Line.Record number n ∷ ls) = firstFor tolerance e ls
+firstFor tolerance e (Line.Trace n ∷ ls) = firstFor tolerance e ls
 
 -- Whether a line was answered wanted, or extra.
 abbrev pub isWanted : Role → Bool
@@ -74,3 +66,21 @@ wantedIn (t ∷ ts) = pick (isWanted (t .answer)) (suc (wantedIn ts)) (wantedIn 
 unfoldable pub extraIn : List Took → ℕ
 extraIn [] = 0
 extraIn (t ∷ ts) = pick (isExtra (t .answer)) (suc (extraIn ts)) (extraIn ts)
+
+-- What went wrong, counted from the ride's lines: the faults,
+unfoldable pub faultsIn : List Line → ℕ
+faultsIn [] = 0
+faultsIn (Line.Fault place n ∷ ls) = suc (faultsIn ls)
+faultsIn (Line.Group g ∷ ls) = faultsIn ls
+faultsIn (Line.Missed place ∷ ls) = faultsIn ls
+faultsIn (Line.Record number n ∷ ls) = faultsIn ls
+faultsIn (Line.Trace n ∷ ls) = faultsIn ls
+
+-- and the refused records.
+unfoldable pub refusedIn : List Line → ℕ
+refusedIn [] = 0
+refusedIn (Line.Record number n ∷ ls) = suc (refusedIn ls)
+refusedIn (Line.Group g ∷ ls) = refusedIn ls
+refusedIn (Line.Fault place n ∷ ls) = refusedIn ls
+refusedIn (Line.Missed place ∷ ls) = refusedIn ls
+refusedIn (Line.Trace n ∷ ls) = refusedIn ls

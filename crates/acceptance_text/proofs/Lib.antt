@@ -1,3 +1,7 @@
 pub mod Pieces
-pub mod Determined
+pub mod Takings
+pub mod Ends
+pub mod Turns
+pub mod Blocks
 pub mod Examples
+pub mod Determined

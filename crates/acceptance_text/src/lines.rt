@@ -11,21 +11,11 @@ use acceptance::Entry;
 use acceptance::Met;
 use acceptance::Role;
 use acceptance::Sums;
+use acceptance::one_more;
 use group_rows::Kind;
 use refusals::put_refused;
 use text::put;
 use text::put_number;
-
-// The number of the entry with this index.
-fn numbered(i: usize) -> u64
-    ensures { λ r. ⌜ r ≡ oneMore i ⌝ }
-{
-    let n = i as u64;
-    if n < u64::MAX {
-        return n + 1;
-    }
-    n
-}
 
 // The word for a kind.
 fn spell_kind(kind: Kind, buf: &mut [u8], at: usize) -> usize
@@ -48,7 +38,7 @@ fn spell_part(part: Role, buf: &mut [u8], at: usize) -> usize
 {
     match part {
         Role::Wanted(i) => {
-            let a = put_number(b" wanted ", numbered(i), buf, at);
+            let a = put_number(b" wanted ", one_more(i as u64), buf, at);
             put(b"\n", buf, a)
         }
         Role::Extra => put(b" extra\n", buf, at),
@@ -87,7 +77,7 @@ pub fn spell_entry(i: usize, entry: Entry, buf: &mut [u8], at: usize) -> usize
 {
     let kind = entry.kind;
     let met = entry.met;
-    let a = put_number(b"entry ", numbered(i), buf, at);
+    let a = put_number(b"entry ", one_more(i as u64), buf, at);
     let b = put_number(b" at ", entry.place as u64, buf, a);
     let c = spell_kind(kind, buf, b);
     spell_met(met, buf, c)

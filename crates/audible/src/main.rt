@@ -1,31 +1,22 @@
 // What can never be heard with a sync pair: the figures of every broken telegram, a line each, then the numbers, then how many there are.
-// Promises: it is safe and it ends; what is broken is said by audibility::sound_of, and the lines are those of unheard.
+// Promises: it is safe and it ends; what is broken is said by audibility::sound_of, and the lines are those of audibility.
 // Specification: none of its own; what cannot be said of a program's writes stands in docs/EXCEPTIONS.md.
 mod list;
 mod out;
 
+use console::sync_word;
 use figures::Byte;
 use telegram::Pair;
-
-// Argument k, a sync word of this name; where it is none that is said.
-fn sync_word(name: &[u8], k: usize) -> Byte {
-    let asked = console::word(k);
-    let Byte::Is(_) = asked else {
-        console::wrong(b"audible", name, b"word of two hex digits", k);
-        return asked;
-    };
-    asked
-}
 
 fn main() {
     if os::arg_count() != 3 {
         console::usage(b"audible", b"audible S S*");
         return;
     }
-    let Byte::Is(s) = sync_word(b"S", 1) else {
+    let Byte::Is(s) = sync_word(b"audible", b"S", 1) else {
         return;
     };
-    let Byte::Is(t) = sync_word(b"S*", 2) else {
+    let Byte::Is(t) = sync_word(b"audible", b"S*", 2) else {
         return;
     };
     let Pair::Good = telegram::good_pair(s, t) else {

@@ -1,5 +1,6 @@
 // What the arguments ask for.
 ghost use Prim.Native.Nat.{_≤_};
+use console::sync_word;
 use figures::Byte;
 use figures::Figure;
 
@@ -37,16 +38,6 @@ fn figure(name: &[u8], k: usize, most: u64) -> Taken {
             Taken::Said
         }
     }
-}
-
-// Argument k, of this name, as a word.
-fn sync_word(name: &[u8], k: usize) -> Byte {
-    let asked = console::word(k);
-    let Byte::Is(_) = asked else {
-        console::wrong(b"balise", name, b"word of two hex digits", k);
-        return asked;
-    };
-    asked
 }
 
 // A figure of one byte, of two and of four: the largest stands for all above it, and is refused as they are.
@@ -88,10 +79,10 @@ fn idle(k: usize) -> Taken {
 fn with_figures(x: u64, y: u64, z: u64, k: usize) -> Asked
     requires { ⌜ k ≤ 4 ⌝ }
 {
-    let Byte::Is(s) = sync_word(b"S", k) else {
+    let Byte::Is(s) = sync_word(b"balise", b"S", k) else {
         return Asked::Said;
     };
-    let Byte::Is(t) = sync_word(b"S*", k + 1) else {
+    let Byte::Is(t) = sync_word(b"balise", b"S*", k + 1) else {
         return Asked::Said;
     };
     let Taken::Is(n) = figure(b"N", k + 2, 4294967295) else {

@@ -35,8 +35,7 @@ use Rattle.ride.specs.Linking.{markAt}
 use Rattle.ride.specs.Closing.{close, leave}
 use Rattle.ride.specs.Step.{closeBehind, missedLines, afterMissed, goOn, treat, end}
 use Rattle.ride.specs.Over.{rideOver}
-use Rattle.ride_text.specs.Text.{codes, digits, decimal, seen, text}
-use Rattle.ride_text.specs.List.{textOf}
+use Rattle.ride_text.specs.Text.{codes, digits, decimal, seen, textWith, textOf}
 use Rattle.chain_laws.specs.InFull.{room, A, B, cable, recordA, recordB, ridden, InFull}
 
 -- The bytes of the line.
@@ -70,7 +69,7 @@ unfolding recordOf contentOf atOdometer spell asked tooLarge hasFifteen wordsOf 
 both-recorded = (refl, refl)
 
 both-listed : (textOf (ridden .lines) ≡ []) × (textOf (end (ridden .ride) .lines) ≡ codes "1000 present signal first\n")
-unfolding ridden end readWord isCode even count covers figure onwards isCheck exchanged other word shortWord longWord telegram balises readAll fits first fitRow fitRows howMany fitIn fitting distance signalSpeed targetFigure routeSpeed distanceOf signalDistance numberOf judgeRead judge odometerOf passedOf inOrder checkRecord noGroup nothingKnown freshRide join takeUp markAt close leave closeBehind missedLines afterMissed goOn treat rideOver textOf text seen decimal digits
+unfolding ridden end readWord isCode even count covers figure onwards isCheck exchanged other word shortWord longWord telegram balises readAll fits first fitRow fitRows howMany fitIn fitting distance signalSpeed targetFigure routeSpeed distanceOf signalDistance numberOf judgeRead judge odometerOf passedOf inOrder checkRecord noGroup nothingKnown freshRide join takeUp markAt close leave closeBehind missedLines afterMissed goOn treat rideOver textOf textWith seen decimal digits
 both-listed = (refl, refl)
 
 pub in-full : InFull

@@ -14,8 +14,7 @@ use Rattle.recorder.specs.Record.{recordOf}
 use Rattle.ride.specs.State.{freshRide}
 use Rattle.ride.specs.Step.{end}
 use Rattle.ride.specs.Over.{Ridden, rideOver}
-use Rattle.ride_text.specs.Text.{codes}
-use Rattle.ride_text.specs.List.{textOf}
+use Rattle.ride_text.specs.Text.{codes, textOf}
 
 -- 25 bytes, as much as six telegrams take.
 abbrev pub room : List ℕ

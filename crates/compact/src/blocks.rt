@@ -2,9 +2,9 @@
 ghost use Prim.Native.Nat.{_≤_};
 ghost use lib.ListN.{length};
 use crate::counts;
-use cards::How;
 use compaction::Size;
 use compaction::Waiting;
+use console::Goes;
 use libc::STDOUT_FILENO;
 use settings::Store;
 
@@ -68,13 +68,13 @@ fn cannot_write() {
 }
 
 // What comes after the last block: the last record and the counts, or what failed.
-fn finish(how: How, stand: Stand) {
+fn finish(how: Goes, stand: Stand) {
     match how {
-        How::End => write_last(stand),
-        How::CannotOpen(number) => cards::cannot_open(b"compact", number),
-        How::CannotRead(number) => cards::cannot_read(b"compact", number),
-        How::NoRoom => {}
-        How::More => {}
+        Goes::End => write_last(stand),
+        Goes::CannotOpen(number) => console::cannot_open(b"compact", number),
+        Goes::CannotRead(number) => console::cannot_read(b"compact", number),
+        Goes::NoRoom => {}
+        Goes::More => {}
     }
 }
 
@@ -92,10 +92,10 @@ pub fn write_cards(store: Store, first: usize, lengths: &[u64], block: &mut [u8]
         kept: 0,
         is_good: true,
     };
-    let mut pass = cards::begin(first);
+    let mut pass = console::begin(first);
     let mut turns = u64::MAX;
     while turns > 0 {
-        let got = cards::next_block(pass, lengths, block);
+        let got = console::next_block(pass, lengths, block);
         let read = got.read;
         stand = write_front(stand, store, block, read);
         if !stand.is_good {
@@ -103,7 +103,7 @@ pub fn write_cards(store: Store, first: usize, lengths: &[u64], block: &mut [u8]
             return;
         }
         let how = got.how;
-        let How::More = how else {
+        let Goes::More = how else {
             finish(how, stand);
             return;
         };

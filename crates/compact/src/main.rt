@@ -5,11 +5,11 @@
 mod blocks;
 mod counts;
 
-use asked::How;
-use cards::Found;
+use console::Found;
+use console::Given;
 use settings::Store;
 
-// How it is called.
+// Given it is called.
 fn usage() {
     console::usage(b"compact", b"compact [-s SETTINGS] CARD..");
 }
@@ -18,7 +18,7 @@ fn usage() {
 fn go_over(store: Store, first: usize) {
     let mut lengths = [0u64; 8192];
     let mut block = io::large_buffer();
-    let found = cards::go_over(first, &mut lengths, &mut block);
+    let found = console::go_over(first, &mut lengths, &mut block);
     match found {
         Found::Cards => {
             if !console::to_terminal(b"compact") {
@@ -27,21 +27,21 @@ fn go_over(store: Store, first: usize) {
         }
         Found::BadLength(_) => console::refuse(b"compact", 16),
         Found::NoCard => usage(),
-        Found::TooMany => cards::say_found(b"compact", found),
-        Found::CannotOpen(_) => cards::say_found(b"compact", found),
-        Found::CannotRead(_) => cards::say_found(b"compact", found),
-        Found::Once(_) => cards::say_found(b"compact", found),
+        Found::TooMany => console::say_found(b"compact", found),
+        Found::CannotOpen(_) => console::say_found(b"compact", found),
+        Found::CannotRead(_) => console::say_found(b"compact", found),
+        Found::Once(_) => console::say_found(b"compact", found),
     }
 }
 
 fn main() {
-    let options = asked::options(b"compact", true);
+    let options = console::options(b"compact", true);
     let store = options.store;
     let how = options.how;
     match how {
-        How::Plain => go_over(store, options.first),
-        How::Settings => go_over(store, options.first),
-        How::Usage => usage(),
-        How::Said => {}
+        Given::Plain => go_over(store, options.first),
+        Given::Settings => go_over(store, options.first),
+        Given::Usage => usage(),
+        Given::Said => {}
     }
 }

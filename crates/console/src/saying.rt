@@ -1,7 +1,7 @@
 // What a program says on standard error: one line that begins with its name.
-use crate::lines::write;
 use crate::status::Ended;
 use crate::status::tell;
+use crate::streams::write;
 use libc::STDERR_FILENO;
 use libc::STDOUT_FILENO;
 
@@ -23,6 +23,19 @@ pub fn say_of(program: &[u8], words: &[u8], number: usize) {
     io::write_all(STDERR_FILENO, b" ");
     io::write_all(STDERR_FILENO, &text[..length]);
     io::write_all(STDERR_FILENO, b"\n");
+}
+
+// `PROGRAM: ARGUMENT WORDS`, and the call came to nothing.
+pub fn fail_with(program: &[u8], number: usize, words: &[u8]) {
+    let mut text = io::buffer();
+    let length = os::arg(number, &mut text);
+    io::write_all(STDERR_FILENO, program);
+    io::write_all(STDERR_FILENO, b": ");
+    io::write_all(STDERR_FILENO, &text[..length]);
+    io::write_all(STDERR_FILENO, b" ");
+    io::write_all(STDERR_FILENO, words);
+    io::write_all(STDERR_FILENO, b"\n");
+    tell(Ended::Said);
 }
 
 // `PROGRAM: WORDS`, and the call came to nothing.

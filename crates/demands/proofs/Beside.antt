@@ -7,3 +7,4 @@ pub mod OddOrEven
 pub mod FalsePlaces
 pub mod SyncNoise
 pub mod PlainGap
+pub mod Settings

@@ -12,7 +12,6 @@ pub mod Groups
 pub mod StoreRules
 pub mod Rides
 pub mod Treats
-pub mod Explaining
 pub mod Listings
 pub mod Compacting
 pub mod Writes
@@ -34,7 +33,6 @@ use Rattle.contact.specs.Judge.{judge}
 use Rattle.ride.specs.Step.{Step}
 use Rattle.ride.specs.At.{Treatment}
 use Rattle.ride.specs.Over.{Run, run}
-use Rattle.ride_text.specs.List.{Listing, list}
 use Rattle.compaction.specs.Compact.{Compaction, compact, Settling, compactBlock}
 use Rattle.demands.specs.Demand1.{Demand1}
 use Rattle.demands.proofs.Demand1.Refusals.{reading, writing, pairing, lying, wording, finding, surveying}
@@ -44,9 +42,8 @@ use Rattle.demands.proofs.Demand1.Distances.{measuring}
 use Rattle.demands.proofs.Demand1.Groups.{fitting-to, grouping}
 use Rattle.demands.proofs.Demand1.Rides.{checking, stepping, running}
 use Rattle.demands.proofs.Demand1.Treats.{treated-is, treating}
-use Rattle.demands.proofs.Demand1.Listings.{listing}
+use Rattle.demands.proofs.Demand1.Listings.{list-decided}
 use Rattle.demands.proofs.Demand1.Compacting.{compacting, settling}
-use Rattle.demands.proofs.Demand1.Explaining.{explained-so}
 use Rattle.demands.proofs.Demand1.Stores.{stores-decided}
 use Rattle.demands.proofs.Demand1.Viewing.{viewers-decided}
 use Rattle.demands.proofs.Demand1.Plans.{plans-decided}
@@ -75,10 +72,7 @@ demand1 = record {
   step = λ ride gap bytes r c. let e = ap (λ (s : Step). s .lines) (c .1) in rw e (stepping ride gap bytes);
   treat-at = λ ride gap trace i r c. let e = ap (λ (t : Treatment). t .reply) (treated-is ride gap trace i r c) in rw e (treating ride gap trace i);
   run = λ ride store trace r c. let e = ap (λ (s : Run). s .answer) (c .4 ∙ ap (run ride store) (c .3)) in rw e (running ride store trace);
-  list = λ ride store number trace before r after c.
-      let e = ap (λ (l : Listing). l .answer) (c .7 ∙ ap₂ (λ (v w : List ℕ). list ride store number v w) (c .4) (c .5)) in
-      rw e (listing ride store number trace before);
-  explain = explained-so;
+  list = list-decided;
   compact = λ ride store before r after c.
       let e = ap (λ (x : Compaction). x .answer) (c .5 ∙ ap (compact ride store) (c .3)) in
       rw e (compacting ride store before);

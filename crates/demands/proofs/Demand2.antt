@@ -17,7 +17,6 @@ pub mod Contents
 pub mod Entered
 pub mod Saying
 pub mod Reading
-pub mod Room
 pub mod Taking
 pub mod Output
 pub mod InFull

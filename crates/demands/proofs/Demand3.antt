@@ -18,7 +18,7 @@ use Rattle.balise_line.proofs.Stretch.{all-sent}
 use Rattle.balise_line.proofs.Unflipped.{unflipped-among}
 use Rattle.demands.proofs.Demand3.Handed.{asking-ends, every-sent, all-places-sent, unflipped-comes}
 use Rattle.demands.proofs.Demand3.Together.{survey-sent}
-use Rattle.demands.proofs.Demand3.JudgedAlike.{judge-sent}
+use Rattle.demands.proofs.Demand3.JudgedAlike.{judge-sent, under-sent}
 use Rattle.demands.proofs.Demand3.Clean.{comes-all-sent}
 
 -- Where every place has the words sent, only the sent is handed out. This is all that is asked of a hypothesis on the flips.
@@ -31,6 +31,7 @@ only-the-sent o proper every-place =
       unflipped-places = unflipped-among o proper;
       judge = judge-sent o proper every-place;
       survey = survey-sent o proper every-place;
+      judge-under = under-sent o proper every-place;
     }
 
 pub demand-3 : Demand3

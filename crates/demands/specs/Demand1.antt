@@ -56,13 +56,14 @@ use Rattle.compaction.specs.declared.Waiting.{Waiting}
 use Rattle.compaction.specs.declared.Compacted.{Compacted}
 use Rattle.compaction.specs.declared.Block.{Block}
 use Rattle.ride_text.specs.Says.{saysDone}
+use Rattle.ride_text.specs.Style.{Style}
 use Rattle.ride_text.specs.declared.Listed.{Listed}
 use Rattle.demands.specs.Rules.{rowOf, row, Decided, Given, Is}
 use Rattle.demands.specs.Table.{notCode, above, notSeven, beyond, noRow, noDistance, badGap}
 use Rattle.demands.specs.Contracts.{ReadShort, WriteShort, ReadLong, WriteLong, GoodPair, InsideBuffer, ReadTelegram, Find, Survey, Write, Begin, NextContact, JudgeContact, FitRow, Distance, JudgeGroup, CheckRecord, StepOf, TreatAt, RunOver, ListInto}
 use Rattle.demands.specs.Compacting.{CompactIn, BlockIn}
 use Rattle.demands.specs.Lists.{telegramRules, findRules, surveyRules, writeRules, nextRules, judgeRules, groupRules, recordRules, stepRules, findReads, surveyReads, JudgeReads, NextReads}
-use Rattle.demands.specs.Stores.{ExplainInto, traceRules, StoresDecided}
+use Rattle.demands.specs.Stores.{traceRules, StoresDecided}
 use Rattle.demands.specs.Viewing.{ViewersDecided}
 use Rattle.demands.specs.Plans.{PlansDecided}
 pub use Rattle.demands.specs.Untouched.{Bare, Untouched}
@@ -101,9 +102,7 @@ pub record Demand1 : Type 0 where
       → Decided Given (row 19 (badGap gap) ∷ []) (saysTreated r .reply)
   -- whoever goes over a trace under settings: their own refusals, then 16
   pub run : (ride : Ride) (store : Store) (trace : List ℕ) (r : Ran) → RunOver ride store trace r → Decided (Is through) (traceRules store trace) (saysRan r .answer)
-  pub list : (ride : Ride) (store : Store) (number : ℕ) (trace before : List ℕ) (r : Listed) (after : List ℕ) → ListInto ride store number trace before r after
-      → Decided Given (traceRules store trace) (saysDone (r .done))
-  pub explain : (ride : Ride) (store : Store) (number : ℕ) (trace before : List ℕ) (r : Listed) (after : List ℕ) → ExplainInto ride store number trace before r after
+  pub list : (style : Style) (ride : Ride) (store : Store) (number : ℕ) (trace before : List ℕ) (r : Listed) (after : List ℕ) → ListInto style ride store number trace before r after
       → Decided Given (traceRules store trace) (saysDone (r .done))
   pub compact : (ride : Ride) (store : Store) (before : List ℕ) (r : Compacted) (after : List ℕ) → CompactIn ride store before r after
       → Decided Given (traceRules store before) (saysSize (r .size))

@@ -15,19 +15,28 @@ use mathlib.Core.Bool.{true, false}
 use mathlib.Core.List.{List, List·Memᴰ, map}
 use lib.Bits.{bitXor}
 use lib.ListN.{length}
-use Rattle.words.specs.Answer.{Answer, gives}
+use Rattle.words.specs.Answer.{Answer, Outcome, gives, refuses}
 use Rattle.words.specs.Why.{Why}
 use Rattle.words.specs.Plain.{among, figure}
 use Rattle.words.specs.Code.{exchanged}
 use Rattle.words.specs.Says.{saysShortRead, saysLongRead}
 use Rattle.telegram.specs.Place.{wordsAt, from, those}
+use Rattle.telegram.specs.Survey.{Alike, alike}
+use Rattle.telegram.specs.Says.{saysSurveyed}
 use Rattle.telegram.specs.declared.Telegram.{Telegram}
 use Rattle.telegram.specs.declared.Found.{Found}
 use Rattle.telegram.specs.declared.Surveyed.{Surveyed}
+use Rattle.settings.specs.declared.Store.{Store}
+use Rattle.settings.specs.declared.Held.{Held}
+use Rattle.settings.specs.declared.Asked.{Asked}
+use Rattle.contact.specs.Judge.{Contact, read}
+use Rattle.contact.specs.Says.{saysJudged, saysJudgedUnder}
 use Rattle.contact.specs.declared.Judged.{Judged}
+use Rattle.contact.specs.declared.JudgedUnder.{JudgedUnder}
 use Rattle.demands.specs.Table.{notCode}
 use Rattle.balise_line.specs.Line.{OneBalise, Proper, FewFlips, Clean, sentAt, flipsAt, placesOf}
 use Rattle.demands.specs.Contracts.{ReadShort, ReadLong, Find, Survey, JudgeContact}
+use Rattle.demands.specs.Stores.{AskAt, JudgeUnder}
 use Rattle.demands.specs.Calls.{HandedOut, Comes}
 
 -- An answer that gives a figure.
@@ -55,27 +64,42 @@ pub record TheSent (o : OneBalise) (p : ℕ) (m : Telegram) : Type 0 where
 abbrev pub ComesOf : OneBalise → List Found → Type 0
 ComesOf o w = Comes (o .buffer) (o .s) (o .t) (o .start) (o .len) w
 
--- The places taken together, by `judge` or `survey`: `Answers a` is that its contract allows the answer a; `differ` is its answer
--- that they differ (7), and `alike m first count` that they all read m, with the first of them and their number, for which there
--- must be so many at least. It never answers that they differ; what it reads is what was sent, at a true place; what it counts are
--- the places; and where there are enough of them, it reads.
-pub record TogetherTheSent (o : OneBalise) {A : Type 0} (Answers : A → Type 0) (least : ℕ) (differ : A) (alike : Telegram → ℕ → ℕ → A) : Type 0 where
-  pub never-7 : Answers differ → ⊥
-  pub first-sent : (m : Telegram) (first count : ℕ) → Answers (alike m first count) → TheSent o first m
-  pub counted : (m : Telegram) (first count : ℕ) → Answers (alike m first count) → count ≡ length (placesOf o)
-  pub enough : least ≤ length (placesOf o) → (a : A) → Answers a → (m : Telegram) × (first : ℕ) × (count : ℕ) × (a ≡ alike m first count)
+-- What judging the whole stretch says, where only the sent is heard.
+pub record JudgedTheSent (o : OneBalise) (said : Outcome Contact) : Type 0 where
+  -- the places never differ
+  pub never-7 : said ≡ refuses 7 → ⊥
+  -- what is read is what was sent, and its first place is a true one
+  pub first-sent : (m : Telegram) (first count : ℕ) → said ≡ gives (read (gives m) first count) → TheSent o first m
+  -- counted are the places of the stretch
+  pub counted : (m : Telegram) (first count : ℕ) → said ≡ gives (read (gives m) first count) → count ≡ length (placesOf o)
+  -- where there are two, it is read
+  pub enough : 2 ≤ length (placesOf o) → (m : Telegram) × (first : ℕ) × (count : ℕ) × (said ≡ gives (read (gives m) first count))
+
+-- What a survey of it says, likewise; one place is enough for it.
+pub record SurveyedTheSent (o : OneBalise) (said : Outcome Alike) : Type 0 where
+  -- the places never differ
+  pub never-7 : said ≡ refuses 7 → ⊥
+  -- what they read is what was sent, and the first is a true one
+  pub first-sent : (m : Telegram) (first count : ℕ) → said ≡ gives (alike (gives m) first count) → TheSent o first m
+  -- counted are the places of the stretch
+  pub counted : (m : Telegram) (first count : ℕ) → said ≡ gives (alike (gives m) first count) → count ≡ length (placesOf o)
+  -- where there is one, it is read
+  pub enough : 1 ≤ length (placesOf o) → (m : Telegram) × (first : ℕ) × (count : ℕ) × (said ≡ gives (alike (gives m) first count))
 
 -- "Every telegram handed out is the one sent, at its true place, and every unflipped telegram lying with both its sync words in
 -- the stretch is handed out": by `find`, asked as often as one likes (`every`) and until 6 (`unflipped`), and by those that take
--- all places together. All places are true and have the words sent, and the unflipped ones are among them.
+-- all places together, under a store of settings too. All places are true and have the words sent, and the unflipped ones are among them.
 pub record OnlyTheSent (o : OneBalise) : Type 0 where
   pub every : (p : ℕ) (m : Telegram) → HandedOut (o .buffer) (o .s) (o .t) (o .start) (o .len) p m → TheSent o p m
   pub unflipped : (w : List Found) → ComesOf o w → (p : ℕ) → sentAt o p ≡ true → flipsAt o p ≡ 0
       → List·Memᴰ (Found.At p (o .telegram)) w
   pub all-places : (p : ℕ) → among p (placesOf o) ≡ true → (sentAt o p ≡ true) × (wordsAt (o .buffer) p ≡ gives (o .telegram))
   pub unflipped-places : (p : ℕ) → sentAt o p ≡ true → flipsAt o p ≡ 0 → among p (placesOf o) ≡ true
-  pub judge : TogetherTheSent o (JudgeContact (o .buffer) (o .start) (o .len) (o .s) (o .t)) 2 Judged.Differ Judged.Read
-  pub survey : TogetherTheSent o (Survey (o .buffer) (o .start) (o .len) (o .s) (o .t)) 1 Surveyed.Differ Surveyed.Alike
+  pub judge : (r : Judged) → JudgeContact (o .buffer) (o .start) (o .len) (o .s) (o .t) r → JudgedTheSent o (saysJudged r)
+  pub survey : (r : Surveyed) → Survey (o .buffer) (o .start) (o .len) (o .s) (o .t) r → SurveyedTheSent o (saysSurveyed r)
+  -- with the balise's sync words in force at the odometer given with the contact
+  pub judge-under : (store : Store) (odometer : ℕ) (held : Held) (r : JudgedUnder) → AskAt store odometer (Asked.InForce held) → held .s ≡ o .s → held .t ≡ o .t
+      → JudgeUnder store odometer (o .buffer) (o .start) (o .len) r → JudgedTheSent o (saysJudgedUnder r)
 
 -- What comes of a clean stretch: the telegram sent, at each true place, in order.
 abbrev pub allSent : OneBalise → List Found

@@ -19,6 +19,7 @@ pub mod Output
 pub mod ListCalls
 pub mod Sections
 pub mod PlainGap
+pub mod Settings
 pub mod Calls
 pub mod Said
 pub mod Demand2

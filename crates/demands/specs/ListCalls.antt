@@ -7,6 +7,7 @@ use mathlib.Core.List.{List, [], _∷_, _++_}
 use lib.ListN.{take, drop}
 use Rattle.settings.specs.declared.Store.{Store}
 use Rattle.ride.specs.declared.Ride.{Ride}
+use Rattle.ride_text.specs.Style.{plain}
 use Rattle.ride_text.specs.declared.Done.{Done}
 use Rattle.ride_text.specs.declared.Listed.{Listed}
 use Rattle.demands.specs.Table.{badLength}
@@ -48,9 +49,9 @@ ByCalls Lists ride number left (c ∷ cs) =
     Lent left c × Lists ride number (c .block) (c .before) (c .answer) (c .after)
     × ByCalls Lists (c .answer .ride) (c .answer .number) (drop (taken (c .answer .done) * 8) left) cs
 
--- Calls of `list` under a store.
+-- Calls of `list` under a store, without reasons.
 abbrev pub ByList : Store → Ride → ℕ → List ℕ → List Call → Type 0
-ByList store = ByCalls λ ride number block before answer after. ListInto ride store number block before answer after
+ByList store = ByCalls λ ride number block before answer after. ListInto plain ride store number block before answer after
 
 -- The texts that they write, one after the other.
 abbrev pub textFrom : List Call → List ℕ

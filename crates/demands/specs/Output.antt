@@ -25,12 +25,11 @@ use Rattle.ride.specs.declared.Linking.{Linking}
 use Rattle.ride.specs.declared.Mark.{Mark}
 use Rattle.ride.specs.declared.Ran.{Ran}
 use Rattle.ride.specs.declared.Ride.{Ride}
-use Rattle.ride_text.specs.Text.{codes, text}
-use Rattle.ride_text.specs.Put.{placed}
-use Rattle.ride_text.specs.List.{textOf}
+use Rattle.text.specs.Put.{placed}
+use Rattle.ride_text.specs.Text.{codes, text, textOf}
+use Rattle.ride_text.specs.Style.{plain}
 use Rattle.ride_text.specs.declared.Done.{Done}
 use Rattle.ride_text.specs.declared.Listed.{Listed}
-use Rattle.ride_text.specs.declared.Put.{Put}
 use Rattle.demands.specs.Table.{badLength, notSeven}
 use Rattle.demands.specs.Contracts.{Fresh, EndOf, RunOver, PutLine, ListInto}
 use Rattle.demands.specs.Stores.{BeginStore, Good}
@@ -85,7 +84,7 @@ abbrev pub AllQuoted : List Quoted → Type 0
 AllQuoted [] = Unit {0}
 AllQuoted (q ∷ qs) = (text (q .line) ≡ q .reads) × AllQuoted qs
 
--- What `list` comes to, from any ride, number and room, with the gap that a rule gives for each record's odometer: so many records are taken, one at least where there is one and room for
+-- What `list` without reasons comes to, from any ride, number and room, with the gap that a rule gives for each record's odometer: so many records are taken, one at least where there is one and room for
 -- 128 bytes, and all where there is room for 128 bytes each; the bytes that it says it wrote are the text of their lines; the ride and the number are those after them; the buffer's
 -- other bytes stay.
 pub record Takes (gaps : ℕ → ℕ) (ride : Ride) (number : ℕ) (trace before : List ℕ) (l : Listed) (after : List ℕ) : Type 0 where
@@ -104,18 +103,18 @@ pub record Takes (gaps : ℕ → ℕ) (ride : Ride) (number : ℕ) (trace before
 -- to one listing is specs/Sections.antt. Its reads and writes are not proved: docs/EXCEPTIONS.md.)
 pub record Written : Type 0 where
   -- `put_line` puts a line's text where it has room, and says where it ends; else it leaves the buffer
-  pub puts : (line : Line) (before : List ℕ) (at : ℕ) (r : Put) (after : List ℕ) → PutLine line before at r after
-      → at + length (text line) ≤ length before → (r ≡ Put.Next (at + length (text line))) × (after ≡ placed (text line) before at)
-  pub no-room : (line : Line) (before : List ℕ) (at : ℕ) (r : Put) (after : List ℕ) → PutLine line before at r after
-      → length before < at + length (text line) → (r ≡ Put.NoRoom) × (after ≡ before)
+  pub puts : (line : Line) (before : List ℕ) (at : ℕ) (r : ℕ) (after : List ℕ) → PutLine line before at r after
+      → at + length (text line) ≤ length before → (r ≡ at + length (text line)) × (after ≡ placed (text line) before at)
+  pub no-room : (line : Line) (before : List ℕ) (at : ℕ) (r : ℕ) (after : List ℕ) → PutLine line before at r after
+      → length before < at + length (text line) → (r ≡ at) × (after ≡ before)
   -- document 01's lines, to the letter
   pub quotes : AllQuoted quoted
   -- `list` takes records and writes their lines
   pub takes : (ride : Ride) (store : Store) (number : ℕ) (trace before : List ℕ) (l : Listed) (after : List ℕ) → Good store → badLength trace ≡ false
-      → ListInto ride store number trace before l after → Takes (gapAt store) ride number trace before l after
+      → ListInto plain ride store number trace before l after → Takes (gapAt store) ride number trace before l after
   -- with room for 128 bytes a record it takes them all, and with the lines of `end` its bytes are the output, under a store of the program's gap
   pub whole : (store : Store) (f : Ride) (l : Listed) (e : Ended) (trace before after : List ℕ) → Forty store → badLength trace ≡ false → recordsIn trace < largest64
-      → 128 * recordsIn trace ≤ length before → Fresh f → ListInto f store 1 trace before l after → EndOf (l .ride) e
+      → 128 * recordsIn trace ≤ length before → Fresh f → ListInto plain f store 1 trace before l after → EndOf (l .ride) e
       → (bytes : ℕ) × (l .done ≡ Done.Took (recordsIn trace) bytes) × (take bytes after ++ textOf (saysLines (e .lines)) ≡ output trace)
   -- for a bad trace length the output is the one line
   pub refused : (trace : List ℕ) → badLength trace ≡ true → output trace ≡ text (Line.Trace 16)
@@ -141,6 +140,6 @@ pub record OneRide : Type 0 where
       × (r .ride .known .number ≡ Number.None)
   -- all its bytes come from `list`, and the end adds none
   pub listed : (store : Store) (f : Ride) (l : Listed) (before after : List ℕ) → Forty store → Fresh f → 384 ≤ length before
-      → ListInto f store 1 oneRide before l after → after ≡ itsLines ++ drop (length itsLines) before
+      → ListInto plain f store 1 oneRide before l after → after ≡ itsLines ++ drop (length itsLines) before
   pub no-more : (store : Store) (f : Ride) (r : Ran) (e : Ended) → Forty store → Fresh f → RunOver f store oneRide r → EndOf (r .ride) e
       → saysLines (e .lines) ≡ []

@@ -14,6 +14,7 @@ use Rattle.ride.specs.Says.{saysRan}
 use Rattle.ride.specs.declared.Ran.{Ran}
 use Rattle.ride.specs.declared.Ride.{Ride}
 use Rattle.ride_text.specs.Says.{saysDone}
+use Rattle.ride_text.specs.Style.{Style}
 use Rattle.ride_text.specs.declared.Listed.{Listed}
 use Rattle.compaction.specs.Says.{saysSize}
 use Rattle.compaction.specs.declared.Compacted.{Compacted}
@@ -42,8 +43,8 @@ pub record PlainGap : Type 1 where
   -- "19, then 16": of a run, a listing, a compaction (M-107) and a viewer that opens (M-108)
   pub run : (gap : ℕ) (b : Begun) → Opened gap b → (ride : Ride) (trace : List ℕ) (r : Ran) → RunOver ride (b .store) trace r
       → Decided (Is through) (runRules gap trace) (saysRan r .answer)
-  pub list : (gap : ℕ) (b : Begun) → Opened gap b → (ride : Ride) (number : ℕ) (trace before : List ℕ) (r : Listed) (after : List ℕ)
-      → ListInto ride (b .store) number trace before r after → Decided Given (runRules gap trace) (saysDone (r .done))
+  pub list : (gap : ℕ) (b : Begun) → Opened gap b → (style : Style) (ride : Ride) (number : ℕ) (trace before : List ℕ) (r : Listed) (after : List ℕ)
+      → ListInto style ride (b .store) number trace before r after → Decided Given (runRules gap trace) (saysDone (r .done))
   pub compact : (gap : ℕ) (b : Begun) → Opened gap b → (ride : Ride) (before : List ℕ) (r : Compacted) (after : List ℕ)
       → CompactIn ride (b .store) before r after → Decided Given (runRules gap before) (saysSize (r .size))
   pub start : (gap : ℕ) (b : Begun) → Opened gap b → (trace : RefT (List ℕ)) (r : Started) → Starts (b .store) trace r

@@ -1,5 +1,5 @@
 -- What the contracts of the public functions of `group_rows`, `group`, `ride` and `ride_text` allow, as Contracts.antt says it. In `put_line` and `list` the
--- bytes of the second and of the fifth parameter at the end are taken out of e.
+-- bytes of the second and of the sixth parameter at the end are taken out of e.
 -- Assumes nothing.
 use Prim.Native.Nat.{ℕ}
 use mathlib.Core.Path.{_≡_}
@@ -22,7 +22,7 @@ use Rattle.ride.specs.declared.trace.Treated.{Treated}
 use Rattle.ride.specs.declared.Ended.{Ended}
 use Rattle.ride.specs.declared.Ran.{Ran}
 use Rattle.ride.specs.declared.Line.{Line}
-use Rattle.ride_text.specs.declared.Put.{Put}
+use Rattle.ride_text.specs.Style.{Style}
 use Rattle.ride_text.specs.declared.Listed.{Listed}
 use Rattle.group.proofs.distance.Kinds as distance-kinds
 use Rattle.group.proofs.distance.Reads as distance-reads
@@ -96,16 +96,16 @@ RunOver ride store trace r =
     (κs : Lfts 1) × (lent : RefT (List ℕ)) × (e : AtExit (endedOf 1 run-kinds.ps run-kinds.r) κs)
     × (now lent ≡ trace) × run-reads.Post κs (ride, (store, (lent, tt))) r e
 
--- The contract of `put_line` allows the answer r for this line at this place, and that the lent buffer, which held `before`,
+-- The contract of `put_line` allows the place r for this line at this place, and that the lent buffer, which held `before`,
 -- holds `after` then.
-abbrev pub PutLine : Line → List ℕ → ℕ → Put → List ℕ → Type 0
+abbrev pub PutLine : Line → List ℕ → ℕ → ℕ → List ℕ → Type 0
 PutLine line before at r after =
     (κs : Lfts 1) × (lent : RefT (List ℕ)) × (e : AtExit (endedOf 1 put-line-kinds.ps put-line-kinds.r) κs)
     × (now lent ≡ before) × (now (e .1 .0) ≡ after) × put-line-reads.Post κs (line, (lent, (at, tt))) r e
 
--- The contract of `list` allows the answer r for this trace, and that the lent buffer, which held `before`, holds `after` then.
-abbrev pub ListInto : Ride → Store → ℕ → List ℕ → List ℕ → Listed → List ℕ → Type 0
-ListInto ride store number trace before r after =
+-- The contract of `list` in this style allows the answer r for this trace, and that the lent buffer, which held `before`, holds `after` then.
+abbrev pub ListInto : Style → Ride → Store → ℕ → List ℕ → List ℕ → Listed → List ℕ → Type 0
+ListInto style ride store number trace before r after =
     (κs : Lfts 2) × (lent : RefT (List ℕ)) × (out : RefT (List ℕ)) × (e : AtExit (endedOf 2 list-kinds.ps list-kinds.r) κs)
-    × (now lent ≡ trace) × (now out ≡ before) × (now (e .1 .1 .1 .1 .0) ≡ after)
-    × list-reads.Post κs (ride, (store, (number, (lent, (out, tt))))) r e
+    × (now lent ≡ trace) × (now out ≡ before) × (now (e .1 .1 .1 .1 .1 .0) ≡ after)
+    × list-reads.Post κs (style, (ride, (store, (number, (lent, (out, tt)))))) r e

@@ -23,8 +23,8 @@ use Rattle.ride.specs.declared.Line.{Line}
 use Rattle.ride.specs.declared.Ran.{Ran}
 use Rattle.ride.specs.declared.Ride.{Ride}
 use Rattle.ride.specs.declared.Stepped.{Stepped}
-use Rattle.ride_text.specs.Text.{text}
-use Rattle.ride_text.specs.List.{textOf}
+use Rattle.ride_text.specs.Text.{text, textOf}
+use Rattle.ride_text.specs.Style.{plain}
 use Rattle.demands.specs.Table.{badLength}
 use Rattle.demands.specs.Contracts.{Fresh, StepOf, EndOf, RunOver, ListInto}
 use Rattle.demands.specs.Stores.{Good}
@@ -128,11 +128,11 @@ pub record Blocks : Type 0 where
   -- so long as it has room for one record, a call takes one, so that the calls come to an end
   pub goes-on : (ride : Ride) (store : Store) (number : ℕ) (c : Call) → Good store → Whole (c .block) → 1 ≤ recordsIn (c .block)
       → 128 ≤ length (c .before) → number < largest64
-      → ListInto ride store number (c .block) (c .before) (c .answer) (c .after) → 1 ≤ taken (c .answer .done)
+      → ListInto plain ride store number (c .block) (c .before) (c .answer) (c .after) → 1 ≤ taken (c .answer .done)
   -- with room for 128 bytes a record it takes the whole block
   pub all-at-once : (ride : Ride) (store : Store) (number : ℕ) (c : Call) → Good store → Whole (c .block)
       → 128 * recordsIn (c .block) ≤ length (c .before) → number + recordsIn (c .block) ≤ largest64
-      → ListInto ride store number (c .block) (c .before) (c .answer) (c .after) → taken (c .answer .done) ≡ recordsIn (c .block)
+      → ListInto plain ride store number (c .block) (c .before) (c .answer) (c .after) → taken (c .answer .done) ≡ recordsIn (c .block)
   -- the cards from a fresh ride, the first record with the number 1, and then the end: what the program writes
   pub program : (store : Store) (f : Ride) (cards : List (List ℕ)) (calls : List Call) (e : Ended) → Good store → anyBad cards ≡ false → Fresh f
       → ByList store f 1 (joined cards) calls → EndOf (afterCalls f calls) e → textFrom calls ++ textOf (saysLines (e .lines)) ≡ outputUnder store cards

@@ -18,13 +18,11 @@ use Rattle.settings.specs.declared.Begun.{Begun}
 use Rattle.settings.specs.declared.Added.{Added}
 use Rattle.settings.specs.declared.Asked.{Asked}
 use Rattle.settings.specs.Versions.{kept}
-use Rattle.settings.specs.Store.{judged, lastPlace}
+use Rattle.settings.specs.Store.{noStore, judged, lastPlace}
 use Rattle.settings.specs.At.{heldAt}
 use Rattle.settings.specs.Says.{saysVerdict, saysAsked}
 use Rattle.contact.specs.Says.{saysJudgedUnder}
 use Rattle.contact.specs.declared.JudgedUnder.{JudgedUnder}
-use Rattle.ride.specs.declared.Ride.{Ride}
-use Rattle.ride_text.specs.declared.Listed.{Listed}
 use Rattle.settings.proofs.begin.Kinds as begin-kinds
 use Rattle.settings.proofs.begin.Reads as begin-reads
 use Rattle.settings.proofs.add.Kinds as add-kinds
@@ -33,8 +31,6 @@ use Rattle.settings.proofs.at.Kinds as at-kinds
 use Rattle.settings.proofs.at.Reads as at-reads
 use Rattle.contact.proofs.judge_under.Kinds as judge-kinds
 use Rattle.contact.proofs.judge_under.Reads as judge-reads
-use Rattle.explained.proofs.list.Kinds as explained-kinds
-use Rattle.explained.proofs.list.Reads as explained-reads
 use Rattle.demands.specs.Table.{notSeven, badLength, badGap}
 use Rattle.demands.specs.Table02.{tooHigh, notAbove, startsLate, full, overfull}
 use Rattle.demands.specs.Rules.{Rule, row, Decided, Given, Is}
@@ -59,14 +55,6 @@ abbrev pub JudgeUnder : Store → ℕ → List ℕ → ℕ → ℕ → JudgedUnd
 JudgeUnder store odometer b start len r =
     (κs : Lfts 1) × (buf : RefT (List ℕ)) × (e : AtExit (endedOf 1 judge-kinds.ps judge-kinds.r) κs)
     × (now buf ≡ b) × judge-reads.Post κs (store, (odometer, (buf, (start, (len, tt))))) r e
-
--- The contract of `explained::list`, which tells reasons too, allows the answer r for this trace, and that the lent buffer, which held `before`, holds
--- `after` then.
-abbrev pub ExplainInto : Ride → Store → ℕ → List ℕ → List ℕ → Listed → List ℕ → Type 0
-ExplainInto ride store number trace before r after =
-    (κs : Lfts 2) × (lent : RefT (List ℕ)) × (out : RefT (List ℕ)) × (e : AtExit (endedOf 2 explained-kinds.ps explained-kinds.r) κs)
-    × (now lent ≡ trace) × (now out ≡ before) × (now (e .1 .1 .1 .1 .0) ≡ after)
-    × explained-reads.Post κs (ride, (store, (number, (lent, (out, tt))))) r e
 
 -- A store that is judged good, as every one that `begin` and `add` made is.
 abbrev pub Good : Store → Type 0
@@ -115,7 +103,7 @@ pub record StoresDecided : Type 0 where
       (storeRules store (row 18 (tooHigh odometer) ∷ judgeRules b start len (heldAt store odometer .s) (heldAt store odometer .t)))
       (saysJudgedUnder r)
 
--- "the store is unchanged"; a store that is not opened is none.
+-- "the store is unchanged"; where none is opened there is none: `noStore`, whose count is 0, whatever was asked.
 pub record StoresUntouched : Type 0 where
-  pub begin : (gap s t : ℕ) (r : Begun) (n : ℕ) → BeginStore gap s t r → saysVerdict (r .verdict) ≡ refuses n → r .store .count ≡ 0
+  pub begin : (gap s t : ℕ) (r : Begun) (n : ℕ) → BeginStore gap s t r → saysVerdict (r .verdict) ≡ refuses n → r .store ≡ noStore
   pub add : (store : Store) (v : Version) (r : Added) (n : ℕ) → AddVersion store v r → saysVerdict (r .verdict) ≡ refuses n → r .store ≡ store

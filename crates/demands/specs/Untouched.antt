@@ -33,12 +33,12 @@ use Rattle.compaction.specs.declared.Compacted.{Compacted}
 use Rattle.compaction.specs.declared.Block.{Block}
 use Rattle.viewer.specs.Says.{saysBegun as saysOpened, saysHow}
 use Rattle.ride_text.specs.Says.{saysDone}
-use Rattle.ride_text.specs.declared.Put.{Put}
+use Rattle.ride_text.specs.Style.{Style}
 use Rattle.ride_text.specs.declared.Listed.{Listed}
-use Rattle.demands.specs.Contracts.{Write, JudgeGroup, StepOf, TreatAt, EndOf, RunOver, PutLine, ListInto}
+use Rattle.demands.specs.Contracts.{Write, JudgeGroup, StepOf, TreatAt, EndOf, RunOver, ListInto}
 use Rattle.demands.specs.Compacting.{CompactIn, BlockIn}
 use Rattle.demands.specs.Steps.{OneStep, LeavesBehind}
-use Rattle.demands.specs.Stores.{ExplainInto, StoresUntouched}
+use Rattle.demands.specs.Stores.{StoresUntouched}
 use Rattle.demands.specs.Viewing.{ViewersUntouched}
 use Rattle.demands.specs.Plans.{PlansUntouched}
 
@@ -48,8 +48,8 @@ abbrev pub Bare : {R A B : Type 0} → (A → Answer R B) → Type 0
 Bare {R} {A} says = (refusal : R) (r r′ : A) → says r ≡ refuses refusal → says r′ ≡ refuses refusal → r ≡ r′
 
 -- "A refusal hands out no figure, and lent memory and the running state stay untouched unless the table says otherwise."
--- Of the functions with a list only those of `ride_text`, `explained`, `balise_writer` and `compaction` are lent memory that they may write; a search is given by value,
--- and a refusal of `next_contact` gives none back. Those that put a text into a lent buffer (of `text`, `contact_text`, `group_reason`, `explained`, `settings_text`, `acceptance_text`, `depot`,
+-- Of the functions with a list only those of `ride_text`, `balise_writer` and `compaction` are lent memory that they may write; a search is given by value,
+-- and a refusal of `next_contact` gives none back. Those that put a text into a lent buffer (of `text`, `contact_text`, `group_reason`, `ride_text`, `settings_text`, `acceptance_text`, `depot`,
 -- `viewer_text`, `audibility`) refuse with no number: what they leave without room is in their contracts. (The face for C: `left` of crates/abi/specs/Face.antt.)
 pub record Untouched : Type 0 where
   -- a refused step closes no group, and it and a refused run leave the ride as it was
@@ -58,15 +58,10 @@ pub record Untouched : Type 0 where
   pub treat-at : (ride : Ride) (gap : ℕ) (trace : List ℕ) (i : ℕ) (r : Treated) (n : ℕ) → TreatAt ride gap trace i r
       → saysTreated r .reply ≡ refuses n → (r .ride ≡ ride) × (r .closed ≡ noGroup)
   pub run : (ride : Ride) (store : Store) (trace : List ℕ) (r : Ran) (n : ℕ) → RunOver ride store trace r → saysRan r .answer ≡ refuses n → r .ride ≡ ride
-  -- so does a refused listing, which leaves the number and the lent buffer too; a line without room leaves the buffer
-  pub list : (ride : Ride) (store : Store) (number : ℕ) (trace before : List ℕ) (r : Listed) (after : List ℕ) (n : ℕ)
-      → ListInto ride store number trace before r after → saysDone (r .done) ≡ refuses n
+  -- so does a refused listing, which leaves the number and the lent buffer too
+  pub list : (style : Style) (ride : Ride) (store : Store) (number : ℕ) (trace before : List ℕ) (r : Listed) (after : List ℕ) (n : ℕ)
+      → ListInto style ride store number trace before r after → saysDone (r .done) ≡ refuses n
       → (r .ride ≡ ride) × (r .number ≡ number) × (after ≡ before)
-  pub explain : (ride : Ride) (store : Store) (number : ℕ) (trace before : List ℕ) (r : Listed) (after : List ℕ) (n : ℕ)
-      → ExplainInto ride store number trace before r after → saysDone (r .done) ≡ refuses n
-      → (r .ride ≡ ride) × (r .number ≡ number) × (after ≡ before)
-  pub put-line : (line : Line) (before : List ℕ) (at : ℕ) (r : Put) (after : List ℕ) → PutLine line before at r after
-      → r ≡ Put.NoRoom → after ≡ before
   -- so does a refused writing
   pub write : (x y z s t n : ℕ) (before : List ℕ) (r : Written) (after : List ℕ) (k : ℕ) → Write x y z s t n before r after → saysAnswer r ≡ refuses k → after ≡ before
   -- so does a refused compaction, of a trace or of a block of it

@@ -1,17 +1,8 @@
-// The strips of a ride, record by record.
-ghost use mathlib.Core.Path.{_≡_};
-ghost use lib.ListN.{length};
-use cards::How;
+// The strips of a ride, record by record. What a record adds is far less than the room behind the first 65,536 bytes of the lent buffer.
+use console::Goes;
 use ride_drawing::Drawing;
 use settings::Asked;
 use settings::Store;
-
-// Room for the strips' text and the listing's: what a record adds, at most 8192 bytes, fits after the first 65536.
-pub fn room() -> [u8; 2621440]
-    ensures { λ r. ⌜ 2621440 ≡ length r ⌝ }
-{
-    [0; 2621440]
-}
 
 // Where the drawing stands, how many bytes wait to be written, and whether all reads and writes so far succeeded.
 struct Stand {
@@ -53,25 +44,25 @@ fn draw_records(from: Stand, store: Store, records: &[u8], out: &mut [u8]) -> St
 }
 
 // What comes after the last block: the end of the ride, or what failed.
-fn finish(how: How, stand: Stand, out: &mut [u8]) -> bool {
+fn finish(how: Goes, stand: Stand, out: &mut [u8]) -> bool {
     match how {
-        How::End => {
+        Goes::End => {
             let drawing = stand.drawing;
             let pen = drawing.pen;
             let ride = drawing.ride;
             let n = ride_drawing::draw_end(pen, ride, out, stand.at);
             console::put(b"draw", out, n)
         }
-        How::CannotOpen(number) => {
-            cards::cannot_open(b"draw", number);
+        Goes::CannotOpen(number) => {
+            console::cannot_open(b"draw", number);
             false
         }
-        How::CannotRead(number) => {
-            cards::cannot_read(b"draw", number);
+        Goes::CannotRead(number) => {
+            console::cannot_read(b"draw", number);
             false
         }
-        How::NoRoom => false,
-        How::More => false,
+        Goes::NoRoom => false,
+        Goes::More => false,
     }
 }
 
@@ -83,17 +74,17 @@ fn draw_blocks(drawing: Drawing, store: Store, first: usize, lengths: &[u64], bl
         at: 0,
         is_good: true,
     };
-    let mut pass = cards::begin(first);
+    let mut pass = console::begin(first);
     let mut turns = u64::MAX;
     while turns > 0 {
-        let got = cards::next_block(pass, lengths, block);
+        let got = console::next_block(pass, lengths, block);
         let read = got.read;
         stand = draw_records(stand, store, &block[..read], out);
         if !stand.is_good {
             return false;
         }
         let how = got.how;
-        let How::More = how else {
+        let Goes::More = how else {
             return finish(how, stand, out);
         };
         pass = got.pass;

@@ -9,20 +9,23 @@ use lib.Dec.{eqb}
 use lib.ListN.{length, length-append}
 use Rattle.words.specs.Answer.{pick}
 use Rattle.words.specs.declared.Parity.{Parity}
-use Rattle.text.specs.Text.{codes, decimal}
+use Rattle.words.specs.Why.{Why, why, are, unsaid}
+use Rattle.text.specs.Text.{codes, digits, decimal}
 use Rattle.text.proofs.Decimal.{decimal-length}
 use Rattle.text.proofs.Standing.{numbered}
 use Rattle.telegram.specs.declared.Word.{Word}
-use Rattle.group_reason.specs.declared.Bad.{Bad}
-use Rattle.group_reason.specs.declared.Reason.{Reason}
-use Rattle.group_reason.specs.Text.{letter, refusedOne, badly, baliseAt, soMany, reasonText}
+use Rattle.telegram.specs.Telegram.{badWord}
+use Rattle.group_reason.specs.declared.Bad.{Bad as Badly}
+use Rattle.group_reason.specs.Reason.{Bad, unreadable, word, balises, bad, opens, figure, Explained, noReason, because}
+use Rattle.group_reason.specs.Says.{saysBad}
+use Rattle.group_reason.specs.Text.{letter, refusedAs, badly, baliseAt, soMany, reasonText}
 
-pub not-code-is : (w : Word) (p : Parity) → letter w ++ refusedOne p ≡ badly (Bad.NotCode w p)
+pub not-code-is : (w : Word) (p : Parity) → letter w ++ refusedAs (why 1 (are p)) ≡ badly (saysBad (Badly.NotCode w p))
 unfolding badly
 not-code-is w p = refl
 
-pub fifteen-is : (w : Word) → letter w ++ codes " refused 3" ≡ badly (Bad.Fifteen w)
-unfolding badly
+pub fifteen-is : (w : Word) → letter w ++ codes " refused 3" ≡ badly (saysBad (Badly.Fifteen w))
+unfolding badly refusedAs decimal digits
 fifteen-is w = refl
 
 pub balise-is : (i place : ℕ) → numbered "balise " (i + 1) ++ numbered " at " place ≡ baliseAt i place
@@ -33,15 +36,15 @@ pub many-is : (n : ℕ) → eqb n 255 ≡ false → numbered "" n ++ codes " bal
 unfolding soMany
 many-is n e = rw e
 
-pub one-is : (n : ℕ) → numbered "" n ++ codes " balise" ≡ reasonText (Reason.One n)
+pub one-is : (n : ℕ) → numbered "" n ++ codes " balise" ≡ reasonText (because 10 (balises n))
 unfolding reasonText
 one-is n = refl
 
-pub unread-is : (i place : ℕ) (b : Bad) → baliseAt i place ++ badly b ≡ reasonText (Reason.Unread i place b)
+pub unread-is : (i place : ℕ) (b : Bad) → baliseAt i place ++ badly b ≡ reasonText (because 12 (bad i place b))
 unfolding reasonText
 unread-is i place b = refl
 
-pub run-is : (run of : ℕ) → numbered "" run ++ numbered " of " of ++ codes " balises open a permitted group" ≡ reasonText (Reason.NoRow run of)
+pub run-is : (run of : ℕ) → numbered "" run ++ numbered " of " of ++ codes " balises open a permitted group" ≡ reasonText (because 13 (opens run of))
 unfolding reasonText
 run-is run of = simp append-assoc
 
@@ -52,16 +55,16 @@ letter-length Word.Y = omega arith
 letter-length Word.Z = omega arith
 letter-length Word.YZ = omega arith
 
-refused-length : (p : Parity) → length (refusedOne p) ≤ 15
-unfolding refusedOne
-refused-length Parity.Odd = omega arith
-refused-length Parity.Even = omega arith
+refused-length : (y : Why) → length (refusedAs y) ≤ 34
+unfolding refusedAs
+refused-length (why n (are Parity.Odd)) = simp length-append (omega (arith, decimal-length n))
+refused-length (why n (are Parity.Even)) = simp length-append (omega (arith, decimal-length n))
+refused-length (why n unsaid) = simp length-append (omega (arith, decimal-length n))
 
-bad-length : (b : Bad) → length (badly b) ≤ 23
+bad-length : (b : Bad) → length (badly b) ≤ 42
 unfolding badly
-bad-length Bad.Unreadable = omega arith
-bad-length (Bad.NotCode w p) = simp length-append (omega (arith, letter-length w, refused-length p))
-bad-length (Bad.Fifteen w) = simp length-append (omega (arith, letter-length w))
+bad-length unreadable = omega arith
+bad-length (word (badWord w y)) = simp length-append (omega (arith, letter-length w, refused-length y))
 
 balise-length : (i place : ℕ) → length (baliseAt i place) ≤ 51
 unfolding baliseAt
@@ -75,12 +78,15 @@ many-length n = go (eqb n 255)
     go true = omega arith
     go false = simp length-append (omega (arith, decimal-length n))
 
+count-length : (so : Bool) (n : ℕ) → length (pick so (decimal n ++ codes " balise") (soMany n)) ≤ 96
+count-length true n = simp length-append (omega (arith, decimal-length n))
+count-length false n = omega (arith, many-length n)
+
 -- No reason is longer than this.
-pub reason-length : (r : Reason) → length (reasonText r) ≤ 96
+pub reason-length : (e : Explained) → length (reasonText e) ≤ 96
 unfolding reasonText
-reason-length Reason.None = omega arith
-reason-length (Reason.One n) = simp length-append (omega (arith, decimal-length n))
-reason-length (Reason.Many n) = omega (arith, many-length n)
-reason-length (Reason.Unread i place b) = simp length-append (omega (arith, balise-length i place, bad-length b))
-reason-length (Reason.NoRow run of) = simp length-append (omega (arith, decimal-length run, decimal-length of))
-reason-length (Reason.NoDistance i place) = omega (arith, balise-length i place)
+reason-length noReason = omega arith
+reason-length (because n (balises k)) = count-length (eqb n 10) k
+reason-length (because n (bad i place b)) = simp length-append (omega (arith, balise-length i place, bad-length b))
+reason-length (because n (opens run k)) = simp length-append (omega (arith, decimal-length run, decimal-length k))
+reason-length (because n (figure i place)) = omega (arith, balise-length i place)

@@ -25,6 +25,12 @@ use Rattle.group.specs.Numbers.{numberOf}
 use Rattle.group.specs.declared.Message.{Message}
 use Rattle.group.specs.Judge.{yOf, B, signalDistance, contentOf, messageOf, judgeAs, judgeRead, judge}
 use Rattle.group.specs.Says.{saysGroupJudged}
+use borrow.Fn.Kinds.{endedOf}
+use denote.Triple.Clauses.{AtExit}
+use Rattle.group.proofs.judge.Kinds as judge-kinds
+use Rattle.group.proofs.judge.Reads as judge-reads
+use Rattle.group_reason.proofs.explain.Kinds as explain-kinds
+use Rattle.group_reason.proofs.explain.Reads as explain-reads
 use Rattle.group_reason.specs.declared.Reason.{Reason}
 use Rattle.group_reason.specs.Opening.{openingRun}
 use Rattle.group_reason.specs.Reason.{Cause, balises, bad, Explained, noReason, because}
@@ -123,7 +129,7 @@ of-few g = go (readFrom 0 (received.balises g)) refl (read-unnamed 0 (received.b
         let is : c ≡ bad (n .index) (n .place) (n .what) = n .is ∙ ap (λ (i : ℕ). bad i (n .place) (n .what)) first in
         rw (read, is) (why-12 (n .index) (n .place) (n .what) (n .first))
 
-of-group : (g : Group) → Right g (judge g) (explain g)
+pub of-group : (g : Group) → Right g (judge g) (explain g)
 unfolding judge explain
 of-group g = go (eqb (g .count) 1) refl (ltb 5 (g .count)) refl
   where
@@ -144,6 +150,13 @@ reasoned g n e (why-15 i place h) q = cannot-be cc
 accepted : (g : Group) (o : Outcome Message) (e : Explained) → Right g o e → e ≡ noReason → (m : Message) × (o ≡ gives m)
 accepted g (gives m) e r q = (m, refl)
 accepted g (refuses n) e r q = absurd (reasoned g n e r q)
+
+-- What the contracts of `explain` and of `group::judge` promise.
+pub explains-tied : (g : Group) (r : Reason) (x : AtExit (endedOf 0 explain-kinds.ps explain-kinds.r) tt) → explain-reads.Post tt (g, tt) r x → Explains g r
+explains-tied g r x p = p
+
+pub judges-tied : (g : Group) (j : GroupJudged) (x : AtExit (endedOf 0 judge-kinds.ps judge-kinds.r) tt) → judge-reads.Post tt (g, tt) j x → Judges g j
+judges-tied g j x p = p
 
 right : (g : Group) (r : Reason) (j : GroupJudged) → Explains g r → Judges g j → Right g (saysGroupJudged j) (saysReason r)
 right g r j e f = rw (e, f) (of-group g)

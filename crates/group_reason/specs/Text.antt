@@ -7,10 +7,11 @@ use mathlib.Core.List.{List, [], _++_}
 use lib.Dec.{eqb}
 use Rattle.words.specs.Answer.{pick}
 use Rattle.words.specs.declared.Parity.{Parity}
+use Rattle.words.specs.Why.{Why, why, are, unsaid}
 use Rattle.text.specs.Text.{codes, decimal}
 use Rattle.telegram.specs.declared.Word.{Word}
-use Rattle.group_reason.specs.declared.Bad.{Bad}
-use Rattle.group_reason.specs.declared.Reason.{Reason}
+use Rattle.telegram.specs.Telegram.{badWord}
+use Rattle.group_reason.specs.Reason.{Bad, unreadable, word, balises, bad, opens, figure, Explained, noReason, because}
 
 -- Which word is bad.
 unfoldable pub letter : Word → List ℕ
@@ -19,16 +20,16 @@ letter Word.Y = codes " word Y"
 letter Word.Z = codes " word Z"
 letter Word.YZ = codes " word YZ"
 
--- A word refused with 1, and whether its ones are odd or even in number.
-unfoldable pub refusedOne : Parity → List ℕ
-refusedOne Parity.Odd = codes " refused 1 odd"
-refusedOne Parity.Even = codes " refused 1 even"
+-- That it is refused, with which number, and whether its ones are odd or even in number where that is said.
+unfoldable pub refusedAs : Why → List ℕ
+refusedAs (why n (are Parity.Odd)) = codes " refused " ++ decimal n ++ codes " odd"
+refusedAs (why n (are Parity.Even)) = codes " refused " ++ decimal n ++ codes " even"
+refusedAs (why n unsaid) = codes " refused " ++ decimal n
 
 -- What is bad about a balise.
 unfoldable pub badly : Bad → List ℕ
-badly Bad.Unreadable = codes " unreadable"
-badly (Bad.NotCode w p) = letter w ++ refusedOne p
-badly (Bad.Fifteen w) = letter w ++ codes " refused 3"
+badly unreadable = codes " unreadable"
+badly (word (badWord w y)) = letter w ++ refusedAs y
 
 -- The balise with the index i and its place.
 unfoldable pub baliseAt : ℕ → ℕ → List ℕ
@@ -38,11 +39,10 @@ baliseAt i place = codes "balise " ++ decimal (i + 1) ++ codes " at " ++ decimal
 unfoldable pub soMany : ℕ → List ℕ
 soMany n = pick (eqb n 255) (codes "255 or more balises") (decimal n ++ codes " balises")
 
--- A reason; none has no text.
-unfoldable pub reasonText : Reason → List ℕ
-reasonText Reason.None = []
-reasonText (Reason.One n) = decimal n ++ codes " balise"
-reasonText (Reason.Many n) = soMany n
-reasonText (Reason.Unread i place b) = baliseAt i place ++ badly b
-reasonText (Reason.NoRow run n) = decimal run ++ codes " of " ++ decimal n ++ codes " balises open a permitted group"
-reasonText (Reason.NoDistance i place) = baliseAt i place
+-- A reason; none has no text. One balise alone is refused with 10.
+unfoldable pub reasonText : Explained → List ℕ
+reasonText noReason = []
+reasonText (because n (balises k)) = pick (eqb n 10) (decimal k ++ codes " balise") (soMany k)
+reasonText (because n (bad i place b)) = baliseAt i place ++ badly b
+reasonText (because n (opens run k)) = decimal run ++ codes " of " ++ decimal k ++ codes " balises open a permitted group"
+reasonText (because n (figure i place)) = baliseAt i place

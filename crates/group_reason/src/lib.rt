@@ -67,7 +67,7 @@ pub fn explain(group: Group) -> Reason
 // The text of a reason, to the letter, into buf from `at` on, all other bytes as they were, and the place after it; without room nothing is written, and
 // the answer is `at`.
 pub fn put_reason(reason: Reason, buf: &mut [u8], at: usize) -> usize
-    ensures { λ r. ⌜ came r (now (buf .exit)) ≡ put (reasonText reason) (now (buf .entry)) at ⌝ }
+    ensures { λ r. ⌜ came r (now (buf .exit)) ≡ put (reasonText (saysReason reason)) (now (buf .entry)) at ⌝ }
 {
     let mut space = [0u8; 96];
     let n = lines::put_text(reason, &mut space, 0);

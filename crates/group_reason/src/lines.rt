@@ -3,8 +3,10 @@ ghost use mathlib.Core.Path.{_≡_};
 ghost use Prim.Native.Nat.{_+_, _≤_};
 ghost use lib.ListN.{length};
 ghost use Rattle.text.specs.Put.{put, came};
-ghost use Rattle.group_reason.specs.declared.Reason.{Reason};
-ghost use Rattle.group_reason.specs.Text.{letter, refusedOne, badly, baliseAt, soMany, reasonText};
+ghost use Rattle.words.specs.Why.{why, are};
+ghost use Rattle.group_reason.specs.Reason.{opens, because};
+ghost use Rattle.group_reason.specs.Says.{saysBad, saysReason};
+ghost use Rattle.group_reason.specs.Text.{letter, refusedAs, badly, baliseAt, soMany, reasonText};
 use crate::Bad;
 use crate::Reason;
 use telegram::Word;
@@ -26,7 +28,7 @@ fn put_letter(word: Word, buf: &mut [u8], at: usize) -> usize
 
 // That a word is refused with 1, and its parity.
 fn put_parity(parity: Parity, buf: &mut [u8], at: usize) -> usize
-    ensures { λ r. ⌜ came r (now (buf .exit)) ≡ put (refusedOne parity) (now (buf .entry)) at ⌝ }
+    ensures { λ r. ⌜ came r (now (buf .exit)) ≡ put (refusedAs (why 1 (are parity))) (now (buf .entry)) at ⌝ }
 {
     match parity {
         Parity::Odd => put(b" refused 1 odd", buf, at),
@@ -36,8 +38,8 @@ fn put_parity(parity: Parity, buf: &mut [u8], at: usize) -> usize
 
 // What is bad about a balise.
 fn put_bad(bad: Bad, buf: &mut [u8], at: usize) -> usize
-    requires { ⌜ at + length (badly bad) ≤ length (now buf) ⌝ }
-    ensures { λ r. ⌜ came r (now (buf .exit)) ≡ put (badly bad) (now (buf .entry)) at ⌝ }
+    requires { ⌜ at + length (badly (saysBad bad)) ≤ length (now buf) ⌝ }
+    ensures { λ r. ⌜ came r (now (buf .exit)) ≡ put (badly (saysBad bad)) (now (buf .entry)) at ⌝ }
 {
     match bad {
         Bad::Unreadable => put(b" unreadable", buf, at),
@@ -75,8 +77,8 @@ fn put_many(n: u8, buf: &mut [u8], at: usize) -> usize
 
 // How many of how many balises open a permitted group.
 fn put_run(run: u8, of: u8, buf: &mut [u8], at: usize) -> usize
-    requires { ⌜ at + length (reasonText (Reason.NoRow run of)) ≤ length (now buf) ⌝ }
-    ensures { λ r. ⌜ came r (now (buf .exit)) ≡ put (reasonText (Reason.NoRow run of)) (now (buf .entry)) at ⌝ }
+    requires { ⌜ at + length (reasonText (because 13 (opens run of))) ≤ length (now buf) ⌝ }
+    ensures { λ r. ⌜ came r (now (buf .exit)) ≡ put (reasonText (because 13 (opens run of))) (now (buf .entry)) at ⌝ }
 {
     let a = put_number(b"", run as u64, buf, at);
     let b = put_number(b" of ", of as u64, buf, a);
@@ -85,8 +87,8 @@ fn put_run(run: u8, of: u8, buf: &mut [u8], at: usize) -> usize
 
 // The text of a reason.
 pub fn put_text(reason: Reason, buf: &mut [u8], at: usize) -> usize
-    requires { ⌜ at + length (reasonText reason) ≤ length (now buf) ⌝ }
-    ensures { λ r. ⌜ came r (now (buf .exit)) ≡ put (reasonText reason) (now (buf .entry)) at ⌝ }
+    requires { ⌜ at + length (reasonText (saysReason reason)) ≤ length (now buf) ⌝ }
+    ensures { λ r. ⌜ came r (now (buf .exit)) ≡ put (reasonText (saysReason reason)) (now (buf .entry)) at ⌝ }
 {
     match reason {
         Reason::None => put(b"", buf, at),

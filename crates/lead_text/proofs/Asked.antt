@@ -19,7 +19,8 @@ use Rattle.recording.specs.Asking.{Going, gave, usedUp, goOn}
 use Rattle.recording.specs.Says.{Went, went, saysCame, saysTaken}
 use Rattle.recording.specs.Laws.{thenTaped}
 use Rattle.recording.proofs.Asking.{asked-on}
-use Rattle.explained.specs.Told.{stepText}
+use Rattle.ride_text.specs.Style.{withReasons}
+use Rattle.ride_text.specs.Told.{stepText}
 use Rattle.lead_text.specs.declared.Underway.{Underway}
 use Rattle.lead_text.specs.declared.record_lines.One.{One}
 use Rattle.lead_text.specs.Places.{Place, nextPlace, toCome, after}
@@ -95,7 +96,7 @@ module _ (store : Store) (frames : List ℕ) where
       frames-on so low kept =
           let a = added (gapAt store) (u .ride) (u .number) (w .bytes) out at o out′ lists so in
           let s : Step = treat (u .ride) (gapAt store (odometerOf (w .bytes))) (w .bytes) in
-          let t : List ℕ = stepText (u .number) s in
+          let t : List ℕ = stepText withReasons (u .number) s in
           let fits : at + length t ≤ length out = has-room t out at low (sym (ap length (a .out-is)) ∙ kept) in
           let next = a .next-is in
           let here : framesFrom (standing there (o .ride) (o .number)) (o .at) out′ ≡ framesFrom (standing there (s .ride) (suc (u .number))) (at + length t) (placed t out at) =

@@ -20,7 +20,8 @@ use Rattle.recording.specs.Asking.{Ending, one, none, finish}
 use Rattle.recording.specs.Says.{Closing, closing, endCame, saysEnded}
 use Rattle.recording.specs.Laws.{thenEnded}
 use Rattle.recording.proofs.Asking.{end-asked}
-use Rattle.explained.specs.Told.{stepText}
+use Rattle.ride_text.specs.Style.{withReasons}
+use Rattle.ride_text.specs.Told.{stepText}
 use Rattle.lead_text.specs.declared.Underway.{Underway}
 use Rattle.lead_text.specs.declared.record_lines.One.{One}
 use Rattle.lead_text.specs.Places.{Place, nextTape, afterEnds}
@@ -87,7 +88,7 @@ module _ (store : Store) where
       end-on so low kept =
           let a = added (gapAt store) (u .ride) (u .number) (w .bytes) out at o out′ lists so in
           let s : Step = treat (u .ride) (gapAt store (odometerOf (w .bytes))) (w .bytes) in
-          let t : List ℕ = stepText (u .number) s in
+          let t : List ℕ = stepText withReasons (u .number) s in
           let there : Place = atTape u (w .tape) in
           let fits : at + length t ≤ length out = has-room t out at low (sym (ap length (a .out-is)) ∙ kept) in
           let next = a .next-is in

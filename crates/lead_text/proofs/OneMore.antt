@@ -24,14 +24,15 @@ use Rattle.ride.specs.declared.Ride.{Ride}
 use Rattle.ride.specs.Record.{odometerOf}
 use Rattle.ride.specs.Step.{Step, treat}
 use Rattle.ride.specs.Over.{firstRecords, records}
+use Rattle.ride_text.specs.Style.{withReasons}
 use Rattle.ride_text.specs.declared.Done.{Done}
 use Rattle.ride_text.specs.declared.Listed.{Listed as Answer}
 use Rattle.ride_text.specs.List.{Taken, Listing}
 use Rattle.ride_text.specs.Says.{saysDone, saysListed}
-use Rattle.explained.specs.Told.{Told, stepText, tellOver}
-use Rattle.explained.specs.List.{isTaken, taken, listOf, listTaken}
-use Rattle.explained.specs.List as explaining
-use Rattle.explained.proofs.Judging.{list-taken}
+use Rattle.ride_text.specs.Told.{Told, stepText, tellOver}
+use Rattle.ride_text.specs.List.{isTaken, taken, listOf, listTaken}
+use Rattle.ride_text.specs.List as explaining
+use Rattle.ride_text.proofs.Judging.{list-taken}
 use Rattle.lead_text.specs.Inside.{Listed, saysOne, listOne}
 use Rattle.lead_text.specs.declared.record_lines.One.{One}
 
@@ -98,12 +99,12 @@ counted f l part k count x says done = sym (ap (λ (d : Done). f (saysDone d)) d
 module _ (gaps : ℕ → ℕ) (ride : Ride) (number : ℕ) (r out : List ℕ) (at : ℕ) where
   -- The listing of the one record in the rest of the buffer, by whether it is taken.
   abbrev listingBy : Bool → Listing
-  listingBy b = listOf gaps ride number (pick b (suc zero) 0) (r ∷ []) (drop at out)
+  listingBy b = listOf withReasons gaps ride number (pick b (suc zero) 0) (r ∷ []) (drop at out)
 
   abbrev oneBy : Bool → Listed
   oneBy b =
       let s : Step = treat ride (gaps (odometerOf r)) r in
-      let text : List ℕ = stepText number s in
+      let text : List ℕ = stepText withReasons number s in
       pick b
       (record { isTaken = true; ride = s .ride; number = suc number; next = at + length text; out = placed text out at })
       (record { isTaken = false; ride = ride; number = number; next = at; out = out })
@@ -113,7 +114,7 @@ module _ (gaps : ℕ → ℕ) (ride : Ride) (number : ℕ) (r out : List ℕ) (a
   unfolding listOf tellOver
   took-by true l part k count says done =
       let s : Step = treat ride (gaps (odometerOf r)) r in
-      let t : List ℕ = stepText number s in
+      let t : List ℕ = stepText withReasons number s in
       let n : k ≡ 1 = counted recordsIn l part k count (listingBy true) says done in
       let taken-is : ltb 0 k ≡ true = ap (ltb 0) n in
       let ride-is : l .ride ≡ s .ride = ap (λ (x : Listing). x .ride) says in
@@ -132,21 +133,21 @@ module _ (gaps : ℕ → ℕ) (ride : Ride) (number : ℕ) (r out : List ℕ) (a
       ap (putMid at (length out - at) out) (ap (λ (x : Listing). x .out) says) ∙ behind [] out at ∙ placed-none out at in
       cc
 
-  pub took : (l : Answer) (part : List ℕ) (k count : ℕ) → saysListed l part ≡ listTaken gaps ride number (r ∷ []) (drop at out) → l .done ≡ Done.Took k count
+  pub took : (l : Answer) (part : List ℕ) (k count : ℕ) → saysListed l part ≡ listTaken withReasons gaps ride number (r ∷ []) (drop at out) → l .done ≡ Done.Took k count
       → saysOne (answered l at k count) (putMid at (length out - at) out part) ≡ listOne gaps ride number r out at
   unfolding listOne taken
   took l part k count says done =
       let room : length (drop at out) ≡ length out - at = simp length-drop in
-      took-by (isTaken number (length out - at)) l part k count (says ∙ ap (λ (n : ℕ). listingBy (isTaken number n)) room) done
+      took-by (isTaken withReasons number (length out - at)) l part k count (says ∙ ap (λ (n : ℕ). listingBy (isTaken withReasons number n)) room) done
 
   -- What is written lies in the buffer.
-  pub written-in : (l : Answer) (part : List ℕ) (k count : ℕ) → saysListed l part ≡ listTaken gaps ride number (r ∷ []) (drop at out) → l .done ≡ Done.Took k count
+  pub written-in : (l : Answer) (part : List ℕ) (k count : ℕ) → saysListed l part ≡ listTaken withReasons gaps ride number (r ∷ []) (drop at out) → l .done ≡ Done.Took k count
       → at ≤ length out → length part ≡ length (midOf at (length out - at) out) → at + count ≤ length out
   unfolding listOf
   written-in l part k count says done low same =
-      let n : ℕ = taken gaps ride number (length (drop at out)) (r ∷ []) in
-      let t : List ℕ = tellOver gaps ride number (take n (r ∷ [])) .text in
-      let x = listTaken gaps ride number (r ∷ []) (drop at out) in
+      let n : ℕ = taken withReasons gaps ride number (length (drop at out)) (r ∷ []) in
+      let t : List ℕ = tellOver withReasons gaps ride number (take n (r ∷ [])) .text in
+      let x = listTaken withReasons gaps ride number (r ∷ []) (drop at out) in
       let bytes : count ≡ length t = counted bytesIn l part k count x says done in
       let long : length (placed t (drop at out) 0) ≡ length (drop at out) = sym (ap (λ (y : Listing). length (y .out)) says) ∙ same ∙ ap length (part-is out at) in
       let fits : 0 + length t ≤ length (drop at out) = has-room t (drop at out) 0 (omega arith) long in
@@ -154,16 +155,16 @@ module _ (gaps : ℕ → ℕ) (ride : Ride) (number : ℕ) (r out : List ℕ) (a
       omega arith
 
   -- It is not refused.
-  pub not-refused : {A : Type 0} (l : Answer) (part : List ℕ) (n : ℕ) → saysListed l part ≡ listTaken gaps ride number (r ∷ []) (drop at out) → saysDone (l .done) ≡ refuses n → A
+  pub not-refused : {A : Type 0} (l : Answer) (part : List ℕ) (n : ℕ) → saysListed l part ≡ listTaken withReasons gaps ride number (r ∷ []) (drop at out) → saysDone (l .done) ≡ refuses n → A
   unfolding listOf
   not-refused l part n says e = cannot-be (sym (ap (λ (x : Listing). refusedIn (x .answer)) says) ∙ ap refusedIn e)
 
--- ---- what `explained::list` says of one record
+-- ---- what `ride_text::list` says of one record
 
 module _ (store : Store) (ride : Ride) (number : ℕ) (r out : List ℕ) (at : ℕ) (good : judged store ≡ gives kept) (eight : length r ≡ 8) where
-  pub alone : (l : Answer) (part : List ℕ) → saysListed l part ≡ explaining.list ride store number r (midOf at (length out - at) out)
-      → saysListed l part ≡ listTaken (gapAt store) ride number (r ∷ []) (drop at out)
+  pub alone : (l : Answer) (part : List ℕ) → saysListed l part ≡ explaining.list withReasons ride store number r (midOf at (length out - at) out)
+      → saysListed l part ≡ listTaken withReasons (gapAt store) ride number (r ∷ []) (drop at out)
   alone l part says =
       let whole : length r % 8 ≡ 0 = omega arith in
-      says ∙ ap (explaining.list ride store number r) (part-is out at) ∙ sym (list-taken ride store number r (drop at out) good (eq-eqb (length r % 8) 0 whole))
-      ∙ ap (λ (rs : List (List ℕ)). listTaken (gapAt store) ride number rs (drop at out)) (only r eight)
+      says ∙ ap (explaining.list withReasons ride store number r) (part-is out at) ∙ sym (list-taken withReasons ride store number r (drop at out) good (eq-eqb (length r % 8) 0 whole))
+      ∙ ap (λ (rs : List (List ℕ)). listTaken withReasons (gapAt store) ride number rs (drop at out)) (only r eight)

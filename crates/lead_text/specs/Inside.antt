@@ -9,8 +9,9 @@ use Rattle.text.specs.Put.{placed}
 use Rattle.ride.specs.declared.Ride.{Ride}
 use Rattle.ride.specs.Record.{odometerOf}
 use Rattle.ride.specs.Step.{Step, treat}
-use Rattle.explained.specs.Told.{stepText}
-use Rattle.explained.specs.List.{isTaken}
+use Rattle.ride_text.specs.Style.{withReasons}
+use Rattle.ride_text.specs.Told.{stepText}
+use Rattle.ride_text.specs.List.{isTaken}
 use Rattle.lead_text.specs.declared.record_lines.One.{One}
 
 -- Whether the record was taken; the ride, the next number, the next place and the buffer then.
@@ -28,7 +29,7 @@ saysOne r out = record { isTaken = r .taken; ride = r .ride; number = r .number;
 unfoldable pub listOne : (ℕ → ℕ) → Ride → ℕ → List ℕ → List ℕ → ℕ → Listed
 listOne gaps ride number r out at =
     let s : Step = treat ride (gaps (odometerOf r)) r in
-    let text : List ℕ = stepText number s in
-    pick (isTaken number (length out - at))
+    let text : List ℕ = stepText withReasons number s in
+    pick (isTaken withReasons number (length out - at))
     (record { isTaken = true; ride = s .ride; number = suc number; next = at + length text; out = placed text out at })
     (record { isTaken = false; ride = ride; number = number; next = at; out = out })

@@ -1,5 +1,5 @@
 -- The lines of a lead: the text of the ride over the records that come of it, with reasons, at the start of a lent buffer. The records are
--- `recording`'s, their text and how many are taken into a buffer `explained`'s.
+-- `recording`'s, their text and how many are taken into a buffer `ride_text`'s.
 -- Assumes nothing.
 use Prim.Native.Nat.{ℕ, _+_}
 use mathlib.Core.Bool.{Bool, true, false}
@@ -16,8 +16,9 @@ use Rattle.ride.specs.State.{freshRide}
 use Rattle.recording.specs.declared.Tape.{Tape}
 use Rattle.recording.specs.Recording as recording
 use Rattle.recording.specs.Recording.{theEnd}
-use Rattle.explained.specs.Told.{Told, tellOver}
-use Rattle.explained.specs.List.{taken}
+use Rattle.ride_text.specs.Style.{withReasons}
+use Rattle.ride_text.specs.Told.{Told, tellOver}
+use Rattle.ride_text.specs.List.{taken}
 use Rattle.lead_text.specs.declared.Underway.{Underway}
 use Rattle.lead_text.specs.Places.{Place, toCome, after, afterEnds}
 
@@ -55,8 +56,8 @@ noneLeft (r ∷ rs) = false
 -- The listing of as many of some records as are taken into the buffer. With all of them the reading stands at `last`, with n of them at `upTo n`.
 unfoldable pub listOf : (ℕ → ℕ) → Underway → List (List ℕ) → Place → (ℕ → Place) → List ℕ → Telling
 listOf gaps u rs last upTo out =
-    let n : ℕ = taken gaps (u .ride) (u .number) (length out) rs in
-    let told : Told = tellOver gaps (u .ride) (u .number) (take n rs) in
+    let n : ℕ = taken withReasons gaps (u .ride) (u .number) (length out) rs in
+    let told : Told = tellOver withReasons gaps (u .ride) (u .number) (take n rs) in
     let all : Bool = noneLeft (drop n rs) in
     record {
       answer = gives (record { bytes = length (told .text); all = all });

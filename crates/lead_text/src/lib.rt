@@ -1,6 +1,6 @@
 // The lines of a lead: frames of odometer and line in, the lines of the ride over their records out, with reasons, as text in a lent buffer.
 // A ride under way goes by value; the frames are lent in pieces of any length, and each call goes on as far as the room allows.
-// Promises: the lines are those that the crate explained writes of the records that the crate recording makes of the lead; bytes around the text stay.
+// Promises: the lines are those that the crate ride_text writes with reasons of the records that the crate recording makes of the lead; bytes around the text stay.
 // Specification: specs/Places.antt (where a reading stands), List.antt (the listing), Says.antt (the answers), Inside.antt (one record); what
 // is promised of all calls together: crates/lead_text_laws/specs.
 ghost use mathlib.Core.Path.{_≡_};
@@ -70,7 +70,7 @@ pub fn list_frames(underway: Underway, store: Store, frames: &[u8], out: &mut [u
     }
 }
 
-// The lines of the records that come at the lead's end, likewise. The end of the ride is `explained::put_end`'s.
+// The lines of the records that come at the lead's end, likewise. The end of the ride is `ride_text::put_end`'s.
 pub fn list_end(underway: Underway, store: Store, out: &mut [u8]) -> Written
     ensures { λ r. ⌜ saysWritten r (now (out .exit)) ≡ listEnd underway store (now (out .entry)) ⌝ }
 {

@@ -9,6 +9,7 @@ ghost use Rattle.settings.specs.At.{gapAt};
 ghost use Rattle.lead_text.specs.Inside.{saysOne, listOne};
 use ride::Ride;
 use ride_text::Done;
+use ride_text::REASONS;
 use settings::Store;
 
 // What listing a record answers: whether it was taken; the ride, the next record's number and the next place then.
@@ -32,7 +33,7 @@ pub fn list_one(
     requires { ⌜ at ≤ length (now out) ⌝ }
     ensures { λ r. ⌜ saysOne r (now (out .exit)) ≡ listOne (gapAt store) ride number bytes (now (out .entry)) at ⌝ }
 {
-    let listed = explained::list(ride, store, number, &bytes, &mut out[at..]);
+    let listed = ride_text::list(REASONS, ride, store, number, &bytes, &mut out[at..]);
     let done = listed.done;
     let then = listed.ride;
     match done {

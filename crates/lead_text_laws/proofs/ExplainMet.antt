@@ -15,13 +15,13 @@ use Rattle.settings.specs.At.{gapAt}
 use Rattle.ride.specs.declared.Ride.{Ride}
 use Rattle.ride.specs.Over.{records}
 use Rattle.ride.proofs.Cutting.{records-length}
+use Rattle.ride_text.specs.Style.{withReasons}
 use Rattle.ride_text.specs.declared.Done.{Done}
 use Rattle.ride_text.specs.declared.Listed.{Listed}
-use Rattle.ride_text.specs.List.{Listing}
 use Rattle.ride_text.specs.Says.{saysListed}
-use Rattle.explained.specs.Told.{Told, tellOver}
-use Rattle.explained.specs.List.{taken, listOf, listTaken}
-use Rattle.explained.proofs.Judging.{list-taken}
+use Rattle.ride_text.specs.Told.{Told, tellOver}
+use Rattle.ride_text.specs.List.{Listing, taken, listOf, listTaken}
+use Rattle.ride_text.proofs.Judging.{list-taken}
 use Rattle.lead_text_laws.specs.Calls.{ExplainInto}
 use Rattle.lead_text_laws.specs.Live.{Good}
 use Rattle.lead_text_laws.specs.Explain.{Explained, none, more}
@@ -32,7 +32,7 @@ module _ (store : Store) (good : Good store) (ride : Ride) (number : ℕ) (trace
   rs = records trace
 
   abbrev told : Told
-  told = tellOver (gapAt store) ride number rs
+  told = tellOver withReasons (gapAt store) ride number rs
 
   -- A buffer with room for all, before and after, and the answer.
   abbrev before : List ℕ
@@ -46,14 +46,14 @@ module _ (store : Store) (good : Good store) (ride : Ride) (number : ℕ) (trace
 
   abbrev listingOf : ℕ → List (List ℕ) → Listing
   listingOf k first =
-      let t : Told = tellOver (gapAt store) ride number first in
+      let t : Told = tellOver withReasons (gapAt store) ride number first in
       record { answer = gives (record { records = k; bytes = length (t .text) }); ride = t .ride; number = number + k; out = placed (t .text) before 0 }
 
-  all-listed : number + length rs ≤ largest64 → saysListed answer after ≡ listTaken (gapAt store) ride number rs before
+  all-listed : number + length rs ≤ largest64 → saysListed answer after ≡ listTaken withReasons (gapAt store) ride number rs before
   unfolding listOf
   all-listed small =
       let room : 320 + length (told .text) ≤ length before = omega (arith, length-replicate {A = ℕ} (320 + length (told .text)) 0) in
-      let k : taken (gapAt store) ride number (length before) rs ≡ length rs = taken-all (gapAt store) ride number (length before) rs room small in
+      let k : taken withReasons (gapAt store) ride number (length before) rs ≡ length rs = taken-all (gapAt store) ride number (length before) rs room small in
       sym (ap (λ (n : ℕ). listingOf n (take n rs)) k ∙ ap (listingOf (length rs)) (take-length rs))
 
   explained-met : number + length rs ≤ largest64 → (text : List ℕ) × (last : Ride) × Explained store ride number trace text last
@@ -62,11 +62,11 @@ module _ (store : Store) (good : Good store) (ride : Ride) (number : ℕ) (trace
         ([], ([], tt)),
         lent trace,
         lent before,
-        (ride, (store, (number, (lent trace, (lent after, tt))))),
+        (withReasons, (ride, (store, (number, (lent trace, (lent after, tt)))))),
         refl,
         refl,
         refl,
-        all-listed small ∙ list-taken ride store number trace before good (eq-eqb (length trace % 8) 0 whole),
+        all-listed small ∙ list-taken withReasons ride store number trace before good (eq-eqb (length trace % 8) 0 whole),
       ) in
       let long : length rs * 8 ≡ length trace = omega (arith, records-length (length trace / 8) trace) in
       let gone : [] ≡ drop (length rs * 8) trace = sym (ap (λ (n : ℕ). drop n trace) long ∙ drop-length trace) in

@@ -14,7 +14,8 @@ use Rattle.ride.specs.State.{freshRide}
 use Rattle.recording.specs.declared.Tape.{Tape}
 use Rattle.recording.specs.Recording as recording
 use Rattle.recording.specs.Recording.{Taped, andThen, overLead, theEnd, recorded}
-use Rattle.explained.specs.Told.{Told, tellOver, endText}
+use Rattle.ride_text.specs.Style.{withReasons}
+use Rattle.ride_text.specs.Told.{Told, tellOver, endText}
 use Rattle.lead_text.specs.declared.How.{How}
 use Rattle.lead_text.specs.declared.Underway.{Underway}
 use Rattle.lead_text.specs.declared.Written.{Written}
@@ -33,16 +34,16 @@ use Rattle.lead_text_laws.proofs.Room.{end-put}
 
 -- What a ride under way has told of some records: the text, and where it stands then.
 pub record Tells (gaps : ℕ → ℕ) (u : Underway) (rs : List (List ℕ)) (text : List ℕ) (last : Underway) : Type 0 where
-  pub text-is : text ≡ tellOver gaps (u .ride) (u .number) rs .text
-  pub ride-is : last .ride ≡ tellOver gaps (u .ride) (u .number) rs .ride
+  pub text-is : text ≡ tellOver withReasons gaps (u .ride) (u .number) rs .text
+  pub ride-is : last .ride ≡ tellOver withReasons gaps (u .ride) (u .number) rs .ride
   pub number-is : last .number ≡ u .number + length rs
 
 -- Told on from where it stood.
 tells-on : (gaps : ℕ → ℕ) (u v last : Underway) (rs qs : List (List ℕ)) (t s : List ℕ) → Tells gaps u rs t v → Tells gaps v qs s last → Tells gaps u (rs ++ qs) (t ++ s) last
 tells-on gaps u v last rs qs t s a b =
-    let first : Told = tellOver gaps (u .ride) (u .number) rs in
-    let same : tellOver gaps (v .ride) (v .number) qs ≡ tellOver gaps (first .ride) (u .number + length rs) qs =
-    ap₂ (λ (x : Ride) (n : ℕ). tellOver gaps x n qs) (a .ride-is) (a .number-is) in
+    let first : Told = tellOver withReasons gaps (u .ride) (u .number) rs in
+    let same : tellOver withReasons gaps (v .ride) (v .number) qs ≡ tellOver withReasons gaps (first .ride) (u .number + length rs) qs =
+    ap₂ (λ (x : Ride) (n : ℕ). tellOver withReasons gaps x n qs) (a .ride-is) (a .number-is) in
     let whole = tell-on gaps (u .ride) (u .number) rs qs in
     record {
       text-is = ap₂ _++_ (a .text-is) (b .text-is ∙ ap (λ (x : Told). x .text) same) ∙ sym (ap (λ (x : Told). x .text) whole);
@@ -154,7 +155,7 @@ module _ (store : Store) (good : Good store) where
       let all : Tells gaps listing.fresh (x .records ++ theEnd (x .tape) .records) (heard ++ closed) v =
       subst (λ (g : Underway). Tells gaps g (x .records ++ theEnd (x .tape) .records) (heard ++ closed) v) begins
       (tells-on gaps f u v (x .records) (theEnd (x .tape) .records) heard closed a b) in
-      ap₂ _++_ (all .text-is) (end-put e ∙ ap endText (all .ride-is))
+      ap₂ _++_ (all .text-is) (end-put e ∙ ap (endText withReasons) (all .ride-is))
 
   goes-on : (u : Underway) (frames before after′ : List ℕ) (r : Written) (n : ℕ) → 320 ≤ length before → u .number < largest64
       → ListFrames u store frames before r after′ → r .how ≡ How.Full n → u .number < r .underway .number

@@ -24,8 +24,9 @@ use Rattle.ride.specs.Record.{odometerOf}
 use Rattle.ride.specs.Step.{Step, treat}
 use Rattle.recording.specs.Recording as recording
 use Rattle.recording.specs.Recording.{Taped, theEnd}
-use Rattle.explained.specs.Told.{stepText, Told, tellOver, endText}
-use Rattle.explained.specs.List.{taken}
+use Rattle.ride_text.specs.Style.{withReasons}
+use Rattle.ride_text.specs.Told.{stepText, Told, tellOver, endText}
+use Rattle.ride_text.specs.List.{taken}
 use Rattle.lead_text.specs.declared.How.{How}
 use Rattle.lead_text.specs.declared.Underway.{Underway}
 use Rattle.lead_text.specs.declared.Written.{Written}
@@ -45,14 +46,14 @@ lent bytes = record { ptr = (0, 0); name = 0; now = bytes }
 
 -- ---- one call that takes all
 
-pub taken-all : (gaps : ℕ → ℕ) (ride : Ride) (number room : ℕ) (rs : List (List ℕ)) → 320 + length (tellOver gaps ride number rs .text) ≤ room → number + length rs ≤ largest64
-    → taken gaps ride number room rs ≡ length rs
+pub taken-all : (gaps : ℕ → ℕ) (ride : Ride) (number room : ℕ) (rs : List (List ℕ)) → 320 + length (tellOver withReasons gaps ride number rs .text) ≤ room → number + length rs ≤ largest64
+    → taken withReasons gaps ride number room rs ≡ length rs
 unfolding taken tellOver
 taken-all gaps ride number room [] wide small = refl
 taken-all gaps ride number room (r ∷ rs) wide small =
     let s : Step = treat ride (gaps (odometerOf r)) r in
-    let t : List ℕ = stepText number s in
-    let rest : Told = tellOver gaps (s .ride) (suc number) rs in
+    let t : List ℕ = stepText withReasons number s in
+    let rest : Told = tellOver withReasons gaps (s .ride) (suc number) rs in
     let long : length (t ++ rest .text) ≡ length t + length (rest .text) = length-append t (rest .text) in
     let enough : 320 ≤ room = omega arith in
     let low : number < largest64 = omega arith in
@@ -62,7 +63,7 @@ taken-all gaps ride number room (r ∷ rs) wide small =
 
 module _ (gaps : ℕ → ℕ) (u : Underway) (rs : List (List ℕ)) (last : Place) (upTo : ℕ → Place) where
   abbrev told : Told
-  told = tellOver gaps (u .ride) (u .number) rs
+  told = tellOver withReasons gaps (u .ride) (u .number) rs
 
   -- A buffer with room for all, before and after.
   abbrev before : List ℕ
@@ -77,7 +78,7 @@ module _ (gaps : ℕ → ℕ) (u : Underway) (rs : List (List ℕ)) (last : Plac
   -- The listing of the first records a, where b are left.
   abbrev listingOf : ℕ → List (List ℕ) → List (List ℕ) → Telling
   listingOf k a b =
-      let first : Told = tellOver gaps (u .ride) (u .number) a in
+      let first : Told = tellOver withReasons gaps (u .ride) (u .number) a in
       record {
         answer = gives (record { bytes = length (first .text); all = noneLeft b });
         underway = standing (pick (noneLeft b) last (upTo k)) (first .ride) (u .number + k);
@@ -88,7 +89,7 @@ module _ (gaps : ℕ → ℕ) (u : Underway) (rs : List (List ℕ)) (last : Plac
   unfolding listOf
   all-written small =
       let room : 320 + length (told .text) ≤ length before = omega (arith, length-replicate {A = ℕ} (320 + length (told .text)) 0) in
-      let k : taken gaps (u .ride) (u .number) (length before) rs ≡ length rs = taken-all gaps (u .ride) (u .number) (length before) rs room small in
+      let k : taken withReasons gaps (u .ride) (u .number) (length before) rs ≡ length rs = taken-all gaps (u .ride) (u .number) (length before) rs room small in
       sym (ap (λ (n : ℕ). listingOf n (take n rs) (drop n rs)) k ∙ ap₂ (listingOf (length rs)) (take-length rs) (drop-length rs))
 
 -- ---- calls
@@ -109,7 +110,7 @@ module _ (store : Store) (good : Good store) where
       let c : ListFrames u store piece b r a =
       (([], ([], tt)), lent piece, lent b, (u, (store, (lent piece, (lent a, tt)))), refl, refl, refl, says ∙ frames-listed u store piece b good) in
       let rest = heard-met pieces (r .underway) few in
-      (take (length (tellOver (gapAt store) (u .ride) (u .number) (x .records) .text)) a ++ rest .0, rest .1, next b a r (length (tellOver (gapAt store) (u .ride) (u .number) (x .records) .text)) c refl (rest .2))
+      (take (length (tellOver withReasons (gapAt store) (u .ride) (u .number) (x .records) .text)) a ++ rest .0, rest .1, next b a r (length (tellOver withReasons (gapAt store) (u .ride) (u .number) (x .records) .text)) c refl (rest .2))
 
   closed-met : (u : Underway) → u .number + length (theEnd (u .tape) .records) ≤ largest64 → (text : List ℕ) × (last : Underway) × Closed store u text last
   closed-met u small =
@@ -120,20 +121,20 @@ module _ (store : Store) (good : Good store) where
       let a : List ℕ = written (gapAt store) u (x .records) (atTape u (x .tape)) upTo in
       let says = all-written (gapAt store) u (x .records) (atTape u (x .tape)) upTo small in
       let c : ListEnd u store b r a = (([], tt), lent b, (u, (store, (lent a, tt))), refl, refl, says ∙ end-listed u store b good) in
-      let n : ℕ = length (tellOver (gapAt store) (u .ride) (u .number) (x .records) .text) in
+      let n : ℕ = length (tellOver withReasons (gapAt store) (u .ride) (u .number) (x .records) .text) in
       (take n a, r .underway, over b a r n c refl)
 
 ended-met : (ride : Ride) → (text : List ℕ) × Ended ride text
 unfolding texts.put
 ended-met ride =
-    let t : List ℕ = endText ride in
+    let t : List ℕ = endText withReasons ride in
     let b : List ℕ = replicate 320 0 in
     let a : List ℕ = placed t b 0 in
     let wide : 320 ≤ length b = omega (arith, length-replicate {A = ℕ} 320 0) in
     let fits : 0 + length t ≤ length b = omega (arith, end-short ride) in
     let says : texts.came (0 + length t) a ≡ texts.put t b 0 =
     sym (ap (λ (x : Bool). pick x (texts.came (0 + length t) a) (texts.came 0 b)) (le-leb (0 + length t) (length b) fits)) in
-    let c : PutEnd ride b 0 (0 + length t) a = (([], tt), lent b, (ride, (lent a, (0, tt))), refl, refl, says) in
+    let c : PutEnd ride b 0 (0 + length t) a = (([], tt), lent b, (withReasons, (ride, (lent a, (0, tt)))), refl, refl, says) in
     (take (0 + length t) a, put b a (0 + length t) wide c)
 
 fresh-met : Fresh listing.fresh

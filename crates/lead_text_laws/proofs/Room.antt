@@ -18,29 +18,31 @@ use Rattle.ride.specs.declared.Ride.{Ride}
 use Rattle.ride.specs.Closing.{Closing, lineOf, close, leave}
 use Rattle.ride.specs.State.{isOpen}
 use Rattle.ride.specs.Step.{end}
-use Rattle.explained.specs.Text.{lineText, linesText}
-use Rattle.explained.specs.Told.{endText}
-use Rattle.explained.proofs.Texts.{line-length, one-is}
+use Rattle.ride_text.specs.Style.{withReasons}
+use Rattle.ride_text.specs.Text.{lineText, linesText}
+use Rattle.ride_text.specs.Told.{endText}
+use Rattle.ride_text.proofs.Longest.{line-length}
+use Rattle.ride_text.proofs.Texts.{one-is}
 use Rattle.lead_text_laws.specs.Calls.{PutEnd}
 use Rattle.lead_text_laws.specs.Live.{Ended, put}
 
 short-by : (ride : Ride) (b : Bool) →
     let c : Closing = pick b (close (ride .group) (ride .known)) (leave (ride .group) (ride .known)) in
-    length (linesText (c .closed) (c .lines)) ≤ 320
+    length (linesText withReasons (c .closed) (c .lines)) ≤ 320
 unfolding close leave linesText
 short-by ride true =
     let l : Line = lineOf (ride .group) (ride .known .linking) (judge (ride .group)) in
-    omega (arith, line-length (ride .group) l, ap length (one-is (ride .group) l))
+    omega (arith, line-length withReasons (ride .group) l, ap length (one-is withReasons (ride .group) l))
 short-by ride false = omega arith
 
-pub end-short : (ride : Ride) → length (endText ride) ≤ 320
+pub end-short : (ride : Ride) → length (endText withReasons ride) ≤ 320
 unfolding endText end
 end-short ride = short-by ride (isOpen (ride .group))
 
-pub end-put : {ride : Ride} {text : List ℕ} → Ended ride text → text ≡ endText ride
+pub end-put : {ride : Ride} {text : List ℕ} → Ended ride text → text ≡ endText withReasons ride
 unfolding texts.put
 end-put {ride} (put before after n wide c) =
-    let t : List ℕ = endText ride in
+    let t : List ℕ = endText withReasons ride in
     let fits : 0 + length t ≤ length before = omega (arith, end-short ride) in
     let says : texts.came n after ≡ texts.put t before 0 = sym (ap (texts.came n) (c .4)) ∙ c .5 ∙ ap (λ (b : List ℕ). texts.put t b 0) (c .3) in
     let whole : texts.came n after ≡ record { next = 0 + length t; buffer = texts.placed t before 0 } =

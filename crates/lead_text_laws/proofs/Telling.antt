@@ -17,8 +17,10 @@ use Rattle.text.proofs.Placing.{placed-start}
 use Rattle.ride.specs.declared.Ride.{Ride}
 use Rattle.ride.specs.Record.{odometerOf}
 use Rattle.ride.specs.Step.{Step, treat}
-use Rattle.explained.specs.Told.{stepText, Told, tellOver}
-use Rattle.explained.specs.List.{isTaken, taken}
+use Rattle.ride_text.specs.Style.{withReasons}
+use Rattle.ride_text.specs.Told.{stepText, Told, tellOver}
+use Rattle.ride_text.specs.List.{taken}
+use Rattle.ride_text.proofs.Taken.{few-taken}
 use Rattle.lead_text.specs.declared.How.{How}
 use Rattle.lead_text.specs.declared.Underway.{Underway}
 use Rattle.lead_text.specs.declared.Written.{Written}
@@ -29,40 +31,27 @@ use Rattle.lead_text.specs.Says.{saysHow, saysWritten}
 -- ---- a ride told on
 
 pub tell-on : (gaps : ℕ → ℕ) (ride : Ride) (number : ℕ) (rs qs : List (List ℕ)) →
-    let first : Told = tellOver gaps ride number rs in
-    let second : Told = tellOver gaps (first .ride) (number + length rs) qs in
-    tellOver gaps ride number (rs ++ qs) ≡ record { text = first .text ++ second .text; ride = second .ride }
+    let first : Told = tellOver withReasons gaps ride number rs in
+    let second : Told = tellOver withReasons gaps (first .ride) (number + length rs) qs in
+    tellOver withReasons gaps ride number (rs ++ qs) ≡ record { text = first .text ++ second .text; ride = second .ride }
 unfolding tellOver
 tell-on gaps ride number [] qs =
     let same : number ≡ number + 0 = omega arith in
-    ap (λ (n : ℕ). tellOver gaps ride n qs) same
+    ap (λ (n : ℕ). tellOver withReasons gaps ride n qs) same
 tell-on gaps ride number (r ∷ rs) qs =
     let s : Step = treat ride (gaps (odometerOf r)) r in
-    let t : List ℕ = stepText number s in
-    let rest : Told = tellOver gaps (s .ride) (suc number) rs in
+    let t : List ℕ = stepText withReasons number s in
+    let rest : Told = tellOver withReasons gaps (s .ride) (suc number) rs in
     let same : suc number + length rs ≡ number + suc (length rs) = omega arith in
     ap (λ (x : Told). record { text = t ++ x .text; ride = x .ride }) (tell-on gaps (s .ride) (suc number) rs qs)
-    ∙ ap (λ (n : ℕ). record { text = t ++ (rest .text ++ tellOver gaps (rest .ride) n qs .text); ride = tellOver gaps (rest .ride) n qs .ride }) same
-    ∙ ap (λ (x : List ℕ). record { text = x; ride = tellOver gaps (rest .ride) (number + suc (length rs)) qs .ride })
-    (sym (append-assoc t (rest .text) (tellOver gaps (rest .ride) (number + suc (length rs)) qs .text)))
+    ∙ ap (λ (n : ℕ). record { text = t ++ (rest .text ++ tellOver withReasons gaps (rest .ride) n qs .text); ride = tellOver withReasons gaps (rest .ride) n qs .ride }) same
+    ∙ ap (λ (x : List ℕ). record { text = x; ride = tellOver withReasons gaps (rest .ride) (number + suc (length rs)) qs .ride })
+    (sym (append-assoc t (rest .text) (tellOver withReasons gaps (rest .ride) (number + suc (length rs)) qs .text)))
 
 -- ---- how many are taken
 
-few-by : (b : Bool) (n m : ℕ) → n ≤ m → pick b (suc n) 0 ≤ suc m
-few-by true n m h = omega arith
-few-by false n m h = omega arith
-
--- No more than there are.
-pub taken-few : (gaps : ℕ → ℕ) (ride : Ride) (number room : ℕ) (rs : List (List ℕ)) → taken gaps ride number room rs ≤ length rs
-unfolding taken
-taken-few gaps ride number room [] = omega arith
-taken-few gaps ride number room (r ∷ rs) =
-    let s : Step = treat ride (gaps (odometerOf r)) r in
-    let left : ℕ = room - length (stepText number s) in
-    few-by (isTaken number room) (taken gaps (s .ride) (suc number) left rs) (length rs) (taken-few gaps (s .ride) (suc number) left rs)
-
 -- One at least, where there is one and room for it.
-pub taken-one : (gaps : ℕ → ℕ) (ride : Ride) (number room : ℕ) (rs : List (List ℕ)) → noneLeft rs ≡ false → 320 ≤ room → number < largest64 → 1 ≤ taken gaps ride number room rs
+pub taken-one : (gaps : ℕ → ℕ) (ride : Ride) (number room : ℕ) (rs : List (List ℕ)) → noneLeft rs ≡ false → 320 ≤ room → number < largest64 → 1 ≤ taken withReasons gaps ride number room rs
 unfolding taken
 taken-one gaps ride number room [] e wide low = let never : true ≡ false = e in cannot-be cc
 taken-one gaps ride number room (r ∷ rs) e wide low = rw (le-leb 320 room wide, lt-ltb number largest64 low) (omega arith)
@@ -91,13 +80,13 @@ module _ (gaps : ℕ → ℕ) (u : Underway) (rs : List (List ℕ)) (last : Plac
     (says : saysWritten r after ≡ listOf gaps u rs last upTo before) where
   -- So many records were taken.
   abbrev pub count : ℕ
-  count = taken gaps (u .ride) (u .number) (length before) rs
+  count = taken withReasons gaps (u .ride) (u .number) (length before) rs
 
   abbrev told : Told
-  told = tellOver gaps (u .ride) (u .number) (take count rs)
+  told = tellOver withReasons gaps (u .ride) (u .number) (take count rs)
 
   pub enough : count ≤ length rs
-  enough = taken-few gaps (u .ride) (u .number) (length before) rs
+  enough = few-taken withReasons gaps rs (u .ride) (u .number) (length before)
 
   pub counted : length (take count rs) ≡ count
   counted = length-take-le count rs enough
@@ -122,8 +111,8 @@ module _ (gaps : ℕ → ℕ) (u : Underway) (rs : List (List ℕ)) (last : Plac
 
   -- All of them.
   pub record Over : Type 0 where
-    pub text : take n after ≡ tellOver gaps (u .ride) (u .number) rs .text
-    pub then : r .underway ≡ standing last (tellOver gaps (u .ride) (u .number) rs .ride) (u .number + length rs)
+    pub text : take n after ≡ tellOver withReasons gaps (u .ride) (u .number) rs .text
+    pub then : r .underway ≡ standing last (tellOver withReasons gaps (u .ride) (u .number) rs .ride) (u .number + length rs)
 
   pub over-all : r .how ≡ How.Over n → Over
   over-all e =
@@ -131,9 +120,9 @@ module _ (gaps : ℕ → ℕ) (u : Underway) (rs : List (List ℕ)) (last : Plac
       let whole : take count rs ≡ rs = all-of none in
       let number : count ≡ length rs = sym counted ∙ ap length whole in
       record {
-        text = text-by (ap (λ (h : How). bytesIn (saysHow h)) e) ∙ ap (λ (x : List (List ℕ)). tellOver gaps (u .ride) (u .number) x .text) whole;
+        text = text-by (ap (λ (h : How). bytesIn (saysHow h)) e) ∙ ap (λ (x : List (List ℕ)). tellOver withReasons gaps (u .ride) (u .number) x .text) whole;
         then = stands-by true (ap (λ (h : How). allIn (saysHow h)) e)
-            ∙ ap₂ (λ (x : List (List ℕ)) (k : ℕ). standing last (tellOver gaps (u .ride) (u .number) x .ride) (u .number + k)) whole number;
+            ∙ ap₂ (λ (x : List (List ℕ)) (k : ℕ). standing last (tellOver withReasons gaps (u .ride) (u .number) x .ride) (u .number + k)) whole number;
       }
     where
       all-of : drop count rs ≡ [] → take count rs ≡ rs

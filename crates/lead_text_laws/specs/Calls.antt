@@ -1,4 +1,4 @@
--- What the contracts of `lead_text` and `explained` allow: the theorems take these as their hypotheses. `Post` of a function is its `ensures` line, made
+-- What the contracts of `lead_text` and `ride_text` allow: the theorems take these as their hypotheses. `Post` of a function is its `ensures` line, made
 -- into a statement by the kit. A lent buffer is a reference whose bytes are `now` of it.
 -- Assumes nothing.
 use Prim.Native.Nat.{ℕ}
@@ -10,6 +10,7 @@ use borrow.Fn.Kinds.{endedOf}
 use denote.Triple.Clauses.{AtExit}
 use Rattle.settings.specs.declared.Store.{Store}
 use Rattle.ride.specs.declared.Ride.{Ride}
+use Rattle.ride_text.specs.Style.{withReasons}
 use Rattle.ride_text.specs.declared.Listed.{Listed}
 use Rattle.lead_text.specs.declared.Underway.{Underway}
 use Rattle.lead_text.specs.declared.Written.{Written}
@@ -19,10 +20,10 @@ use Rattle.lead_text.proofs.list_frames.Kinds as frames-kinds
 use Rattle.lead_text.proofs.list_frames.Reads as frames-reads
 use Rattle.lead_text.proofs.list_end.Kinds as end-kinds
 use Rattle.lead_text.proofs.list_end.Reads as end-reads
-use Rattle.explained.proofs.list.Kinds as list-kinds
-use Rattle.explained.proofs.list.Reads as list-reads
-use Rattle.explained.proofs.put_end.Kinds as put-kinds
-use Rattle.explained.proofs.put_end.Reads as put-reads
+use Rattle.ride_text.proofs.list.Kinds as list-kinds
+use Rattle.ride_text.proofs.list.Reads as list-reads
+use Rattle.ride_text.proofs.put_end.Kinds as put-kinds
+use Rattle.ride_text.proofs.put_end.Reads as put-reads
 
 -- The contract of `lead_text::fresh` allows the ride r.
 abbrev pub Fresh : Underway → Type 0
@@ -42,16 +43,16 @@ ListEnd u store before r after =
     × (now out ≡ before) × (now (e .1 .1 .0) ≡ after)
     × end-reads.Post κs (u, (store, (out, tt))) r e
 
--- The contract of `explained::put_end` allows the place n for this ride and this place of the lent buffer, and that it holds `after` then.
+-- The contract of `put_end` of `ride_text`, with reasons, allows the place n for this ride and this place of the lent buffer, and that it holds `after` then.
 abbrev pub PutEnd : Ride → List ℕ → ℕ → ℕ → List ℕ → Type 0
 PutEnd ride before at n after =
     (κs : Lfts 1) × (buf : RefT (List ℕ)) × (e : AtExit (endedOf 1 put-kinds.ps put-kinds.r) κs)
-    × (now buf ≡ before) × (now (e .1 .0) ≡ after)
-    × put-reads.Post κs (ride, (buf, (at, tt))) n e
+    × (now buf ≡ before) × (now (e .1 .1 .0) ≡ after)
+    × put-reads.Post κs (withReasons, (ride, (buf, (at, tt)))) n e
 
--- The contract of `explained::list` allows the answer r for this ride, store, number and lent trace, and that the lent buffer holds `after` then.
+-- The contract of `list` of `ride_text`, with reasons, allows the answer r for this ride, store, number and lent trace, and that the lent buffer holds `after` then.
 abbrev pub ExplainInto : Ride → Store → ℕ → List ℕ → List ℕ → Listed → List ℕ → Type 0
 ExplainInto ride store number trace before r after =
     (κs : Lfts 2) × (lent : RefT (List ℕ)) × (out : RefT (List ℕ)) × (e : AtExit (endedOf 2 list-kinds.ps list-kinds.r) κs)
-    × (now lent ≡ trace) × (now out ≡ before) × (now (e .1 .1 .1 .1 .0) ≡ after)
-    × list-reads.Post κs (ride, (store, (number, (lent, (out, tt))))) r e
+    × (now lent ≡ trace) × (now out ≡ before) × (now (e .1 .1 .1 .1 .1 .0) ≡ after)
+    × list-reads.Post κs (withReasons, (ride, (store, (number, (lent, (out, tt)))))) r e

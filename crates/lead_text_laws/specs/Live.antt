@@ -14,7 +14,8 @@ use Rattle.settings.specs.At.{gapAt}
 use Rattle.ride.specs.declared.Ride.{Ride}
 use Rattle.ride.specs.State.{freshRide}
 use Rattle.recording.specs.Recording.{recorded}
-use Rattle.explained.specs.Told.{Told, tellOver, endText}
+use Rattle.ride_text.specs.Style.{withReasons}
+use Rattle.ride_text.specs.Told.{Told, tellOver, endText}
 use Rattle.lead_text.specs.declared.How.{How}
 use Rattle.lead_text.specs.declared.Underway.{Underway}
 use Rattle.lead_text.specs.declared.Written.{Written}
@@ -70,8 +71,8 @@ pub record InPieces (lead : List ℕ) (pieces : List (List ℕ)) : Type 0 where
 -- What `explain` writes of some records under a store: the text of a fresh ride over them, the first with the number 1, and that of the ride's end.
 unfoldable pub explains : Store → List (List ℕ) → List ℕ
 explains store records =
-    let told : Told = tellOver (gapAt store) freshRide 1 records in
-    told .text ++ endText (told .ride)
+    let told : Told = tellOver withReasons (gapAt store) freshRide 1 records in
+    told .text ++ endText withReasons (told .ride)
 
 -- ---- what is promised
 

@@ -1,24 +1,16 @@
 // The settings before the leads: a sync pair, or a file.
-use asked::Asked;
-use asked::How;
+use console::Asked;
+use console::Given;
+use console::sync_word;
 use figures::Byte;
 use settings::Verdict;
+use settings_text::no_store;
 
 // The gap beside a plain pair, in dm.
 const GAP: u32 = 40;
 
 // The first argument after `S S*`, and the fewest words of a command line that has both.
 const AFTER: usize = 3;
-
-// Argument k, a sync word of this name; where it is none that is said.
-fn sync_word(program: &[u8], name: &[u8], k: usize) -> Byte {
-    let asked = console::word(k);
-    let Byte::Is(_) = asked else {
-        console::wrong(program, name, b"word of two hex digits", k);
-        return asked;
-    };
-    asked
-}
 
 // Says that the pair is refused.
 fn refuse(program: &[u8], aside: bool) {
@@ -38,25 +30,23 @@ fn pair(program: &[u8], aside: bool, s: u8, t: u8) -> Asked {
         Verdict::Kept => Asked {
             store,
             first: AFTER,
-            how: How::Plain,
+            how: Given::Plain,
         },
         Verdict::Refused(_) => {
             refuse(program, aside);
             Asked {
                 store,
                 first: AFTER,
-                how: How::Said,
+                how: Given::Said,
             }
         }
     }
 }
 
-// The command line is none.
-fn none(how: How) -> Asked {
-    let begun = settings::begin(GAP, 0x00, 0x7F);
-    let store = begun.store;
+// Nothing is ridden.
+fn none(how: Given) -> Asked {
     Asked {
-        store,
+        store: no_store(),
         first: AFTER,
         how,
     }
@@ -65,27 +55,27 @@ fn none(how: How) -> Asked {
 // The words of a pair, from the arguments.
 fn pair_named(program: &[u8], aside: bool) -> Asked {
     if os::arg_count() < AFTER {
-        return none(How::Usage);
+        return none(Given::Usage);
     }
     let Byte::Is(s) = sync_word(program, b"S", 1) else {
-        return none(How::Said);
+        return none(Given::Said);
     };
     let Byte::Is(t) = sync_word(program, b"S*", 2) else {
-        return none(How::Said);
+        return none(Given::Said);
     };
     pair(program, aside, s, t)
 }
 
 // What the arguments ask for before the leads: `-s SETTINGS`, or `S S*`.
 pub fn options(program: &[u8], aside: bool) -> Asked {
-    let asked = asked::options(program, aside);
+    let asked = console::options(program, aside);
     let store = asked.store;
     let first = asked.first;
     let how = asked.how;
     match how {
-        How::Plain => pair_named(program, aside),
-        How::Settings => Asked { store, first, how },
-        How::Usage => Asked { store, first, how },
-        How::Said => Asked { store, first, how },
+        Given::Plain => pair_named(program, aside),
+        Given::Settings => Asked { store, first, how },
+        Given::Usage => Asked { store, first, how },
+        Given::Said => Asked { store, first, how },
     }
 }

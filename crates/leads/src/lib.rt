@@ -1,5 +1,5 @@
 // The leads that a program's arguments name, read as one lead in pieces of whole frames, as their bytes come; and the settings that stand before them.
-// 1. `options(program, aside)` takes `S S*` or `-s SETTINGS` and answers as `asked::options` does: `Plain` is a good pair, with the gap 40. What is
+// 1. `options(program, aside)` takes `S S*` or `-s SETTINGS` and answers as `console::options` does: `Plain` is a good pair, with the gap 40. What is
 //    refused is said: `refused 4: WORDS`, or as `asked` says it, on standard output; for a program whose result is bytes (`aside`) after its name on standard error.
 // 2. `begin(first)` and `next_piece(leads, block)` read the leads from argument `first` on, byte after byte, a frame may straddle two of them; none, or
 //    `-`, is standard input. `block[..length]` are whole frames, none where nothing has come yet; `how` says whether more may come (`More`), all were

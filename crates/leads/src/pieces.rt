@@ -3,16 +3,21 @@ ghost use mathlib.Core.Path.{_≡_};
 ghost use Prim.Native.Nat.{_%_, _≤_};
 ghost use lib.ListN.{length};
 use crate::carrying::carry;
+use console::Far;
+use console::go_on_somehow;
+use console::not_begun;
+use console::wipe;
 use libc::STDIN_FILENO;
 
-// Where the reading of the leads stands: the argument of the first, how many were begun, the open file (below 0: none), and the bytes of a
-// frame that is not whole yet: where they stand in the block, and how many they are.
+// Where the reading of the leads stands: the argument of the first, how many were begun, the open file (below 0: none), the bytes of a frame that is not whole
+// yet: where they stand in the block, and how many they are; and how far it is.
 pub struct Leads {
     first: usize,
     begun: usize,
     fd: i32,
     from: usize,
     count: usize,
+    far: Far,
 }
 
 // How the reading goes on: more may come; all leads were read; the lead of this argument cannot be opened, or a read of it failed; or the
@@ -40,6 +45,7 @@ pub fn begin(first: usize) -> Leads {
         fd: -1,
         from: 0,
         count: 0,
+        far: not_begun(),
     }
 }
 
@@ -52,6 +58,7 @@ pub fn kept(leads: Leads) -> usize {
 fn none(leads: Leads, begun: usize, fd: i32, how: How) -> Piece
     ensures { λ r. ⌜ r .length ≡ 0 ⌝ }
 {
+    let far = leads.far;
     Piece {
         leads: Leads {
             first: leads.first,
@@ -59,6 +66,7 @@ fn none(leads: Leads, begun: usize, fd: i32, how: How) -> Piece
             fd,
             from: leads.from,
             count: leads.count,
+            far,
         },
         length: 0,
         how,
@@ -70,12 +78,7 @@ fn is_input(number: usize) -> bool {
     if os::arg_count() <= number {
         return true;
     }
-    let mut text = io::buffer();
-    let length = os::arg(number, &mut text);
-    if os::errno() != 0 {
-        return false;
-    }
-    (length == 1) & (text[0] == b'-')
+    console::is_input(number)
 }
 
 // The file of an argument, or standard input; below 0 where it cannot be opened.
@@ -83,7 +86,7 @@ fn open(number: usize) -> i32 {
     if is_input(number) {
         return STDIN_FILENO;
     }
-    cards::open_card(number)
+    console::open_card(number)
 }
 
 // The next lead is opened; without a name, standard input is the only one.
@@ -93,6 +96,8 @@ fn next_lead(leads: Leads) -> Piece
     let number = std::num::wrapping_add_usize(leads.first, leads.begun);
     let is_last = os::arg_count() <= number;
     if is_last & (leads.begun > 0) {
+        let far = leads.far;
+        wipe(far);
         return none(leads, leads.begun, -1, How::End);
     }
     let fd = open(number);
@@ -120,6 +125,8 @@ fn frames(leads: Leads, end: usize) -> Piece
 {
     let count = end % 16;
     let length = end - count;
+    let before = leads.far;
+    let far = go_on_somehow(before, true, length);
     Piece {
         leads: Leads {
             first: leads.first,
@@ -127,6 +134,7 @@ fn frames(leads: Leads, end: usize) -> Piece
             fd: leads.fd,
             from: length,
             count,
+            far,
         },
         length,
         how: How::More,
@@ -162,12 +170,14 @@ pub fn next_piece(leads: Leads, block: &mut [u8]) -> Piece
     ensures { λ r. ⌜ (r .length ≤ length (now (block .entry))) × (r .length % 16 ≡ 0) ⌝ }
 {
     let count = carry(block, leads.from, leads.count);
+    let far = leads.far;
     let here = Leads {
         first: leads.first,
         begun: leads.begun,
         fd: leads.fd,
         from: 0,
         count,
+        far,
     };
     if leads.fd < 0 {
         return next_lead(here);

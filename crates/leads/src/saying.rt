@@ -6,7 +6,7 @@ pub fn say(program: &[u8], how: How) {
     match how {
         How::More => {}
         How::End => {}
-        How::CannotOpen(number) => cards::cannot_open(program, number),
+        How::CannotOpen(number) => console::cannot_open(program, number),
         How::CannotRead(number) => cannot_read(program, number),
         How::NoRoom => {}
     }
@@ -18,5 +18,5 @@ fn cannot_read(program: &[u8], number: usize) {
         console::fail(program, b"cannot read standard input");
         return;
     }
-    cards::cannot_read(program, number);
+    console::cannot_read(program, number);
 }

@@ -12,7 +12,7 @@ use Rattle.words.proofs.Never.{cannot-be}
 use Rattle.lines.specs.declared.Line.{Line}
 use Rattle.lines.specs.declared.Reader.{Reader}
 use Rattle.lines.specs.declared.Got.{Got}
-use Rattle.lines.specs.Text.{newline, upTo}
+use Rattle.lines.specs.Text.{newline, upTo, onto, cut, linesOf}
 use Rattle.lines.specs.Words.{lineOf}
 use Rattle.lines.specs.Reading.{character, fresh, whole, unfinished, lineFrom}
 use Rattle.lines_laws.specs.Laws.{OneLine, ReadsALine, ReadsTheLast, InBlocks}
@@ -58,11 +58,10 @@ ended line next = record { line = line; ends = true; next = next; reader = fresh
 
 pub reads-a-line : ReadsALine
 unfolding whole
-reads-a-line line rest one =
-    over fresh line (10 ∷ rest) 0 one
-    ∙ newline-ends (readOn fresh line) rest (0 + length line)
-    ∙ ap (λ (l : Line). ended l (0 + length line + 1)) (reads-words line)
-    ∙ ap (ended (lineOf line)) (omega arith)
+reads-a-line line rest at one =
+    over fresh line (10 ∷ rest) at one
+    ∙ newline-ends (readOn fresh line) rest (at + length line)
+    ∙ ap (λ (l : Line). ended l (at + length line + 1)) (reads-words line)
 
 pub reads-the-last : ReadsTheLast
 unfolding unfinished
@@ -72,3 +71,12 @@ pub in-blocks : InBlocks
 unfolding unfinished
 in-blocks r block next at one =
     over r block next at one ∙ ap (λ (x : Reader). lineFrom x next (at + length block)) (sym (ap (λ (g : Got). g .reader) (at-the-end r block at one)))
+
+-- The first line of a text, and the others.
+pub first-line : (line rest : List ℕ) → OneLine line → linesOf (line ++ 10 ∷ rest) ≡ line ∷ linesOf rest
+unfolding cut
+first-line [] rest one = refl
+first-line (c ∷ cs) rest one =
+    let parts = first c cs one in
+    ap (λ (b : Bool). pick b ([] ∷ linesOf (cs ++ 10 ∷ rest)) (onto c (linesOf (cs ++ 10 ∷ rest)))) (parts .0)
+    ∙ ap (onto c) (first-line cs rest (parts .1))

@@ -19,8 +19,8 @@ OneLine t = upTo newline t ≡ t
 -- A line that ends, read from its first character on: what its words are; the next one begins after its newline.
 abbrev pub ReadsALine : Type 0
 ReadsALine =
-    (line rest : List ℕ) → OneLine line
-    → lineFrom fresh (line ++ 10 ∷ rest) 0 ≡ record { line = lineOf line; ends = true; next = length line + 1; reader = fresh }
+    (line rest : List ℕ) (at : ℕ) → OneLine line
+    → lineFrom fresh (line ++ 10 ∷ rest) at ≡ record { line = lineOf line; ends = true; next = at + length line + 1; reader = fresh }
 
 -- The last line, which has no end.
 abbrev pub ReadsTheLast : Type 0

@@ -1,1 +1,4 @@
 pub mod Laws
+pub mod Calls
+pub mod Texts
+pub mod Printed

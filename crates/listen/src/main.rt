@@ -1,36 +1,18 @@
 // What a line holds, recorded or as it comes: a line of text for each contact as soon as it has closed, in the order heard.
-// Promises: it is safe and it ends; contacts are those of the crate antenna, lines those of antenna_text and hearing, piece by piece.
+// Promises: it is safe and it ends; contacts are those of the crate antenna, lines those of antenna_text and contact_text, piece by piece.
 // Specification: none of its own; what the pieces come to is crates/antenna_text/specs/Laws.antt, what cannot be said of a program's reads and writes stands in
 // docs/EXCEPTIONS.md.
 mod out;
 mod pieces;
 
+use console::is_input;
+use console::sync_word;
 use figures::Byte;
 use libc::STDIN_FILENO;
 use telegram::Pair;
 
 // The argument of the line's file.
 const FILE: usize = 1;
-
-// Argument k, a sync word of this name; where it is none that is said.
-fn sync_word(name: &[u8], k: usize) -> Byte {
-    let asked = console::word(k);
-    let Byte::Is(_) = asked else {
-        console::wrong(b"listen", name, b"word of two hex digits", k);
-        return asked;
-    };
-    asked
-}
-
-// Whether the line comes by standard input: `-`.
-fn is_input() -> bool {
-    let mut text = io::buffer();
-    let length = os::arg(FILE, &mut text);
-    if os::errno() != 0 {
-        return false;
-    }
-    (length == 1) & (text[0] == b'-')
-}
 
 // The contacts of the open file, if the sync pair is good.
 fn listen(fd: i32, s: u8, t: u8) {
@@ -39,19 +21,19 @@ fn listen(fd: i32, s: u8, t: u8) {
         return;
     };
     if !pieces::all(fd, s, t) {
-        cards::cannot_read(b"listen", FILE);
+        console::cannot_read(b"listen", FILE);
     }
 }
 
 // The line named, with the sync words given.
 fn open(s: u8, t: u8) {
-    if is_input() {
+    if is_input(FILE) {
         listen(STDIN_FILENO, s, t);
         return;
     }
-    let fd = cards::open_card(FILE);
+    let fd = console::open_card(FILE);
     if fd < 0 {
-        cards::cannot_open(b"listen", FILE);
+        console::cannot_open(b"listen", FILE);
         return;
     }
     listen(fd, s, t);
@@ -63,10 +45,10 @@ fn main() {
         console::usage(b"listen", b"listen FILE S S*");
         return;
     }
-    let Byte::Is(s) = sync_word(b"S", 2) else {
+    let Byte::Is(s) = sync_word(b"listen", b"S", 2) else {
         return;
     };
-    let Byte::Is(t) = sync_word(b"S*", 3) else {
+    let Byte::Is(t) = sync_word(b"listen", b"S*", 3) else {
         return;
     };
     open(s, t);

@@ -5,11 +5,16 @@ use crate::out;
 use crate::out::Out;
 use antenna::Ear;
 use antenna::Until;
+use console::Far;
+use console::go_on_somehow;
+use console::not_begun;
+use console::wipe;
 
-// Where the listening stands: the ear, how many bits were heard before, and whether all writes so far succeeded.
+// Where the listening stands: the ear, how many bits were heard before, how far that is, and whether all writes so far succeeded.
 struct Heard {
     ear: Ear,
     bits: u64,
+    far: Far,
     is_good: bool,
 }
 
@@ -51,9 +56,11 @@ fn over(from: Heard, s: u8, t: u8, piece: &[u8], buf: &mut [u8]) -> Heard
             }
         }
     }
+    let before = from.far;
     Heard {
         ear,
         bits: std::num::wrapping_add_u64(from.bits, bits as u64),
+        far: go_on_somehow(before, true, bits / 8),
         is_good: out::flush(out, buf),
     }
 }
@@ -67,6 +74,8 @@ fn front(from: Heard, s: u8, t: u8, block: &[u8], count: usize, buf: &mut [u8]) 
 
 // What is said at the end of the line.
 fn end(from: Heard) -> bool {
+    let far = from.far;
+    wipe(far);
     let ear = from.ear;
     let stand = ear.stand;
     match stand {
@@ -80,6 +89,7 @@ fn fresh() -> Heard {
     Heard {
         ear: antenna::fresh(),
         bits: 0,
+        far: not_begun(),
         is_good: true,
     }
 }

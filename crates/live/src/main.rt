@@ -1,10 +1,10 @@
 // The lines of a ride from the bench's leads, as they come: frames of odometer and line in, the lines of `explain` out, each as soon as its group has closed.
-// Promises: it is safe and it ends; the lines are those of the crate lead_text, piece by piece, and those of the ride's end explained's.
+// Promises: it is safe and it ends; the lines are those of the crate lead_text, piece by piece, and those of the ride's end ride_text's.
 // Specification: none of its own; what the pieces come to is crates/lead_text/specs/Live.antt, what cannot be said of a program's reads and writes stands
 // in docs/EXCEPTIONS.md.
 mod riding;
 
-use asked::How;
+use console::Given;
 
 fn main() {
     let asked = leads::options(b"live", false);
@@ -12,9 +12,12 @@ fn main() {
     let first = asked.first;
     let how = asked.how;
     match how {
-        How::Plain => riding::all(store, first),
-        How::Settings => riding::all(store, first),
-        How::Usage => console::usage(b"live", b"live S S* [LEAD..], or live -s SETTINGS [LEAD..]"),
-        How::Said => {}
+        Given::Plain => riding::all(store, first),
+        Given::Settings => riding::all(store, first),
+        Given::Usage => console::usage(
+            b"live",
+            b"live S S* [LEAD..], or live -s SETTINGS [LEAD..]",
+        ),
+        Given::Said => {}
     }
 }

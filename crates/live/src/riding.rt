@@ -4,6 +4,7 @@ ghost use lib.ListN.{length};
 use lead_text::How;
 use lead_text::Underway;
 use ride::Ride;
+use ride_text::REASONS;
 use settings::Store;
 
 // Where the program stands: the ride under way, and whether all so far went well.
@@ -52,7 +53,7 @@ fn piece(from: Underway, store: Store, block: &[u8], count: usize, out: &mut [u8
 
 // The line of a group that the end of the ride closes.
 fn write_end(ride: Ride, out: &mut [u8]) {
-    let bytes = explained::put_end(ride, out, 0);
+    let bytes = ride_text::put_end(REASONS, ride, out, 0);
     write(out, bytes);
 }
 

@@ -6,7 +6,7 @@
 mod out;
 mod pieces;
 
-use asked::How;
+use console::Given;
 use settings::Store;
 
 // The records of the leads from this argument on, but not to a terminal.
@@ -22,12 +22,12 @@ fn main() {
     let first = asked.first;
     let how = asked.how;
     match how {
-        How::Plain => record(store, first),
-        How::Settings => record(store, first),
-        How::Usage => console::usage(
+        Given::Plain => record(store, first),
+        Given::Settings => record(store, first),
+        Given::Usage => console::usage(
             b"record",
             b"record S S* [LEAD..], or record -s SETTINGS [LEAD..]",
         ),
-        How::Said => {}
+        Given::Said => {}
     }
 }

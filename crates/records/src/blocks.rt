@@ -2,7 +2,7 @@
 ghost use mathlib.Core.Path.{_≡_};
 ghost use Prim.Native.Nat.{_≤_};
 ghost use lib.ListN.{length};
-use cards::How;
+use console::Goes;
 use libc::STDOUT_FILENO;
 use trace_text::Said;
 
@@ -13,13 +13,13 @@ pub fn room() -> [u8; 8192]
     [0; 8192]
 }
 
-// How many records were written, and whether all writes so far succeeded.
+// Goes many records were written, and whether all writes so far succeeded.
 struct Stand {
     count: u64,
     is_good: bool,
 }
 
-// How many bytes of lines stand in a buffer, and how many records they are of all.
+// Goes many bytes of lines stand in a buffer, and how many records they are of all.
 struct Lines {
     bytes: usize,
     count: u64,
@@ -86,13 +86,13 @@ fn write_front(stand: Stand, block: &[u8], read: usize) -> Stand
 }
 
 // What comes after the last block: nothing, or what failed.
-fn finish(how: How) {
+fn finish(how: Goes) {
     match how {
-        How::End => {}
-        How::CannotOpen(number) => cards::cannot_open(b"records", number),
-        How::CannotRead(number) => cards::cannot_read(b"records", number),
-        How::NoRoom => {}
-        How::More => {}
+        Goes::End => {}
+        Goes::CannotOpen(number) => console::cannot_open(b"records", number),
+        Goes::CannotRead(number) => console::cannot_read(b"records", number),
+        Goes::NoRoom => {}
+        Goes::More => {}
     }
 }
 
@@ -103,10 +103,10 @@ pub fn write_cards(lengths: &[u64], block: &mut [u8]) {
         count: 0,
         is_good: true,
     };
-    let mut pass = cards::begin(1);
+    let mut pass = console::begin(1);
     let mut turns = u64::MAX;
     while turns > 0 {
-        let got = cards::next_block(pass, lengths, block);
+        let got = console::next_block(pass, lengths, block);
         let read = got.read;
         stand = write_front(stand, block, read);
         if !stand.is_good {
@@ -114,7 +114,7 @@ pub fn write_cards(lengths: &[u64], block: &mut [u8]) {
             return;
         }
         let how = got.how;
-        let How::More = how else {
+        let Goes::More = how else {
             finish(how);
             return;
         };

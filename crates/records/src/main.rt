@@ -4,23 +4,23 @@
 // stands in docs/EXCEPTIONS.md.
 mod blocks;
 
-use cards::Found;
+use console::Found;
 use libc::STDOUT_FILENO;
 
 // Goes over the cards twice: once for their lengths, once for the records.
 fn main() {
     let mut lengths = [0u64; 8192];
     let mut block = blocks::room();
-    let found = cards::go_over(1, &mut lengths, &mut block);
+    let found = console::go_over(1, &mut lengths, &mut block);
     match found {
         Found::Cards => blocks::write_cards(&lengths, &mut block),
         Found::BadLength(_) => {
             io::write_all(STDOUT_FILENO, b"trace refused 16\n");
         }
         Found::NoCard => console::usage(b"records", b"records CARD.."),
-        Found::TooMany => cards::say_found(b"records", found),
-        Found::CannotOpen(_) => cards::say_found(b"records", found),
-        Found::CannotRead(_) => cards::say_found(b"records", found),
-        Found::Once(_) => cards::say_found(b"records", found),
+        Found::TooMany => console::say_found(b"records", found),
+        Found::CannotOpen(_) => console::say_found(b"records", found),
+        Found::CannotRead(_) => console::say_found(b"records", found),
+        Found::Once(_) => console::say_found(b"records", found),
     }
 }

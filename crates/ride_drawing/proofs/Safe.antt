@@ -20,13 +20,14 @@ use Rattle.group.specs.declared.Group.{Group}
 use Rattle.ride.specs.declared.Mark.{Mark}
 use Rattle.ride.specs.declared.Seen.{Seen}
 use Rattle.ride.specs.declared.Line.{Line}
-use Rattle.ride_text.specs.Text.{between, kind, mark, number, seen, text}
-use Rattle.ride_text.proofs.Turns.{both}
-use Rattle.group_reason.specs.declared.Bad.{Bad}
-use Rattle.group_reason.specs.declared.Reason.{Reason}
+use Rattle.ride_text.specs.Style.{withReasons}
+use Rattle.ride_text.specs.Text.{between, kind, mark, number, seen, textWith, whyText, lineText}
+use Rattle.words.proofs.Linear.{and-parts}
+use Rattle.words.specs.Why.{Why, why, are, unsaid}
+use Rattle.telegram.specs.Telegram.{badWord}
+use Rattle.group_reason.specs.Reason.{Bad, unreadable, word, balises, bad, opens, figure, Explained, noReason, because}
 use Rattle.group_reason.specs.Explain.{explain}
-use Rattle.group_reason.specs.Text.{letter, refusedOne, badly, baliseAt, soMany, reasonText}
-use Rattle.explained.specs.Text.{answer, whyText, faultText, lineText}
+use Rattle.group_reason.specs.Text.{letter, refusedAs, badly, baliseAt, soMany, reasonText}
 use Rattle.ride_drawing.specs.Sign.{title}
 use Rattle.ride_drawing.specs.Laws.{isSafe, areSafe, NoEscape}
 
@@ -42,7 +43,7 @@ joined : (s t : List ℕ) → areSafe s ≡ true → areSafe t ≡ true → areS
 unfolding areSafe
 joined [] t e f = f
 joined (c ∷ s) t e f =
-    let parts = both (isSafe c) (areSafe s) e in
+    let parts = and-parts (isSafe c) (areSafe s) e in
     more c (s ++ t) (parts .0) (joined s t (parts .1) f)
 
 join : {s t : List ℕ} → Safe s → Safe t → Safe (s ++ t)
@@ -56,7 +57,7 @@ unfolding areSafe
 cut zero t e = refl
 cut (suc k) [] e = refl
 cut (suc k) (c ∷ t) e =
-    let parts = both (isSafe c) (areSafe t) e in
+    let parts = and-parts (isSafe c) (areSafe t) e in
     more c (take k t) (parts .0) (cut k t (parts .1))
 
 -- ---- digits
@@ -128,16 +129,16 @@ letter-safe Word.Y = record { is = refl }
 letter-safe Word.Z = record { is = refl }
 letter-safe Word.YZ = record { is = refl }
 
-parity-safe : (p : Parity) → Safe (refusedOne p)
-unfolding refusedOne areSafe
-parity-safe Parity.Odd = record { is = refl }
-parity-safe Parity.Even = record { is = refl }
+refused-safe : (y : Why) → Safe (refusedAs y)
+unfolding refusedAs areSafe
+refused-safe (why n (are Parity.Odd)) = join (join (words " refused " refl) (number-of n)) (words " odd" refl)
+refused-safe (why n (are Parity.Even)) = join (join (words " refused " refl) (number-of n)) (words " even" refl)
+refused-safe (why n unsaid) = join (words " refused " refl) (number-of n)
 
 badly-safe : (b : Bad) → Safe (badly b)
 unfolding badly areSafe
-badly-safe Bad.Unreadable = record { is = refl }
-badly-safe (Bad.NotCode w p) = join (letter-safe w) (parity-safe p)
-badly-safe (Bad.Fifteen w) = join (letter-safe w) (words " refused 3" refl)
+badly-safe unreadable = words " unreadable" refl
+badly-safe (word (badWord w y)) = join (letter-safe w) (refused-safe y)
 
 balise-safe : (i place : ℕ) → Safe (baliseAt i place)
 unfolding baliseAt areSafe
@@ -152,29 +153,36 @@ many-safe : (n : ℕ) → Safe (soMany n)
 unfolding soMany
 many-safe n = many-by n (eqb n 255)
 
-reason-safe : (r : Reason) → Safe (reasonText r)
+few-by : (k : ℕ) (b : Bool) → Safe (pick b (decimal k ++ codes " balise") (soMany k))
+unfolding areSafe
+few-by k true = join (number-of k) (words " balise" refl)
+few-by k false = many-safe k
+
+reason-safe : (r : Explained) → Safe (reasonText r)
 unfolding reasonText areSafe
-reason-safe Reason.None = record { is = refl }
-reason-safe (Reason.One n) = join (number-of n) (words " balise" refl)
-reason-safe (Reason.Many n) = many-safe n
-reason-safe (Reason.Unread i place b) = join (balise-safe i place) (badly-safe b)
-reason-safe (Reason.NoRow run n) = join (join (join (number-of run) (words " of " refl)) (number-of n)) (words " balises open a permitted group" refl)
-reason-safe (Reason.NoDistance i place) = balise-safe i place
+reason-safe noReason = record { is = refl }
+reason-safe (because n (balises k)) = few-by k (eqb n 10)
+reason-safe (because n (bad i place b)) = join (balise-safe i place) (badly-safe b)
+reason-safe (because n (opens run k)) = join (join (join (number-of run) (words " of " refl)) (number-of k)) (words " balises open a permitted group" refl)
+reason-safe (because n (figure i place)) = balise-safe i place
+
+why-safe : (g : Group) → Safe (whyText g)
+unfolding whyText areSafe
+why-safe g = join (words ": " refl) (reason-safe (explain g))
 
 -- ---- lines
 
-line-safe : (g : Group) (l : Line) → Safe (lineText g l)
-unfolding lineText text faultText whyText areSafe
-line-safe g (Line.Group s) = seen-safe s
-line-safe g (Line.Fault place n) =
-    join (join (join (join (join (number-of place) (words " fault " refl)) (number-of n)) (words ": " refl)) (reason-safe (answer (explain g)))) (words "\n" refl)
-line-safe g (Line.Missed place) = join (number-of place) (words " missed\n" refl)
-line-safe g (Line.Record number n) = join (join (join (join (words "record " refl) (number-of number)) (words " refused " refl)) (number-of n)) (words "\n" refl)
-line-safe g (Line.Trace n) = join (join (words "trace refused " refl) (number-of n)) (words "\n" refl)
+line-safe : (reason : List ℕ) (l : Line) → Safe reason → Safe (textWith reason l)
+unfolding textWith areSafe
+line-safe reason (Line.Group s) e = seen-safe s
+line-safe reason (Line.Fault place n) e = join (join (join (join (number-of place) (words " fault " refl)) (number-of n)) e) (words "\n" refl)
+line-safe reason (Line.Missed place) e = join (number-of place) (words " missed\n" refl)
+line-safe reason (Line.Record number n) e = join (join (join (join (words "record " refl) (number-of number)) (words " refused " refl)) (number-of n)) (words "\n" refl)
+line-safe reason (Line.Trace n) e = join (join (words "trace refused " refl) (number-of n)) (words "\n" refl)
 
 title-safe : (g : Group) (l : Line) → areSafe (title g l) ≡ true
 unfolding title
-title-safe g l = cut (length (lineText g l) - 1) (lineText g l) (line-safe g l .is)
+title-safe g l = cut (length (lineText withReasons g l) - 1) (lineText withReasons g l) (line-safe (whyText g) l (why-safe g) .is)
 
 pub no-escape : NoEscape
 no-escape = record { titles = title-safe }

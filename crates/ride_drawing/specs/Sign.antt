@@ -14,7 +14,8 @@ use Rattle.group.specs.declared.Group.{Group}
 use Rattle.ride.specs.declared.Mark.{Mark}
 use Rattle.ride.specs.declared.Seen.{Seen}
 use Rattle.ride.specs.declared.Line.{Line}
-use Rattle.explained.specs.Text.{lineText}
+use Rattle.ride_text.specs.Style.{withReasons}
+use Rattle.ride_text.specs.Text.{lineText}
 use Rattle.ride_drawing.specs.Pieces.{metres}
 use Rattle.ride_drawing.specs.Strip.{onStrip}
 
@@ -49,7 +50,7 @@ shape (Line.Trace n) = 23
 
 -- The line as `explain` writes it, without its newline.
 unfoldable pub title : Group → Line → List ℕ
-title closed line = take (length (lineText closed line) - 1) (lineText closed line)
+title closed line = take (length (lineText withReasons closed line) - 1) (lineText withReasons closed line)
 
 -- How far down a number stands beside its sign.
 abbrev pub beside : Direction → ℕ

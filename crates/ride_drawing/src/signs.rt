@@ -13,7 +13,7 @@ use group_rows::Direction;
 use group_rows::Kind;
 use ride::Line;
 use ride::Mark;
-use ride::Seen;
+use ride_text::REASONS;
 use text::put;
 use text::put_number;
 
@@ -83,7 +83,7 @@ fn put_title(closed: Group, line: Line, buf: &mut [u8], at: usize) -> usize
     ensures { λ r. ⌜ came r (now (buf .exit)) ≡ put (title closed line) (now (buf .entry)) at ⌝ }
 {
     let mut space = [0u8; 160];
-    let n = explained::put_line(closed, line, &mut space, 0);
+    let n = ride_text::put_styled(REASONS, closed, line, &mut space, 0);
     let m = without_newline(n);
     put(&space[..m], buf, at)
 }

@@ -10,16 +10,19 @@ use borrow.Fn.Kinds.{Dens, endedOf}
 use denote.Triple.Clauses.{AtExit}
 use denote.Ref.{now}
 use Rattle.words.specs.Answer.{Outcome, gives, refuses, pick}
+use Rattle.text.specs.Put.{Put, came}
 use Rattle.settings.specs.declared.Bad.{Bad}
 use Rattle.settings.proofs.Determined.{badOf}
-use Rattle.ride_text.specs.declared.Put.{Put}
 use Rattle.ride_text.specs.declared.Done.{Done}
 use Rattle.ride_text.specs.declared.Listed.{Listed}
-use Rattle.ride_text.specs.Put.{Filled, filled}
 use Rattle.ride_text.specs.List.{Taken, Listing}
 use Rattle.ride_text.specs.Says.{saysDone, saysListed}
 use Rattle.ride_text.proofs.put_line.Kinds as put-line-kinds
 use Rattle.ride_text.proofs.put_line.Reads as put-line-reads
+use Rattle.ride_text.proofs.put_styled.Kinds as put-styled-kinds
+use Rattle.ride_text.proofs.put_styled.Reads as put-styled-reads
+use Rattle.ride_text.proofs.put_end.Kinds as put-end-kinds
+use Rattle.ride_text.proofs.put_end.Reads as put-end-reads
 use Rattle.ride_text.proofs.list.Kinds as list-kinds
 use Rattle.ride_text.proofs.list.Reads as list-reads
 
@@ -43,18 +46,30 @@ listedOf l = record { ride = l .ride; number = l .number; done = doneOf (l .answ
 pub listed-back : (r : Listed) (out : List ℕ) → listedOf (saysListed r out) ≡ r
 listed-back r out = ap (λ (d : Done). record { ride = r .ride; number = r .number; done = d }) (done-back (r .done))
 
-pub put-line-determined : (κs : Lfts 1) (a : Dens κs put-line-kinds.ps) (r r′ : Put)
+-- what two puts of one text have alike
+same-put : (n n′ : ℕ) (b b′ : List ℕ) → came n b ≡ came n′ b′ → (n ≡ n′) × (b ≡ b′)
+same-put n n′ b b′ e = (ap (λ (p : Put). p .next) e, ap (λ (p : Put). p .buffer) e)
+
+pub put-line-determined : (κs : Lfts 1) (a : Dens κs put-line-kinds.ps) (r r′ : ℕ)
     (x x′ : AtExit (endedOf 1 put-line-kinds.ps put-line-kinds.r) κs)
     → put-line-reads.Post κs a r x → put-line-reads.Post κs a r′ x′ → (r ≡ r′) × (now (x .1 .0) ≡ now (x′ .1 .0))
-put-line-determined κs a r r′ x x′ p q =
-    let same : filled r (now (x .1 .0)) ≡ filled r′ (now (x′ .1 .0)) = p ∙ sym q in
-    (ap (λ (f : Filled). f .ends) same, ap (λ (f : Filled). f .buffer) same)
+put-line-determined κs a r r′ x x′ p q = same-put r r′ (now (x .1 .0)) (now (x′ .1 .0)) (p ∙ sym q)
+
+pub put-styled-determined : (κs : Lfts 1) (a : Dens κs put-styled-kinds.ps) (r r′ : ℕ)
+    (x x′ : AtExit (endedOf 1 put-styled-kinds.ps put-styled-kinds.r) κs)
+    → put-styled-reads.Post κs a r x → put-styled-reads.Post κs a r′ x′ → (r ≡ r′) × (now (x .1 .1 .1 .0) ≡ now (x′ .1 .1 .1 .0))
+put-styled-determined κs a r r′ x x′ p q = same-put r r′ (now (x .1 .1 .1 .0)) (now (x′ .1 .1 .1 .0)) (p ∙ sym q)
+
+pub put-end-determined : (κs : Lfts 1) (a : Dens κs put-end-kinds.ps) (r r′ : ℕ)
+    (x x′ : AtExit (endedOf 1 put-end-kinds.ps put-end-kinds.r) κs)
+    → put-end-reads.Post κs a r x → put-end-reads.Post κs a r′ x′ → (r ≡ r′) × (now (x .1 .1 .0) ≡ now (x′ .1 .1 .0))
+put-end-determined κs a r r′ x x′ p q = same-put r r′ (now (x .1 .1 .0)) (now (x′ .1 .1 .0)) (p ∙ sym q)
 
 pub list-determined : (κs : Lfts 2) (a : Dens κs list-kinds.ps) (r r′ : Listed)
     (x x′ : AtExit (endedOf 2 list-kinds.ps list-kinds.r) κs)
-    → list-reads.Post κs a r x → list-reads.Post κs a r′ x′ → (r ≡ r′) × (now (x .1 .1 .1 .1 .0) ≡ now (x′ .1 .1 .1 .1 .0))
+    → list-reads.Post κs a r x → list-reads.Post κs a r′ x′ → (r ≡ r′) × (now (x .1 .1 .1 .1 .1 .0) ≡ now (x′ .1 .1 .1 .1 .1 .0))
 list-determined κs a r r′ x x′ p q =
-    let same : saysListed r (now (x .1 .1 .1 .1 .0)) ≡ saysListed r′ (now (x′ .1 .1 .1 .1 .0)) = p ∙ sym q in (
-      sym (listed-back r (now (x .1 .1 .1 .1 .0))) ∙ ap listedOf same ∙ listed-back r′ (now (x′ .1 .1 .1 .1 .0)),
+    let same : saysListed r (now (x .1 .1 .1 .1 .1 .0)) ≡ saysListed r′ (now (x′ .1 .1 .1 .1 .1 .0)) = p ∙ sym q in (
+      sym (listed-back r (now (x .1 .1 .1 .1 .1 .0))) ∙ ap listedOf same ∙ listed-back r′ (now (x′ .1 .1 .1 .1 .1 .0)),
       ap (λ (l : Listing). l .out) same,
     )

@@ -13,19 +13,20 @@ use Rattle.settings.specs.Store.{judged}
 use Rattle.settings.specs.At.{gapAt}
 use Rattle.ride.specs.declared.Ride.{Ride}
 use Rattle.ride.specs.Over.{records}
+use Rattle.ride_text.specs.Style.{Style}
 use Rattle.ride_text.specs.List.{listTaken, unlisted, list}
 
-pub list-refused : (ride : Ride) (store : Store) (number : ℕ) (trace out : List ℕ) (n : ℕ) → judged store ≡ refuses n
-    → unlisted ride number out n ≡ list ride store number trace out
+pub list-refused : (style : Style) (ride : Ride) (store : Store) (number : ℕ) (trace out : List ℕ) (n : ℕ) → judged store ≡ refuses n
+    → unlisted ride number out n ≡ list style ride store number trace out
 unfolding list
-list-refused ride store number trace out n e = rw e
+list-refused style ride store number trace out n e = rw e
 
-pub list-length : (ride : Ride) (store : Store) (number : ℕ) (trace out : List ℕ) → judged store ≡ gives kept → eqb (length trace % 8) 0 ≡ false
-    → unlisted ride number out 16 ≡ list ride store number trace out
+pub list-length : (style : Style) (ride : Ride) (store : Store) (number : ℕ) (trace out : List ℕ) → judged store ≡ gives kept → eqb (length trace % 8) 0 ≡ false
+    → unlisted ride number out 16 ≡ list style ride store number trace out
 unfolding list
-list-length ride store number trace out e h = rw (e, h)
+list-length style ride store number trace out e h = rw (e, h)
 
-pub list-taken : (ride : Ride) (store : Store) (number : ℕ) (trace out : List ℕ) → judged store ≡ gives kept → eqb (length trace % 8) 0 ≡ true
-    → listTaken (gapAt store) ride number (records trace) out ≡ list ride store number trace out
+pub list-taken : (style : Style) (ride : Ride) (store : Store) (number : ℕ) (trace out : List ℕ) → judged store ≡ gives kept → eqb (length trace % 8) 0 ≡ true
+    → listTaken style (gapAt store) ride number (records trace) out ≡ list style ride store number trace out
 unfolding list
-list-taken ride store number trace out e h = rw (e, h)
+list-taken style ride store number trace out e h = rw (e, h)

@@ -1,10 +1,10 @@
-pub mod Placing
-pub mod Standing
-pub mod Words
 pub mod Longest
 pub mod Texts
 pub mod Turns
 pub mod Judging
-pub mod Bounds
+pub mod SameLines
+pub mod Taken
+pub mod Closed
+pub mod Reasoned
 pub mod Examples
 pub mod Determined

@@ -11,81 +11,78 @@ use lib.ListN.{length, take, drop, length-append}
 use lib.Seq.{drop-drop}
 use borrow.Author.Tests.{ltb-true, ltb-false}
 use Rattle.words.specs.Answer.{gives, pick}
-use Rattle.ride.specs.declared.Line.{Line}
 use Rattle.ride.specs.declared.Ride.{Ride}
 use Rattle.ride.specs.Record.{odometerOf}
 use Rattle.ride.specs.Step.{Step, treat}
-use Rattle.ride.specs.Over.{firstRecords, records, linesFor, Ridden, rideOver}
-use Rattle.ride_text.specs.Put.{placed}
-use Rattle.ride_text.specs.List.{textOf, isTaken, taken, Taken, Listing, listOf}
-use Rattle.ride_text.proofs.Placing.{placed-none, placed-length, placed-join}
-use Rattle.ride_text.proofs.Texts.{text-join}
+use Rattle.ride.specs.Over.{firstRecords, records}
+use Rattle.text.specs.Put.{placed}
+use Rattle.text.proofs.Placing.{placed-none, placed-length, placed-join}
+use Rattle.ride_text.specs.Style.{Style}
+use Rattle.ride_text.specs.Told.{stepText, Told, tellOver}
+use Rattle.ride_text.specs.List.{isTaken, taken, Listing, listOf}
 pub use Rattle.words.proofs.Linear.{and-parts as both}
 
 abbrev pub listing : ℕ → ℕ → Ride → ℕ → List ℕ → Listing
 listing n bytes ride number out = record { answer = gives (record { records = n; bytes = bytes }); ride = ride; number = number; out = out }
 
 -- n records more, after i records that gave `at` bytes
-abbrev after : (ℕ → ℕ) → Ride → ℕ → ℕ → ℕ → List (List ℕ) → List ℕ → ℕ → Listing
-after gaps ride number i at rs out n =
-    let ridden : Ridden = rideOver gaps ride number (take n rs) in
-    let written : List ℕ = textOf (ridden .lines) in
-    listing (i + n) (at + length written) (ridden .ride) (number + n) (placed written out at)
+abbrev after : Style → (ℕ → ℕ) → Ride → ℕ → ℕ → ℕ → List (List ℕ) → List ℕ → ℕ → Listing
+after style gaps ride number i at rs out n =
+    let told : Told = tellOver style gaps ride number (take n rs) in
+    listing (i + n) (at + length (told .text)) (told .ride) (number + n) (placed (told .text) out at)
 
 -- as many more as are taken
-unfoldable pub fromHere : (ℕ → ℕ) → Ride → ℕ → ℕ → ℕ → List (List ℕ) → List ℕ → Listing
-fromHere gaps ride number i at rs out = after gaps ride number i at rs out (taken gaps ride number (length out - at) rs)
+unfoldable pub fromHere : Style → (ℕ → ℕ) → Ride → ℕ → ℕ → ℕ → List (List ℕ) → List ℕ → Listing
+fromHere style gaps ride number i at rs out = after style gaps ride number i at rs out (taken style gaps ride number (length out - at) rs)
 
 -- From the first record it is the whole listing.
-pub from-first : (gaps : ℕ → ℕ) (ride : Ride) (number : ℕ) (rs : List (List ℕ)) (out : List ℕ)
-    → fromHere gaps ride number 0 0 rs out ≡ listOf gaps ride number (taken gaps ride number (length out) rs) rs out
+pub from-first : (style : Style) (gaps : ℕ → ℕ) (ride : Ride) (number : ℕ) (rs : List (List ℕ)) (out : List ℕ)
+    → fromHere style gaps ride number 0 0 rs out ≡ listOf style gaps ride number (taken style gaps ride number (length out) rs) rs out
 unfolding fromHere listOf
-from-first gaps ride number rs out = simp (sub-zero, zero-add)
+from-first style gaps ride number rs out = simp (sub-zero, zero-add)
 
--- The text of one record's lines.
-abbrev pub textAt : (ℕ → ℕ) → Ride → ℕ → List ℕ → List ℕ
-textAt gaps ride number r = textOf (linesFor number (treat ride (gaps (odometerOf r)) r .lines))
+-- The step of a record.
+abbrev pub stepAt : (ℕ → ℕ) → Ride → List ℕ → Step
+stepAt gaps ride r = treat ride (gaps (odometerOf r)) r
 
-module _ (gaps : ℕ → ℕ) (ride : Ride) (number i at : ℕ) (r : List ℕ) (rs : List (List ℕ)) (out : List ℕ) where
+module _ (style : Style) (gaps : ℕ → ℕ) (ride : Ride) (number i at : ℕ) (r : List ℕ) (rs : List (List ℕ)) (out : List ℕ) where
   abbrev t : List ℕ
-  t = textAt gaps ride number r
+  t = stepText style number (stepAt gaps ride r)
 
   abbrev then : Ride
-  then = treat ride (gaps (odometerOf r)) r .ride
+  then = stepAt gaps ride r .ride
 
   one-more : (n : ℕ) → at + length t ≤ length out
-      → after gaps ride number i at (r ∷ rs) out (suc n) ≡ after gaps then (suc number) (i + 1) (at + length t) rs (placed t out at) n
-  unfolding rideOver
+      → after style gaps ride number i at (r ∷ rs) out (suc n) ≡ after style gaps then (suc number) (i + 1) (at + length t) rs (placed t out at) n
+  unfolding tellOver
   one-more n fits =
-      let rest : Ridden = rideOver gaps then (suc number) (take n rs) in
-      let u : List ℕ = textOf (rest .lines) in
-      let both : textOf (linesFor number (treat ride (gaps (odometerOf r)) r .lines) ++ rest .lines) ≡ t ++ u = text-join (linesFor number (treat ride (gaps (odometerOf r)) r .lines)) (rest .lines) in
+      let rest : Told = tellOver style gaps then (suc number) (take n rs) in
+      let u : List ℕ = rest .text in
       let counted : i + suc n ≡ i + 1 + n = omega arith in
       let numbered : number + suc n ≡ suc number + n = omega arith in
       let bytes : at + length (t ++ u) ≡ at + length t + length u = omega (arith, length-append t u) in
-      ap (λ (w : List ℕ). listing (i + suc n) (at + length w) (rest .ride) (number + suc n) (placed w out at)) both
-      ∙ ap (λ (k : ℕ). listing k (at + length (t ++ u)) (rest .ride) (number + suc n) (placed (t ++ u) out at)) counted
+      ap (λ (k : ℕ). listing k (at + length (t ++ u)) (rest .ride) (number + suc n) (placed (t ++ u) out at)) counted
       ∙ ap (λ (k : ℕ). listing (i + 1 + n) k (rest .ride) (number + suc n) (placed (t ++ u) out at)) bytes
       ∙ ap (λ (k : ℕ). listing (i + 1 + n) (at + length t + length u) (rest .ride) k (placed (t ++ u) out at)) numbered
       ∙ ap (listing (i + 1 + n) (at + length t + length u) (rest .ride) (suc number + n)) (sym (placed-join t out at fits u))
 
   -- A record that is taken.
-  pub from-next : isTaken number (length out - at) ≡ true → at + length t ≤ length out
-      → fromHere gaps ride number i at (r ∷ rs) out ≡ fromHere gaps then (suc number) (i + 1) (at + length t) rs (placed t out at)
+  pub from-next : isTaken style number (length out - at) ≡ true → at + length t ≤ length out
+      → fromHere style gaps ride number i at (r ∷ rs) out ≡ fromHere style gaps then (suc number) (i + 1) (at + length t) rs (placed t out at)
   unfolding fromHere taken
   from-next e fits =
-      let n : ℕ = taken gaps then (suc number) (length out - at - length t) rs in
+      let n : ℕ = taken style gaps then (suc number) (length out - at - length t) rs in
       let room : length out - at - length t ≡ length (placed t out at) - (at + length t) = omega (arith, placed-length t out at fits) in
-      ap (λ (b : Bool). after gaps ride number i at (r ∷ rs) out (pick b (suc n) 0)) e
+      ap (λ (b : Bool). after style gaps ride number i at (r ∷ rs) out (pick b (suc n) 0)) e
       ∙ one-more n fits
-      ∙ ap (λ (k : ℕ). after gaps then (suc number) (i + 1) (at + length t) rs (placed t out at) (taken gaps then (suc number) k rs)) room
+      ∙ ap (λ (k : ℕ). after style gaps then (suc number) (i + 1) (at + length t) rs (placed t out at) (taken style gaps then (suc number) k rs)) room
 
 -- No record more.
-pub from-last : (gaps : ℕ → ℕ) (ride : Ride) (number i at : ℕ) (rs : List (List ℕ)) (out : List ℕ) → taken gaps ride number (length out - at) rs ≡ 0
-    → listing i at ride number out ≡ fromHere gaps ride number i at rs out
-unfolding fromHere rideOver textOf
-from-last gaps ride number i at rs out e =
-    sym (ap (after gaps ride number i at rs out) e ∙ simp (add-zero, placed-none))
+pub from-last : (style : Style) (gaps : ℕ → ℕ) (ride : Ride) (number i at : ℕ) (rs : List (List ℕ)) (out : List ℕ) → taken style gaps ride number (length out - at) rs ≡ 0
+    → listing i at ride number out ≡ fromHere style gaps ride number i at rs out
+unfolding fromHere tellOver
+from-last style gaps ride number i at rs out e =
+    sym (ap (after style gaps ride number i at rs out) e ∙ simp (add-zero, placed-none))
 
 -- The records of a trace that are left after i.
 abbrev pub leftOf : List ℕ → ℕ → ℕ → List (List ℕ)
@@ -104,20 +101,20 @@ pub left-all : (trace : List ℕ) → leftOf trace (length trace / 8) 0 ≡ reco
 left-all trace = ap (λ (k : ℕ). firstRecords k trace) (sub-zero (length trace / 8))
 
 -- Where none is left, none is taken.
-pub none-left : (gaps : ℕ → ℕ) (ride : Ride) (number room : ℕ) (trace : List ℕ) (count i : ℕ) → count ≤ i → taken gaps ride number room (leftOf trace count i) ≡ 0
+pub none-left : (style : Style) (gaps : ℕ → ℕ) (ride : Ride) (number room : ℕ) (trace : List ℕ) (count i : ℕ) → count ≤ i → taken style gaps ride number room (leftOf trace count i) ≡ 0
 unfolding taken firstRecords
-none-left gaps ride number room trace count i h =
+none-left style gaps ride number room trace count i h =
     let none : count - i ≡ 0 = omega arith in
-    ap (λ (k : ℕ). taken gaps ride number room (firstRecords k (drop (i * 8) trace))) none
+    ap (λ (k : ℕ). taken style gaps ride number room (firstRecords k (drop (i * 8) trace))) none
 
 -- Where the loop stops, no record is taken.
-stopped : (gaps : ℕ → ℕ) (ride : Ride) (number room : ℕ) (trace : List ℕ) (count i : ℕ) (b : Bool) → ltb i count ≡ b → (b && isTaken number room) ≡ false
-    → taken gaps ride number room (leftOf trace count i) ≡ 0
+stopped : (style : Style) (gaps : ℕ → ℕ) (ride : Ride) (number room : ℕ) (trace : List ℕ) (count i : ℕ) (b : Bool) → ltb i count ≡ b → (b && isTaken style number room) ≡ false
+    → taken style gaps ride number room (leftOf trace count i) ≡ 0
 unfolding taken
-stopped gaps ride number room trace count i true more e =
-    ap (taken gaps ride number room) (left-next trace count i (ltb-true i count more)) ∙ simp e
-stopped gaps ride number room trace count i false more e = none-left gaps ride number room trace count i (ltb-false i count more)
+stopped style gaps ride number room trace count i true more e =
+    ap (taken style gaps ride number room) (left-next trace count i (ltb-true i count more)) ∙ simp e
+stopped style gaps ride number room trace count i false more e = none-left style gaps ride number room trace count i (ltb-false i count more)
 
-pub no-more : (gaps : ℕ → ℕ) (ride : Ride) (number room : ℕ) (trace : List ℕ) (count i : ℕ) → (ltb i count && isTaken number room) ≡ false
-    → taken gaps ride number room (leftOf trace count i) ≡ 0
-no-more gaps ride number room trace count i e = stopped gaps ride number room trace count i (ltb i count) refl e
+pub no-more : (style : Style) (gaps : ℕ → ℕ) (ride : Ride) (number room : ℕ) (trace : List ℕ) (count i : ℕ) → (ltb i count && isTaken style number room) ≡ false
+    → taken style gaps ride number room (leftOf trace count i) ≡ 0
+no-more style gaps ride number room trace count i e = stopped style gaps ride number room trace count i (ltb i count) refl e

@@ -1,4 +1,7 @@
+pub mod Style
 pub mod Text
-pub mod Put
+pub mod Told
 pub mod List
 pub mod Says
+pub mod SameLines
+pub mod Reasoned

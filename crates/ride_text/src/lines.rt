@@ -4,9 +4,10 @@ ghost use Prim.Native.Nat.{_+_, _≤_};
 ghost use mathlib.Core.List.{_++_};
 ghost use lib.ListN.{length};
 ghost use Rattle.text.specs.Text.{codes, decimal};
-ghost use Rattle.text.specs.Put.{placed, put, came};
+ghost use Rattle.text.specs.Put.{put, came};
 ghost use Rattle.ride.specs.declared.Line.{Line};
-ghost use Rattle.ride_text.specs.Text.{between, kind, mark, number, seen, text};
+ghost use Rattle.ride_text.specs.Text.{between, kind, mark, number, seen, text, behind, lineText};
+use group::Group;
 use group::Number;
 use group_rows::Direction;
 use group_rows::Kind;
@@ -88,13 +89,27 @@ fn put_numbered(words: &[u8], n: u64, buf: &mut [u8], at: usize) -> usize
     put(b"\n", buf, a)
 }
 
-// A refused group: its place and its number.
-fn put_fault(place: u64, n: u8, buf: &mut [u8], at: usize) -> usize
-    requires { ⌜ at + length (text (Line.Fault place n)) ≤ length (now buf) ⌝ }
-    ensures { λ r. ⌜ came r (now (buf .exit)) ≡ put (text (Line.Fault place n)) (now (buf .entry)) at ⌝ }
+// What stands behind the number of a fault: nothing, or after a colon why the group that closed was refused.
+fn put_why(reasons: bool, closed: Group, buf: &mut [u8], at: usize) -> usize
+    requires { ⌜ at + length (behind reasons closed) ≤ length (now buf) ⌝ }
+    ensures { λ r. ⌜ came r (now (buf .exit)) ≡ put (behind reasons closed) (now (buf .entry)) at ⌝ }
+{
+    if !reasons {
+        return put(b"", buf, at);
+    }
+    let a = put(b": ", buf, at);
+    group_reason::put_reason(group_reason::explain(closed), buf, a)
+}
+
+// A refused group: its place, its number and why.
+fn put_fault(reasons: bool, closed: Group, place: u64, n: u8, buf: &mut [u8], at: usize) -> usize
+    requires { ⌜ at + length (lineText reasons closed (Line.Fault place n)) ≤ length (now buf) ⌝ }
+    ensures { λ r. ⌜ came r (now (buf .exit)) ≡ put (lineText reasons closed (Line.Fault place n)) (now (buf .entry)) at ⌝ }
 {
     let a = put_number(b"", place, buf, at);
-    put_numbered(b" fault ", n as u64, buf, a)
+    let b = put_number(b" fault ", n as u64, buf, a);
+    let c = put_why(reasons, closed, buf, b);
+    put(b"\n", buf, c)
 }
 
 // A missed signal: its place.
@@ -115,15 +130,14 @@ fn put_record(number: u64, n: u8, buf: &mut [u8], at: usize) -> usize
     put_numbered(b" refused ", n as u64, buf, a)
 }
 
-// The text of a line.
-pub fn put_text(line: Line, buf: &mut [u8], at: usize) -> usize
-    requires { ⌜ at + length (text line) ≤ length (now buf) ⌝ }
-    ensures { λ r. ⌜ r ≡ at + length (text line) ⌝ }
-    ensures { λ r. ⌜ now (buf .exit) ≡ placed (text line) (now (buf .entry)) at ⌝ }
+// The text of a line in a style, where this group closed.
+pub fn put_text(reasons: bool, closed: Group, line: Line, buf: &mut [u8], at: usize) -> usize
+    requires { ⌜ at + length (lineText reasons closed line) ≤ length (now buf) ⌝ }
+    ensures { λ r. ⌜ came r (now (buf .exit)) ≡ put (lineText reasons closed line) (now (buf .entry)) at ⌝ }
 {
     match line {
         Line::Group(of) => put_seen(of, buf, at),
-        Line::Fault(place, n) => put_fault(place, n, buf, at),
+        Line::Fault(place, n) => put_fault(reasons, closed, place, n, buf, at),
         Line::Missed(place) => put_missed(place, buf, at),
         Line::Record(number, n) => put_record(number, n, buf, at),
         Line::Trace(n) => put_numbered(b"trace refused ", n as u64, buf, at),

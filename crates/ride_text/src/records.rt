@@ -3,17 +3,19 @@ ghost use mathlib.Core.Path.{_≡_};
 ghost use Prim.Native.Nat.{_+_, _≤_};
 ghost use lib.ListN.{length};
 ghost use Rattle.words.specs.Answer.{gives};
+ghost use Rattle.text.specs.Put.{put, came};
 ghost use Rattle.settings.specs.Versions.{kept};
 ghost use Rattle.settings.specs.Store.{judged};
 ghost use Rattle.settings.specs.At.{heldAt, gapAt};
 ghost use Rattle.ride.specs.Over.{records, linesFor};
 ghost use Rattle.ride.specs.Says.{saysWrong, saysLines, saysGiven};
-ghost use Rattle.ride_text.specs.Put.{placed};
-ghost use Rattle.ride_text.specs.List.{textOf, listTaken};
+ghost use Rattle.ride_text.specs.Text.{linesText};
+ghost use Rattle.ride_text.specs.List.{roomFor, listTaken};
 ghost use Rattle.ride_text.specs.Says.{saysListed};
 use crate::Done;
 use crate::Listed;
 use crate::lines::put_text;
+use group::Group;
 use ride::Given;
 use ride::Line;
 use ride::Lines;
@@ -34,38 +36,62 @@ fn refusal(wrong: Wrong) -> u8
     }
 }
 
-// The lines of a step in order.
-fn put_lines(lines: Lines, out: &mut [u8], at: usize) -> usize
-    requires { ⌜ at + 128 ≤ length (now out) ⌝ }
-    ensures { λ r. ⌜ r ≡ at + length (textOf (saysLines lines)) ⌝ }
-    ensures { λ r. ⌜ now (out .exit) ≡ placed (textOf (saysLines lines)) (now (out .entry)) at ⌝ }
+// The room that the lines of a record may need.
+fn room(reasons: bool) -> usize
+    ensures { λ r. ⌜ r ≡ roomFor reasons ⌝ }
+{
+    if reasons {
+        return 320;
+    }
+    128
+}
+
+// Lines in order, where this group closed.
+pub fn put_lines(reasons: bool, closed: Group, lines: Lines, out: &mut [u8], at: usize) -> usize
+    requires { ⌜ at + roomFor reasons ≤ length (now out) ⌝ }
+    ensures { λ r. ⌜ came r (now (out .exit)) ≡ put (linesText reasons closed (saysLines lines)) (now (out .entry)) at ⌝ }
 {
     match lines {
         Lines::None => at,
-        Lines::One(a) => put_text(a, out, at),
+        Lines::One(a) => put_text(reasons, closed, a, out, at),
         Lines::Two(a, b) => {
-            let next = put_text(a, out, at);
-            put_text(b, out, next)
+            let next = put_text(reasons, closed, a, out, at);
+            put_text(reasons, closed, b, out, next)
         }
     }
 }
 
-// The lines of the record with this number: those that it gives, or that it was refused.
-fn put_given(number: u64, given: Given, out: &mut [u8], at: usize) -> usize
-    requires { ⌜ at + 128 ≤ length (now out) ⌝ }
-    ensures { λ r. ⌜ r ≡ at + length (textOf (linesFor number (saysGiven given))) ⌝ }
-    ensures { λ r. ⌜ now (out .exit) ≡ placed (textOf (linesFor number (saysGiven given))) (now (out .entry)) at ⌝ }
+// The lines of the record with this number, by which this group closed: those that it gives, or that it was refused.
+fn put_given(
+    reasons: bool,
+    number: u64,
+    closed: Group,
+    given: Given,
+    out: &mut [u8],
+    at: usize,
+) -> usize
+    requires { ⌜ at + roomFor reasons ≤ length (now out) ⌝ }
+    ensures { λ r. ⌜ came r (now (out .exit)) ≡ put (linesText reasons closed (linesFor number (saysGiven given))) (now (out .entry)) at ⌝ }
 {
     match given {
-        Given::Refused(wrong) => put_text(Line::Record(number, refusal(wrong)), out, at),
-        Given::Lines(lines) => put_lines(lines, out, at),
+        Given::Refused(wrong) => {
+            put_text(
+                reasons,
+                closed,
+                Line::Record(number, refusal(wrong)),
+                out,
+                at,
+            )
+        }
+        Given::Lines(lines) => put_lines(reasons, closed, lines, out, at),
     }
 }
 
 // The records in turn, up to the last, while there is room for the lines of one more and the next number fits. The store is asked only where
 // an odometer leaves the places of the settings that are held; what is held at first is what is in force at place 0. One version alone is in force
-// throughout: then no odometer is looked at for it.
+// throughout: then no odometer is looked at for it. A group that a record closes is the one that was open before it.
 pub fn over(
+    reasons: bool,
     ride: Ride,
     store: Store,
     first: Held,
@@ -74,16 +100,17 @@ pub fn over(
     out: &mut [u8],
 ) -> Listed
     requires { ⌜ (judged store ≡ gives kept) × (first ≡ heldAt store 0) ⌝ }
-    ensures { λ r. ⌜ saysListed r (now (out .exit)) ≡ listTaken (gapAt store) ride number (records (now (trace .entry))) (now (out .entry)) ⌝ }
+    ensures { λ r. ⌜ saysListed r (now (out .exit)) ≡ listTaken reasons (gapAt store) ride number (records (now (trace .entry))) (now (out .entry)) ⌝ }
 {
     let count = trace.len() / 8;
     let throughout = store.count == 1;
+    let needed = room(reasons);
     let mut now = ride;
     let mut held = first;
     let mut next = number;
     let mut i: usize = 0;
     let mut at: usize = 0;
-    while (i < count) & ((out.len() - at >= 128) & (next < u64::MAX)) {
+    while (i < count) & ((out.len() - at >= needed) & (next < u64::MAX)) {
         if !throughout {
             let odometer = ride::odometer_at(trace, i);
             if settings::leaves(held, odometer) {
@@ -95,7 +122,8 @@ pub fn over(
         let Reply::Record(given) = reply else {
             break;
         };
-        at = put_given(next, given, out, at);
+        let group = now.group;
+        at = put_given(reasons, next, group, given, out, at);
         now = treated.ride;
         next += 1;
         i += 1;

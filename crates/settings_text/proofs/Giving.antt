@@ -7,7 +7,7 @@ use borrow.Author.Tests.{eq-eqb, ne-eqb}
 use Rattle.settings.specs.declared.Version.{Version}
 use Rattle.settings.specs.declared.Store.{Store}
 use Rattle.settings.specs.Store.{begin, add}
-use Rattle.settings_text.specs.declared.How.{How}
+use Rattle.settings_text.specs.declared.Condition.{Condition}
 use Rattle.settings_text.specs.declared.Taken.{Taken}
 use Rattle.settings_text.specs.Taking.{changed, given}
 
@@ -20,6 +20,6 @@ module _ (store : Store) (v : Version) where
   unfolding given
   to-none e z = simp (eq-eqb _ _ e, eq-eqb _ _ z)
 
-  pub not-from-0 : store .count ≡ 0 → 0 < v .place → _≡_ {A = Taken} (record { store = store; how = How.Unreadable }) (given store v)
+  pub not-from-0 : store .count ≡ 0 → 0 < v .place → _≡_ {A = Taken} (record { store = store; how = Condition.FirstPlace }) (given store v)
   unfolding given
   not-from-0 e h = let some : v .place ≡ 0 → ⊥ = λ z. omega arith in simp (eq-eqb _ _ e, ne-eqb _ _ some)

@@ -1,7 +1,7 @@
+pub mod Lines
+pub mod Steps
+pub mod Pieces
+pub mod Giving
 pub mod Determined
 pub mod Examples
-pub mod Giving
-pub mod Lines
-pub mod Pieces
-pub mod Stretches
-pub mod Wording
+pub mod Good

@@ -14,7 +14,7 @@ use Rattle.text.proofs.Decimal.{decimal-length}
 use Rattle.text.proofs.Standing.{numbered}
 use Rattle.refusals.specs.Words.{refused}
 use Rattle.refusals.proofs.Lengths.{refused-length}
-use Rattle.settings_text.specs.declared.How.{How}
+use Rattle.settings_text.specs.declared.Condition.{Condition}
 use Rattle.settings_text.specs.Told.{refusal, told}
 
 pub of-none : (line n : ℕ) → line ≡ 0 → codes "settings " ++ refused n ≡ refusal line n
@@ -25,9 +25,13 @@ pub of-a-line : (line n : ℕ) → (line ≡ 0 → ⊥) → numbered "settings l
 unfolding refusal
 of-a-line line n e = simp (ne-eqb line 0 e, append-assoc)
 
-pub unreadable-is : (line : ℕ) → numbered "settings line " line ++ codes " unreadable\n" ≡ told line How.Unreadable
+pub unreadable-is : (line : ℕ) → numbered "settings line " line ++ codes " unreadable\n" ≡ told line Condition.Unreadable
 unfolding told
 unreadable-is line = simp append-assoc
+
+pub first-place-is : (line : ℕ) → numbered "settings line " line ++ codes " unreadable: first place not 0\n" ≡ told line Condition.FirstPlace
+unfolding told
+first-place-is line = simp append-assoc
 
 by-line : (b : Bool) (x y : List ℕ) → length x ≤ 128 → length y ≤ 128 → length (pick b x y) ≤ 128
 by-line true x y h k = h
@@ -43,9 +47,10 @@ refusal-length line n =
     (simp length-append (omega (arith, decimal-length line, refused-length n)))
 
 -- Nothing longer is said.
-pub told-length : (line : ℕ) (how : How) → length (told line how) ≤ 128
+pub told-length : (line : ℕ) (how : Condition) → length (told line how) ≤ 128
 unfolding told
-told-length line How.Fine = omega arith
-told-length line How.Unreadable = simp length-append (omega (arith, decimal-length line))
-told-length line (How.Refused n) = refusal-length line n
-told-length line How.TooLong = omega arith
+told-length line Condition.Fine = omega arith
+told-length line Condition.Unreadable = simp length-append (omega (arith, decimal-length line))
+told-length line Condition.FirstPlace = simp length-append (omega (arith, decimal-length line))
+told-length line (Condition.Refused n) = refusal-length line n
+told-length line Condition.TooLong = omega arith

@@ -1,4 +1,3 @@
-pub mod Words
 pub mod Line
 pub mod Taking
 pub mod Sheet

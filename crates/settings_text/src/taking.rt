@@ -4,9 +4,10 @@ ghost use Rattle.settings.specs.Store.{noStore};
 ghost use Rattle.settings.specs.Says.{saysBad, saysVerdict};
 ghost use Rattle.settings_text.specs.Taking.{afterIt, given};
 ghost use Rattle.settings_text.specs.Sheet.{ended};
-use crate::How;
+use crate::Condition;
 use crate::Sheet;
 use crate::Taken;
+use crate::bad;
 use settings::Bad;
 use settings::Store;
 use settings::Verdict;
@@ -21,7 +22,7 @@ const NO_VERSION: Version = Version {
 };
 
 // A store that is not opened yet.
-pub fn no_version() -> Store
+pub fn no_store() -> Store
     ensures { λ r. ⌜ r ≡ noStore ⌝ }
 {
     Store {
@@ -50,11 +51,11 @@ fn after_it(verdict: Verdict, old: Store, new: Store) -> Taken
     match verdict {
         Verdict::Kept => Taken {
             store: new,
-            how: How::Fine,
+            how: Condition::Fine,
         },
         Verdict::Refused(bad) => Taken {
             store: old,
-            how: How::Refused(number_of(bad)),
+            how: Condition::Refused(number_of(bad)),
         },
     }
 }
@@ -72,7 +73,7 @@ pub fn give(store: Store, place: u32, gap: u32, s: u8, t: u8) -> Taken
     if place > 0 {
         return Taken {
             store,
-            how: How::Unreadable,
+            how: Condition::FirstPlace,
         };
     }
     let begun = settings::begin(gap, s, t);
@@ -86,15 +87,11 @@ pub fn ended(store: Store) -> Sheet
     ensures { λ r. ⌜ r ≡ ended store ⌝ }
 {
     if store.count == 0 {
-        return Sheet {
-            store,
-            line: 0,
-            how: How::Refused(19),
-        };
+        return bad(0, Condition::Refused(19));
     }
     Sheet {
         store,
         line: 0,
-        how: How::Fine,
+        how: Condition::Fine,
     }
 }

@@ -4,7 +4,7 @@ ghost use Prim.Native.Nat.{_+_, _≤_};
 ghost use lib.ListN.{length};
 ghost use Rattle.text.specs.Put.{put, came};
 ghost use Rattle.settings_text.specs.Told.{refusal, told};
-use crate::How;
+use crate::Condition;
 use refusals::put_refused;
 use text::put;
 use text::put_number;
@@ -24,17 +24,21 @@ fn put_refusal(line: u32, number: u8, buf: &mut [u8], at: usize) -> usize
 }
 
 // What is said.
-pub fn put_how(line: u32, how: How, buf: &mut [u8], at: usize) -> usize
+pub fn put_how(line: u32, how: Condition, buf: &mut [u8], at: usize) -> usize
     requires { ⌜ at + length (told line how) ≤ length (now buf) ⌝ }
     ensures { λ r. ⌜ came r (now (buf .exit)) ≡ put (told line how) (now (buf .entry)) at ⌝ }
 {
     match how {
-        How::Fine => put(b"", buf, at),
-        How::Unreadable => {
+        Condition::Fine => put(b"", buf, at),
+        Condition::Unreadable => {
             let a = put_number(b"settings line ", line as u64, buf, at);
             put(b" unreadable\n", buf, a)
         }
-        How::Refused(number) => put_refusal(line, number, buf, at),
-        How::TooLong => put(b"settings too long\n", buf, at),
+        Condition::FirstPlace => {
+            let a = put_number(b"settings line ", line as u64, buf, at);
+            put(b" unreadable: first place not 0\n", buf, a)
+        }
+        Condition::Refused(number) => put_refusal(line, number, buf, at),
+        Condition::TooLong => put(b"settings too long\n", buf, at),
     }
 }

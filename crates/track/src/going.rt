@@ -104,7 +104,7 @@ fn over(fd: i32, stand: Stand, text: &mut [u8], room: &mut [u8]) -> Passed {
     let mut is_first = true;
     let mut turns = u64::MAX;
     while turns > 0 {
-        let got = cards::fill(fd, text);
+        let got = console::fill(fd, text);
         if got.failed {
             let stand = middle.stand;
             return Passed {
@@ -140,16 +140,16 @@ fn from(is_first: bool, text: &[u8]) -> usize {
 
 // One pass over the text that argument 1 names; what was wrong is said.
 fn pass(stand: Stand, text: &mut [u8], room: &mut [u8]) -> Stand {
-    let fd = cards::open_card(1);
+    let fd = console::open_card(1);
     if fd < 0 {
-        cards::cannot_open(b"track", 1);
+        console::cannot_open(b"track", 1);
         return with_failure(stand);
     }
     let passed = over(fd, stand, text, room);
     libc::close(fd);
     let after = passed.stand;
     if !passed.is_read {
-        cards::cannot_read(b"track", 1);
+        console::cannot_read(b"track", 1);
         return with_failure(after);
     }
     let how = after.how;

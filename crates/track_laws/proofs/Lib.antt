@@ -7,3 +7,7 @@ pub mod Chain
 pub mod WholeWay
 pub mod Noise
 pub mod TextMet
+pub mod Writing
+pub mod ByCalls
+pub mod WayMet
+pub mod WayRecorded

@@ -42,7 +42,7 @@ is-taken : wayOf text ≡ gives way
 unfolding wayOf wayFrom take after fresh
 is-taken = refl
 
-pair : Pair 0x72 0x0d
+pub pair : Pair 0x72 0x0d
 unfolding isGood differing endsInFourOnes
 pair = record { s-byte = omega arith; t-byte = omega arith; good = refl; s-ends = refl; t-ends = refl }
 
@@ -62,7 +62,7 @@ sure : Sure 0x72 0x0d text
 sure = ((heard, omega arith), (omega arith, (omega arith, tt)))
 
 -- A store that is begun with the pair has it everywhere.
-abbrev store : Store
+abbrev pub store : Store
 store = stores.opened (stores.firstOf 40 0x72 0x0d)
 
 good-store : stores.judged store ≡ gives kept
@@ -77,7 +77,7 @@ answers : (place : ℕ) → place ≤ 4000000000 → at.asked store place ≡ gi
 unfolding at.asked
 answers place low = simp (good-store, le-ltb 4000000000 place low, held-there place)
 
-throughout : Throughout store 0x72 0x0d
+pub throughout : Throughout store 0x72 0x0d
 unfolding heldAt at.hold
 throughout place low = (ap (λ (o : Outcome Held). at.heldOr noneHeld o .s) (answers place low), ap (λ (o : Outcome Held). at.heldOr noneHeld o .t) (answers place low))
 

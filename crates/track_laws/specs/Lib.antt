@@ -1,3 +1,5 @@
 pub mod Sure
 pub mod WholeWay
 pub mod Noise
+pub mod Calls
+pub mod ByCalls

@@ -177,7 +177,7 @@ fn room() -> [u8; 8192]
 fn one_block(form: Form, done: Done, is_first: bool, writes: bool, fd: i32) -> Step {
     let mut block = room();
     let mut out = io::large_buffer();
-    let got = cards::fill(fd, &mut block);
+    let got = console::fill(fd, &mut block);
     let count = got.count;
     let reader = done.reader;
     if got.failed {

@@ -7,7 +7,7 @@ mod giving;
 mod going;
 mod telling;
 
-use cards::Found;
+use console::Found;
 pub use giving::Form;
 use going::Done;
 use going::How;
@@ -22,7 +22,7 @@ fn is_well(program: &[u8], done: Done) -> bool {
     match how {
         How::Whole => {}
         How::CannotRead => {
-            cards::cannot_read(program, FILE);
+            console::cannot_read(program, FILE);
             return false;
         }
         How::CannotWrite => {
@@ -49,7 +49,7 @@ fn twice(program: &[u8], form: Form, fd: i32) {
         return;
     }
     if libc::lseek(fd, 0, SEEK_SET) != 0 {
-        cards::say_found(program, Found::Once(FILE));
+        console::say_found(program, Found::Once(FILE));
         return;
     }
     let second = going::pass(form, fd, true);
@@ -65,9 +65,9 @@ pub fn run(program: &[u8], form: Form) {
     if console::to_terminal(program) {
         return;
     }
-    let fd = cards::open_card(FILE);
+    let fd = console::open_card(FILE);
     if fd < 0 {
-        cards::cannot_open(program, FILE);
+        console::cannot_open(program, FILE);
         return;
     }
     twice(program, form, fd);

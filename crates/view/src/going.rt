@@ -3,6 +3,7 @@ ghost use Prim.Native.Nat.{_+_, _/_, _<_, _≤_};
 ghost use lib.ListN.{length};
 use ride::Ride;
 use ride_text::Done;
+use ride_text::PLAIN;
 use settings::Store;
 use viewer::Came;
 use viewer::Stand;
@@ -30,7 +31,7 @@ fn end_of(number: usize, to: usize) -> usize
 
 // Writes the lines of some records, the first with this number, in this state; the state after them.
 fn write_block(ride: Ride, store: Store, number: u64, records: &[u8], out: &mut [u8]) -> Ride {
-    let listed = ride_text::list(ride, store, number, records, out);
+    let listed = ride_text::list(PLAIN, ride, store, number, records, out);
     let done = listed.done;
     let after = listed.ride;
     let Done::Took { records: _, bytes } = done else {

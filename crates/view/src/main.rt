@@ -7,8 +7,8 @@ mod out;
 mod reading;
 mod session;
 
-use asked::How;
-use cards::Found;
+use console::Found;
+use console::Given;
 use settings::Store;
 
 fn usage() {
@@ -19,27 +19,27 @@ fn usage() {
 fn look(store: Store, first: usize) {
     let mut lengths = [0u64; 8192];
     let mut block = io::large_buffer();
-    let found = cards::go_over(first, &mut lengths, &mut block);
+    let found = console::go_over(first, &mut lengths, &mut block);
     match found {
         Found::Cards => reading::open(store, first, &lengths),
         Found::BadLength(_) => out::refuse_trace(),
         Found::NoCard => usage(),
-        Found::TooMany => cards::say_found(b"view", found),
-        Found::CannotOpen(_) => cards::say_found(b"view", found),
-        Found::CannotRead(_) => cards::say_found(b"view", found),
-        Found::Once(_) => cards::say_found(b"view", found),
+        Found::TooMany => console::say_found(b"view", found),
+        Found::CannotOpen(_) => console::say_found(b"view", found),
+        Found::CannotRead(_) => console::say_found(b"view", found),
+        Found::Once(_) => console::say_found(b"view", found),
     }
 }
 
 fn main() {
-    let asked = asked::options(b"view", false);
+    let asked = console::options(b"view", false);
     let store = asked.store;
     let first = asked.first;
     let how = asked.how;
     match how {
-        How::Plain => look(store, first),
-        How::Settings => look(store, first),
-        How::Usage => usage(),
-        How::Said => {}
+        Given::Plain => look(store, first),
+        Given::Settings => look(store, first),
+        Given::Usage => usage(),
+        Given::Said => {}
     }
 }

@@ -4,16 +4,13 @@ use libc::STDERR_FILENO;
 use libc::STDIN_FILENO;
 use libc::STDOUT_FILENO;
 use ride::Line;
-use ride_text::Put;
 use viewer::How;
 use viewer::Stand;
 
 // `trace refused 16`, alone.
 pub fn refuse_trace() {
     let mut line = [0u8; 64];
-    let Put::Next(n) = ride_text::put_line(Line::Trace(16), &mut line, 0) else {
-        return;
-    };
+    let n = ride_text::put_line(Line::Trace(16), &mut line, 0);
     if console::put(b"view", &line, n) {
         console::tell(Ended::Refused);
     }

@@ -3,8 +3,8 @@ ghost use mathlib.Core.Path.{_≡_};
 ghost use Prim.Native.Nat.{_≤_};
 ghost use lib.ListN.{length};
 use crate::session;
-use cards::How;
-use cards::Pass;
+use console::Goes;
+use console::Pass;
 use settings::Store;
 
 // The most bytes of a trace.
@@ -41,7 +41,7 @@ struct Read {
 struct Step {
     pass: Pass,
     have: usize,
-    how: How,
+    how: Goes,
 }
 
 // The next block after those that the buffer has.
@@ -49,7 +49,7 @@ fn next(pass: Pass, lengths: &[u64], trace: &mut [u8], have: usize) -> Step
     requires { ⌜ have ≤ length (now trace) ⌝ }
     ensures { λ r. ⌜ r .have ≤ length (now (trace .entry)) ⌝ }
 {
-    let block = cards::next_block(pass, lengths, &mut trace[have..]);
+    let block = console::next_block(pass, lengths, &mut trace[have..]);
     let how = block.how;
     let then = block.pass;
     Step {
@@ -63,7 +63,7 @@ fn next(pass: Pass, lengths: &[u64], trace: &mut [u8], have: usize) -> Step
 fn fill(first: usize, lengths: &[u64], trace: &mut [u8]) -> Read
     ensures { λ r. ⌜ r .bytes ≤ length (now (trace .entry)) ⌝ }
 {
-    let mut pass = cards::begin(first);
+    let mut pass = console::begin(first);
     let mut have: usize = 0;
     let mut turns = u64::MAX;
     while turns > 0 {
@@ -72,22 +72,22 @@ fn fill(first: usize, lengths: &[u64], trace: &mut [u8]) -> Read
         pass = step.pass;
         have = step.have;
         match how {
-            How::More => {}
-            How::End => {
+            Goes::More => {}
+            Goes::End => {
                 return Read {
                     bytes: have,
                     is_good: true,
                 };
             }
-            How::CannotOpen(number) => {
-                cards::cannot_open(b"view", number);
+            Goes::CannotOpen(number) => {
+                console::cannot_open(b"view", number);
                 break;
             }
-            How::CannotRead(number) => {
-                cards::cannot_read(b"view", number);
+            Goes::CannotRead(number) => {
+                console::cannot_read(b"view", number);
                 break;
             }
-            How::NoRoom => {
+            Goes::NoRoom => {
                 break;
             }
         }

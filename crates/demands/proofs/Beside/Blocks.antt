@@ -18,8 +18,7 @@ use Rattle.ride.specs.declared.Line.{Line}
 use Rattle.ride.specs.declared.Ride.{Ride}
 use Rattle.ride.proofs.Cutting.{records-length, take-records, front-records, cut-records}
 use Rattle.ride.proofs.Sections.{ride-on, ride-joined}
-use Rattle.ride_text.specs.Text.{text}
-use Rattle.ride_text.specs.List.{textOf}
+use Rattle.ride_text.specs.Text.{text, textOf}
 use Rattle.ride_text.specs.declared.Listed.{Listed}
 use Rattle.ride_text.proofs.Texts.{text-join}
 use Rattle.demands.specs.Table.{badLength}

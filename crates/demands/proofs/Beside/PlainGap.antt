@@ -23,8 +23,8 @@ plain-gap = record {
   nineteen = λ Reading rules o gap b c. nineteen gap (c .s) (c .t) (c .pair) b (c .begun) Reading rules o;
   run = λ gap b c ride trace r d.
       nineteen gap (c .s) (c .t) (c .pair) b (c .begun) (Is through) (row 16 (badLength trace) ∷ []) (saysRan r .answer) (demand1 .run ride (b .store) trace r d);
-  list = λ gap b c ride number trace before r after d.
-      nineteen gap (c .s) (c .t) (c .pair) b (c .begun) Given (row 16 (badLength trace) ∷ []) (saysDone (r .done)) (demand1 .list ride (b .store) number trace before r after d);
+  list = λ gap b c style ride number trace before r after d.
+      nineteen gap (c .s) (c .t) (c .pair) b (c .begun) Given (row 16 (badLength trace) ∷ []) (saysDone (r .done)) (demand1 .list style ride (b .store) number trace before r after d);
   compact = λ gap b c ride before r after d.
       nineteen gap (c .s) (c .t) (c .pair) b (c .begun) Given (row 16 (badLength before) ∷ []) (saysSize (r .size)) (demand1 .compact ride (b .store) before r after d);
   start = λ gap b c trace r d.

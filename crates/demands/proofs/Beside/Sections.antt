@@ -10,8 +10,8 @@ use Rattle.settings.specs.At.{gapAt}
 use Rattle.ride.specs.Step.{end}
 use Rattle.ride.specs.declared.Line.{Line}
 use Rattle.ride.specs.declared.Ride.{Ride}
-use Rattle.ride_text.specs.Text.{text}
-use Rattle.ride_text.specs.List.{textOf}
+use Rattle.ride_text.specs.Style.{plain}
+use Rattle.ride_text.specs.Text.{text, textOf}
 use Rattle.ride_text.specs.declared.Listed.{Listed}
 use Rattle.ride_text.proofs.Texts.{text-one}
 use Rattle.demands.specs.Table.{badLength}
@@ -31,7 +31,7 @@ whole trace = textOf (ridden trace .lines ++ end (ridden trace .ride) .lines)
 
 -- what `list` allows, and what it comes to with a good store
 abbrev pub Lists : Store → Ride → ℕ → List ℕ → List ℕ → Listed → List ℕ → Type 0
-Lists store ride number block before answer after = ListInto ride store number block before answer after
+Lists store ride number block before answer after = ListInto plain ride store number block before answer after
 
 pub takes : (store : Store) → Good store → Taking (gapAt store) (Lists store)
 takes store good ride number trace before l after whole c = takes-so ride store number trace before l after good whole c

@@ -29,7 +29,7 @@ use Rattle.balise_writer.proofs.Valid.{is-proper}
 use Rattle.demands.specs.Contracts.{JudgeContact}
 use Rattle.demands.specs.Calls.{Comes}
 use Rattle.demands.specs.Writing.{telegramOf, WrittenIsRead}
-use Rattle.demands.proofs.Demand3.JudgedAlike.{judge-sent}
+use Rattle.demands.proofs.Demand3.JudgedAlike.{is-read, judge-sent}
 use Rattle.demands.proofs.Demand3.Clean.{comes-all-sent}
 
 -- A judgement that reads has the first of the places.
@@ -75,16 +75,16 @@ module _ (m : Telegram) (s t n : ℕ) (rest : List ℕ) (most : 2 ≤ n) where
 
     judge-back : (r : Judged) → JudgeContact b 0 (8 * (4 * n + 1)) s t r → r ≡ Judged.Read m 0 n
     judge-back r k =
-        let sent = judge-sent o proper (all-sent o proper (few-flips-few o (clean-few o (is-clean m s t n rest)))) in
-        let q = sent .enough (subst (λ (v : ℕ). 2 ≤ v) (sym as-many) most) r k in
-        let is : r ≡ Judged.Read (q .0) (q .1) (q .2) = q .3 in
+        let sent = judge-sent o proper (all-sent o proper (few-flips-few o (clean-few o (is-clean m s t n rest)))) r k in
+        let q = sent .enough (subst (λ (v : ℕ). 2 ≤ v) (sym as-many) most) in
+        let is : r ≡ Judged.Read (q .0) (q .1) (q .2) = is-read r (q .0) (q .1) (q .2) (q .3) in
         let k′ : JudgeContact b 0 (8 * (4 * n + 1)) s t (Judged.Read (q .0) (q .1) (q .2)) = subst (JudgeContact b 0 (8 * (4 * n + 1)) s t) is k in
         let says : judgement b 0 (8 * (4 * n + 1)) (placesOf o) ≡ saysJudged (Judged.Read (q .0) (q .1) (q .2)) =
         sym judgement-is ∙ sym (k′ .4 ∙ ap (λ (v : List ℕ). judge v 0 (8 * (4 * n + 1)) s t) (k′ .3)) in
-        let same : q .0 ≡ m = sent .first-sent (q .0) (q .1) (q .2) k′ .as-sent in
+        let same : q .0 ≡ m = sent .first-sent (q .0) (q .1) (q .2) (q .3) .as-sent in
         let first : q .1 ≡ 0 =
         first-of b 0 (8 * (4 * n + 1)) (placesOf o) (gives (q .0)) (q .1) (q .2) says ∙ ap firstPlace (places-are m s t n rest proper) ∙ first-from n most in
-        let count : q .2 ≡ n = sent .counted (q .0) (q .1) (q .2) k′ ∙ as-many in
+        let count : q .2 ≡ n = sent .counted (q .0) (q .1) (q .2) (q .3) ∙ as-many in
         cc
 
     find-back : (w : List Found) → Comes b s t 0 (8 * (4 * n + 1)) w → w ≡ map (λ k. Found.At (32 * k) m) (from 0 n)

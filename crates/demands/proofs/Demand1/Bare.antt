@@ -13,9 +13,6 @@ use Rattle.group.specs.Says.{saysMeasured, saysGroupJudged as saysGroup}
 use Rattle.ride.specs.Says.{saysChecked, saysReport, saysReply, saysWay}
 use Rattle.ride.specs.Step.{Step, step}
 use Rattle.ride.specs.Over.{Run, run}
-use Rattle.ride_text.specs.Text.{text}
-use Rattle.ride_text.specs.Put.{Filled, put}
-use Rattle.ride_text.specs.List.{Listing, list}
 use Rattle.ride_text.specs.Says.{saysDone}
 use Rattle.settings.specs.Says.{saysVerdict, saysAsked}
 use Rattle.settings.proofs.Determined as settings-are
@@ -33,12 +30,11 @@ use Rattle.demands.proofs.Demand1.Rides.{step-untouched, run-untouched}
 use Rattle.demands.proofs.Demand1.Treats.{treat-untouched}
 use Rattle.demands.proofs.Demand2.Steps.{group-refused, end-refused}
 use Rattle.demands.proofs.Demand1.Writes.{write-untouched}
-use Rattle.demands.proofs.Demand1.Listings.{list-untouched, put-untouched}
+use Rattle.demands.proofs.Demand1.Listings.{list-left}
 use Rattle.demands.proofs.Demand1.Compacting.{compact-untouched, block-untouched}
 use Rattle.compaction.specs.Says.{saysSize}
 use Rattle.compaction.specs.Compact.{Compaction, compact, Settling, compactBlock}
 use Rattle.compaction.proofs.Determined as compaction-is
-use Rattle.demands.proofs.Demand1.Explaining.{explained-left}
 use Rattle.demands.proofs.Demand1.Stores.{stores-untouched}
 use Rattle.viewer.specs.Says.{saysBegun as saysOpened, saysHow}
 use Rattle.viewer.proofs.Determined as viewer-is
@@ -54,14 +50,7 @@ untouched = record {
   run = λ ride store trace r n c e.
       let is = c .4 ∙ ap (run ride store) (c .3) in
       ap (λ (s : Run). s .ride) is ∙ run-untouched ride store trace n (sym (ap (λ (s : Run). s .answer) is) ∙ e);
-  list = λ ride store number trace before r after n c e.
-      let is = c .7 ∙ ap₂ (λ (v w : List ℕ). list ride store number v w) (c .4) (c .5) in
-      let left = is ∙ list-untouched ride store number trace before n (sym (ap (λ (l : Listing). l .answer) is) ∙ e) in
-      (ap (λ (l : Listing). l .ride) left, ap (λ (l : Listing). l .number) left, sym (c .6) ∙ ap (λ (l : Listing). l .out) left);
-  explain = λ ride store number trace before r after n c. explained-left ride store number trace before r after c n;
-  put-line = λ line before at r after c e.
-      let is = c .5 ∙ ap (λ (v : List ℕ). put (text line) v at) (c .3) in
-      sym (c .4) ∙ ap (λ (f : Filled). f .buffer) is ∙ put-untouched (text line) before at (sym (ap (λ (f : Filled). f .ends) is) ∙ e);
+  list = λ style ride store number trace before r after n c. list-left style ride store number trace before r after c n;
   write = λ x y z s t n before r after k c e.
       let is = c .5 ∙ ap (write x y z s t n) (c .3) in
       sym (c .4) ∙ ap (λ (w : Writing). w .buffer) is ∙ write-untouched x y z s t n before k (sym (ap (λ (w : Writing). w .answer) is) ∙ e);

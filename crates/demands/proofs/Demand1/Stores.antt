@@ -94,8 +94,7 @@ stores-decided = record {
 
 -- ---- what a refusal leaves
 
-opened-none : (v : Version) (o : Outcome Kept) (n : ℕ) → openedIf v o .answer ≡ refuses n → openedIf v o .store .count ≡ 0
-unfolding noStore
+opened-none : (v : Version) (o : Outcome Kept) (n : ℕ) → openedIf v o .answer ≡ refuses n → openedIf v o .store ≡ noStore
 opened-none v (gives k) n e = absurd (gives-not e)
 opened-none v (refuses m) n e = refl
 
@@ -107,7 +106,7 @@ pub stores-untouched : StoresUntouched
 unfolding begin add
 stores-untouched = record {
   begin = λ gap s t r n c e.
-      ap (λ (x : Change). x .store .count) (c .1) ∙ opened-none (firstOf gap s t) (settingsOf gap s t) n (sym (ap (λ (x : Change). x .answer) (c .1)) ∙ e);
+      ap (λ (x : Change). x .store) (c .1) ∙ opened-none (firstOf gap s t) (settingsOf gap s t) n (sym (ap (λ (x : Change). x .answer) (c .1)) ∙ e);
   add = λ store v r n c e.
       ap (λ (x : Change). x .store) (c .1) ∙ added-none store v (mayAdd store v) n (sym (ap (λ (x : Change). x .answer) (c .1)) ∙ e);
 }

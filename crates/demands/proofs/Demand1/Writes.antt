@@ -22,7 +22,7 @@ use Rattle.demands.proofs.Common.Rules.{if-so, if-not}
 use Rattle.words.proofs.Never.{cannot-be}
 
 -- The conditions are those by which the function refuses.
-above-is : (x y z : ℕ) → someAbove x y z ≡ tooLarge (asked x y z)
+pub above-is : (x y z : ℕ) → someAbove x y z ≡ tooLarge (asked x y z)
 unfolding someAbove above asked tooLarge
 above-is x y z = go (eqb x 12)
   where
@@ -30,7 +30,7 @@ above-is x y z = go (eqb x 12)
     go true = refl
     go false = refl
 
-fifteen-is : (x y z : ℕ) → someFifteen x y z ≡ hasFifteen (asked x y z)
+pub fifteen-is : (x y z : ℕ) → someFifteen x y z ≡ hasFifteen (asked x y z)
 unfolding someFifteen asked hasFifteen
 fifteen-is x y z = go (eqb x 12)
   where

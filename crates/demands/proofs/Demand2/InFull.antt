@@ -36,8 +36,7 @@ use Rattle.ride.specs.declared.Linking.{Linking}
 use Rattle.ride.specs.declared.Mark.{Mark}
 use Rattle.ride.specs.declared.Ran.{Ran}
 use Rattle.ride.specs.declared.Ride.{Ride}
-use Rattle.ride_text.specs.Text.{digits, decimal, seen, text}
-use Rattle.ride_text.specs.List.{textOf}
+use Rattle.ride_text.specs.Text.{digits, decimal, seen, textWith, textOf}
 use Rattle.demands.specs.Table.{badLength}
 use Rattle.demands.specs.Contracts.{Fresh, RunOver}
 use Rattle.demands.specs.Output.{Forty, ridden, oneRide, itsLines, OneRide}
@@ -57,7 +56,7 @@ unfolding readWord isCode even count covers figure onwards isCheck exchanged oth
 ridden-is = refl
 
 text-is : textOf (inFull .lines) ≡ itsLines
-unfolding textOf text seen decimal digits
+unfolding textOf textWith seen decimal digits
 text-is = refl
 
 all-text : allText oneRide ≡ itsLines

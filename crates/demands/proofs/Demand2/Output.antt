@@ -8,7 +8,6 @@ use mathlib.Core.List.{List, [], _∷_, _++_, map}
 use lib.Dec.{eqb}
 use lib.ListN.{length, take, drop}
 use lib.Seq.{take-all, take-at}
-use borrow.Author.Tests.{le-leb, lt-leb}
 use Rattle.words.specs.Answer.{gives, pick}
 use Rattle.words.specs.Limits.{largest64}
 use Rattle.words.proofs.Told.{told}
@@ -20,21 +19,23 @@ use Rattle.ride.specs.Says.{saysLines}
 use Rattle.ride.specs.declared.Line.{Line}
 use Rattle.ride.specs.declared.Ride.{Ride}
 use Rattle.ride.proofs.Cutting.{records-length}
-use Rattle.ride_text.specs.Text.{text, seen, decimal, digits}
-use Rattle.ride_text.specs.Put.{Filled, filled, placed, put}
-use Rattle.ride_text.specs.List.{textOf, Listing, listOf, listTaken, list}
+use Rattle.text.specs.Put.{placed, Put, put, came}
+use Rattle.text.proofs.Standing.{stands, no-room}
+use Rattle.ride_text.specs.Style.{plain}
+use Rattle.ride_text.specs.Text.{textWith, text, textOf, seen, decimal, digits}
+use Rattle.ride_text.specs.List.{Listing, listOf, listTaken, list}
 use Rattle.ride_text.specs.Says.{saysDone}
 use Rattle.ride_text.specs.declared.Done.{Done}
 use Rattle.ride_text.specs.declared.Listed.{Listed}
-use Rattle.ride_text.specs.declared.Put.{Put}
 use Rattle.ride_text.proofs.Judging.{list-taken}
+use Rattle.ride_text.proofs.SameLines.{plainly, plain-listed}
+use Rattle.ride_text.proofs.Taken.{all-taken}
 use Rattle.ride_text.proofs.Texts.{text-one, text-join}
 use Rattle.ride_text.proofs.Determined as listing-is
 use Rattle.demands.specs.Table.{badLength}
 use Rattle.demands.specs.Contracts.{Fresh, PutLine, ListInto}
 use Rattle.demands.specs.Output.{Forty, ridden, output, recordsIn, Quoted, quoted, AllQuoted, Written}
 use Rattle.demands.proofs.Common.Rules.{not-false}
-use Rattle.demands.proofs.Demand2.Room.{all-taken}
 use Rattle.demands.proofs.Common.OneVersion.{forty-so}
 use Rattle.demands.proofs.Demand2.Taking.{at-first, takes-so}
 
@@ -54,35 +55,26 @@ listing trace before =
     }
 
 all-listed : (trace before : List ℕ) → recordsIn trace < largest64 → 128 * recordsIn trace ≤ length before
-    → listTaken (λ odometer. 40) freshRide 1 (records trace) before ≡ listing trace before
-unfolding listOf
+    → listTaken plain (λ odometer. 40) freshRide 1 (records trace) before ≡ listing trace before
 all-listed trace before small enough =
     let many : length (records trace) ≡ recordsIn trace = records-length (recordsIn trace) trace in
-    let fit : 128 * length (records trace) ≤ length before = subst (λ (k : ℕ). 128 * k ≤ length before) (sym many) enough in
-    let few : 1 + length (records trace) ≤ largest64 = subst (λ (k : ℕ). 1 + k ≤ largest64) (sym many) (omega arith) in
-    ap (λ (k : ℕ). listOf (λ odometer. 40) freshRide 1 k (records trace) before) (all-taken (records trace) (λ odometer. 40) freshRide 1 (length before) fit few ∙ many)
-    ∙ ap (λ (rs : List (List ℕ)). whole rs) (take-all (recordsIn trace) (records trace) (subst (λ (k : ℕ). k ≤ recordsIn trace) (sym many) (omega arith)))
-  where
-    whole : List (List ℕ) → Listing
-    whole rs =
-        record {
-          answer = gives (record { records = recordsIn trace; bytes = length (textOf (rideOver (λ odometer. 40) freshRide 1 rs .lines)) });
-          ride = rideOver (λ odometer. 40) freshRide 1 rs .ride;
-          number = 1 + recordsIn trace;
-          out = placed (textOf (rideOver (λ odometer. 40) freshRide 1 rs .lines)) before 0;
-        }
+    let fit : length (records trace) * 128 ≤ length before = omega arith in
+    let few : 1 + length (records trace) ≤ largest64 = omega arith in
+    ap (λ (k : ℕ). listOf plain (λ odometer. 40) freshRide 1 k (records trace) before) (all-taken plain (λ odometer. 40) (records trace) freshRide 1 (length before) fit few ∙ many)
+    ∙ plain-listed (λ odometer. 40) freshRide 1 (recordsIn trace) (records trace) before
+    ∙ ap (λ (rs : List (List ℕ)). plainly (λ odometer. 40) freshRide 1 (recordsIn trace) rs before) (take-all (recordsIn trace) (records trace) (omega arith))
 
 -- What `list` answers under a store of the program's gap, where all records have room.
 pub listed-so : (store : Store) (f : Ride) (l : Listed) (trace before after : List ℕ) → Forty store → badLength trace ≡ false → recordsIn trace < largest64
-    → 128 * recordsIn trace ≤ length before → Fresh f → ListInto f store 1 trace before l after
+    → 128 * recordsIn trace ≤ length before → Fresh f → ListInto plain f store 1 trace before l after
     → (l .done ≡ Done.Took (recordsIn trace) (length (allText trace))) × (l .ride ≡ ridden trace .ride)
     × (after ≡ allText trace ++ drop (length (allText trace)) before)
 unfolding badLength
 listed-so store f l trace before after forty good small enough fresh c =
     let gap = forty-so store forty in
-    let is = c .7 ∙ ap₂ (λ (v w : List ℕ). list f store 1 v w) (c .4) (c .5) ∙ ap (λ (g : Ride). list g store 1 trace before) (fresh .1)
-    ∙ sym (list-taken freshRide store 1 trace before (gap .0) (not-false (eqb (length trace % 8) 0) good))
-    ∙ ap (λ (gaps : ℕ → ℕ). listTaken gaps freshRide 1 (records trace) before) (gap .1)
+    let is = c .7 ∙ ap₂ (λ (v w : List ℕ). list plain f store 1 v w) (c .4) (c .5) ∙ ap (λ (g : Ride). list plain g store 1 trace before) (fresh .1)
+    ∙ sym (list-taken plain freshRide store 1 trace before (gap .0) (not-false (eqb (length trace % 8) 0) good))
+    ∙ ap (λ (gaps : ℕ → ℕ). listTaken plain gaps freshRide 1 (records trace) before) (gap .1)
     ∙ all-listed trace before small enough in (
       told saysDone listing-is.doneOf listing-is.done-back (l .done) (Done.Took (recordsIn trace) (length (allText trace))) (ap (λ (v : Listing). v .answer) is) refl,
       ap (λ (v : Listing). v .ride) is,
@@ -105,24 +97,18 @@ output-refused trace bad =
 
 -- ---- one line
 
-put-so : (line : Line) (before : List ℕ) (at : ℕ) (r : Put) (after : List ℕ) → PutLine line before at r after → filled r after ≡ put (text line) before at
-put-so line before at r after c = ap (filled r) (sym (c .4)) ∙ c .5 ∙ ap (λ (v : List ℕ). put (text line) v at) (c .3)
+put-so : (line : Line) (before : List ℕ) (at r : ℕ) (after : List ℕ) → PutLine line before at r after → came r after ≡ put (text line) before at
+put-so line before at r after c = ap (came r) (sym (c .4)) ∙ c .5 ∙ ap (λ (v : List ℕ). put (text line) v at) (c .3)
 
-puts-so : (line : Line) (before : List ℕ) (at : ℕ) (r : Put) (after : List ℕ) → PutLine line before at r after → at + length (text line) ≤ length before
-    → (r ≡ Put.Next (at + length (text line))) × (after ≡ placed (text line) before at)
-unfolding put
-puts-so line before at r after c fits =
-    let e = put-so line before at r after c
-    ∙ ap (λ (t : Bool). pick t (filled (Put.Next (at + length (text line))) (placed (text line) before at)) (filled Put.NoRoom before)) (le-leb (at + length (text line)) (length before) fits) in
-    (ap (λ (f : Filled). f .ends) e, ap (λ (f : Filled). f .buffer) e)
+puts-so : (line : Line) (before : List ℕ) (at r : ℕ) (after : List ℕ) → PutLine line before at r after → at + length (text line) ≤ length before
+    → (r ≡ at + length (text line)) × (after ≡ placed (text line) before at)
+puts-so line before at r after c fits = stands fits (put-so line before at r after c) .put
 
-no-room-so : (line : Line) (before : List ℕ) (at : ℕ) (r : Put) (after : List ℕ) → PutLine line before at r after → length before < at + length (text line)
-    → (r ≡ Put.NoRoom) × (after ≡ before)
-unfolding put
+no-room-so : (line : Line) (before : List ℕ) (at r : ℕ) (after : List ℕ) → PutLine line before at r after → length before < at + length (text line)
+    → (r ≡ at) × (after ≡ before)
 no-room-so line before at r after c full =
-    let e = put-so line before at r after c
-    ∙ ap (λ (t : Bool). pick t (filled (Put.Next (at + length (text line))) (placed (text line) before at)) (filled Put.NoRoom before)) (lt-leb (at + length (text line)) (length before) full) in
-    (ap (λ (f : Filled). f .ends) e, ap (λ (f : Filled). f .buffer) e)
+    let e = put-so line before at r after c ∙ sym (no-room (text line) before at full) in
+    (ap (λ (p : Put). p .next) e, ap (λ (p : Put). p .buffer) e)
 
 -- The lines that document 01 quotes, computed at once.
 each : (qs : List Quoted) → map (λ q. text (q .line)) qs ≡ map (λ q. q .reads) qs → AllQuoted qs
@@ -133,7 +119,7 @@ each (q ∷ qs) e =
     (here, each qs rest)
 
 all-quoted : AllQuoted quoted
-unfolding text seen decimal digits
+unfolding textWith seen decimal digits
 all-quoted = each quoted refl
 
 pub written : Written

@@ -1,6 +1,6 @@
--- Where every place has the words sent, `judge` never answers 7, reads what was sent, and reads where there are two places.
+-- Where every place has the words sent, judging never answers 7, reads what was sent, and reads where there are two places.
 -- Assumes nothing.
-use mathlib.Core.Path.{_≡_, refl, sym, ap, _∙_, subst}
+use mathlib.Core.Path.{_≡_, sym, ap, ap₂, _∙_, subst}
 use mathlib.Core.Logic.{inl, inr}
 use mathlib.Core.Bool.{Bool, true, false}
 use mathlib.Core.List.{List}
@@ -9,38 +9,56 @@ use native.Mathlib.Omega.{arith}
 use lib.Dec.{leb}
 use lib.ListN.{length}
 use borrow.Author.Tests.{le-leb}
-use Rattle.words.specs.Answer.{Outcome, gives, refuses, pick}
+use Rattle.words.specs.Answer.{Outcome, gives, refuses, then, pick}
 use Rattle.telegram.specs.Telegram.{Received}
 use Rattle.telegram.specs.Survey.{Alike, survey}
 use Rattle.telegram.specs.declared.Telegram.{Telegram}
 use Rattle.contact.specs.Judge.{Contact, read, marker, isMarker, judge}
-use Rattle.contact.specs.Says.{saysJudged}
+use Rattle.settings.specs.declared.Store.{Store}
+use Rattle.settings.specs.declared.Held.{Held}
+use Rattle.settings.specs.declared.Asked.{Asked}
+use Rattle.settings.specs.At.{asked}
+use Rattle.contact.specs.Under.{judgeUnder}
+use Rattle.contact.specs.Says.{saysJudged, saysJudgedUnder}
 use Rattle.contact.specs.declared.Judged.{Judged}
+use Rattle.contact.specs.declared.JudgedUnder.{JudgedUnder}
 use Rattle.contact.proofs.Judging.{markerOr, fromSurvey, by-survey}
 use Rattle.balise_line.specs.Line.{OneBalise, Proper, placesOf}
 use Rattle.demands.specs.Contracts.{JudgeContact}
-use Rattle.demands.specs.Demand3.{TogetherTheSent}
+use Rattle.demands.specs.Stores.{AskAt, JudgeUnder}
+use Rattle.demands.specs.Demand3.{JudgedTheSent}
 use Rattle.balise_line.proofs.Sent.{AllSent}
-use Rattle.demands.proofs.Demand3.Together.{Known, Survey, the-survey, known-sent, same-known}
+use Rattle.demands.proofs.Demand3.Together.{Known, Survey, the-survey, known-sent, same-known, sent-there}
 use Rattle.words.proofs.Never.{cannot-be}
 
-module _ (o : OneBalise) (proper : Proper o) (every-place : AllSent o) where
-  -- What a call of `judge` answers.
-  judge-says : (r : Judged) → JudgeContact (o .buffer) (o .start) (o .len) (o .s) (o .t) r → judge (o .buffer) (o .start) (o .len) (o .s) (o .t) ≡ saysJudged r
-  judge-says r c = sym (c .4 ∙ ap (λ (v : List ℕ). judge v (o .start) (o .len) (o .s) (o .t)) (c .3))
+-- An answer that reads is the case that reads.
+pub is-read : (r : Judged) (m : Telegram) (first count : ℕ) → saysJudged r ≡ gives (read (gives m) first count) → r ≡ Judged.Read m first count
+is-read (Judged.Read n p k) m first count e =
+    let same-m : n ≡ m = cc in
+    let same-p : p ≡ first = cc in
+    let same-k : k ≡ count = cc in
+    cc
+is-read Judged.Marker m first count e = cannot-be cc
+is-read Judged.NotSeven m first count e = cannot-be cc
+is-read Judged.Beyond m first count e = cannot-be cc
+is-read Judged.Differ m first count e = cannot-be cc
+is-read Judged.Neither m first count e = cannot-be cc
 
-  pub judge-sent : TogetherTheSent o (JudgeContact (o .buffer) (o .start) (o .len) (o .s) (o .t)) 2 Judged.Differ Judged.Read
-  judge-sent =
+module _ (o : OneBalise) (proper : Proper o) (every-place : AllSent o) where
+  abbrev said : Outcome Contact
+  said = judge (o .buffer) (o .start) (o .len) (o .s) (o .t)
+
+  judged-sent : JudgedTheSent o said
+  judged-sent =
       record {
-        never-7 = λ k. never (the-survey o proper every-place) (by Judged.Differ k);
-        first-sent = λ m first count k. known-sent o proper every-place m first count (of m first count k);
-        counted = λ m first count k. of m first count k .as-many;
-        enough = λ many r k. reads-so many (the-survey o proper every-place) r (by r k);
+        never-7 = λ e. never (the-survey o proper every-place) (sym by ∙ e);
+        first-sent = λ m first count e. known-sent o proper every-place m first count (of m first count e);
+        counted = λ m first count e. of m first count e .as-many;
+        enough = λ many. reads-so many (the-survey o proper every-place) by;
       }
     where
-      by : (r : Judged) → JudgeContact (o .buffer) (o .start) (o .len) (o .s) (o .t) r
-          → fromSurvey (markerOr (o .buffer) (o .start) (o .len)) (survey (o .buffer) (o .start) (o .len) (o .s) (o .t)) ≡ saysJudged r
-      by r k = sym (by-survey (o .buffer) (o .start) (o .len) (o .s) (o .t)) ∙ judge-says r k
+      by : said ≡ fromSurvey (markerOr (o .buffer) (o .start) (o .len)) (survey (o .buffer) (o .start) (o .len) (o .s) (o .t))
+      by = by-survey (o .buffer) (o .start) (o .len) (o .s) (o .t)
 
       never-left : (t : Bool) → pick {A = Outcome Contact} t (gives marker) (refuses 8) ≡ refuses 7 → ⊥
       never-left true e = cannot-be cc
@@ -77,23 +95,36 @@ module _ (o : OneBalise) (proper : Proper o) (every-place : AllSent o) where
           known-several (leb 2 (r .count)) (isMarker (o .buffer) (o .start) (o .len)) (r .message) m (r .first) first (r .count) count (r .known)
           (sym (ap (fromSurvey (markerOr (o .buffer) (o .start) (o .len))) (r .is)) ∙ e)
 
-      of : (m : Telegram) (first count : ℕ) → JudgeContact (o .buffer) (o .start) (o .len) (o .s) (o .t) (Judged.Read m first count) → Known o proper every-place (gives m) first count
-      of m first count k = known (the-survey o proper every-place) (gives m) first count (by (Judged.Read m first count) k)
-
-      is-read : (r : Judged) {m : Received} {first count : ℕ} → gives (read m first count) ≡ saysJudged r → (m : Telegram) × (first : ℕ) × (count : ℕ) × (r ≡ Judged.Read m first count)
-      is-read (Judged.Read m first count) e = (m, first, count, refl)
-      is-read Judged.Marker e = cannot-be cc
-      is-read Judged.NotSeven e = cannot-be cc
-      is-read Judged.Beyond e = cannot-be cc
-      is-read Judged.Differ e = cannot-be cc
-      is-read Judged.Neither e = cannot-be cc
+      of : (m : Telegram) (first count : ℕ) → said ≡ gives (read (gives m) first count) → Known o proper every-place (gives m) first count
+      of m first count e = known (the-survey o proper every-place) (gives m) first count (sym by ∙ e)
 
       -- where there are two places, they are read
-      reads-so : 2 ≤ length (placesOf o) → {a : Outcome Alike} → Survey o proper every-place a → (r : Judged) → fromSurvey (markerOr (o .buffer) (o .start) (o .len)) a ≡ saysJudged r
-          → (m : Telegram) × (first : ℕ) × (count : ℕ) × (r ≡ Judged.Read m first count)
-      reads-so many (inl none) r e = absurd (let f = ap length (none .1) in omega arith)
-      reads-so many (inr all) r e =
-          let two : leb 2 (all .count) ≡ true = le-leb 2 (all .count) (subst (λ (k : ℕ). 2 ≤ k) (sym (all .known .as-many)) many) in
-          is-read r
-          (sym (ap (λ (t : Bool). pick t (gives (read (all .message) (all .first) (all .count))) (markerOr (o .buffer) (o .start) (o .len))) two)
-          ∙ sym (ap (fromSurvey (markerOr (o .buffer) (o .start) (o .len))) (all .is)) ∙ e)
+      reads-so : 2 ≤ length (placesOf o) → {a : Outcome Alike} → Survey o proper every-place a → said ≡ fromSurvey (markerOr (o .buffer) (o .start) (o .len)) a
+          → (m : Telegram) × (first : ℕ) × (count : ℕ) × (said ≡ gives (read (gives m) first count))
+      reads-so many (inl none) e = absurd (let f = ap length (none .1) in omega arith)
+      reads-so many (inr all) e =
+          let two : leb 2 (all .count) ≡ true = le-leb 2 (all .count) (subst (λ (k : ℕ). 2 ≤ k) (sym (all .known .as-many)) many) in (
+            o .telegram,
+            all .first,
+            all .count,
+            e ∙ ap (fromSurvey (markerOr (o .buffer) (o .start) (o .len))) (all .is)
+                ∙ ap (λ (t : Bool). pick t (gives (read (all .message) (all .first) (all .count))) (markerOr (o .buffer) (o .start) (o .len))) two
+                ∙ ap (λ (m : Received). gives (read m (all .first) (all .count))) (sent-there o proper every-place all),
+          )
+
+  pub judge-sent : (r : Judged) → JudgeContact (o .buffer) (o .start) (o .len) (o .s) (o .t) r → JudgedTheSent o (saysJudged r)
+  judge-sent r c = subst (JudgedTheSent o) (sym (c .4 ∙ ap (λ (v : List ℕ). judge v (o .start) (o .len) (o .s) (o .t)) (c .3))) judged-sent
+
+  -- Under a store the contact is judged with the pair in force.
+  with-pair : (store : Store) (odometer : ℕ) (held : Held) → asked store odometer ≡ gives held → held .s ≡ o .s → held .t ≡ o .t
+      → judgeUnder store odometer (o .buffer) (o .start) (o .len) ≡ said
+  unfolding judgeUnder
+  with-pair store odometer held e s t =
+      ap (λ (a : Outcome Held). then a (λ h. judge (o .buffer) (o .start) (o .len) (h .s) (h .t))) e ∙ ap₂ (judge (o .buffer) (o .start) (o .len)) s t
+
+  pub under-sent : (store : Store) (odometer : ℕ) (held : Held) (r : JudgedUnder) → AskAt store odometer (Asked.InForce held) → held .s ≡ o .s → held .t ≡ o .t
+      → JudgeUnder store odometer (o .buffer) (o .start) (o .len) r → JudgedTheSent o (saysJudgedUnder r)
+  under-sent store odometer held r a s t c =
+      subst (JudgedTheSent o)
+      (sym (c .4 ∙ ap (λ (v : List ℕ). judgeUnder store odometer v (o .start) (o .len)) (c .3) ∙ with-pair store odometer held (sym (a .1)) s t))
+      judged-sent

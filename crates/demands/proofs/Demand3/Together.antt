@@ -20,9 +20,9 @@ use Rattle.telegram.specs.declared.Telegram.{Telegram}
 use Rattle.telegram.specs.declared.Surveyed.{Surveyed}
 use Rattle.balise_line.specs.Line.{OneBalise, Proper, placesOf}
 use Rattle.demands.specs.Contracts.{Survey as SurveyAllows}
-use Rattle.demands.specs.Demand3.{TheSent, TogetherTheSent}
+use Rattle.demands.specs.Demand3.{TheSent, SurveyedTheSent}
 use Rattle.balise_line.proofs.Places.{and-true, or-left, or-right}
-use Rattle.balise_line.proofs.Sent.{Sent, AllSent}
+use Rattle.balise_line.proofs.Sent.{Sent, AllSent, read-as-sent}
 use Rattle.demands.proofs.Demand3.Handed.{the-sent}
 use Rattle.words.proofs.Never.{cannot-be}
 
@@ -93,10 +93,6 @@ module _ (o : OneBalise) (proper : Proper o) (every-place : AllSent o) where
       (sym (ap₂ (λ (g i : Bool). pick g (pick i (together b (placesOf o)) (refuses 5)) (refuses 4)) (proper .pair) (proper .taken)))
       (survey-of (placesOf o) refl)
 
-  -- What a call of `survey` answers.
-  survey-says : (r : Surveyed) → SurveyAllows b (o .start) (o .len) (o .s) (o .t) r → survey b (o .start) (o .len) (o .s) (o .t) ≡ saysSurveyed r
-  survey-says r c = sym (c .4 ∙ ap (λ (v : List ℕ). survey v (o .start) (o .len) (o .s) (o .t)) (c .3))
-
   pub known-sent : (m : Telegram) (first count : ℕ) → Known (gives m) first count → TheSent o first m
   known-sent m first count known = the-sent o proper first m (known .first-is) (known .read-there)
 
@@ -104,27 +100,26 @@ module _ (o : OneBalise) (proper : Proper o) (every-place : AllSent o) where
   same-known {m} {n} {p} {q} {k} {l} e f g known =
       subst (λ (v : ℕ). Known n q v) g (subst (λ (v : ℕ). Known n v k) f (subst (λ (v : Received). Known v p k) e known))
 
-  pub survey-sent : TogetherTheSent o (SurveyAllows b (o .start) (o .len) (o .s) (o .t)) 1 Surveyed.Differ Surveyed.Alike
-  survey-sent =
+  -- Where there is a place, they are alike.
+  alike-so : {a : Outcome Alike} → Survey a → 1 ≤ length (placesOf o) → AllAlike a
+  alike-so (inl none) many = absurd (let e = ap length (none .1) in omega arith)
+  alike-so (inr r) many = r
+
+  -- What is read is the telegram sent.
+  pub sent-there : {a : Outcome Alike} (r : AllAlike a) → r .message ≡ gives (o .telegram)
+  sent-there r = r .known .read-there ∙ read-as-sent o proper (r .first) (r .known .first-is)
+
+  survey-told : SurveyedTheSent o (survey b (o .start) (o .len) (o .s) (o .t))
+  survey-told =
       record {
-        never-7 = λ k. never the-survey (survey-says Surveyed.Differ k);
-        first-sent = λ m first count k. known-sent m first count (of m first count k);
-        counted = λ m first count k. of m first count k .as-many;
-        enough = λ many r k. reads-so r (alike-so the-survey many) (survey-says r k);
+        never-7 = never the-survey;
+        first-sent = λ m first count e. known-sent m first count (known the-survey (gives m) first count e);
+        counted = λ m first count e. known the-survey (gives m) first count e .as-many;
+        enough = λ many.
+            let all = alike-so the-survey many in
+            (o .telegram, all .first, all .count, all .is ∙ ap (λ (m : Received). gives (alike m (all .first) (all .count))) (sent-there all));
       }
     where
-      -- where there is a place, they are alike
-      alike-so : {a : Outcome Alike} → Survey a → 1 ≤ length (placesOf o) → AllAlike a
-      alike-so (inl none) many = absurd (let e = ap length (none .1) in omega arith)
-      alike-so (inr r) many = r
-
-      reads-so : (r : Surveyed) {a : Outcome Alike} → AllAlike a → a ≡ saysSurveyed r → (m : Telegram) × (first : ℕ) × (count : ℕ) × (r ≡ Surveyed.Alike m first count)
-      reads-so (Surveyed.Alike m first count) all e = (m, first, count, refl)
-      reads-so Surveyed.NotSeven all e = absurd (let f = all .is in cannot-be cc)
-      reads-so Surveyed.Beyond all e = absurd (let f = all .is in cannot-be cc)
-      reads-so Surveyed.NoPlace all e = absurd (let f = all .is in cannot-be cc)
-      reads-so Surveyed.Differ all e = absurd (let f = all .is in cannot-be cc)
-
       never : {a : Outcome Alike} → Survey a → a ≡ refuses 7 → ⊥
       never (inl none) e = let f = none .0 in let z : _≡_ {A = ℕ} 6 7 = cc in omega arith
       never (inr r) e = let f = r .is in cannot-be cc
@@ -138,5 +133,5 @@ module _ (o : OneBalise) (proper : Proper o) (every-place : AllSent o) where
           let same-k : r .count ≡ count = cc in
           same-known same-m same-p same-k (r .known)
 
-      of : (m : Telegram) (first count : ℕ) → SurveyAllows b (o .start) (o .len) (o .s) (o .t) (Surveyed.Alike m first count) → Known (gives m) first count
-      of m first count k = known the-survey (gives m) first count (survey-says (Surveyed.Alike m first count) k)
+  pub survey-sent : (r : Surveyed) → SurveyAllows b (o .start) (o .len) (o .s) (o .t) r → SurveyedTheSent o (saysSurveyed r)
+  survey-sent r c = subst (SurveyedTheSent o) (sym (c .4 ∙ ap (λ (v : List ℕ). survey v (o .start) (o .len) (o .s) (o .t)) (c .3))) survey-told

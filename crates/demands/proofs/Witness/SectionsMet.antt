@@ -28,8 +28,10 @@ use Rattle.ride.specs.Joining.{join, takeUp}
 use Rattle.ride.specs.Over.{records, Ridden, rideOver, firstRecords}
 use Rattle.ride.specs.declared.Stepped.{Stepped}
 use Rattle.ride.specs.declared.Ride.{Ride}
-use Rattle.ride_text.specs.Put.{placed}
-use Rattle.ride_text.specs.List.{textOf, taken}
+use Rattle.text.specs.Put.{placed}
+use Rattle.ride_text.specs.Style.{plain}
+use Rattle.ride_text.specs.Text.{textOf}
+use Rattle.ride_text.specs.List.{taken}
 use Rattle.ride_text.specs.declared.Done.{Done}
 use Rattle.ride_text.specs.declared.Listed.{Listed}
 use Rattle.ride.proofs.Determined as ride-is
@@ -47,7 +49,7 @@ module _ (gaps : ℕ → ℕ) (ride : Ride) (number : ℕ) (card : List ℕ) whe
   room = replicate (128 * recordsIn card) 0
 
   abbrev pub many : ℕ
-  many = taken gaps ride number (length room) (records card)
+  many = taken plain gaps ride number (length room) (records card)
 
   abbrev pub over : Ridden
   over = rideOver gaps ride number (take many (records card))

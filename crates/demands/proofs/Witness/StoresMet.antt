@@ -3,7 +3,7 @@
 -- Assumes nothing.
 use Prim.Native.Nat.{ℕ, _+_, _%_, _≤_}
 use native.Mathlib.Omega.{arith}
-use mathlib.Core.Path.{_≡_, refl}
+use mathlib.Core.Path.{_≡_, refl, sym, _∙_}
 use mathlib.Core.Bool.{true, false}
 use mathlib.Core.List.{List, [], _∷_}
 use lib.Dec.{eqb}
@@ -25,8 +25,9 @@ use Rattle.ride.specs.State.{freshRide}
 use Rattle.ride.specs.declared.Way.{Way}
 use Rattle.ride.specs.Over.{records, rideOver}
 use Rattle.ride.proofs.Under.{run-through}
-use Rattle.ride_text.specs.List.{listOf}
+use Rattle.ride_text.specs.Style.{plain}
 use Rattle.ride_text.proofs.Judging.{list-taken}
+use Rattle.ride_text.proofs.SameLines.{plain-listed}
 use Rattle.demands.specs.Table.{badLength, notSeven}
 use Rattle.demands.specs.Output.{Forty, recordsIn}
 use Rattle.demands.specs.PlainGap.{Opened}
@@ -58,17 +59,17 @@ module _ (store : Store) (ride : Ride) (number : ℕ) (card : List ℕ) (good : 
   abbrev pub underCall : Call
   underCall = theCall (gapAt store) ride number card
 
-  called : ListInto ride store number card (underCall .before) (underCall .answer) (underCall .after)
-  unfolding listOf badLength
+  called : ListInto plain ride store number card (underCall .before) (underCall .answer) (underCall .after)
+  unfolding badLength
   called = (
     ([], ([], tt)),
     lent card,
     lent (underCall .before),
-    (ride, (store, (number, (lent card, (lent (underCall .after), tt))))),
+    (plain, (ride, (store, (number, (lent card, (lent (underCall .after), tt)))))),
     refl,
     refl,
     refl,
-    list-taken ride store number card (underCall .before) good (not-false (eqb (length card % 8) 0) whole),
+    sym (plain-listed (gapAt store) ride number _ (records card) (underCall .before)) ∙ list-taken plain ride store number card (underCall .before) good (not-false (eqb (length card % 8) 0) whole),
   )
 
   pub under-met : number + recordsIn card ≤ largest64 → ByList store ride number card (underCall ∷ [])

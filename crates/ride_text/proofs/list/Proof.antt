@@ -14,7 +14,7 @@ returns c =
     let q = h .before .before in
     let a = q .before .before .before .args in
     let held = held-given (a .store) 0 _ (sym (q .at .ensures) ∙ ap saysAsked (h .asked2 .given .1)) in
-    list-length (a .ride) (a .store) (a .number) (a .trace .now) (a .out .now) (held .0) (ne-eqb _ _ (c .if1 .taken))
+    list-length (a .reasons) (a .ride) (a .store) (a .number) (a .trace .now) (a .out .now) (held .0) (ne-eqb _ _ (c .if1 .taken))
 
 over-requires : tie.Need-over-requires
 over-requires c κs =
@@ -28,7 +28,7 @@ returns-2 c =
     let v = c .before in
     let q = v .before .before in
     let a = q .before .before .before .args in
-    list-refused (a .ride) (a .store) (a .number) (a .trace .now) (a .out .now) _
+    list-refused (a .reasons) (a .ride) (a .store) (a .number) (a .trace .now) (a .out .now) _
     (store-refused (a .store) _ (sym (q .at .ensures) ∙ ap saysAsked (v .asked .given .1)))
 
 returns-3 : tie.Need-returns-3
@@ -39,7 +39,7 @@ returns-3 c =
     let q = h .before .before in
     let a = q .before .before .before .args in
     let held = held-given (a .store) 0 _ (sym (q .at .ensures) ∙ ap saysAsked (h .asked2 .given .1)) in
-    o .over .ensures ∙ list-taken (a .ride) (a .store) (a .number) (a .trace .now) (a .out .now) (held .0) (eq-eqb _ _ (e .if1 .left))
+    o .over .ensures ∙ list-taken (a .reasons) (a .ride) (a .store) (a .number) (a .trace .now) (a .out .now) (held .0) (eq-eqb _ _ (e .if1 .left))
 
 pub list-spec : {M : Type 1} → statement M
 list-spec =

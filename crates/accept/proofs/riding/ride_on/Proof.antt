@@ -24,7 +24,7 @@ loop-holds c = (refl, refl)
 
 -- what was read lies within the block
 within : (c : tie.After-next-block Inv-loop μ-loop) → c .next-block .result .read ≤ length (c .next-block .last .1 .1 .0)
-within c = omega (arith, c .next-block .ensures, c .next-block .kept .1 .1 .0)
+within c = omega (arith, c .next-block .ensures .0, c .next-block .kept .1 .1 .0)
 
 slice-reshare-prefix-write-records : tie.Need-slice-reshare-prefix-write-records Inv-loop μ-loop
 slice-reshare-prefix-write-records c = within (c .before .before)

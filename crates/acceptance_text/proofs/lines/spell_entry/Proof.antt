@@ -36,7 +36,7 @@ spell-kind-requires c κs =
     let n = p1 .before .before in
     let s = n .before .before .before in
     let a = s .args in
-    let first = p1 .put-number .ensures ∙ ap (λ (m : ℕ). put (numbered "entry " m) (a .buf .now) (a .at)) (n .numbered .ensures) in
+    let first = p1 .put-number .ensures ∙ ap (λ (m : ℕ). put (numbered "entry " m) (a .buf .now) (a .at)) (n .one-more .ensures) in
     room-after (a .buf .now) (a .at) (numbered "entry " (oneMore (a .i)) ++ numbered " at " (a .entry .place)) (kindWord (a .entry .kind)) (with-kind s)
     (join (a .buf .now) (a .at) (numbered "entry " (oneMore (a .i))) (numbered " at " (a .entry .place)) (with-place s) first (p2 .put-number2 .ensures))
 
@@ -48,7 +48,7 @@ spell-met-requires c κs =
     let n = p1 .before .before in
     let s = n .before .before .before in
     let a = s .args in
-    let first = p1 .put-number .ensures ∙ ap (λ (m : ℕ). put (numbered "entry " m) (a .buf .now) (a .at)) (n .numbered .ensures) in
+    let first = p1 .put-number .ensures ∙ ap (λ (m : ℕ). put (numbered "entry " m) (a .buf .now) (a .at)) (n .one-more .ensures) in
     room-after (a .buf .now) (a .at) (numbered "entry " (oneMore (a .i)) ++ numbered " at " (a .entry .place) ++ kindWord (a .entry .kind)) (metWords (a .entry .met)) (whole s)
     (join-3 (a .buf .now) (a .at) (numbered "entry " (oneMore (a .i))) (numbered " at " (a .entry .place)) (kindWord (a .entry .kind)) (with-kind s) first (p2 .put-number2 .ensures)
     (p3 .spell-kind .ensures))
@@ -62,7 +62,7 @@ returns c =
     let n = p1 .before .before in
     let s = n .before .before .before in
     let a = s .args in
-    let first = p1 .put-number .ensures ∙ ap (λ (m : ℕ). put (numbered "entry " m) (a .buf .now) (a .at)) (n .numbered .ensures) in
+    let first = p1 .put-number .ensures ∙ ap (λ (m : ℕ). put (numbered "entry " m) (a .buf .now) (a .at)) (n .one-more .ensures) in
     join-4 (a .buf .now) (a .at) (numbered "entry " (oneMore (a .i))) (numbered " at " (a .entry .place)) (kindWord (a .entry .kind)) (metWords (a .entry .met)) (whole s) first
     (p2 .put-number2 .ensures) (p3 .spell-kind .ensures) (p4 .spell-met .ensures)
     ∙ ap (λ (t : List ℕ). put t (a .buf .now) (a .at)) (entry-is (a .i) (a .entry))

@@ -25,7 +25,7 @@ returns c =
     let i = k .part .given .0 .0 in
     let is = wanted-is i ∙ ap partWords (sym (k .part .given .1)) in
     join (a .buf .now) (a .at) (numbered " wanted " (oneMore i)) (codes "\n") (room-as (a .buf .now) (a .at) is (s .pre))
-    (p1 .put-number .ensures ∙ ap (λ (m : ℕ). put (numbered " wanted " m) (a .buf .now) (a .at)) (n .numbered .ensures)) (p2 .put .ensures)
+    (p1 .put-number .ensures ∙ ap (λ (m : ℕ). put (numbered " wanted " m) (a .buf .now) (a .at)) (n .one-more .ensures)) (p2 .put .ensures)
     ∙ ap (λ (t : List ℕ). put t (a .buf .now) (a .at)) is
 
 returns-2 : tie.Need-returns-2

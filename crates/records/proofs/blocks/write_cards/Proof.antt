@@ -15,7 +15,7 @@ abbrev μ-loop : tie.MeasureT-loop
 
 -- what was read lies within the block
 within : (c : tie.After-next-block Inv-loop μ-loop) → c .next-block .result .read ≤ length (c .next-block .last .1 .1 .0)
-within c = omega (arith, c .next-block .ensures, c .next-block .kept .1 .1 .0)
+within c = omega (arith, c .next-block .ensures .0, c .next-block .kept .1 .1 .0)
 
 write-front-requires : tie.Need-write-front-requires Inv-loop μ-loop
 write-front-requires c κs = within (c .before .before .before)

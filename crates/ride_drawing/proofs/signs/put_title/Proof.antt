@@ -8,17 +8,18 @@ use Rattle.text.specs.Put.{put}
 use Rattle.ride_drawing.proofs.Cases.{cut-short}
 use Rattle.ride_drawing.proofs.Putting.{word-as}
 use Rattle.ride_drawing.specs.Sign.{title}
-use Rattle.explained.proofs.Texts.{line-length}
-use Rattle.explained.specs.Text.{lineText}
+use Rattle.ride_text.proofs.Longest.{line-within}
+use Rattle.ride_text.specs.Style.{withReasons}
+use Rattle.ride_text.specs.Text.{lineText}
 use borrow.Author.Needs.{needs}
 use Rattle.ride_drawing.proofs.signs.put_title.Statement.{statement}
 use Rattle.ride_drawing.proofs.signs.put_title.Tie as tie
 
 -- The space begins with the line.
-spelled : (c : tie.After-put-line) → let a = c .before .before .before .args in Begins (lineText (a .closed) (a .line)) (c .put-line .last .1 .1 .0) (c .put-line .result)
+spelled : (c : tie.After-put-styled) → let a = c .before .before .before .args in Begins (lineText withReasons (a .closed) (a .line)) (c .put-styled .last .1 .1 .1 .0) (c .put-styled .result)
 spelled c =
     let a = c .before .before .before .args in
-    begins 160 (lineText (a .closed) (a .line)) (line-length (a .closed) (a .line)) (c .put-line .ensures)
+    begins 160 (lineText withReasons (a .closed) (a .line)) (line-within withReasons (a .closed) (a .line)) (c .put-styled .ensures)
 
 array-share-prefix-space : tie.Need-array-share-prefix-space
 array-share-prefix-space c = omega (arith, c .without-newline .ensures, spelled (c .before .before) .within)
@@ -31,8 +32,7 @@ unfolding title
 returns c =
     let p1 = c .before .before in
     let p2 = p1 .before .before .before in
-    let p3 = p2 .before .before in
-    word-as _ _ (cut-short (p3 .put-line .result) (p2 .without-newline .result) (spelled (c .before .before .before .before .before .before .before)) (p2 .without-newline .ensures)) (p1 .put .ensures)
+    word-as _ _ (cut-short (p2 .before .before .put-styled .result) (p2 .without-newline .result) (spelled (c .before .before .before .before .before .before .before)) (p2 .without-newline .ensures)) (p1 .put .ensures)
 
 pub put-title-spec : {M : Type 1} → statement M
 put-title-spec =

@@ -1,13 +1,13 @@
 -- `put_missed` puts the place, and the word after it.
 use Rattle.text.specs.Text.{codes, decimal}
 use Rattle.text.proofs.Standing.{join}
-use Rattle.ride_text.specs.Text.{text}
+use Rattle.ride_text.specs.Text.{textWith, text}
 use borrow.Author.Needs.{needs}
 use Rattle.ride_text.proofs.lines.put_missed.Statement.{statement}
 use Rattle.ride_text.proofs.lines.put_missed.Tie as tie
 
 returns : tie.Need-returns
-unfolding text
+unfolding textWith
 returns c =
     let p = c .before .before in
     let q = p .before .before .before .before .before in

@@ -5,7 +5,7 @@ use Prim.Native.Nat.{ℕ}
 use Rattle.text.specs.Text.{codes, decimal}
 use Rattle.text.proofs.Standing.{room-as, room-after, join-as}
 use Rattle.ride.specs.declared.Line.{Line}
-use Rattle.ride_text.specs.Text.{text}
+use Rattle.ride_text.specs.Text.{textWith, text}
 use borrow.Author.Needs.{needs}
 use Rattle.ride_text.proofs.lines.put_record.Statement.{statement}
 use Rattle.ride_text.proofs.lines.put_record.Tie as tie
@@ -15,7 +15,7 @@ abbrev after : ℕ → List ℕ
 after n = codes " refused " ++ decimal n ++ codes "\n"
 
 reads : (number n : ℕ) → codes "record " ++ decimal number ++ after n ≡ text (Line.Record number n)
-unfolding text
+unfolding textWith
 reads number n = simp append-assoc
 
 put-numbered-requires : tie.Need-put-numbered-requires

@@ -1,75 +1,75 @@
 -- `put_text` puts the text of each kind of line.
-use Rattle.ride_text.specs.Text.{text}
-use Rattle.text.proofs.Standing.{stands, by-case}
-use Rattle.ride_text.proofs.Words.{word-fits}
+use mathlib.Core.Path.{sym, ap}
+use Rattle.text.proofs.Standing.{room-as, by-case}
+use Rattle.ride_text.specs.Text.{textWith, lineText}
 use borrow.Author.Needs.{needs}
 use Rattle.ride_text.proofs.lines.put_text.Statement.{statement}
 use Rattle.ride_text.proofs.lines.put_text.Tie as tie
 
 put-seen-requires : tie.Need-put-seen-requires
-unfolding text
+unfolding textWith
 put-seen-requires c κs =
     let s = c .before .before .before .before .before in
-    word-fits text (s .args .buf .now) (s .args .at) (c .before .before .line .given .1) (s .pre)
+    room-as (s .args .buf .now) (s .args .at) (sym (ap (lineText (s .args .reasons) (s .args .closed)) (c .before .before .line .given .1))) (s .pre)
 
 put-fault-requires : tie.Need-put-fault-requires
-unfolding text
+unfolding textWith
 put-fault-requires c κs =
     let s = c .before .before .before .before .before in
-    word-fits text (s .args .buf .now) (s .args .at) (c .before .before .line2 .given .1) (s .pre)
+    room-as (s .args .buf .now) (s .args .at) (sym (ap (lineText (s .args .reasons) (s .args .closed)) (c .before .before .line2 .given .1))) (s .pre)
 
 put-missed-requires : tie.Need-put-missed-requires
-unfolding text
+unfolding textWith
 put-missed-requires c κs =
     let s = c .before .before .before .before .before in
-    word-fits text (s .args .buf .now) (s .args .at) (c .before .before .line3 .given .1) (s .pre)
+    room-as (s .args .buf .now) (s .args .at) (sym (ap (lineText (s .args .reasons) (s .args .closed)) (c .before .before .line3 .given .1))) (s .pre)
 
 put-record-requires : tie.Need-put-record-requires
-unfolding text
+unfolding textWith
 put-record-requires c κs =
     let s = c .before .before .before .before .before in
-    word-fits text (s .args .buf .now) (s .args .at) (c .before .before .line4 .given .1) (s .pre)
+    room-as (s .args .buf .now) (s .args .at) (sym (ap (lineText (s .args .reasons) (s .args .closed)) (c .before .before .line4 .given .1))) (s .pre)
 
 put-numbered-requires : tie.Need-put-numbered-requires
-unfolding text
+unfolding textWith
 put-numbered-requires c κs =
     let s = c .before .before .before .before .before .before in
-    word-fits text (s .args .buf .now) (s .args .at) (c .before .before .before .line5 .given .1) (s .pre)
+    room-as (s .args .buf .now) (s .args .at) (sym (ap (lineText (s .args .reasons) (s .args .closed)) (c .before .before .before .line5 .given .1))) (s .pre)
 
 returns : tie.Need-returns
-unfolding text
+unfolding textWith
 returns c =
     let p = c .before .before in
     let s = p .before .before .before .before .before .before in
-    stands (s .pre) (by-case text (s .args .buf .now) (s .args .at) (p .before .before .before .line .given .1) (p .put-seen .ensures)) .put
+    by-case (lineText (s .args .reasons) (s .args .closed)) (s .args .buf .now) (s .args .at) (p .before .before .before .line .given .1) (p .put-seen .ensures)
 
 returns-2 : tie.Need-returns-2
-unfolding text
+unfolding textWith
 returns-2 c =
     let p = c .before .before in
     let s = p .before .before .before .before .before .before in
-    stands (s .pre) (by-case text (s .args .buf .now) (s .args .at) (p .before .before .before .line2 .given .1) (p .put-fault .ensures)) .put
+    by-case (lineText (s .args .reasons) (s .args .closed)) (s .args .buf .now) (s .args .at) (p .before .before .before .line2 .given .1) (p .put-fault .ensures)
 
 returns-3 : tie.Need-returns-3
-unfolding text
+unfolding textWith
 returns-3 c =
     let p = c .before .before in
     let s = p .before .before .before .before .before .before in
-    stands (s .pre) (by-case text (s .args .buf .now) (s .args .at) (p .before .before .before .line3 .given .1) (p .put-missed .ensures)) .put
+    by-case (lineText (s .args .reasons) (s .args .closed)) (s .args .buf .now) (s .args .at) (p .before .before .before .line3 .given .1) (p .put-missed .ensures)
 
 returns-4 : tie.Need-returns-4
-unfolding text
+unfolding textWith
 returns-4 c =
     let p = c .before .before in
     let s = p .before .before .before .before .before .before in
-    stands (s .pre) (by-case text (s .args .buf .now) (s .args .at) (p .before .before .before .line4 .given .1) (p .put-record .ensures)) .put
+    by-case (lineText (s .args .reasons) (s .args .closed)) (s .args .buf .now) (s .args .at) (p .before .before .before .line4 .given .1) (p .put-record .ensures)
 
 returns-5 : tie.Need-returns-5
-unfolding text
+unfolding textWith
 returns-5 c =
     let p = c .before .before in
     let s = p .before .before .before .before .before .before .before in
-    stands (s .pre) (by-case text (s .args .buf .now) (s .args .at) (p .before .before .before .before .line5 .given .1) (p .put-numbered .ensures)) .put
+    by-case (lineText (s .args .reasons) (s .args .closed)) (s .args .buf .now) (s .args .at) (p .before .before .before .before .line5 .given .1) (p .put-numbered .ensures)
 
 pub put-text-spec : {M : Type 1} → statement M
 put-text-spec =

@@ -1,74 +1,68 @@
 -- `put_lines` puts at most two lines one after the other.
-use mathlib.Core.Path.{_≡_, sym}
-use mathlib.Core.List.{List, _++_}
-use Prim.Native.Nat.{ℕ}
-use Rattle.ride.specs.declared.Line.{Line}
+use mathlib.Core.Path.{sym, ap, _∙_}
+use mathlib.Core.List.{List}
+use Prim.Native.Nat.{ℕ, _+_, _≤_}
+use native.Mathlib.Omega.{arith}
+use lib.ListN.{length}
+use Rattle.text.specs.Put.{put}
+use Rattle.text.proofs.Standing.{room-after, join, by-case}
 use Rattle.ride.specs.declared.Lines.{Lines}
 use Rattle.ride.specs.Says.{saysLines}
-use Rattle.ride_text.specs.Text.{text}
-use Rattle.ride_text.specs.List.{textOf}
-use Rattle.ride_text.proofs.Words.{word-put}
-use Rattle.ride_text.proofs.Standing.{Stands, room, behind, reads-as}
-use Rattle.ride_text.proofs.Texts.{text-one, text-two, put-none, one-fits, two-fit}
+use Rattle.ride_text.specs.Text.{lineText, linesText}
+use Rattle.ride_text.proofs.Texts.{put-nothing, one-is, two-is, one-fits, two-fit}
 use borrow.Author.Needs.{needs}
 use Rattle.ride_text.proofs.records.put_lines.Statement.{statement}
 use Rattle.ride_text.proofs.records.put_lines.Tie as tie
 
--- the text of a step's lines
-abbrev textFor : Lines → List ℕ
-textFor lines = textOf (saysLines lines)
-
 put-text-requires : tie.Need-put-text-requires
 put-text-requires c κs =
-    let s = c .before .before .before .before .before in
-    one-fits (s .args .out .now) (s .args .at) (s .pre) (c .before .before .lines .given .0 .0)
+    let k = c .before .before in
+    let s = k .before .before .before in
+    one-fits (s .args .reasons) (s .args .closed) (k .lines .given .0 .0) (s .args .out .now) (s .args .at) (s .pre)
 
 put-text-requires-2 : tie.Need-put-text-requires-2
 put-text-requires-2 c κs =
-    let s = c .before .before .before .before .before in
-    one-fits (s .args .out .now) (s .args .at) (s .pre) (c .before .before .lines2 .given .0 .0)
-
--- the first of two lines
-first-stands : (c : tie.After-put-text2) →
-    let a = c .before .before .before .before .before .before .args in
-    Stands (a .out .now) (c .put-text2 .last .1 .0) (a .at) (c .put-text2 .result) (text (c .before .before .before .lines2 .given .0 .0))
-first-stands c =
-    let s = c .before .before .before .before .before .before in
-    record { put = c .put-text2 .ensures; fits = one-fits (s .args .out .now) (s .args .at) (s .pre) (c .before .before .before .lines2 .given .0 .0) }
+    let k = c .before .before in
+    let s = k .before .before .before in
+    one-fits (s .args .reasons) (s .args .closed) (k .lines2 .given .0 .0) (s .args .out .now) (s .args .at) (s .pre)
 
 put-text-requires-3 : tie.Need-put-text-requires-3
 put-text-requires-3 c κs =
-    let p = c .before .before .before in
-    let s = p .before .before .before .before .before .before in
-    let a = p .before .before .before .lines2 .given .0 .0 in
-    let b = p .before .before .before .lines2 .given .0 .1 .0 in
-    room (text b) (first-stands p) (two-fit (s .args .out .now) (s .args .at) (s .pre) a b)
+    let p1 = c .before .before .before in
+    let k = p1 .before .before .before in
+    let s = k .before .before .before in
+    let a = s .args in
+    let g = k .lines2 .given .0 in
+    room-after (a .out .now) (a .at) (lineText (a .reasons) (a .closed) (g .0)) (lineText (a .reasons) (a .closed) (g .1 .0)) (two-fit (a .reasons) (a .closed) (g .0) (g .1 .0) (a .out .now) (a .at) (s .pre)) (p1 .put-text2 .ensures)
 
 returns : tie.Need-returns
-unfolding textOf
+unfolding linesText
 returns c =
     let s = c .before .before .before in
-    word-put textFor (s .args .out .now) (s .args .at) (c .enum-told .given .1) (s .args .out .now) (s .args .at)
-    (put-none (s .args .out .now) (s .args .at))
+    let a = s .args in
+    by-case (λ (v : Lines). linesText (a .reasons) (a .closed) (saysLines v)) (a .out .now) (a .at) (c .enum-told .given .1)
+    (put-nothing (a .out .now) (a .at) (omega (arith, s .pre)))
 
 returns-2 : tie.Need-returns-2
 returns-2 c =
     let p = c .before .before in
-    let s = p .before .before .before .before .before .before in
-    let l = p .before .before .before .lines .given in
-    word-put textFor (s .args .out .now) (s .args .at) (l .1) (p .put-text .last .1 .0) (p .put-text .result)
-    (reads-as (record { put = p .put-text .ensures; fits = one-fits (s .args .out .now) (s .args .at) (s .pre) (l .0 .0) }) (text-one (l .0 .0)))
+    let k = p .before .before .before in
+    let a = k .before .before .before .args in
+    p .put-text .ensures
+    ∙ ap (λ (t : List ℕ). put t (a .out .now) (a .at)) (one-is (a .reasons) (a .closed) (k .lines .given .0 .0))
+    ∙ ap (λ (v : Lines). put (linesText (a .reasons) (a .closed) (saysLines v)) (a .out .now) (a .at)) (sym (k .lines .given .1))
 
 returns-3 : tie.Need-returns-3
 returns-3 c =
-    let q = c .before .before in
-    let p = q .before .before .before .before in
-    let s = p .before .before .before .before .before .before in
-    let l = p .before .before .before .lines2 .given in
-    let a = l .0 .0 in
-    let b = l .0 .1 .0 in
-    word-put textFor (s .args .out .now) (s .args .at) (l .1) (q .put-text3 .last .1 .0) (q .put-text3 .result)
-    (reads-as (behind (text b) (first-stands p) (two-fit (s .args .out .now) (s .args .at) (s .pre) a b) (q .put-text3 .ensures)) (text-two a b))
+    let p2 = c .before .before in
+    let p1 = p2 .before .before .before .before in
+    let k = p1 .before .before .before in
+    let s = k .before .before .before in
+    let a = s .args in
+    let g = k .lines2 .given .0 in
+    join (a .out .now) (a .at) (lineText (a .reasons) (a .closed) (g .0)) (lineText (a .reasons) (a .closed) (g .1 .0)) (two-fit (a .reasons) (a .closed) (g .0) (g .1 .0) (a .out .now) (a .at) (s .pre)) (p1 .put-text2 .ensures) (p2 .put-text3 .ensures)
+    ∙ ap (λ (t : List ℕ). put t (a .out .now) (a .at)) (two-is (a .reasons) (a .closed) (g .0) (g .1 .0))
+    ∙ ap (λ (v : Lines). put (linesText (a .reasons) (a .closed) (saysLines v)) (a .out .now) (a .at)) (sym (k .lines2 .given .1))
 
 pub put-lines-spec : {M : Type 1} → statement M
 put-lines-spec =

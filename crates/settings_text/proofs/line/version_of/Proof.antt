@@ -14,19 +14,24 @@ returns-2 c = simp (c .before .before .before .place .given .1, c .enum-told2 .g
 
 returns-3 : tie.Need-returns-3
 unfolding version
-returns-3 c = simp (c .before .before .before .before .before .before .place .given .1, c .before .before .before .gap .given .1, c .enum-told3 .given .1)
+returns-3 c =
+    let g = c .before .before .before in
+    simp (g .before .before .before .place .given .1, g .gap .given .1, c .enum-told3 .given .1)
 
 returns-4 : tie.Need-returns-4
 unfolding version
-returns-4 c = simp (c .before .before .before .before .before .before .before .before .before .place .given .1, c .before .before .before .before .before .before .gap .given .1, c .before .before .before .s .given .1, c .enum-told4 .given .1)
+returns-4 c =
+    let s = c .before .before .before in
+    let g = s .before .before .before in
+    simp (g .before .before .before .place .given .1, g .gap .given .1, s .s .given .1, c .enum-told4 .given .1)
 
 returns-5 : tie.Need-returns-5
 unfolding version
-returns-5 c = simp (c .before .before .before .before .before .before .before .before .before .before .before .place .given .1, c .before .before .before .before .before .before .before .before .gap .given .1, c .before .before .before .before .before .s .given .1, c .before .before .t .given .1, c .if1 .taken)
-
-returns-6 : tie.Need-returns-6
-unfolding version
-returns-6 c = simp (c .before .before .before .before .before .before .before .before .before .before .before .place .given .1, c .before .before .before .before .before .before .before .before .gap .given .1, c .before .before .before .before .before .s .given .1, c .before .before .t .given .1, c .if1 .left)
+returns-5 c =
+    let t = c .before in
+    let s = t .before .before .before in
+    let g = s .before .before .before in
+    simp (g .before .before .before .place .given .1, g .gap .given .1, s .s .given .1, t .t .given .1)
 
 pub version-of-spec : {M : Type 1} → statement M
 version-of-spec =
@@ -36,5 +41,4 @@ version-of-spec =
     (λ c. search needs) (λ c. search needs) returns-2
     (λ c. search needs) (λ c. search needs) returns-3
     (λ c. search needs) (λ c. search needs) returns-4
-    returns-5
-    returns-6)
+    returns-5)

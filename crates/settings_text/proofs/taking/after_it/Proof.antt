@@ -4,7 +4,7 @@ use Prim.Native.Nat.{ℕ}
 use Rattle.settings.specs.declared.Store.{Store}
 use Rattle.settings.specs.declared.Verdict.{Verdict}
 use Rattle.settings.specs.Says.{saysVerdict}
-use Rattle.settings_text.specs.declared.How.{How}
+use Rattle.settings_text.specs.declared.Condition.{Condition}
 use Rattle.settings_text.specs.declared.Taken.{Taken}
 use Rattle.settings_text.specs.Taking.{afterIt}
 use borrow.Author.Needs.{needs}
@@ -12,7 +12,7 @@ use Rattle.settings_text.proofs.taking.after_it.Statement.{statement}
 use Rattle.settings_text.proofs.taking.after_it.Tie as tie
 
 abbrev refusedWith : Store → ℕ → Taken
-refusedWith store n = record { store = store; how = How.Refused n }
+refusedWith store n = record { store = store; how = Condition.Refused n }
 
 returns : tie.Need-returns
 returns c =

@@ -1,0 +1,164 @@
+// What the arguments ask for before the cards, for the programs that ride: `-s SETTINGS`.
+ghost use mathlib.Core.Path.{_≡_};
+ghost use lib.ListN.{length};
+ghost use Rattle.settings.specs.Store.{noStore};
+ghost use Rattle.console.specs.Asked.{cardsFrom, Ridden};
+use crate::lengths::open_card;
+use crate::reading::fill;
+use crate::saying::cannot_write;
+use crate::status::Ended;
+use crate::status::tell;
+use crate::streams::write;
+use crate::telling::cannot_open;
+use crate::telling::cannot_read;
+use libc::STDERR_FILENO;
+use libc::STDOUT_FILENO;
+use settings::Store;
+use settings_text::Condition;
+use settings_text::no_store;
+
+// The gap of a program that is given no settings, in dm.
+const GAP: u32 = 40;
+
+// The argument of the settings' file.
+const FILE: usize = 2;
+
+// Given asking for the settings went.
+pub enum Given {
+    Plain,
+    Settings,
+    Usage,
+    Said,
+}
+
+// What the arguments ask for: the settings, the first argument after them, and how it went.
+pub struct Asked {
+    pub store: Store,
+    pub first: usize,
+    pub how: Given,
+}
+
+// Room for the longest text of settings, and one byte more, which tells a longer one.
+fn room() -> [u8; 1048577]
+    ensures { λ r. ⌜ 1048577 ≡ length r ⌝ }
+{
+    [0; 1048577]
+}
+
+// Whether the first argument is `-s`.
+fn is_option() -> bool {
+    let mut text = io::buffer();
+    let length = os::arg(1, &mut text);
+    if os::errno() != 0 {
+        return false;
+    }
+    (length == 2) & (text[0] == b'-') & (text[1] == b's')
+}
+
+// Says what is wrong with the settings. That they are too long is no result.
+fn tell_of(program: &[u8], aside: bool, line: u32, how: Condition) {
+    let mut text = [0u8; 128];
+    let count = settings_text::put_told(line, how, &mut text, 0);
+    tell(ended(how));
+    if aside | is_too_long(how) {
+        io::write_all(STDERR_FILENO, program);
+        io::write_all(STDERR_FILENO, b": ");
+        write(STDERR_FILENO, &text, count);
+        return;
+    }
+    if !write(STDOUT_FILENO, &text, count) {
+        cannot_write(program);
+    }
+}
+
+// Given a call ends by bad settings: refused by a number, or their text cannot be read.
+fn ended(how: Condition) -> Ended {
+    match how {
+        Condition::Refused(_) => Ended::Refused,
+        Condition::Fine => Ended::Said,
+        Condition::TooLong => Ended::Said,
+        Condition::Unreadable => Ended::Said,
+        Condition::FirstPlace => Ended::Said,
+    }
+}
+
+// Whether a text is longer than is read.
+fn is_too_long(how: Condition) -> bool {
+    match how {
+        Condition::TooLong => true,
+        Condition::Fine => false,
+        Condition::Unreadable => false,
+        Condition::FirstPlace => false,
+        Condition::Refused(_) => false,
+    }
+}
+
+// Nothing is ridden.
+fn none(how: Given) -> Asked
+    ensures { λ r. ⌜ (r .how ≡ how) × (r .first ≡ 3) × (r .store ≡ noStore) ⌝ }
+{
+    Asked {
+        store: no_store(),
+        first: FILE + 1,
+        how,
+    }
+}
+
+// What a text of settings comes to; where it is bad that is said.
+fn judged(program: &[u8], aside: bool, text: &[u8]) -> Asked
+    ensures { λ r. ⌜ (r .first ≡ cardsFrom (r .how)) × Ridden (r .how) (r .store) ⌝ }
+{
+    let sheet = settings_text::read(text);
+    let store = sheet.store;
+    let line = sheet.line;
+    let how = sheet.how;
+    if settings_text::is_fine(how) {
+        return Asked {
+            store,
+            first: FILE + 1,
+            how: Given::Settings,
+        };
+    }
+    tell_of(program, aside, line, how);
+    none(Given::Said)
+}
+
+// The settings of the open file, or what is said of it.
+fn from_file(program: &[u8], aside: bool, fd: i32) -> Asked
+    ensures { λ r. ⌜ (r .first ≡ cardsFrom (r .how)) × Ridden (r .how) (r .store) ⌝ }
+{
+    let mut text = room();
+    let got = fill(fd, &mut text);
+    let count = got.count;
+    if got.failed {
+        cannot_read(program, FILE);
+        return none(Given::Said);
+    }
+    judged(program, aside, &text[..count])
+}
+
+// What the arguments ask for before the cards.
+pub fn options(program: &[u8], aside: bool) -> Asked
+    ensures { λ r. ⌜ (r .first ≡ cardsFrom (r .how)) × Ridden (r .how) (r .store) ⌝ }
+{
+    if !is_option() {
+        let begun = settings::begin(GAP, 0x00, 0x7F);
+        let store = begun.store;
+        return Asked {
+            store,
+            first: 1,
+            how: Given::Plain,
+        };
+    }
+    if os::arg_count() <= FILE {
+        return none(Given::Usage);
+    }
+    let fd = open_card(FILE);
+    if fd < 0 {
+        cannot_open(program, FILE);
+        return none(Given::Said);
+    }
+    let asked = from_file(program, aside, fd);
+    libc::close(fd);
+    asked
+}

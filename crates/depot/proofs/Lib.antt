@@ -1,2 +1,0 @@
-pub mod Takings
-pub mod Determined

@@ -1,4 +1,0 @@
-pub mod Text
-pub mod Told
-pub mod List
-pub mod Alike

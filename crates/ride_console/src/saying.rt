@@ -1,0 +1,59 @@
+// What is written, and what is said where something goes wrong: a plain listing tells the launcher alone.
+use console::Ended;
+use console::Found;
+use console::tell;
+use libc::STDOUT_FILENO;
+use ride::Line;
+
+// Writes the first bytes of a buffer.
+pub fn write(program: &[u8], reasons: bool, out: &[u8], count: usize) -> bool {
+    if console::write(STDOUT_FILENO, out, count) {
+        return true;
+    }
+    if reasons {
+        console::cannot_write(program);
+    } else {
+        tell(Ended::Unwritten);
+    }
+    false
+}
+
+// `trace refused 16`, alone.
+pub fn refuse_trace(program: &[u8], reasons: bool) {
+    let mut out = [0u8; 64];
+    let n = ride_text::put_line(Line::Trace(16), &mut out, 0);
+    if write(program, reasons, &out, n) {
+        tell(Ended::Refused);
+    }
+}
+
+// That the arguments are wrong or missing.
+pub fn usage(program: &[u8], call: &[u8], reasons: bool) {
+    if reasons {
+        console::usage(program, call);
+        return;
+    }
+    tell(Ended::Usage);
+}
+
+// How a call ends by what was found wrong with the cards.
+fn ended(found: Found) -> Ended {
+    match found {
+        Found::Cards => Ended::Said,
+        Found::NoCard => Ended::Usage,
+        Found::TooMany => Ended::TooMany,
+        Found::CannotOpen(_) => Ended::Unread,
+        Found::CannotRead(_) => Ended::Unread,
+        Found::BadLength(_) => Ended::Refused,
+        Found::Once(_) => Ended::Once,
+    }
+}
+
+// What was found wrong with the cards.
+pub fn say_found(program: &[u8], reasons: bool, found: Found) {
+    if reasons {
+        console::say_found(program, found);
+        return;
+    }
+    tell(ended(found));
+}
