@@ -61,6 +61,10 @@ isFor r i k = isGroupFor (r .tolerance) (entry r i) (getD (r .lines) k (Line.Tra
 abbrev pub noneBefore : Run → ℕ → ℕ → Type 0
 noneBefore r i k = someFor (r .tolerance) (entry r i) (take k (r .lines)) ≡ false
 
+-- Line k met no entry: it is the first such group of none.
+abbrev pub metNone : Run → ℕ → Type 0
+metNone r k = (i : ℕ) → i < entries r → isFor r i k → noneBefore r i k → ⊥
+
 -- The part of line k as it was answered.
 abbrev pub part : Run → ℕ → Role
 part r k = getD (r .answers) k (noPart (r .planned .plan)) .answer
@@ -84,11 +88,9 @@ pub record Accepted (r : Run) : Type 0 where
   -- "wanted (it is the one that met an entry)": a group is answered wanted, for entry i, exactly if it is the first such group of entry i
   pub first-is-wanted : (k i : ℕ) → k < length (r .lines) → i < entries r → isFor r i k → noneBefore r i k → part r k ≡ Role.Wanted i
   pub wanted-is-first : (k i : ℕ) → k < length (r .lines) → part r k ≡ Role.Wanted i → (i < entries r) × (isFor r i k) × (noneBefore r i k)
-  -- "or extra": a present group is answered extra exactly if it met no entry, being the first such group of none
-  pub other-is-extra : (k : ℕ) → k < length (r .lines) → isGroup (getD (r .lines) k (Line.Trace 0)) ≡ true
-      → ((i : ℕ) → i < entries r → isFor r i k → noneBefore r i k → ⊥) → part r k ≡ Role.Extra
-  pub extra-is-other : (k : ℕ) → k < length (r .lines) → part r k ≡ Role.Extra
-      → (isGroup (getD (r .lines) k (Line.Trace 0)) ≡ true) × ((i : ℕ) → i < entries r → isFor r i k → noneBefore r i k → ⊥)
+  -- "or extra": a present group is answered extra exactly if it met no entry
+  pub other-is-extra : (k : ℕ) → k < length (r .lines) → isGroup (getD (r .lines) k (Line.Trace 0)) ≡ true → metNone r k → part r k ≡ Role.Extra
+  pub extra-is-other : (k : ℕ) → k < length (r .lines) → part r k ≡ Role.Extra → (isGroup (getD (r .lines) k (Line.Trace 0)) ≡ true) × metNone r k
   -- "Opposite and refused groups take no part", nor does any other line
   pub no-part : (k : ℕ) → k < length (r .lines) → isGroup (getD (r .lines) k (Line.Trace 0)) ≡ false → part r k ≡ Role.NoPart
   -- each group meets at most one entry: neighbours lie more than twice the tolerance apart
