@@ -1,4 +1,5 @@
--- A line by its place and kind, as if each had one: of a line that is no group they are not looked at.
+-- A line by its place and kind, as if each had one: of a line that is no group they are not looked
+-- at.
 -- Assumes nothing.
 use Prim.Native.Nat.{ℕ}
 use mathlib.Core.Path.{_≡_, refl, sym, ap₂, _∙_}

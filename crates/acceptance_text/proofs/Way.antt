@@ -43,7 +43,8 @@ room-is at most h = room-by (leb 128 (most - at)) at most h refl
 
 -- ---- a turn
 
--- On the way: a text stands at the start of the buffer, and from here the block comes to what it comes to from its first record.
+-- On the way: a text stands at the start of the buffer, and from here the block comes to what it
+-- comes to from its first record.
 pub record OnTheWay (gaps : ℕ → ℕ) (start : Going) (trace out₀ : List ℕ) (now : Ride) (run : Acceptance) (troubles : Troubles) (i at : ℕ) (out : List ℕ) : Type 0 where
   pub text : List ℕ
   pub ends : at ≡ length text
