@@ -1,4 +1,5 @@
--- What the functions inside this crate say of a record and of a block. No caller reads it; contracts can cite only what stands here.
+-- What the functions inside this crate say of a record and of a block. No caller reads it;
+-- contracts can cite only what stands here.
 -- Assumes nothing.
 use Prim.Native.Nat.{ℕ}
 use mathlib.Core.Path.{_≡_}
@@ -28,7 +29,8 @@ pub record Serves (gaps : ℕ → ℕ) (gap : ℕ) (r : List ℕ) : Type 0 where
   pub good : allowed gap ≡ true
   pub treats : (ride : Ride) → treat ride gap r ≡ treat ride (gaps (odometerOf r)) r
 
--- After a block: what waits then, and a gap that serves it; the number of bytes that are settled as kept; and the block then.
+-- After a block: what waits then, and a gap that serves it; the number of bytes that are settled as
+-- kept; and the block then.
 pub record Over (gaps : ℕ → ℕ) (before : Waiting) (block : List ℕ) (after : Waiting) (gap bytes : ℕ) (block-then : List ℕ) : Type 0 where
   pub waits : after ≡ waitsAfter gaps before (records block)
   pub serves : Serves gaps gap (after .bytes)

@@ -59,7 +59,8 @@ fn is_accepted(checked: Checked) -> bool
     }
 }
 
-// The record of these eight bytes is treated. Its state comes back field by field, as from any record of a trace.
+// The record of these eight bytes is treated. Its state comes back field by field, as from any
+// record of a trace.
 pub fn treat(ride: Ride, gap: u32, bytes: [u8; 8]) -> Treated
     requires { ⌜ allowed gap ≡ true ⌝ }
     ensures { λ r. ⌜ saysTreated r ≡ byStep (treat ride gap bytes) ⌝ }
@@ -67,7 +68,8 @@ pub fn treat(ride: Ride, gap: u32, bytes: [u8; 8]) -> Treated
     ride::treat_at(ride, gap, &bytes, 0)
 }
 
-// Whether the record of these eight bytes, which was treated with this reply and left this state, is dropped before the next one.
+// Whether the record of these eight bytes, which was treated with this reply and left this state,
+// is dropped before the next one.
 pub fn is_dropped(after: Ride, bytes: [u8; 8], reply: Reply, next: [u8; 8]) -> bool
     ensures { λ r. ⌜ r ≡ (eqb (kindOf bytes) 3 && (quietReply (saysReply reply) && isAccepted (checkRecord (after .odometer) next))) ⌝ }
 {

@@ -14,14 +14,16 @@ use crate::deciding::treat;
 use settings::Held;
 use settings::Store;
 
-// What a block comes to: what waits then, with the gap that it is treated with, and how many bytes of the block are settled as kept.
+// What a block comes to: what waits then, with the gap that it is treated with, and how many bytes
+// of the block are settled as kept.
 pub struct Walked {
     pub waiting: Waiting,
     pub gap: u32,
     pub bytes: usize,
 }
 
-// The settings held for a record: the store is asked only where the odometer leaves the places of those that are held.
+// The settings held for a record: the store is asked only where the odometer leaves the places of
+// those that are held.
 fn held_for(store: Store, held: Held, odometer: u32) -> Held
     ensures { λ r. ⌜ r ≡ heldFor store held odometer ⌝ }
 {
@@ -31,8 +33,9 @@ fn held_for(store: Store, held: Held, odometer: u32) -> Held
     held
 }
 
-// The records of a block in turn, each treated with the gap in force at its own odometer. What is kept is written no further on than what is read. The
-// record that waits is held in pieces: a copy of the whole would carry the bytes between its fields too, from record to record.
+// The records of a block in turn, each treated with the gap in force at its own odometer. What is
+// kept is written no further on than what is read. The record that waits is held in pieces: a copy
+// of the whole would carry the bytes between its fields too, from record to record.
 pub fn over(waiting: Waiting, store: Store, first: Held, block: &mut [u8]) -> Walked
     requires { ⌜ (judged store ≡ gives kept) × (first ≡ heldAt store 0) ⌝ }
     ensures { λ r. ⌜ Over (gapAt store) waiting (now (block .entry)) (r .waiting) (r .gap) (r .bytes) (now (block .exit)) ⌝ }
