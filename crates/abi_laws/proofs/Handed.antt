@@ -12,14 +12,14 @@ use Rattle.abi_laws.specs.Handed.{HandedOut}
 
 pub handed-out : HandedOut
 handed-out = record {
-  find = λ b start len s t before r after x c given. (
-    c .7 .0 ∙ ap (λ (v : List ℕ). returned foundNumber (find v start len s t)) (c .4) ∙ ap (returned foundNumber) given,
+  find = λ b start len s t before r after x c is. (
+    c .7 .0 ∙ ap (λ (v : List ℕ). returned foundNumber (find v start len s t)) (c .4) ∙ ap (returned foundNumber) is,
     sym (c .6) ∙ c .7 .1 ∙ ap₂ (λ (v w : List ℕ). left foundPut (find v start len s t) w) (c .4) (c .5)
-        ∙ ap (λ (o : Outcome Single). left foundPut o before) given,
+        ∙ ap (λ (o : Outcome Single). left foundPut o before) is,
   );
-  judge = λ b start len s t before r after x c given. (
-    c .7 .0 ∙ ap (λ (v : List ℕ). returned judgedNumber (judge v start len s t)) (c .4) ∙ ap (returned judgedNumber) given,
+  judge = λ b start len s t before r after x c is. (
+    c .7 .0 ∙ ap (λ (v : List ℕ). returned judgedNumber (judge v start len s t)) (c .4) ∙ ap (returned judgedNumber) is,
     sym (c .6) ∙ c .7 .1 ∙ ap₂ (λ (v w : List ℕ). left judgedPut (judge v start len s t) w) (c .4) (c .5)
-        ∙ ap (λ (o : Outcome Contact). left judgedPut o before) given,
+        ∙ ap (λ (o : Outcome Contact). left judgedPut o before) is,
   );
 }

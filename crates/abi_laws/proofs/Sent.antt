@@ -26,9 +26,9 @@ use Rattle.abi_laws.proofs.Handed.{handed-out}
 found : (b : List ℕ) (start len s t p : ℕ) (m : Telegram) → place.find b start len s t ≡ gives (at p (gives m)) → Find b start len s t (Found.At p m)
 found b start len s t p m e = (([], tt), lent b, (lent b, (start, (len, (s, (t, tt))))), refl, sym e)
 
-judged : (b : List ℕ) (start len s t : ℕ) (m : Telegram) (first count : ℕ) → contact.judge b start len s t ≡ gives (read (gives m) first count)
-    → JudgeContact b start len s t (Judged.Read m first count)
-judged b start len s t m first count e = (([], tt), lent b, (lent b, (start, (len, (s, (t, tt))))), refl, sym e)
+judged : (b : List ℕ) (start len s t : ℕ) (m : Telegram) (p n : ℕ) → contact.judge b start len s t ≡ gives (read (gives m) p n)
+    → JudgeContact b start len s t (Judged.Read m p n)
+judged b start len s t m p n e = (([], tt), lent b, (lent b, (start, (len, (s, (t, tt))))), refl, sym e)
 
 sent : (o : OneBalise) → OnlyTheSent o → SentFromC o
 sent o only = record {
@@ -37,11 +37,11 @@ sent o only = record {
         handed-out .find (o .buffer) (o .start) (o .len) (o .s) (o .t) before r after (at p (gives m)) c e .1 ∙ ap (λ (x : Telegram). p ∷ asOne x ∷ []) (so .as-sent),
         so .true-place,
       );
-  judge = λ before r after m first count c e.
-      let so : TheSent o first m =
-      only .judge (Judged.Read m first count) (judged (o .buffer) (o .start) (o .len) (o .s) (o .t) m first count e) .first-sent m first count refl in (
-        handed-out .judge (o .buffer) (o .start) (o .len) (o .s) (o .t) before r after (read (gives m) first count) c e .1
-            ∙ ap (λ (x : Telegram). asOne x ∷ first ∷ count ∷ []) (so .as-sent),
+  judge = λ before r after m p n c e.
+      let so : TheSent o p m =
+      only .judge (Judged.Read m p n) (judged (o .buffer) (o .start) (o .len) (o .s) (o .t) m p n e) .first-sent m p n refl in (
+        handed-out .judge (o .buffer) (o .start) (o .len) (o .s) (o .t) before r after (read (gives m) p n) c e .1
+            ∙ ap (λ (x : Telegram). asOne x ∷ p ∷ n ∷ []) (so .as-sent),
         so .true-place,
       );
 }

@@ -5,8 +5,10 @@ use mathlib.Core.Path.{_≡_}
 use mathlib.Core.List.{List}
 use lib.IntN.{ℤ, pos}
 use Rattle.words.specs.Answer.{gives}
-use Rattle.telegram.specs.Place.{Single, find}
-use Rattle.contact.specs.Judge.{Contact, judge}
+use Rattle.telegram.specs.Place.{Single}
+use Rattle.telegram.specs.Place as place
+use Rattle.contact.specs.Judge.{Contact}
+use Rattle.contact.specs.Judge as contact
 use Rattle.abi.specs.Face.{foundPut}
 use Rattle.abi.specs.Contacts.{judgedNumber, judgedPut}
 use Rattle.abi_laws.specs.Calls.{Find, Judge}
@@ -14,7 +16,7 @@ use Rattle.abi_laws.specs.Calls.{Find, Judge}
 pub record HandedOut : Type 0 where
   -- where the stretch has a place, 0 is returned, and `out` is the first one and its telegram
   pub find : (b : List ℕ) (start len s t : ℕ) (before : List ℕ) (r : ℤ) (after : List ℕ) (x : Single) → Find b start len s t before r after
-      → find b start len s t ≡ gives x → (r ≡ pos 0) × (after ≡ foundPut x before)
+      → place.find b start len s t ≡ gives x → (r ≡ pos 0) × (after ≡ foundPut x before)
   -- where a contact is read, 1 is returned, and `out` is its telegram, the first place and the number of places; for a marker 2, and `out` as it was
   pub judge : (b : List ℕ) (start len s t : ℕ) (before : List ℕ) (r : ℤ) (after : List ℕ) (x : Contact) → Judge b start len s t before r after
-      → judge b start len s t ≡ gives x → (r ≡ pos (judgedNumber x)) × (after ≡ judgedPut x before)
+      → contact.judge b start len s t ≡ gives x → (r ≡ pos (judgedNumber x)) × (after ≡ judgedPut x before)

@@ -5,12 +5,14 @@ use Prim.Native.Nat.{ℕ, _≤_, _%_}
 use mathlib.Core.Path.{_≡_}
 use mathlib.Core.List.{List, [], _∷_}
 use lib.IntN.{ℤ, pos}
-use Rattle.words.specs.Why.{notCodeWord}
+use Rattle.words.specs.Answer.{Answer}
+use Rattle.words.specs.Why.{Why, notCodeWord}
 use Rattle.words.specs.Plain.{figure}
 use Rattle.words.specs.Code.{exchanged}
 use Rattle.settings.specs.declared.Version.{Version}
 use Rattle.settings.specs.Versions.{kept}
-use Rattle.settings.specs.Store.{begin, add, lastPlace}
+use Rattle.settings.specs.Store.{lastPlace}
+use Rattle.settings.specs.Store as store
 use Rattle.settings_text.specs.Sheet.{sheet}
 use Rattle.state_bytes.specs.Stores.{storeIn}
 use Rattle.abi.specs.Face.{returned, wordNumber}
@@ -26,9 +28,9 @@ use Rattle.abi_laws.specs.Demand1.{DecidedAs, Refused}
 -- says whether the word is a code word, and the parity of its ones if not.
 pub record SettingsDecided : Type 0 where
   pub short-word : (word : ℕ) (r : ℤ) → WhyWord word 0 r
-      → DecidedAs (λ o. pos (wordNumber o)) (Is (figure 8 (exchanged 8 (word % 256)))) (rowOf (notCodeWord 8 (word % 256)) (notCode 8 (word % 256)) ∷ []) r
+      → DecidedAs (λ (o : Answer Why ℕ). pos (wordNumber o)) (Is (figure 8 (exchanged 8 (word % 256)))) (rowOf (notCodeWord 8 (word % 256)) (notCode 8 (word % 256)) ∷ []) r
   pub long-word : (word wide : ℕ) (r : ℤ) → 1 ≤ wide → WhyWord word wide r
-      → DecidedAs (λ o. pos (wordNumber o)) (Is (figure 16 (exchanged 16 word))) (rowOf (notCodeWord 16 word) (notCode 16 word) ∷ []) r
+      → DecidedAs (λ (o : Answer Why ℕ). pos (wordNumber o)) (Is (figure 16 (exchanged 16 word))) (rowOf (notCodeWord 16 word) (notCode 16 word) ∷ []) r
   pub begin : (gap s t : ℕ) (before : List ℕ) (r : ℤ) (after : List ℕ) → SettingsBegin gap s t before r after
       → DecidedAs (returned keptNumber) (Is kept) (settingsRules (record { place = 0; gap = gap; s = s; t = t }) []) r
   pub add : (v : Version) (before : List ℕ) (r : ℤ) (after : List ℕ) → SettingsAdd v before r after
@@ -45,8 +47,8 @@ pub record SettingsUntouched : Type 0 where
 -- that they held.
 pub record ReadsBack : Type 0 where
   pub begin : (gap s t : ℕ) (before : List ℕ) (r : ℤ) (after : List ℕ) → SettingsBegin gap s t before r after
-      → storeIn after ≡ storeAfter (begin gap s t) (storeIn before)
+      → storeIn after ≡ storeAfter (store.begin gap s t) (storeIn before)
   pub add : (v : Version) (before : List ℕ) (r : ℤ) (after : List ℕ) → SettingsAdd v before r after
-      → storeIn after ≡ storeAfter (add (storeIn before) v) (storeIn before)
+      → storeIn after ≡ storeAfter (store.add (storeIn before) v) (storeIn before)
   pub read : (text before : List ℕ) (r : ℤ) (after : List ℕ) → SettingsRead text before r after
       → storeIn after ≡ storeAfter (changeOf (sheet text)) (storeIn before)
