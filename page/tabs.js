@@ -29,11 +29,11 @@ const TABS = {
   Step: {
     needs: ['view'], asks: true,
     controls() {
-      const go = (s) => () => step(s), asked = (id, letter) => () => { const v = $(id).value.trim(); if (/^\d+$/.test(v)) step(letter + ' ' + v); else $(id).focus(); };
-      const number = (id, label, letter) => make('span', { className: 'row tight' }, make('label', {}, label + ' ', make('input', { type: 'text', id, size: 8, inputMode: 'numeric', onkeydown: (e) => { if (e.key === 'Enter') asked(id, letter)(); } })), button('Go', asked(id, letter)));
+      const go = (s) => () => step(s), asked = (id, letter) => () => { const v = $(id).value.trim(); if (letter ? /^\d+$/.test(v) : v) step(letter ? letter + ' ' + v : v); else $(id).focus(); };
+      const number = (id, label, letter) => make('span', { className: 'row tight' }, make('label', {}, label + ' ', make('input', { type: 'text', id, size: 6, inputMode: letter ? 'numeric' : 'text', autocomplete: 'off', spellcheck: false, onkeydown: (e) => { if (e.key === 'Enter') asked(id, letter)(); } })), button('Go', asked(id, letter)));
       return [row(make('span', { className: 'row tight' }, button('◀ 10', go('b 10'), { title: 'Page up' }), button('◀ Back', go('b'), { title: 'Left arrow' }), button('Forward ▶', go('f'), { title: 'Right arrow' }), button('10 ▶', go('f 10'), { title: 'Page down' })),
-        number('toRecord', 'before record', 'g'), number('toPlace', 'to place (dm)', 'p'), button('Start again', () => { given.steps = []; refresh(); })),
-      make('p', { className: 'soft' }, 'Keys: left and right arrow, page up and page down.')];
+        number('toRecord', 'before record', 'g'), number('toPlace', 'to place (dm)', 'p'), number('command', 'command', ''), button('Start again', () => { given.steps = []; refresh(); })),
+      make('p', { className: 'soft' }, 'Keys: left and right arrow, page up and page down. A command that is none, as ?, shows them all.')];
     },
     async run() {
       const call = new Call(), args = call.ride(), typed = (n) => utf8(given.steps.slice(0, n).map((s) => s + '\n').join('')), n = given.steps.length;

@@ -76,10 +76,7 @@ const lines = (name, ...args) => native(name, args).stdout.replace(/\n$/, '');
     const stepped = async (name) => { const got = await out(), all = native('view', ['every-line.trace'], steps.map((s) => s + '\n').join('')).stdout, before = native('view', ['every-line.trace'], steps.slice(0, -1).map((s) => s + '\n').join('')).stdout; report(name, got === all.slice(before.length).replace(/\n$/, ''), got); };
     for (const [text, command] of [['Forward ▶', 'f'], ['10 ▶', 'f 10'], ['◀ Back', 'b']]) { await press(text); steps.push(command); await stepped('step by a button: ' + command); }
     for (const [key, command] of [['ArrowRight', 'f'], ['ArrowRight', 'f'], ['PageDown', 'f 10'], ['ArrowLeft', 'b'], ['PageUp', 'b 10']]) { await after(() => c.key(key)); steps.push(command); await stepped('step by a key: ' + command); }
-    await c.evaluate('$("toPlace").value = "16000"');
-    await press('Go', 1);
-    steps.push('p 16000');
-    await stepped('to a place');
+    for (const [n, id, text, command] of [[1, 'toPlace', '16000', 'p 16000'], [2, 'command', '?', '?'], [0, 'toRecord', '3', 'g 3']]) { await c.evaluate('$("' + id + '").value = "' + text + '"'); await press('Go', n); steps.push(command); await stepped('by a field: ' + command); }
 
     // ---- cards: dropped, in another order, removed; a text; a bad one
     await fresh();
