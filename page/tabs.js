@@ -4,6 +4,8 @@ const field = (id, label, value, size, change) => make('label', {}, label + ' ',
 const row = (...kids) => make('div', { className: 'row' }, ...kids);
 const picker = (id, words, as, multiple) => make('label', { className: 'pick' }, words, make('input', { type: 'file', id, multiple: !!multiple, onchange: async (e) => { const list = [...e.target.files]; e.target.value = ''; await add(list, as); } }));
 
+// Whether the picture can show a plan, as its usage says.
+const drawsPlans = (LAUNCHER.usage.draw || []).some((call) => call.includes('-p '));
 async function overRide(name, saveAs, how) {
   const call = new Call(), r = await Bench.run(name, call.ride(), call.files);
   show(block(r, { save: saveAs, ...how }));
@@ -17,9 +19,9 @@ const TABS = {
 
   Picture: {
     needs: ['draw'], asks: true,
-    controls: () => (given.plan && has('accept') ? [row(make('label', {}, make('input', { type: 'checkbox', id: 'withPlan', checked: given.withPlan, onchange: (e) => { given.withPlan = e.target.checked; refresh(); } }), ' with the plan ' + given.plan.name + ', tolerance ' + given.tolerance + ' dm'))] : []),
+    controls: () => (given.plan && drawsPlans ? [row(make('label', {}, make('input', { type: 'checkbox', id: 'withPlan', checked: given.withPlan, onchange: (e) => { given.withPlan = e.target.checked; refresh(); } }), ' with the plan ' + given.plan.name + ', tolerance ' + given.tolerance + ' dm'))] : []),
     async run() {
-      const call = new Call(), plan = given.plan && given.withPlan ? ['-p', call.name(given.plan), given.tolerance] : [];
+      const call = new Call(), plan = given.plan && given.withPlan && drawsPlans ? ['-p', call.name(given.plan), given.tolerance] : [];
       const r = await Bench.run('draw', [...plan, ...call.ride()], call.files), shown = r.stdout.length && r.stdout.length <= 8000000, frame = shown ? framed(r.stdout) : null;
       const body = frame ? [frame] : r.stdout.length ? [hint('The picture has ' + number(r.stdout.length) + ' bytes, too many to show here. Save it, and open the file.')] : [];
       show(block(r, { body, save: 'ride.html', saveWords: 'Save the picture', into: 'ride.html', print: frame ? () => frame.contentWindow.print() : undefined }));

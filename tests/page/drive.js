@@ -64,10 +64,11 @@ const lines = (name, ...args) => native(name, args).stdout.replace(/\n$/, '');
       const shown = await c.evaluate('document.querySelector("iframe").srcdoc'), drawn = Buffer.from(native('draw', ['every-line.trace']).stdout, 'latin1').toString('utf8');
       report('picture', shown === drawn && drawn.includes('<svg'), shown.length + ' for ' + drawn.length);
       report('the picture is seen', await c.evaluate('document.querySelector("iframe").contentDocument.querySelectorAll("svg").length > 0 && document.querySelector("iframe").offsetHeight > 200'), 'not');
-      await c.evaluate('$("withPlan").click()');
-      await settle();
-      const with_plan = Buffer.from(native('draw', ['-p', 'track.plan', '20', 'every-line.trace']).stdout, 'latin1').toString('utf8');
-      report('picture with the plan', (await c.evaluate('document.querySelector("iframe").srcdoc')) === with_plan, 'another');
+      if (await c.evaluate('drawsPlans')) {
+        await after(() => c.evaluate('$("withPlan").click()'));
+        const planned = Buffer.from(native('draw', ['-p', 'track.plan', '20', 'every-line.trace']).stdout, 'latin1').toString('utf8');
+        report('picture with the plan', (await c.evaluate('document.querySelector("iframe").srcdoc')) === planned, 'another');
+      }
     }
 
     // ---- steps
