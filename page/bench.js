@@ -22,15 +22,23 @@ const Bench = {
       this.waiting.delete(data.turn);
       if (data.failed) asked.no(new Error(data.failed)); else asked.yes(data.result);
     };
-    // A worker that does not start is done without.
-    this.worker.onerror = (e) => { e.preventDefault(); this.stop(new Error(e.message || 'the worker failed')); };
+    // A worker that does not start is done without: what waits for it is run in the page.
+    this.worker.onerror = (e) => {
+      e.preventDefault();
+      const left = [...this.waiting.values()];
+      this.waiting.clear();
+      this.worker.terminate();
+      this.worker = undefined;
+      for (const asked of left) asked.again();
+    };
   },
 
   // Ends what is under way.
-  stop(why) {
+  stop() {
     if (!this.waiting.size) return;
-    if (this.worker) { this.worker.terminate(); this.worker = null; }
-    for (const asked of this.waiting.values()) asked.no(why || new Stopped('stopped'));
+    this.worker.terminate();
+    this.worker = null;
+    for (const asked of this.waiting.values()) asked.no(new Stopped('stopped'));
     this.waiting.clear();
   },
 
@@ -51,7 +59,7 @@ const Bench = {
     for (const f of files.values()) put(f.id, { file: f.id, bytes: f.bytes });
     const turn = ++this.turn, worker = this.worker;
     return new Promise((yes, no) => {
-      this.waiting.set(turn, { name, yes, no });
+      this.waiting.set(turn, { name, yes, no, again: () => this.inPage(name, args, files, stdin).then(yes, no) });
       worker.postMessage({ turn, name, args, files: new Map([...files].map(([n, f]) => [n, f.id])), stdin });
     });
   },

@@ -4,6 +4,8 @@ const field = (id, label, value, size, change) => make('label', {}, label + ' ',
 const row = (...kids) => make('div', { className: 'row' }, ...kids);
 const picker = (id, words, as, multiple) => make('label', { className: 'pick' }, words, make('input', { type: 'file', id, multiple: !!multiple, onchange: async (e) => { const list = [...e.target.files]; e.target.value = ''; await add(list, as); } }));
 
+// Whether the picture can show a plan, as its usage says.
+const drawsPlans = (LAUNCHER.usage.draw || []).some((call) => call.includes('-p '));
 async function overRide(name, saveAs, how) {
   const call = new Call(), r = await Bench.run(name, call.ride(), call.files);
   show(block(r, { save: saveAs, ...how }));
@@ -17,9 +19,9 @@ const TABS = {
 
   Picture: {
     needs: ['draw'], asks: true,
-    controls: () => (given.plan && has('accept') ? [row(make('label', {}, make('input', { type: 'checkbox', id: 'withPlan', checked: given.withPlan, onchange: (e) => { given.withPlan = e.target.checked; refresh(); } }), ' with the plan ' + given.plan.name + ', tolerance ' + given.tolerance + ' dm'))] : []),
+    controls: () => (given.plan && drawsPlans ? [row(make('label', {}, make('input', { type: 'checkbox', id: 'withPlan', checked: given.withPlan, onchange: (e) => { given.withPlan = e.target.checked; refresh(); } }), ' with the plan ' + given.plan.name + ', tolerance ' + given.tolerance + ' dm'))] : []),
     async run() {
-      const call = new Call(), plan = given.plan && given.withPlan ? ['-p', call.name(given.plan), given.tolerance] : [];
+      const call = new Call(), plan = given.plan && given.withPlan && drawsPlans ? ['-p', call.name(given.plan), given.tolerance] : [];
       const r = await Bench.run('draw', [...plan, ...call.ride()], call.files), shown = r.stdout.length && r.stdout.length <= 8000000, frame = shown ? framed(r.stdout) : null;
       const body = frame ? [frame] : r.stdout.length ? [hint('The picture has ' + number(r.stdout.length) + ' bytes, too many to show here. Save it, and open the file.')] : [];
       show(block(r, { body, save: 'ride.html', saveWords: 'Save the picture', into: 'ride.html', print: frame ? () => frame.contentWindow.print() : undefined }));
@@ -29,11 +31,11 @@ const TABS = {
   Step: {
     needs: ['view'], asks: true,
     controls() {
-      const go = (s) => () => step(s), asked = (id, letter) => () => { const v = $(id).value.trim(); if (/^\d+$/.test(v)) step(letter + ' ' + v); else $(id).focus(); };
-      const number = (id, label, letter) => make('span', { className: 'row tight' }, make('label', {}, label + ' ', make('input', { type: 'text', id, size: 8, inputMode: 'numeric', onkeydown: (e) => { if (e.key === 'Enter') asked(id, letter)(); } })), button('Go', asked(id, letter)));
+      const go = (s) => () => step(s), asked = (id, letter) => () => { const v = $(id).value.trim(); if (letter ? /^\d+$/.test(v) : v) step(letter ? letter + ' ' + v : v); else $(id).focus(); };
+      const number = (id, label, letter) => make('span', { className: 'row tight' }, make('label', {}, label + ' ', make('input', { type: 'text', id, size: 6, inputMode: letter ? 'numeric' : 'text', autocomplete: 'off', spellcheck: false, onkeydown: (e) => { if (e.key === 'Enter') asked(id, letter)(); } })), button('Go', asked(id, letter)));
       return [row(make('span', { className: 'row tight' }, button('◀ 10', go('b 10'), { title: 'Page up' }), button('◀ Back', go('b'), { title: 'Left arrow' }), button('Forward ▶', go('f'), { title: 'Right arrow' }), button('10 ▶', go('f 10'), { title: 'Page down' })),
-        number('toRecord', 'before record', 'g'), number('toPlace', 'to place (dm)', 'p'), button('Start again', () => { given.steps = []; refresh(); })),
-      make('p', { className: 'soft' }, 'Keys: left and right arrow, page up and page down.')];
+        number('toRecord', 'before record', 'g'), number('toPlace', 'to place (dm)', 'p'), number('command', 'command', ''), button('Start again', () => { given.steps = []; refresh(); })),
+      make('p', { className: 'soft' }, 'Keys: left and right arrow, page up and page down. A command that is none, as ?, shows them all.')];
     },
     async run() {
       const call = new Call(), args = call.ride(), typed = (n) => utf8(given.steps.slice(0, n).map((s) => s + '\n').join('')), n = given.steps.length;
