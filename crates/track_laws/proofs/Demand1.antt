@@ -26,7 +26,7 @@ use Rattle.demands.specs.Rules.{Rule, rowOf, row, Decided, Given}
 use Rattle.demands.specs.Table.{above}
 use Rattle.demands.specs.Table02.{someAbove, someFifteen, tooHigh}
 use Rattle.demands.proofs.Common.Rules.{if-so}
-use Rattle.track_laws.specs.Demand1.{figureRules, whatRules, Demand1, Untouched}
+use Rattle.track_laws.specs.Demand1.{figureRules, whatRules, takeRules, Demand1, Untouched}
 
 -- The conditions are those by which the figures are judged.
 above-is : (x y z : ℕ) → someAbove x y z ≡ tooLarge (asked x y z)
@@ -76,7 +76,7 @@ recorded-so place What.Position = (recorded.made, refl)
 recorded-so place (What.Raw kind x y z) = (recorded.made, refl)
 
 taken-so : (way : Way) (place : ℕ) (thing : Thing)
-    → Decided {A = Answer Bad Way} Given (rowOf (refused 18) (tooHigh place) ∷ rowOf (refused 17) (ltb place (way .last)) ∷ rowOf tooNear (isSent thing && isNear (way .thing) place) ∷ []) (take way place thing)
+    → Decided Given (takeRules way place thing) (take way place thing)
 unfolding take tooHigh
 taken-so way place thing =
     let near : Bool = isSent thing && isNear (way .thing) place in
@@ -91,7 +91,7 @@ demand1 =
     record {
       spell = λ x y z r c. subst (Decided Given (figureRules x y z)) (sym (c .1 ∙ spelt-so x y z)) (by-figures x y z (wordsOf (asked x y z)));
       record-of = λ place what r c. subst (Decided Given (whatRules what)) (sym (ap (λ (x : Recording). x .answer) (c .1))) (recorded-so place what);
-      take = λ way place thing r c. subst (Decided Given _) (sym (c .1)) (taken-so way place thing);
+      take = λ way place thing r c. subst (Decided Given (takeRules way place thing)) (sym (c .1)) (taken-so way place thing);
     }
 
 -- ---- a refusal hands out nothing

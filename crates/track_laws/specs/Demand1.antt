@@ -9,11 +9,11 @@ use mathlib.Core.List.{List, [], _∷_}
 use lib.Dec.{ltb}
 use borrow.Fn.Kinds.{endedOf}
 use denote.Triple.Clauses.{AtExit}
-use Rattle.words.specs.Answer.{Outcome, refuses}
+use Rattle.words.specs.Answer.{Answer, Outcome, refuses}
 use Rattle.balise_writer.specs.Says.{saysSpelt}
 use Rattle.balise_writer.specs.declared.spelling.Spelt.{Spelt}
-use Rattle.balise_writer.proofs.spelling.spell.Kinds as spell-kinds
-use Rattle.balise_writer.proofs.spelling.spell.Reads as spell-reads
+use Rattle.balise_writer.proofs.spell.Kinds as spell-kinds
+use Rattle.balise_writer.proofs.spell.Reads as spell-reads
 use Rattle.trace_text.specs.declared.What.{What}
 use Rattle.trace_text.specs.declared.Recorded.{Recorded}
 use Rattle.trace_text.specs.Record.{eightZeroes}
@@ -45,12 +45,16 @@ whatRules What.Unreadable = []
 whatRules What.Position = []
 whatRules (What.Raw kind x y z) = []
 
+-- A line of a track: "18, 17, too near, in this order".
+abbrev pub takeRules : Way → ℕ → Thing → List (Rule (Answer Bad Way))
+takeRules way place thing =
+    rowOf (refused 18) (tooHigh place) ∷ rowOf (refused 17) (ltb place (way .last)) ∷ rowOf tooNear (isSent thing && isNear (way .thing) place) ∷ []
+
 pub record Demand1 : Type 0 where
   pub spell : (x y z : ℕ) (r : Spelt) → Spell x y z r → Decided Given (figureRules x y z) (saysSpelt r)
   pub record-of : (place : ℕ) (what : What) (r : Recorded) → RecordOf place what r → Decided Given (whatRules what) (saysHow (r .how))
-  -- "in a line: .. 18, 17, too near, in this order"
   pub take : (way : Way) (place : ℕ) (thing : Thing) (r : Taken) → TakeLine way place thing r
-      → Decided Given (rowOf (refused 18) (tooHigh place) ∷ rowOf (refused 17) (ltb place (way .last)) ∷ rowOf tooNear (isSent thing && isNear (way .thing) place) ∷ []) (saysTaken r)
+      → Decided Given (takeRules way place thing) (saysTaken r)
 
 -- "A refusal hands out no figure": the same refusal is the same answer, whatever was asked; the bytes beside a refused record are zero.
 pub record Untouched : Type 0 where
