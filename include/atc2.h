@@ -1,18 +1,18 @@
 /*
- * The balise bench checker's libraries for C and C++.
+ * The balise bench checker's libraries for C and C++, by what one wants to do: words, telegrams, contacts, test balises, settings, traces.
  *
- * Link with target/staticlib/libabi.a (rt staticlib abi; x86-64 Linux). Each function is total: whatever numbers and bytes are passed,
- * it returns one of the values listed, and a refusal, -N for the number N of documents 01 and 02, leaves every lent array as it was. A buffer
- * is used only while the call runs. The caller keeps: buf points to n bytes (in atc2_write_balise to len) and is not NULL, even where there
- * is none; trace to n bytes, likewise; search to a search, out to as many numbers as it is declared with; and no two of them overlap.
+ * Link with target/staticlib/libabi.a (rt staticlib abi; x86-64 Linux). Each function is total: whatever numbers and bytes are passed, it returns one of
+ * the values listed, and a refusal, -N for the number N of documents 01 and 02, leaves every lent array as it was. Lengths and places are 64 bits
+ * everywhere. A buffer is used only while the call runs. The caller keeps: a pointer points to as many bytes or numbers as is said beside it and is
+ * not NULL, even where there are none; and no two of them overlap.
  *
- * Here are the codes, telegrams, contacts, test balises, table DF's distances and the compaction of traces. Groups, rides and their lines are not: for those there
- * is the program checker (./run checker). tests/abi/calls.c is a small program that uses every function.
+ * A store of settings is ATC2_STORE bytes that the caller lends and keeps; what stands in them is ours. Any other bytes are some store too, and are
+ * refused as a store that is not in order: 25, 19, 24, 4 or 18. Groups, rides and their lines are not here: for those there is the program checker.
+ * samples/settings.c, samples/settings.cpp and bindings/atc2.py show how it is used; tests/abi/calls.c calls every function.
  */
 #ifndef ATC2_H
 #define ATC2_H
 
-#include <stddef.h>
 #include <stdint.h>
 
 #ifdef __cplusplus
@@ -21,20 +21,26 @@ extern "C" {
 
 /* The refusals that these functions give: minus the documents' number. */
 enum {
-    ATC2_NOT_CODE = -1,     /* not a code word */
-    ATC2_TOO_LARGE = -2,    /* figure to write above 15 or above 2,047 */
-    ATC2_FIFTEEN = -3,      /* a short word of a telegram reads 15 */
-    ATC2_NOT_SEVEN = -4,    /* sync pair doesn't differ in seven bits */
-    ATC2_BEYOND = -5,       /* stretch beyond the buffer, or above 16,777,216 bits */
-    ATC2_NO_PLACE = -6,     /* no place in the stretch */
-    ATC2_DIFFER = -7,       /* places differ */
-    ATC2_NEITHER = -8,      /* contact neither telegram nor marker */
-    ATC2_CUT = -9,          /* contact cut by the end of the record */
-    ATC2_NOT_ALLOWED = -15, /* distance not allowed */
-    ATC2_LENGTH = -16,      /* trace length not a multiple of 8 */
-    ATC2_GAP = -19,         /* gap outside 1 to 200 */
-    ATC2_COUNT = -20,       /* number of telegrams to write outside 2 to 1,000 */
-    ATC2_SHORT = -21        /* buffer too short for them */
+    ATC2_NOT_CODE = -1,      /* not a code word */
+    ATC2_TOO_LARGE = -2,     /* figure to write above 15 or above 2,047 */
+    ATC2_FIFTEEN = -3,       /* a short word of a telegram reads 15 */
+    ATC2_NOT_SEVEN = -4,     /* sync pair doesn't differ in seven bits */
+    ATC2_BEYOND = -5,        /* stretch beyond the buffer, or above 16,777,216 bits */
+    ATC2_NO_PLACE = -6,      /* no place in the stretch */
+    ATC2_DIFFER = -7,        /* places differ */
+    ATC2_NEITHER = -8,       /* contact neither telegram nor marker */
+    ATC2_CUT = -9,           /* contact cut by the end of the record */
+    ATC2_NOT_ALLOWED = -15,  /* distance not allowed */
+    ATC2_LENGTH = -16,       /* trace length not a multiple of 8 */
+    ATC2_TOO_HIGH = -18,     /* place above 4,000,000,000 */
+    ATC2_GAP = -19,          /* gap outside 1 to 200, or no version at all */
+    ATC2_COUNT = -20,        /* number of telegrams to write outside 2 to 1,000 */
+    ATC2_SHORT = -21,        /* buffer too short for them */
+    ATC2_NOT_ABOVE = -24,    /* place of a version not above the last one */
+    ATC2_FULL = -25,         /* more than 32 versions */
+    ATC2_UNREADABLE = -100,  /* ours: a line of a text that is no line of settings */
+    ATC2_TEXT_LONG = -101,   /* ours: a text of more than 1,048,576 bytes */
+    ATC2_FIRST_PLACE = -102  /* ours: the first version of a text is not at place 0 */
 };
 
 /* What atc2_judge and atc2_next_contact answer where they do not refuse. */
@@ -45,9 +51,9 @@ enum {
     ATC2_MARKER = 2      /* judge: a marker */
 };
 
-/* What atc2_why_telegram puts together, and how its parts are taken out: w % 16, w / 16 % 16, w / 256. */
+/* What atc2_why_telegram and atc2_why_word put together, and how its parts are taken out: w % 16, w / 16 % 16, w / 256. */
 enum {
-    ATC2_WHY_LETTER = 16,  /* times the letter of the bad word */
+    ATC2_WHY_LETTER = 16,  /* times the letter of the bad word; 0 in atc2_why_word */
     ATC2_WHY_PARITY = 256, /* times the parity of its ones */
     ATC2_LETTER_X = 1,
     ATC2_LETTER_Y = 2,
@@ -58,12 +64,17 @@ enum {
     ATC2_PARITY_EVEN = 2
 };
 
+/* The size of a store of settings in bytes. */
+enum { ATC2_STORE = 1032 };
+
 /* A search for contacts, as atc2_begin makes it and atc2_next_contact moves it on: the next bit, the bits left, the latest sixteen bits. */
 struct atc2_search {
     uint64_t next;
     uint64_t left;
     uint64_t history;
 };
+
+/* ---- Words: read one, write one, and why one is refused */
 
 /* The figure of a received short word, 0 to 15; -1 if it is not a code word.
  * Nothing is mended. */
@@ -81,44 +92,72 @@ int32_t atc2_read_long(uint16_t word);
  * Read back, it is the figure. */
 int32_t atc2_write_long(uint16_t figure);
 
+/* Why a received word is refused: 0 if it reads, else 1 + ATC2_WHY_PARITY * the parity of its ones. The word is a long one; where wide is 0, the short
+ * one in its low byte. Every code word is even, so an odd word had an odd number of flipped bits. */
+int32_t atc2_why_word(uint16_t word, uint8_t wide);
+
+/* ---- Telegrams: three words, or the first place of a stretch */
+
 /* Three received words as a telegram: X * 65536 + Y * 256 + Z as figures, or 12 * 65536 + the number if X reads 12.
  * -1 if the first bad word is not a code word, -3 if it is a short word that reads 15. */
 int32_t atc2_read_telegram(uint8_t x, uint8_t y, uint8_t z);
 
 /* Why three received words are refused: 0 if they read, else number + ATC2_WHY_LETTER * letter + ATC2_WHY_PARITY * parity of the first bad word.
- * The number is document 01's, 1 or 3. With 1 goes the parity of the word's ones: every code word is even, so an odd word had an odd number
- * of flipped bits. With 3 there is none. */
+ * The number is document 01's, 1 or 3; with 1 goes the parity of the word's ones, with 3 there is none. */
 int32_t atc2_why_telegram(uint8_t x, uint8_t y, uint8_t z);
 
-/* The first place in the stretch of len bits from bit start on, with the sync words s and t: 0, and out = place, telegram as above.
+/* The first place in the stretch of len bits from bit start on of buf (n bytes), with the sync words s and t: 0, and out = place, telegram as above.
  * -4: the pair does not differ in seven bits; -5: the stretch is not inside the n bytes, or too long; -6: no place. */
-int32_t atc2_find(const uint8_t *buf, size_t n, size_t start, size_t len, uint8_t s, uint8_t t, uint64_t out[2]);
+int32_t atc2_find(const uint8_t *buf, uint64_t n, uint64_t start, uint64_t len, uint8_t s, uint8_t t, uint64_t out[2]);
 
-/* The judgement of one contact: 1, and out = telegram, first place, number of places; 2: a marker, out as it was.
- * -4 and -5 as above; -7: its places differ; -8: neither telegram nor marker. */
-int32_t atc2_judge(const uint8_t *buf, size_t n, size_t start, size_t len, uint8_t s, uint8_t t, uint64_t out[3]);
+/* ---- Contacts: find them one after the other, judge one */
 
-/* The beginning of a search for contacts in a stretch: 0, and search = next bit, bits left, history (65535).
+/* The beginning of a search for contacts in a stretch of buf (n bytes): 0, and search = next bit, bits left, history (65535).
  * -5: the stretch is not inside the n bytes, or too long. */
-int32_t atc2_begin(const uint8_t *buf, size_t n, size_t start, size_t len, struct atc2_search *search);
+int32_t atc2_begin(const uint8_t *buf, uint64_t n, uint64_t start, uint64_t len, struct atc2_search *search);
 
 /* The next contact of a search: 1, and out = start, length, and search moves on past its closing bit; 0: no further one opens, both as they were.
  * -5 as above; -9: a contact is cut by the end. A history above 65535 counts by its low sixteen bits. */
-int32_t atc2_next_contact(const uint8_t *buf, size_t n, struct atc2_search *search, uint64_t out[2]);
+int32_t atc2_next_contact(const uint8_t *buf, uint64_t n, struct atc2_search *search, uint64_t out[2]);
 
-/* A test balise: n telegrams, 2 to 1000, of the figures x, y, z (for x = 12: of the number y, and z is not looked at) into buf,
- * S first, the sync words in turn, one to close: 4 * n + 1, the number of bytes written; bytes after them stay.
+/* The judgement of one contact: 1, and out = telegram, first place, number of places; 2: a marker, out as it was.
+ * -4 and -5 as above; -7: its places differ; -8: neither telegram nor marker. */
+int32_t atc2_judge(const uint8_t *buf, uint64_t n, uint64_t start, uint64_t len, uint8_t s, uint8_t t, uint64_t out[3]);
+
+/* ---- Test balises and distances */
+
+/* A test balise: n telegrams, 2 to 1000, of the figures x, y, z (for x = 12: of the number y, and z is not looked at) into buf (len bytes), S first, the
+ * sync words in turn, one to close: 4 * n + 1, the number of bytes written; bytes after them stay.
  * -2: a figure above 15 or a number above 2047; -3: a figure of 15; -4: the pair; -20: n; -21: fewer than 4 * n + 1 bytes; in this order. */
-int32_t atc2_write_balise(uint8_t x, uint16_t y, uint8_t z, uint8_t s, uint8_t t, uint32_t n, uint8_t *buf, size_t len);
-
-/* A trace of n bytes made smaller in place, for a fresh ride with this gap in dm: its new length in bytes. Dropped are position records that were
- * accepted, gave no line, are not the last and have an accepted record after them; bytes beyond the new length stay.
- * -19: the gap; -16: n is no multiple of 8; in this order. */
-int64_t atc2_compact(uint32_t gap, uint8_t *trace, size_t n);
+int32_t atc2_write_balise(uint8_t x, uint16_t y, uint8_t z, uint8_t s, uint8_t t, uint32_t n, uint8_t *buf, uint64_t len);
 
 /* The distance in decimetres of a figure 1 to 14 in column BY 0 to 14 of table DF.
  * -15 for any other column or figure. */
 int32_t atc2_distance(uint8_t by, uint8_t figure);
+
+/* ---- Settings that change on the way: a store of up to 32 versions of gap in dm, S and S* */
+
+/* A store with its first version, in force from place 0 on: 0, and store (ATC2_STORE bytes) holds it.
+ * -4: the pair; -19: the gap; in this order. */
+int32_t atc2_settings_begin(uint32_t gap, uint8_t s, uint8_t t, uint8_t *store);
+
+/* One version more, in force from this place in dm on: 0, and store holds it too.
+ * The store's own refusal, then -4, -19, -18, -24, -25 for the version; in this order. */
+int32_t atc2_settings_add(uint8_t *store, uint32_t place, uint32_t gap, uint8_t s, uint8_t t);
+
+/* The settings of a text (n bytes), a line `PLACE GAP S S*` for each version, as the programs read them with -s: 0, and store holds them.
+ * The refusal of the first bad line; -100: it is unreadable; -102: the first place is not 0; -101: the text is too long; -19: there is no version. */
+int32_t atc2_settings_read(const uint8_t *text, uint64_t n, uint8_t *store);
+
+/* The number of the first bad line of such a text, counted from 1; 0 where all are fine or none is to be named. */
+int64_t atc2_settings_line(const uint8_t *text, uint64_t n);
+
+/* ---- Traces */
+
+/* A trace of n bytes made smaller in place, for a fresh ride with this gap in dm: its new length in bytes. Dropped are position records that were
+ * accepted, gave no line, are not the last and have an accepted record after them; bytes beyond the new length stay.
+ * -19: the gap; -16: n is no multiple of 8; in this order. */
+int64_t atc2_compact(uint32_t gap, uint8_t *trace, uint64_t n);
 
 #ifdef __cplusplus
 }

@@ -278,8 +278,109 @@ static void traces(void)
     same("compact once more", atc2_compact(40, trace, k), 32);
 }
 
+/* ---- Why a word is refused */
+
+static void why_words(void)
+{
+    same("why_word short 17", atc2_why_word(0x17, 0), 0);
+    same("why_word short 18, even", atc2_why_word(0x18, 0), 1 + ATC2_WHY_PARITY * ATC2_PARITY_EVEN);
+    same("why_word short 19, odd", atc2_why_word(0x19, 0), 1 + ATC2_WHY_PARITY * ATC2_PARITY_ODD);
+    same("why_word the low byte of a wider one", atc2_why_word(0xFF17, 0), 0);
+    same("why_word long 88/06", atc2_why_word(0x8806, 1), 0);
+    same("why_word long 88/06, any mark but 0", atc2_why_word(0x8806, 255), 0);
+    same("why_word long 88/07, odd", atc2_why_word(0x8807, 1), 1 + ATC2_WHY_PARITY * ATC2_PARITY_ODD);
+    for (int w = 0; w < 65536; w++) {
+        int32_t r = atc2_read_long((uint16_t)w), y = atc2_why_word((uint16_t)w, 1);
+        if ((r < 0) != (y != 0) || (y != 0 && y / ATC2_WHY_PARITY != (__builtin_popcount((unsigned)w) % 2 ? ATC2_PARITY_ODD : ATC2_PARITY_EVEN)))
+            same("why_word of every long word", y, r);
+    }
+    passed++;
+}
+
+/* ---- Settings */
+
+static int alike(const uint8_t *a, const uint8_t *b)
+{
+    int n = 0;
+    for (int i = 0; i < ATC2_STORE; i++) n += a[i] == b[i];
+    return n;
+}
+
+static int32_t settings_of(const char *text, uint8_t *store)
+{
+    uint64_t n = 0;
+    while (text[n]) n++;
+    return atc2_settings_read((const uint8_t *)text, n, store);
+}
+
+static int64_t line_of(const char *text)
+{
+    uint64_t n = 0;
+    while (text[n]) n++;
+    return atc2_settings_line((const uint8_t *)text, n);
+}
+
+static void settings(void)
+{
+    uint8_t store[ATC2_STORE], other[ATC2_STORE], before[ATC2_STORE];
+    for (int i = 0; i < ATC2_STORE; i++) store[i] = before[i] = (uint8_t)(i * 7 + 1);
+    same("settings_begin bad pair and bad gap", atc2_settings_begin(0, 0x00, 0x0F, store), ATC2_NOT_SEVEN);
+    same("settings_begin gap 0", atc2_settings_begin(0, 0x72, 0x0D, store), ATC2_GAP);
+    same("settings_begin gap 201", atc2_settings_begin(201, 0x72, 0x0D, store), ATC2_GAP);
+    same("settings_add to bytes that are no store", atc2_settings_add(store, 1, 40, 0x72, 0x0D), ATC2_FULL);
+    same("settings_read no version", settings_of("# nothing\n", store), ATC2_GAP);
+    same("settings_read unreadable", settings_of("0 40 72\n", store), ATC2_UNREADABLE);
+    same("settings_read first place not 0", settings_of("1 40 72 0D\n", store), ATC2_FIRST_PLACE);
+    same("settings refused leave all bytes", alike(store, before), ATC2_STORE);
+    same("settings_begin", atc2_settings_begin(40, 0x72, 0x0D, store), 0);
+    for (int i = 0; i < ATC2_STORE; i++) before[i] = store[i];
+    same("settings_add bad pair first", atc2_settings_add(store, 4000000001u, 0, 1, 1), ATC2_NOT_SEVEN);
+    same("settings_add then the gap", atc2_settings_add(store, 4000000001u, 0, 0x49, 0x96), ATC2_NOT_SEVEN);
+    same("settings_add the gap", atc2_settings_add(store, 4000000001u, 0, 0x72, 0x0D), ATC2_GAP);
+    same("settings_add then the place", atc2_settings_add(store, 4000000001u, 60, 0x72, 0x0D), ATC2_TOO_HIGH);
+    same("settings_add a place not above", atc2_settings_add(store, 0, 60, 0x72, 0x0D), ATC2_NOT_ABOVE);
+    same("settings_add refused leaves all bytes", alike(store, before), ATC2_STORE);
+    for (uint32_t i = 1; i < 32; i++) same("settings_add", atc2_settings_add(store, i * 100, 1 + i, 0x72, 0x0D), 0);
+    for (int i = 0; i < ATC2_STORE; i++) before[i] = store[i];
+    same("settings_add a 33rd", atc2_settings_add(store, 4000000000u, 60, 0x72, 0x0D), ATC2_FULL);
+    same("settings_add a 33rd leaves all bytes", alike(store, before), ATC2_STORE);
+
+    same("settings_begin 40", atc2_settings_begin(40, 0x72, 0x0D, store), 0);
+    same("settings_add 5200", atc2_settings_add(store, 5200, 60, 0x72, 0x0D), 0);
+    same("settings_read the same", settings_of("# place gap S S*\n0 40 72 0D\n\n5200 60 72 0d # more\n", other), 0);
+    same("settings_read makes the bytes that begin and add make", alike(store, other), ATC2_STORE);
+    same("settings_line of a good text", line_of("0 40 72 0D\n"), 0);
+    same("settings_line of the third", line_of("0 40 72 0D\n\n0 40 72 0D\n"), 3);
+    same("settings_read 24 in the third", settings_of("0 40 72 0D\n\n0 40 72 0D\n", other), ATC2_NOT_ABOVE);
+    same("settings_line where none is named", line_of(""), 0);
+}
+
+/* Any bytes are some store: adding answers, and a refusal leaves them. */
+static void any_store(void)
+{
+    uint8_t store[ATC2_STORE], before[ATC2_STORE];
+    uint32_t seed = 1;
+    int kept = 0;
+    for (int turn = 0; turn < 2000; turn++) {
+        if (turn % 2) atc2_settings_begin(1 + (uint32_t)turn % 200, 0x72, 0x0D, store);
+        for (int i = turn % 2 ? ATC2_STORE - 1 - turn % 40 : 0; i < ATC2_STORE; i++) {
+            seed = seed * 1664525u + 1013904223u;
+            store[i] = (uint8_t)(seed >> 24);
+        }
+        for (int i = 0; i < ATC2_STORE; i++) before[i] = store[i];
+        int32_t r = atc2_settings_add(store, 4000000000u, 40, 0x72, 0x0D);
+        if (r != 0 && r != ATC2_FULL && r != ATC2_GAP && r != ATC2_NOT_ABOVE && r != ATC2_NOT_SEVEN && r != ATC2_TOO_HIGH) same("settings_add to any bytes", r, 0);
+        if (r < 0 && alike(store, before) != ATC2_STORE) same("settings_add refused changed any bytes", r, 0);
+        kept += r <= 0;
+    }
+    same("settings_add to any bytes answers", kept, 2000);
+}
+
 int main(void)
 {
+    why_words();
+    settings();
+    any_store();
     words();
     telegrams();
     places();

@@ -32,6 +32,16 @@ use Rattle.abi.proofs.traces.atc2_compact.Kinds as compact-kinds
 use Rattle.abi.proofs.traces.atc2_compact.Reads as compact-reads
 use Rattle.abi.proofs.distances.atc2_distance.Kinds as distance-kinds
 use Rattle.abi.proofs.distances.atc2_distance.Reads as distance-reads
+use Rattle.abi.proofs.why.atc2_why_word.Kinds as why-word-kinds
+use Rattle.abi.proofs.why.atc2_why_word.Reads as why-word-reads
+use Rattle.abi.proofs.stores.atc2_settings_begin.Kinds as settings-begin-kinds
+use Rattle.abi.proofs.stores.atc2_settings_begin.Reads as settings-begin-reads
+use Rattle.abi.proofs.stores.atc2_settings_add.Kinds as settings-add-kinds
+use Rattle.abi.proofs.stores.atc2_settings_add.Reads as settings-add-reads
+use Rattle.abi.proofs.stores.atc2_settings_read.Kinds as settings-read-kinds
+use Rattle.abi.proofs.stores.atc2_settings_read.Reads as settings-read-reads
+use Rattle.abi.proofs.stores.atc2_settings_line.Kinds as settings-line-kinds
+use Rattle.abi.proofs.stores.atc2_settings_line.Reads as settings-line-reads
 use Rattle.words.proofs.Told.{Fixed}
 
 pub atc2-read-short-determined : Fixed 0 read-short-kinds.ps read-short-kinds.r read-short-reads.Post
@@ -94,3 +104,25 @@ pub atc2-compact-determined : (κs : Lfts 1) (a : Dens κs compact-kinds.ps) (r 
     (x x′ : AtExit (endedOf 1 compact-kinds.ps compact-kinds.r) κs)
     → compact-reads.Post κs a r x → compact-reads.Post κs a r′ x′ → (r ≡ r′) × (x .1 .0 .now ≡ x′ .1 .0 .now)
 atc2-compact-determined κs a r r′ x x′ p q = (p .0 ∙ sym (q .0), p .1 ∙ sym (q .1))
+
+pub atc2-why-word-determined : Fixed 0 why-word-kinds.ps why-word-kinds.r why-word-reads.Post
+atc2-why-word-determined κs a r r′ x x′ p q = p ∙ sym q
+
+-- `store` is the fourth of the arguments of `atc2_settings_begin`, the first of `atc2_settings_add`, the second of `atc2_settings_read`.
+pub atc2-settings-begin-determined : (κs : Lfts 1) (a : Dens κs settings-begin-kinds.ps) (r r′ : ℤ)
+    (x x′ : AtExit (endedOf 1 settings-begin-kinds.ps settings-begin-kinds.r) κs)
+    → settings-begin-reads.Post κs a r x → settings-begin-reads.Post κs a r′ x′ → (r ≡ r′) × (x .1 .1 .1 .0 .now ≡ x′ .1 .1 .1 .0 .now)
+atc2-settings-begin-determined κs a r r′ x x′ p q = (p .0 ∙ sym (q .0), p .1 .0 ∙ sym (q .1 .0))
+
+pub atc2-settings-add-determined : (κs : Lfts 1) (a : Dens κs settings-add-kinds.ps) (r r′ : ℤ)
+    (x x′ : AtExit (endedOf 1 settings-add-kinds.ps settings-add-kinds.r) κs)
+    → settings-add-reads.Post κs a r x → settings-add-reads.Post κs a r′ x′ → (r ≡ r′) × (x .0 .now ≡ x′ .0 .now)
+atc2-settings-add-determined κs a r r′ x x′ p q = (p .0 ∙ sym (q .0), p .1 .0 ∙ sym (q .1 .0))
+
+pub atc2-settings-read-determined : (κs : Lfts 2) (a : Dens κs settings-read-kinds.ps) (r r′ : ℤ)
+    (x x′ : AtExit (endedOf 2 settings-read-kinds.ps settings-read-kinds.r) κs)
+    → settings-read-reads.Post κs a r x → settings-read-reads.Post κs a r′ x′ → (r ≡ r′) × (x .1 .0 .now ≡ x′ .1 .0 .now)
+atc2-settings-read-determined κs a r r′ x x′ p q = (p .0 ∙ sym (q .0), p .1 .0 ∙ sym (q .1 .0))
+
+pub atc2-settings-line-determined : Fixed 1 settings-line-kinds.ps settings-line-kinds.r settings-line-reads.Post
+atc2-settings-line-determined κs a r r′ x x′ p q = p ∙ sym q

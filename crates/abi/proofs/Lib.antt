@@ -2,4 +2,6 @@
 pub mod Carried
 pub mod Smaller
 pub mod TableDF
+pub mod Minus
+pub mod Stored
 pub mod Determined

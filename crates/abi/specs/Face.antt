@@ -1,10 +1,12 @@
 -- How an answer becomes C's numbers: the number that a call returns, and what it leaves in an array that it was lent.
 -- Assumes nothing.
-use Prim.Native.Nat.{ℕ, _+_, _*_}
+use Prim.Native.Nat.{ℕ, _+_, _*_, _%_}
 use mathlib.Core.List.{List, [], _∷_}
 use lib.IntN.{ℤ, pos, negℤ}
-use Rattle.words.specs.Answer.{Outcome, gives, refuses}
-use Rattle.words.specs.Why.{Ones, are, unsaid, why}
+use lib.Dec.{eqb}
+use Rattle.words.specs.Answer.{Answer, Outcome, gives, refuses, pick}
+use Rattle.words.specs.Why.{Ones, are, unsaid, Why, why}
+use Rattle.words.specs.Code.{readShort, readLong}
 use Rattle.words.specs.declared.Parity.{Parity}
 use Rattle.telegram.specs.Telegram.{Received, badWord}
 use Rattle.telegram.specs.declared.Telegram.{Telegram}
@@ -52,6 +54,15 @@ onesNumber (are Parity.Even) = 2
 abbrev pub whyNumber : Received → ℕ
 whyNumber (gives m) = 0
 whyNumber (refuses (badWord word (why n ones))) = n + 16 * letterNumber word + 256 * onesNumber ones
+
+-- A received word read: a long one, or the short one in its low byte.
+abbrev pub wordRead : ℕ → ℕ → Answer Why ℕ
+wordRead word isLong = pick (eqb isLong 0) (readShort (word % 256)) (readLong word)
+
+-- Why a word is refused, as one number: 0 if it reads, else the refusal's number + 256 * its parity.
+abbrev pub wordNumber : Answer Why ℕ → ℕ
+wordNumber (gives x) = 0
+wordNumber (refuses (why n ones)) = n + 256 * onesNumber ones
 
 -- A place is returned as 0 ..
 abbrev pub foundNumber : Single → ℕ

@@ -1,2 +1,3 @@
 pub mod Face
 pub mod Contacts
+pub mod Stores

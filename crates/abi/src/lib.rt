@@ -6,6 +6,8 @@ pub mod codes;
 pub mod contacts;
 pub mod distances;
 mod number;
+mod refusal;
+pub mod stores;
 pub mod telegrams;
 pub mod traces;
 pub mod why;

@@ -36,7 +36,7 @@ use Rattle.abi_laws.specs.Demand1.{Demand1, Untouched, DecidedAs, Refuse
 use Rattle.abi_laws.proofs.Carried.{decided-told, left-as-it-was, is-refusal}
 
 -- What is returned of a specification is decided as that is.
-decided-of : {A : Type 0} (tell : A → ℤ) (Reading : A → Type 0) (rules : List (Rule A)) (o : A) {r : ℤ} → r ≡ tell o → Decided Reading rules o
+pub decided-of : {A : Type 0} (tell : A → ℤ) (Reading : A → Type 0) (rules : List (Rule A)) (o : A) {r : ℤ} → r ≡ tell o → Decided Reading rules o
     → DecidedAs tell Reading rules r
 decided-of tell Reading rules o {r} e d = subst (DecidedAs tell Reading rules) (sym e) (decided-told tell Reading rules o d)
 
@@ -83,17 +83,17 @@ demand1 = record {
 }
 
 -- A lent array after a call that refuses, from what the contract leaves in it.
-kept : {A : Type 0} (numberOf : A → ℕ) (put : A → List ℕ → List ℕ) (o : Outcome A) {before after : List ℕ} {r : ℤ} → r ≡ returned numberOf o
+pub kept-there : {A : Type 0} (numberOf : A → ℕ) (put : A → List ℕ → List ℕ) (o : Outcome A) {before after : List ℕ} {r : ℤ} → r ≡ returned numberOf o
     → after ≡ left put o before → Refused r → after ≡ before
-kept numberOf put o {before} e l refused = l ∙ left-as-it-was numberOf put o before (subst Refused e refused)
+kept-there numberOf put o {before} e l refused = l ∙ left-as-it-was numberOf put o before (subst Refused e refused)
 
 pub untouched : Untouched
 untouched = record {
   find = λ b start len s t before r after c refused.
-      kept foundNumber foundPut (find b start len s t) (c .7 .0 ∙ ap (λ (v : List ℕ). returned foundNumber (find v start len s t)) (c .4))
+      kept-there foundNumber foundPut (find b start len s t) (c .7 .0 ∙ ap (λ (v : List ℕ). returned foundNumber (find v start len s t)) (c .4))
       (sym (c .6) ∙ c .7 .1 ∙ ap₂ (λ (v w : List ℕ). left foundPut (find v start len s t) w) (c .4) (c .5)) refused;
   begin = λ b start len before r after c refused.
-      kept begunNumber begunPut (begin b start len) (c .7 .0 ∙ ap (λ (v : List ℕ). returned begunNumber (begin v start len)) (c .4))
+      kept-there begunNumber begunPut (begin b start len) (c .7 .0 ∙ ap (λ (v : List ℕ). returned begunNumber (begin v start len)) (c .4))
       (sym (c .6) ∙ c .7 .1 ∙ ap₂ (λ (v w : List ℕ). left begunPut (begin v start len) w) (c .4) (c .5)) refused;
   next-contact = λ b from before r moved after c refused.
       let o : Outcome Handed = nextContact b (searchIn from) in
@@ -103,9 +103,9 @@ untouched = record {
       let l : after ≡ left nextPut o before =
       sym (c .9) ∙ c .10 .1 .1
       ∙ ap₂ (λ (v w : List ℕ). left nextPut (nextContact v (searchIn w)) (now (c .3))) (c .5) (c .6) ∙ ap (λ (w : List ℕ). left nextPut o w) (c .7) in
-      (kept nextNumber nextMoved o e m refused, kept nextNumber nextPut o e l refused);
+      (kept-there nextNumber nextMoved o e m refused, kept-there nextNumber nextPut o e l refused);
   judge = λ b start len s t before r after c refused.
-      kept judgedNumber judgedPut (judge b start len s t) (c .7 .0 ∙ ap (λ (v : List ℕ). returned judgedNumber (judge v start len s t)) (c .4))
+      kept-there judgedNumber judgedPut (judge b start len s t) (c .7 .0 ∙ ap (λ (v : List ℕ). returned judgedNumber (judge v start len s t)) (c .4))
       (sym (c .6) ∙ c .7 .1 ∙ ap₂ (λ (v w : List ℕ). left judgedPut (judge v start len s t) w) (c .4) (c .5)) refused;
   write-balise = λ x y z s t n before r after c refused.
       let e : r ≡ returned itself (write x y z s t n before .answer) =

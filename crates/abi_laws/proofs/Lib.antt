@@ -1,2 +1,5 @@
 pub mod Carried
 pub mod Demand1
+pub mod Settings
+pub mod Handed
+pub mod Sent

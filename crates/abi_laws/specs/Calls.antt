@@ -5,6 +5,7 @@ use Prim.Native.Nat.{ℕ}
 use mathlib.Core.Path.{_≡_}
 use mathlib.Core.List.{List}
 use lib.IntN.{ℤ}
+use Rattle.settings.specs.declared.Version.{Version}
 use contract.Lifetimes.{Lfts}
 use denote.Ref.{RefT, now}
 use borrow.Fn.Kinds.{endedOf}
@@ -33,6 +34,14 @@ use Rattle.abi.proofs.balises.atc2_write_balise.Kinds as write-balise-kinds
 use Rattle.abi.proofs.balises.atc2_write_balise.Reads as write-balise-reads
 use Rattle.abi.proofs.traces.atc2_compact.Kinds as compact-kinds
 use Rattle.abi.proofs.traces.atc2_compact.Reads as compact-reads
+use Rattle.abi.proofs.why.atc2_why_word.Kinds as why-word-kinds
+use Rattle.abi.proofs.why.atc2_why_word.Reads as why-word-reads
+use Rattle.abi.proofs.stores.atc2_settings_begin.Kinds as settings-begin-kinds
+use Rattle.abi.proofs.stores.atc2_settings_begin.Reads as settings-begin-reads
+use Rattle.abi.proofs.stores.atc2_settings_add.Kinds as settings-add-kinds
+use Rattle.abi.proofs.stores.atc2_settings_add.Reads as settings-add-reads
+use Rattle.abi.proofs.stores.atc2_settings_read.Kinds as settings-read-kinds
+use Rattle.abi.proofs.stores.atc2_settings_read.Reads as settings-read-reads
 use Rattle.abi.proofs.distances.atc2_distance.Kinds as distance-kinds
 use Rattle.abi.proofs.distances.atc2_distance.Reads as distance-reads
 
@@ -108,3 +117,25 @@ abbrev pub Compact : ℕ → List ℕ → ℤ → List ℕ → Type 0
 Compact gap before r after =
     (κs : Lfts 1) × (trace : RefT (List ℕ)) × (e : AtExit (endedOf 1 compact-kinds.ps compact-kinds.r) κs)
     × (now trace ≡ before) × (now (e .1 .0) ≡ after) × compact-reads.Post κs (gap, (trace, tt)) r e
+
+-- `atc2_why_word` may return r for this word, short or long.
+abbrev pub WhyWord : ℕ → ℕ → ℤ → Type 0
+WhyWord word wide r = (e : AtExit (endedOf 0 why-word-kinds.ps why-word-kinds.r) tt) × why-word-reads.Post tt (word, (wide, tt)) r e
+
+-- `atc2_settings_begin` may return r for these settings, and leave `after` in `store`, which held `before`.
+abbrev pub SettingsBegin : ℕ → ℕ → ℕ → List ℕ → ℤ → List ℕ → Type 0
+SettingsBegin gap s t before r after =
+    (κs : Lfts 1) × (store : RefT (List ℕ)) × (e : AtExit (endedOf 1 settings-begin-kinds.ps settings-begin-kinds.r) κs)
+    × (now store ≡ before) × (now (e .1 .1 .1 .0) ≡ after) × settings-begin-reads.Post κs (gap, (s, (t, (store, tt)))) r e
+
+-- `atc2_settings_add` may return r for this version, and leave `after` in `store`, which held `before`.
+abbrev pub SettingsAdd : Version → List ℕ → ℤ → List ℕ → Type 0
+SettingsAdd v before r after =
+    (κs : Lfts 1) × (store : RefT (List ℕ)) × (e : AtExit (endedOf 1 settings-add-kinds.ps settings-add-kinds.r) κs)
+    × (now store ≡ before) × (now (e .0) ≡ after) × settings-add-reads.Post κs (store, (v .place, (v .gap, (v .s, (v .t, tt))))) r e
+
+-- `atc2_settings_read` may return r for this text, and leave `after` in `store`, which held `before`.
+abbrev pub SettingsRead : List ℕ → List ℕ → ℤ → List ℕ → Type 0
+SettingsRead text before r after =
+    (κs : Lfts 2) × (lent : RefT (List ℕ)) × (store : RefT (List ℕ)) × (e : AtExit (endedOf 2 settings-read-kinds.ps settings-read-kinds.r) κs)
+    × (now lent ≡ text) × (now store ≡ before) × (now (e .1 .0) ≡ after) × settings-read-reads.Post κs (lent, (store, tt)) r e

@@ -1,4 +1,5 @@
-// The records of the cards, block by block: in through `accept`, the lines of the groups out to standard output; then the end, and the report.
+// The records of the cards, block by block: in through `accept`, the lines of the groups out to
+// standard output; then the end, and the report.
 ghost use mathlib.Core.Path.{_≡_};
 ghost use lib.ListN.{length};
 use crate::out::write;
@@ -25,7 +26,8 @@ struct Stand {
     is_good: bool,
 }
 
-// Takes the records and writes the lines of their groups. Where out has 128 bytes for each of them, one call of `accept` takes them all.
+// Takes the records and writes the lines of their groups. Where out has 128 bytes for each of them,
+// one call of `accept` takes them all.
 fn write_records(from: Stand, store: Store, records: &[u8], out: &mut [u8]) -> Stand {
     let before = from.going;
     let answer = acceptance_text::accept(before, store, records, out);
@@ -99,7 +101,8 @@ fn finish(stand: Stand) {
     }
 }
 
-// What comes after the last block: the report where all cards were read, and a word of what went wrong otherwise.
+// What comes after the last block: the report where all cards were read, and a word of what went
+// wrong otherwise.
 fn ended(how: Goes, stand: Stand) {
     match how {
         Goes::End => finish(stand),
@@ -110,8 +113,8 @@ fn ended(how: Goes, stand: Stand) {
     }
 }
 
-// The records of all cards, whose lengths were kept, as one ride. A proved loop has to end, and nothing says that a file does: so it counts
-// its turns down from a number that no run uses up.
+// The records of all cards, whose lengths were kept, as one ride. A proved loop has to end, and
+// nothing says that a file does: so it counts its turns down from a number that no run uses up.
 fn ride_on(
     start: Stand,
     store: Store,

@@ -143,22 +143,16 @@ module _ (r : Run) where
       let all = wanted-first s (take k (r .lines)) apart-is l i fresh (sym (part-is k h) ∙ p) in
       (omega (arith, size, all .0), sym (for-is i l) ∙ all .1, sym (some-is i (take k (r .lines))) ∙ all .2)
 
-  -- It is the first such group of no entry: of the run's, and so of the plan's.
-  abbrev MetNone : ℕ → Type 0
-  MetNone k = (i : ℕ) → i < entries r → claim.isFor r i k → claim.noneBefore r i k → ⊥
-
-  other-is-extra : (k : ℕ) → k < length (r .lines) → isGroup (getD (r .lines) k (Line.Trace 0)) ≡ true → MetNone k → part r k ≡ Role.Extra
+  other-is-extra : (k : ℕ) → k < length (r .lines) → isGroup (getD (r .lines) k (Line.Trace 0)) ≡ true → claim.metNone r k → part r k ≡ Role.Extra
   other-is-extra k h t n =
-      let l : Line = getD (r .lines) k (Line.Trace 0) in
       part-is k h
-      ∙ other-extra s (take k (r .lines)) apart-is l fresh t
-      (λ i j f m. n i (omega (arith, size)) (sym (for-is i l) ∙ f) (sym (some-is i (take k (r .lines))) ∙ m))
+      ∙ other-extra s (take k (r .lines)) apart-is (getD (r .lines) k (Line.Trace 0)) fresh t
+      (λ i j f m. n i (omega (arith, size)) (sym (for-is i (getD (r .lines) k (Line.Trace 0))) ∙ f) (sym (some-is i (take k (r .lines))) ∙ m))
 
-  extra-is-other : (k : ℕ) → k < length (r .lines) → part r k ≡ Role.Extra → (isGroup (getD (r .lines) k (Line.Trace 0)) ≡ true) × MetNone k
+  extra-is-other : (k : ℕ) → k < length (r .lines) → part r k ≡ Role.Extra → (isGroup (getD (r .lines) k (Line.Trace 0)) ≡ true) × claim.metNone r k
   extra-is-other k h p =
-      let l : Line = getD (r .lines) k (Line.Trace 0) in
-      let all = extra-other s (take k (r .lines)) apart-is l fresh (sym (part-is k h) ∙ p) in
-      (all .0, λ i j f m. all .1 i (omega (arith, size)) (for-is i l ∙ f) (some-is i (take k (r .lines)) ∙ m))
+      let all = extra-other s (take k (r .lines)) apart-is (getD (r .lines) k (Line.Trace 0)) fresh (sym (part-is k h) ∙ p) in
+      (all .0, λ i j f m. all .1 i (omega (arith, size)) (for-is i (getD (r .lines) k (Line.Trace 0)) ∙ f) (some-is i (take k (r .lines)) ∙ m))
 
   one-entry : (l : Line) (i j : ℕ) → i < entries r → j < entries r
       → isGroupFor (r .tolerance) (entry r i) l ≡ true → isGroupFor (r .tolerance) (entry r j) l ≡ true → i ≡ j

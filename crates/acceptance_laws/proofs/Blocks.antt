@@ -1,4 +1,5 @@
--- The program's calls: each takes the front of what is left, so together they take the ride's lines in order, whatever their blocks.
+-- The program's calls: each takes the front of what is left, so together they take the ride's lines
+-- in order, whatever their blocks.
 -- Assumes nothing.
 use Prim.Native.Nat.{ℕ, _+_, _*_, _/_, _%_, _≤_}
 use native.Mathlib.Omega.{arith}

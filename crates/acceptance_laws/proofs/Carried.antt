@@ -1,4 +1,5 @@
--- What the library has taken is what `take` answers: the run, the text of the groups, and the counts of what went wrong.
+-- What the library has taken is what `take` answers: the run, the text of the groups, and the
+-- counts of what went wrong.
 -- Assumes nothing.
 use Prim.Native.Nat.{ℕ, suc, _+_, _≤_, _<_}
 use native.Mathlib.Omega.{arith}

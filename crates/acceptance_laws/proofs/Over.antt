@@ -20,7 +20,7 @@ use Rattle.acceptance.specs.Plan.{noEntry, isBeyond, apart}
 use Rattle.acceptance.specs.Taking.{planned, isAbsent, metAt, oneMore, afterWanted, afterExtra, noPart, takeLine}
 use Rattle.acceptance.specs.Report.{metIn}
 use Rattle.acceptance_laws.specs.Lines.{isGroup, groupsIn, isGroupFor, someFor, firstFor, isWanted, isExtra, wantedIn, extraIn}
-use Rattle.acceptance_laws.proofs.Placed.{placeIn, kindIn, group-for, first-of}
+use Rattle.acceptance_laws.proofs.Placed.{placeIn, kindIn, first-of, first-same}
 use Rattle.acceptance_laws.proofs.Meeting.{metOnce, with, one-more}
 use Rattle.acceptance_laws.proofs.Cases.{Case, none, wanted, extra, case, waitsFor, wantedTook, extraTook, afterLine, wanted-plan, extra-plan, plan-after, tolerance-after}
 
@@ -42,17 +42,6 @@ metAll first (Met.At place) = Met.At place
 
 abbrev pub afterLines : ℕ → List Line → Entry → Entry
 afterLines tolerance ls e = with e (metAll (firstFor tolerance e ls) (e .met))
-
-for-same : (tolerance : ℕ) (e : Entry) (m : Met) (l : Line) → isGroupFor tolerance (with e m) l ≡ isGroupFor tolerance e l
-for-same tolerance e m l = group-for tolerance (with e m) l ∙ sym (group-for tolerance e l)
-
-first-same : (tolerance : ℕ) (e : Entry) (m : Met) (ls : List Line) → firstFor tolerance (with e m) ls ≡ firstFor tolerance e ls
-unfolding firstFor
-first-same tolerance e m [] = refl
-first-same tolerance e m (l ∷ ls) =
-    first-of tolerance (with e m) l ls
-    ∙ ap₂ (λ (b : Bool) (x : Met). pick b (Met.At (placeIn l)) x) (for-same tolerance e m l) (first-same tolerance e m ls)
-    ∙ sym (first-of tolerance e l ls)
 
 met-twice : (b : Bool) (place : ℕ) (first m : Met) → metAll first (metOnce b place m) ≡ metAll (pick b (Met.At place) first) m
 met-twice true place first Met.Absent = refl

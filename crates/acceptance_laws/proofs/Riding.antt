@@ -1,4 +1,5 @@
--- A ride's lines, by its steps and by the program's calls: both come to the run over the ride's own lines.
+-- A ride's lines, by its steps and by the program's calls: both come to the run over the ride's own
+-- lines.
 -- Assumes nothing.
 use Prim.Native.Nat.{ℕ, suc, _+_, _%_, _≤_}
 use native.Mathlib.Omega.{arith}

@@ -1,5 +1,5 @@
--- Calls of `accept` over the records of a ride, and then one of `finish`, as the program makes them: each is lent a block and a buffer, and goes on where the one
--- before ended.
+-- Calls of `accept` over the records of a ride, and then one of `finish`, as the program makes
+-- them: each is lent a block and a buffer, and goes on where the one before ended.
 -- Assumes nothing.
 use Prim.Native.Nat.{ℕ, _*_, _≤_}
 use mathlib.Core.Path.{_≡_}
@@ -20,7 +20,8 @@ use Rattle.acceptance_laws.specs.Contracts.{AcceptInto, FinishInto}
 abbrev pub setOut : Ride → Acceptance → Going
 setOut ride run = record { ride = ride; run = run; troubles = record { faults = 0; refused = 0 } }
 
--- One call of `accept`: the block that it is lent, the lent buffer before it, what it answers, and the buffer after it.
+-- One call of `accept`: the block that it is lent, the lent buffer before it, what it answers, and
+-- the buffer after it.
 pub record Call : Type 0 where
   pub block : List ℕ
   pub before : List ℕ
@@ -38,13 +39,15 @@ bytesOf (Progress.Took records bytes) = bytes
 bytesOf (Progress.Settings bad) = 0
 bytesOf Progress.Length = 0
 
--- A call is lent a block of whole records from the front of what is left, long or short, and a buffer of any length.
+-- A call is lent a block of whole records from the front of what is left, long or short, and a
+-- buffer of any length.
 pub record Lent (left : List ℕ) (c : Call) : Type 0 where
   pub rest : List ℕ
   pub front : left ≡ c .block ++ rest
   pub whole : Whole (c .block)
 
--- These are calls over a trace: each goes on where the one before ended, with what that one did not take, until nothing is left.
+-- These are calls over a trace: each goes on where the one before ended, with what that one did not
+-- take, until nothing is left.
 abbrev pub ByAccept : Store → Going → List ℕ → List Call → Type 0
 ByAccept store going left [] = left ≡ []
 ByAccept store going left (c ∷ cs) =

@@ -1,5 +1,7 @@
--- What the contracts of `acceptance` and of `acceptance_text` allow: the theorems take these as their hypotheses. `Post` of a function is its `ensures` line, made into
--- a statement by the kit: of what it was given, its answer r, and e, what is lent to it as it is at the end. That of `plan` stands in demands/specs/Plans.antt.
+-- What the contracts of `acceptance` and of `acceptance_text` allow: the theorems take these as
+-- their hypotheses. `Post` of a function is its `ensures` line, made into a statement by the kit:
+-- of what it was given, its answer r, and e, what is lent to it as it is at the end. That of `plan`
+-- stands in demands/specs/Plans.antt.
 -- Assumes nothing.
 use Prim.Native.Nat.{ℕ}
 use mathlib.Core.Path.{_≡_}
@@ -40,8 +42,8 @@ Reports run i r = (e : AtExit (endedOf 0 report-kinds.ps report-kinds.r) tt) × 
 abbrev pub SumsUp : Acceptance → Sums → Type 0
 SumsUp run r = (e : AtExit (endedOf 0 sum-up-kinds.ps sum-up-kinds.r) tt) × sum-up-reads.Post tt (run, tt) r e
 
--- The contract of `accept` allows the answer r for this block of records, for a run on its way under this store, and that the lent buffer, which held `before`,
--- holds `after` then.
+-- The contract of `accept` allows the answer r for this block of records, for a run on its way
+-- under this store, and that the lent buffer, which held `before`, holds `after` then.
 abbrev pub AcceptInto : Going → Store → List ℕ → List ℕ → Advanced → List ℕ → Type 0
 AcceptInto going store block before r after =
     (κs : Lfts 2) × (lent : RefT (List ℕ)) × (out : RefT (List ℕ)) × (e : AtExit (endedOf 2 accept-kinds.ps accept-kinds.r) κs)

@@ -1,6 +1,7 @@
--- The depot's run over a ride (document 02, M-113): the promise for any lines; that the lines of a ride, by its steps and its end, over any cards, under a store
--- (M-111), are such; that the program's calls, whatever their blocks, come to the run over those lines; that such runs are; and why neighbours lie more than
--- twice the tolerance apart. That all of it holds: proofs/Depot.antt.
+-- The depot's run over a ride (document 02, M-113): the promise for any lines; that the lines of a
+-- ride, by its steps and its end, over any cards, under a store (M-111), are such; that the
+-- program's calls, whatever their blocks, come to the run over those lines; that such runs are; and
+-- why neighbours lie more than twice the tolerance apart. That all of it holds: proofs/Depot.antt.
 -- Assumes nothing.
 use Prim.Native.Nat.{ℕ, _*_, _≤_}
 use mathlib.Core.Path.{_≡_}
@@ -42,7 +43,8 @@ use Rattle.acceptance_laws.specs.Lines.{isGroupFor, firstFor, faultsIn, 
 use Rattle.acceptance_laws.specs.Accepted.{Run, ended, Accepted}
 use Rattle.acceptance_laws.specs.Calls.{setOut, Call, taken, ByAccept, textFrom, afterCalls, Last, Ends, lastText}
 
--- The lines of a ride over some cards, with the gap that a rule gives for each record's odometer, and those of its end.
+-- The lines of a ride over some cards, with the gap that a rule gives for each record's odometer,
+-- and those of its end.
 unfoldable pub rideLines : (ℕ → ℕ) → List (List ℕ) → List Line
 rideLines gaps cards =
     let ridden : Ridden = rideOver gaps freshRide 1 (records (joined cards)) in
@@ -56,7 +58,8 @@ groupLines (l ∷ ls) (t ∷ ts) = partLine l (t .answer) ++ groupLines ls ts
 
 -- What the program's calls leave, against a run over the ride's lines.
 pub record Carried (r : Run) (calls : List Call) (last : Last) : Type 0 where
-  -- the run that `take` over those lines leaves, which is the one that `report` and `sum_up` are asked of,
+  -- the run that `take` over those lines leaves, which is the one that `report` and `sum_up` are
+  -- asked of,
   pub run : last .answer .going .run ≡ ended r
   -- the lines of the present groups, each with its part,
   pub lines : textFrom calls ++ lastText last ≡ groupLines (r .lines) (r .answers)
@@ -66,7 +69,8 @@ pub record Carried (r : Run) (calls : List Call) (last : Last) : Type 0 where
 
 -- Calls of `accept` over any cards, and then of `finish`.
 pub record Blocks : Type 0 where
-  -- whatever blocks `accept` is called with, and whatever room it has: after the end the run is the one over the ride's lines
+  -- whatever blocks `accept` is called with, and whatever room it has: after the end the run is the
+  -- one over the ride's lines
   pub whole : (store : Store) (cards : List (List ℕ)) (f : Ride) (r : Run) (calls : List Call) (last : Last) → Good store → Fresh f
       → r .lines ≡ rideLines (gapAt store) cards → ByAccept store (setOut f (r .planned .plan)) (joined cards) calls
       → Ends (afterCalls (setOut f (r .planned .plan)) calls) last → Carried r calls last
@@ -97,8 +101,9 @@ two = record { place = 1010; kind = Kind.Signal; met = Met.Absent }
 abbrev pub between : Line
 between = groupAt 1005 Kind.Signal
 
--- Without the distance one group would be the first for both entries, so two entries would be met by one group and the sums would not hold; or
--- the second would stay absent though a group of its kind lies within the tolerance. So such a plan is refused.
+-- Without the distance one group would be the first for both entries, so two entries would be met
+-- by one group and the sums would not hold; or the second would stay absent though a group of its
+-- kind lies within the tolerance. So such a plan is refused.
 pub record TooNear : Type 0 where
   pub for-both : (isGroupFor 5 one between ≡ true) × (isGroupFor 5 two between ≡ true)
   pub left-absent : getD (planned (takeLine (planWith 5 (one ∷ two ∷ [])) between .state)) 1 noEntry .met ≡ Met.Absent
@@ -107,13 +112,15 @@ pub record TooNear : Type 0 where
 
 pub record Depot : Type 0 where
   pub any-lines : (r : Run) → Accepted r
-  -- the lines that `step`, record after record, and `end` answer are those of the ride over the cards
+  -- the lines that `step`, record after record, and `end` answer are those of the ride over the
+  -- cards
   pub by-step : (store : Store) (cards : List (List ℕ)) (f : Ride) (steps : List Stepped) (e : Ended) → Good store → Fresh f
       → ByStep (gapAt store) f (records (joined cards)) steps → EndOf (afterSteps f steps) e
       → linesFrom 1 steps ++ saysLines (e .lines) ≡ rideLines (gapAt store) cards
   -- and what the program calls comes to the run over them
   pub by-blocks : Blocks
-  -- such a run: a signal planned at 1000 and a line board at 5000, and a ride that gave a signal at 1003 and a warning board at 2000;
+  -- such a run: a signal planned at 1000 and a line board at 5000, and a ride that gave a signal at
+  -- 1003 and a warning board at 2000;
   pub such-a-run : (r : Run) × (r .lines ≡ groupAt 1003 Kind.Signal ∷ groupAt 2000 Kind.Warning ∷ [])
   -- over any ride there is one,
   pub such-a-ride : (gaps : ℕ → ℕ) (cards : List (List ℕ)) → (r : Run) × (r .lines ≡ rideLines gaps cards)

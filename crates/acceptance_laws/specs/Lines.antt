@@ -1,5 +1,6 @@
--- The present groups among a ride's lines, and the one that an entry is met by (document 02, M-113): "an entry is met by the first present
--- group of its kind whose A place lies within the tolerance."
+-- The present groups among a ride's lines, and the one that an entry is met by (document 02,
+-- M-113): "an entry is met by the first present group of its kind whose A place lies within the
+-- tolerance."
 -- Assumes nothing.
 use Prim.Native.Nat.{ℕ, suc}
 use mathlib.Core.Bool.{Bool, true, false, _&&_, _||_}
@@ -25,7 +26,8 @@ unfoldable pub groupsIn : List Line → ℕ
 groupsIn [] = 0
 groupsIn (l ∷ ls) = pick (isGroup l) (suc (groupsIn ls)) (groupsIn ls)
 
--- Whether a line is a present group of the entry's kind whose A place lies within the tolerance; no other line is.
+-- Whether a line is a present group of the entry's kind whose A place lies within the tolerance; no
+-- other line is.
 abbrev pub isGroupFor : ℕ → Entry → Line → Bool
 isGroupFor tolerance e (Line.Group g) = isPresent (g .direction) && isFor tolerance (g .place) (g .kind) e
 isGroupFor tolerance e (Line.Fault place n) = false

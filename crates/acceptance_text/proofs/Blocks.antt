@@ -1,4 +1,5 @@
--- What a block comes to, for whoever calls `accept` again and again: it takes no more records than there are, and with 128 bytes a record it takes them all.
+-- What a block comes to, for whoever calls `accept` again and again: it takes no more records than
+-- there are, and with 128 bytes a record it takes them all.
 -- Assumes nothing.
 use Prim.Native.Nat.{ℕ, zero, suc, _+_, _*_, _≤_}
 use native.Mathlib.Omega.{arith}

@@ -1,4 +1,5 @@
--- Lines taken one after the other: their text by their parts, how long it is, and that what was written before stays before it.
+-- Lines taken one after the other: their text by their parts, how long it is, and that what was
+-- written before stays before it.
 -- Assumes nothing.
 use Prim.Native.Nat.{ℕ, _+_, _≤_}
 use native.Mathlib.Omega.{arith}

@@ -1,4 +1,5 @@
--- An acceptance run over a block of records, and the end of its ride: the lines of the ride are taken, and their text stands at the start of a lent buffer.
+-- An acceptance run over a block of records, and the end of its ride: the lines of the ride are
+-- taken, and their text stands at the start of a lent buffer.
 -- Assumes nothing.
 use Prim.Native.Nat.{ℕ, suc, _+_, _%_}
 use mathlib.Core.Bool.{Bool}
@@ -25,12 +26,13 @@ use Rattle.acceptance_text.specs.Taking.{Taking, started, takeAll}
 abbrev pub began : Going → Taking
 began g = started (g .run) (g .troubles)
 
--- Whether one record more is taken: its lines, at most two of at most 64 bytes, have room after what is written.
+-- Whether one record more is taken: its lines, at most two of at most 64 bytes, have room after
+-- what is written.
 abbrev pub hasRoom : ℕ → Taking → Bool
 hasRoom room t = leb (length (t .text) + 128) room
 
--- How many of some records are taken, one after the other, with the gap that the rule gives for each record's odometer, into so much room. (A refused
--- record is counted whatever its number.)
+-- How many of some records are taken, one after the other, with the gap that the rule gives for
+-- each record's odometer, into so much room. (A refused record is counted whatever its number.)
 unfoldable pub taken : (ℕ → ℕ) → ℕ → Ride → Taking → List (List ℕ) → ℕ
 taken gaps room ride t [] = 0
 taken gaps room ride t (r ∷ rs) =
@@ -42,13 +44,15 @@ pub record Taken : Type 0 where
   pub records : ℕ
   pub bytes : ℕ
 
--- What taking a block comes to: what was taken, or the number of the refusal; where the run stands then; and the buffer then.
+-- What taking a block comes to: what was taken, or the number of the refusal; where the run stands
+-- then; and the buffer then.
 pub record Advance : Type 0 where
   pub answer : Outcome Taken
   pub going : Going
   pub out : List ℕ
 
--- The first n records taken: the lines of the ride over them, in order, and their text at the start of the buffer.
+-- The first n records taken: the lines of the ride over them, in order, and their text at the start
+-- of the buffer.
 unfoldable pub acceptOf : (ℕ → ℕ) → Going → ℕ → List (List ℕ) → List ℕ → Advance
 acceptOf gaps g n rs out =
     let ridden : Ridden = rideOver gaps (g .ride) 1 (take n rs) in
@@ -72,8 +76,9 @@ abbrev pub judgedFirst : Going → List ℕ → Outcome Kept → Advance → Adv
 judgedFirst g out (gives k) advance = advance
 judgedFirst g out (refuses n) advance = stands g out n
 
--- A block of a ride's records: the settings' own refusal, then "trace length not a multiple of 8" is 16; else as many records as are taken, each treated
--- "with the gap in force at its own odometer" (M-111).
+-- A block of a ride's records: the settings' own refusal, then "trace length not a multiple of 8"
+-- is 16; else as many records as are taken, each treated "with the gap in force at its own
+-- odometer" (M-111).
 unfoldable pub accept : Going → Store → List ℕ → List ℕ → Advance
 accept g store trace out =
     judgedFirst g out (judged store)
@@ -87,7 +92,8 @@ pub record Finish : Type 0 where
   pub going : Going
   pub out : List ℕ
 
--- The lines of the end, taken like those of a record; without room for two lines nothing is done (`NoRoom`; the documents have no number for that).
+-- The lines of the end, taken like those of a record; without room for two lines nothing is done
+-- (`NoRoom`; the documents have no number for that).
 unfoldable pub finish : Going → List ℕ → Finish
 finish g out =
     let last : End = end (g .ride) in

@@ -1,4 +1,5 @@
--- What the functions inside this crate say of lines that are taken. No caller reads it; contracts can cite only what stands here.
+-- What the functions inside this crate say of lines that are taken. No caller reads it; contracts
+-- can cite only what stands here.
 -- Assumes nothing.
 use Prim.Native.Nat.{ℕ}
 use mathlib.Core.Bool.{Bool, true, false}

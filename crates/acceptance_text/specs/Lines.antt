@@ -1,7 +1,9 @@
--- The lines of a depot's acceptance run as text: a present group (`1003 signal wanted 1`, `2000 warning extra`), an entry of the plan (`entry 1 at
--- 1000 signal met at 1003`, `entry 2 at 5000 line absent`), the sum (`2 entries: 1 met, 1 absent; 2 present groups: 1 wanted, 1 extra`), what a depot
--- signs (`faults 1, records refused 10: see explain`, `not passed`) and a refused plan (`plan refused 27: entries out of order or too near`). The words
--- do not change with the counts. Entries are counted from 1.
+-- The lines of a depot's acceptance run as text: a present group (`1003 signal wanted 1`, `2000
+-- warning extra`), an entry of the plan (`entry 1 at 1000 signal met at 1003`, `entry 2 at 5000
+-- line absent`), the sum (`2 entries: 1 met, 1 absent; 2 present groups: 1 wanted, 1 extra`), what
+-- a depot signs (`faults 1, records refused 10: see explain`, `not passed`) and a refused plan
+-- (`plan refused 27: entries out of order or too near`). The words do not change with the counts.
+-- Entries are counted from 1.
 -- Assumes nothing.
 use Prim.Native.Nat.{ℕ, _+_}
 use Prim.Native.String.{String}
@@ -26,7 +28,8 @@ kindWord Kind.Annulled = codes " annulled"
 kindWord Kind.Line = codes " line"
 kindWord Kind.Route = codes " route"
 
--- A group's part: wanted with the number of its entry, or extra. A group that takes no part is said to.
+-- A group's part: wanted with the number of its entry, or extra. A group that takes no part is said
+-- to.
 unfoldable pub partWords : Role → List ℕ
 partWords (Role.Wanted i) = codes " wanted " ++ decimal (oneMore i) ++ codes "\n"
 partWords Role.Extra = codes " extra\n"

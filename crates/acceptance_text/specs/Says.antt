@@ -9,7 +9,8 @@ use Rattle.acceptance_text.specs.declared.Advanced.{Advanced}
 use Rattle.acceptance_text.specs.declared.Finished.{Finished}
 use Rattle.acceptance_text.specs.Accept.{Taken, Advance, Finish}
 
--- What was taken; settings that are refused have their own number; "trace length not a multiple of 8" is 16.
+-- What was taken; settings that are refused have their own number; "trace length not a multiple of
+-- 8" is 16.
 abbrev pub saysProgress : Progress → Outcome Taken
 saysProgress (Progress.Took records bytes) = gives (record { records = records; bytes = bytes })
 saysProgress (Progress.Settings bad) = refuses (saysBad bad)

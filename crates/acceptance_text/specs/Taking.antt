@@ -1,5 +1,6 @@
--- The ride's lines taken as they come (document 02, M-113: "the groups are answered one at a time as the ride's lines come"): the run after them, what went
--- wrong, and the text of each present group.
+-- The ride's lines taken as they come (document 02, M-113: "the groups are answered one at a time
+-- as the ride's lines come"): the run after them, what went wrong, and the text of each present
+-- group.
 -- Assumes nothing.
 use Prim.Native.Nat.{ℕ}
 use mathlib.Core.List.{List, [], _∷_, _++_}

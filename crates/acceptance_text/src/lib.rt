@@ -1,8 +1,11 @@
-// A depot's acceptance run as text: the records of a ride taken block by block, with a line for each present group; and the report at the end: the
-// entries of the plan, the sum, what a depot signs; a refused plan.
-// Promises: a line is written to the letter and whole, or not at all; bytes around it stay; a run goes on as `acceptance` says, over the lines of the ride.
-// Specification: specs/Lines.antt (the words), specs/Taking.antt (lines taken), specs/Accept.antt (a block of records, and the end), specs/Says.antt (the
-// answers); specs/Inside.antt (what the functions inside say); a text in a buffer is `text`'s specs/Put.antt.
+// A depot's acceptance run as text: the records of a ride taken block by block, with a line for
+// each present group; and the report at the end: the entries of the plan, the sum, what a depot
+// signs; a refused plan.
+// Promises: a line is written to the letter and whole, or not at all; bytes around it stay; a run
+// goes on as `acceptance` says, over the lines of the ride.
+// Specification: specs/Lines.antt (the words), specs/Taking.antt (lines taken), specs/Accept.antt
+// (a block of records, and the end), specs/Says.antt (the answers); specs/Inside.antt (what the
+// functions inside say); a text in a buffer is `text`'s specs/Put.antt.
 ghost use mathlib.Core.Path.{_≡_};
 ghost use Rattle.text.specs.Put.{put, came};
 ghost use Rattle.acceptance_text.specs.Lines.{entryLine, sumLine, isPassed, lastLines, refusedLine};
@@ -22,15 +25,16 @@ use settings::Bad;
 use settings::Store;
 pub use taking::Troubles;
 
-// An acceptance run on its way: the state of the ride, the run over the plan, and what went wrong so far.
+// An acceptance run on its way: the state of the ride, the run over the plan, and what went wrong
+// so far.
 pub struct Going {
     pub ride: Ride,
     pub run: Acceptance,
     pub troubles: Troubles,
 }
 
-// How far a block was taken: so many records, and so many bytes of lines written; or why none is: for the settings (their number) or the
-// block's length (16).
+// How far a block was taken: so many records, and so many bytes of lines written; or why none is:
+// for the settings (their number) or the block's length (16).
 pub enum Progress {
     Took { records: usize, bytes: usize },
     Settings(Bad),
@@ -43,7 +47,8 @@ pub struct Advanced {
     pub progress: Progress,
 }
 
-// What the end of the ride wrote: so many bytes; or that there is no room for its lines, and the ride has not ended.
+// What the end of the ride wrote: so many bytes; or that there is no room for its lines, and the
+// ride has not ended.
 pub enum Ending {
     Wrote(usize),
     NoRoom,
@@ -55,9 +60,10 @@ pub struct Finished {
     pub ending: Ending,
 }
 
-// The records of a block taken in turn, as many as surely have room for their lines in out, each treated with the gap in force at its own odometer: the
-// line of each present group at the start of out, the state of the ride, the run and what went wrong then; or the settings' own refusal, then 16, with
-// nothing taken.
+// The records of a block taken in turn, as many as surely have room for their lines in out, each
+// treated with the gap in force at its own odometer: the line of each present group at the start of
+// out, the state of the ride, the run and what went wrong then; or the settings' own refusal, then
+// 16, with nothing taken.
 pub fn accept(going: Going, store: Store, trace: &[u8], out: &mut [u8]) -> Advanced
     ensures { λ r. ⌜ saysAdvanced r (now (out .exit)) ≡ accept going store (now (trace .entry)) (now (out .entry)) ⌝ }
 {
@@ -79,7 +85,8 @@ pub fn accept(going: Going, store: Store, trace: &[u8], out: &mut [u8]) -> Advan
     }
 }
 
-// The end of the ride: its lines are taken as those of a record are; where they may have no room nothing is done.
+// The end of the ride: its lines are taken as those of a record are; where they may have no room
+// nothing is done.
 pub fn finish(going: Going, out: &mut [u8]) -> Finished
     ensures { λ r. ⌜ saysFinished r (now (out .exit)) ≡ finish going (now (out .entry)) ⌝ }
 {
@@ -108,8 +115,9 @@ pub fn finish(going: Going, out: &mut [u8]) -> Finished
     }
 }
 
-// The line of the entry with this index, the first has 0, to the letter, into buf from `at` on, all other bytes as they were, and the place after it;
-// without room nothing is written, and the answer is `at`.
+// The line of the entry with this index, the first has 0, to the letter, into buf from `at` on, all
+// other bytes as they were, and the place after it; without room nothing is written, and the answer
+// is `at`.
 pub fn put_entry(i: usize, entry: Entry, buf: &mut [u8], at: usize) -> usize
     ensures { λ r. ⌜ came r (now (buf .exit)) ≡ put (entryLine i entry) (now (buf .entry)) at ⌝ }
 {

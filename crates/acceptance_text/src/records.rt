@@ -16,9 +16,10 @@ use ride::Reply;
 use settings::Held;
 use settings::Store;
 
-// The records in turn, up to the last, while there is room for the lines of one more. The store is asked only where an odometer leaves the places of the
-// settings that are held; what is held at first is what is in force at place 0. One version alone is in force throughout: then no odometer is looked at for it.
-// The run is touched only by a record that gives a line or is refused.
+// The records in turn, up to the last, while there is room for the lines of one more. The store is
+// asked only where an odometer leaves the places of the settings that are held; what is held at
+// first is what is in force at place 0. One version alone is in force throughout: then no odometer
+// is looked at for it. The run is touched only by a record that gives a line or is refused.
 pub fn over(from: Going, store: Store, first: Held, trace: &[u8], out: &mut [u8]) -> Advanced
     requires { ⌜ (judged store ≡ gives kept) × (first ≡ heldAt store 0) ⌝ }
     ensures { λ r. ⌜ saysAdvanced r (now (out .exit)) ≡ acceptTaken (gapAt store) from (records (now (trace .entry))) (now (out .entry)) ⌝ }

@@ -1,4 +1,5 @@
-// The lines of a record, or of the end, taken one by one: the run after each, what went wrong, and the text of a present group.
+// The lines of a record, or of the end, taken one by one: the run after each, what went wrong, and
+// the text of a present group.
 ghost use mathlib.Core.Path.{_≡_};
 ghost use mathlib.Core.List.{[], _∷_};
 ghost use Prim.Native.Nat.{_+_, _≤_};
@@ -17,13 +18,15 @@ use ride::Given;
 use ride::Line;
 use ride::Lines;
 
-// What went wrong on a ride, counted: how many faults, and how many refused records. The largest number of 64 bits stands for that many or more.
+// What went wrong on a ride, counted: how many faults, and how many refused records. The largest
+// number of 64 bits stands for that many or more.
 pub struct Troubles {
     pub faults: u64,
     pub refused: u64,
 }
 
-// What taking some lines leaves: the run, what went wrong so far, and the place in the buffer after their text.
+// What taking some lines leaves: the run, what went wrong so far, and the place in the buffer after
+// their text.
 pub struct Written {
     pub run: Acceptance,
     pub troubles: Troubles,

@@ -2,7 +2,7 @@
 // Promises: it is safe and it ends; it reads nothing, so the file stdout beside it is all that it can write, and is the printed list.
 // Specification: specs/Hex.antt (the digits of a word); the words are those of words::write_short and words_list::list.
 mod hex;
-mod lines;
+mod listing;
 
 use words::ShortWritten;
 
@@ -40,13 +40,13 @@ fn short_code() -> [u16; 16] {
 fn write_lists() -> bool {
     let short = short_code();
     let long = words_list::list();
-    if !lines::put(&short, 2) {
+    if !listing::put(&short, 2) {
         return false;
     }
-    if !lines::text(b"\n") {
+    if !listing::text(b"\n") {
         return false;
     }
-    lines::put(&long, 0)
+    listing::put(&long, 0)
 }
 
 fn main() {

@@ -2,7 +2,7 @@
 -- Assumes nothing.
 use Prim.Native.Nat.{ℕ, _/_, _<_}
 use native.Mathlib.Omega.{arith}
-use mathlib.Core.Path.{_≡_, refl, sym, ap, subst, _∙_}
+use mathlib.Core.Path.{_≡_, refl, sym, ap, ap₂, _∙_}
 use mathlib.Core.Bool.{Bool, true, false, not, _&&_}
 use mathlib.Core.List.{List, [], _∷_}
 use lib.Dec.{eqb}
@@ -15,35 +15,19 @@ use Rattle.settings.specs.Versions.{kept}
 use Rattle.settings.specs.Store.{judged}
 use Rattle.settings.specs.At.{gapAt, heldFor}
 use Rattle.settings.proofs.Holding.{Holding, keeps}
-use Rattle.ride.specs.declared.Checked.{Checked}
 use Rattle.ride.specs.declared.Ride.{Ride}
-use Rattle.ride.specs.declared.Stepped.{Stepped}
+use Rattle.ride.specs.declared.trace.Treated.{Treated}
 use Rattle.ride.specs.Record.{odometerOf, kindOf, Entry, checkRecord}
 use Rattle.ride.specs.Joining.{allowed}
-use Rattle.ride.specs.Step.{Step, treat, step}
-use Rattle.ride.specs.Says.{saysChecked, saysReport, saysStepped}
-use Rattle.ride.proofs.Steps.{step-allowed}
-use Rattle.ride.specs.At.{odometerAt}
+use Rattle.ride.specs.Step.{Step, treat}
+use Rattle.ride.specs.Says.{saysReply, saysTreated}
+use Rattle.ride.specs.At.{odometerAt, Standing, treated, Treatment, byStep, treatAt}
+use Rattle.ride.proofs.At.{at-record}
 use Rattle.ride.proofs.Under.{odometer-there, treat-held}
 use Rattle.compaction.specs.declared.Waiting.{Waiting}
-use Rattle.compaction.specs.declared.deciding.Decided.{Decided}
 use Rattle.compaction.specs.Dropped.{isQuiet, isAccepted, isDropped}
 use Rattle.compaction.specs.Blocks.{settled, waitsNext}
-use Rattle.compaction.specs.Inside.{Serves}
-
--- what the step and the check say decides
-pub decided : (ride : Ride) (gap : ℕ) (bytes next : List ℕ) (s : Stepped) (c : Checked) (q a : Bool) → allowed gap ≡ true
-    → saysStepped s ≡ step ride gap bytes → saysChecked c ≡ checkRecord (s .ride .odometer) next → q ≡ isQuiet (saysReport (s .report)) → a ≡ isAccepted (saysChecked c)
-    → _≡_ {A = Decided}
-    (record { ride = s .ride; dropped = eqb (kindOf bytes) 3 && (q && a) })
-    (record { ride = treat ride gap bytes .ride; dropped = isDropped ride gap bytes next })
-unfolding isDropped
-decided ride gap bytes next s c q a good stepped checked quiet accepted =
-    let is : saysStepped s ≡ treat ride gap bytes = stepped ∙ step-allowed ride gap bytes good in
-    rw (quiet, accepted, checked)
-    (ap
-    (λ (t : Step). record { ride = t .ride; dropped = eqb (kindOf bytes) 3 && (isQuiet (t .lines) && isAccepted (checkRecord (t .ride .odometer) next)) })
-    is)
+use Rattle.compaction.specs.Inside.{quietReply, Serves}
 
 -- ---- the next record settles the one that waits
 
@@ -59,16 +43,12 @@ settled-so : (d : Bool) (x : List ℕ) → pick (not d) (x ∷ []) [] ≡ pick d
 settled-so true x = refl
 settled-so false x = refl
 
-pub one-waits : (gaps : ℕ → ℕ) (w : Waiting) (next : List ℕ) (d : Decided) → w .waits ≡ true
-    → d
-    ≡ record {
-      ride = treat (w .ride) (gaps (odometerOf (w .bytes))) (w .bytes) .ride;
-      dropped = isDropped (w .ride) (gaps (odometerOf (w .bytes))) (w .bytes) next;
-    }
-    → _≡_ {A = Waiting} (record { ride = d .ride; bytes = next; waits = true }) (waitsNext gaps w next)
-    × (pick (not (d .dropped)) (w .bytes ∷ []) [] ≡ settled gaps w next)
+pub one-waits : (gaps : ℕ → ℕ) (w : Waiting) (next : List ℕ) (ride : Ride) (dropped : Bool) → w .waits ≡ true
+    → ride ≡ treat (w .ride) (gaps (odometerOf (w .bytes))) (w .bytes) .ride → dropped ≡ isDropped (w .ride) (gaps (odometerOf (w .bytes))) (w .bytes) next
+    → _≡_ {A = Waiting} (record { ride = ride; bytes = next; waits = true }) (waitsNext gaps w next)
+    × (pick (not dropped) (w .bytes ∷ []) [] ≡ settled gaps w next)
 unfolding waitsNext settled
-one-waits gaps w next d e h = (rw (e, h), settled-so (d .dropped) (w .bytes) ∙ rw (e, h))
+one-waits gaps w next ride dropped e h d = (rw (e, h), settled-so dropped (w .bytes) ∙ rw (e, d))
 
 -- ---- a gap that serves the waiting record settles as the rule's own does
 
@@ -77,16 +57,21 @@ unfolding isDropped
 drops-same ride gap other r next e =
     ap (λ (s : Step). eqb (kindOf r) 3 && (isQuiet (s .lines) && isAccepted (checkRecord (s .ride .odometer) next))) e
 
-pub serves-next : (gaps : ℕ → ℕ) (gap : ℕ) (w : Waiting) (next : List ℕ) → Serves gaps gap (w .bytes) → waitsNext (λ odometer. gap) w next ≡ waitsNext gaps w next
-unfolding waitsNext
-serves-next gaps gap w next s =
-    ap (λ (t : Step). record { ride = pick (w .waits) (t .ride) (w .ride); bytes = next; waits = true }) (s .treats (w .ride))
-
-pub serves-settled : (gaps : ℕ → ℕ) (gap : ℕ) (w : Waiting) (next : List ℕ) → Serves gaps gap (w .bytes) → settled (λ odometer. gap) w next ≡ settled gaps w next
-unfolding settled
-serves-settled gaps gap w next s =
-    ap (λ (d : Bool). pick (w .waits) (pick d [] (w .bytes ∷ [])) [])
-    (drops-same (w .ride) gap (gaps (odometerOf (w .bytes))) (w .bytes) next (s .treats (w .ride)))
+-- what treating the waiting record and looking at the next one say
+pub settles : (gaps : ℕ → ℕ) (gap : ℕ) (w : Waiting) (next : List ℕ) (t : Treated) (dropped : Bool) → Serves gaps gap (w .bytes) → w .waits ≡ true
+    → saysTreated t ≡ byStep (treat (w .ride) gap (w .bytes))
+    → dropped ≡ (eqb (kindOf (w .bytes)) 3 && (quietReply (saysReply (t .reply)) && isAccepted (checkRecord (t .ride .odometer) next)))
+    → _≡_ {A = Waiting} (record { ride = t .ride; bytes = next; waits = true }) (waitsNext gaps w next)
+    × (pick (not dropped) (w .bytes ∷ []) [] ≡ settled gaps w next)
+unfolding isDropped
+settles gaps gap w next t dropped s e is d =
+    let own : ℕ = gaps (odometerOf (w .bytes)) in
+    let ride-is : t .ride ≡ treat (w .ride) gap (w .bytes) .ride = ap (λ (x : Treatment). x .ride) is in
+    let reply-is : saysReply (t .reply) ≡ gives (treated (treat (w .ride) gap (w .bytes) .lines)) = ap (λ (x : Treatment). x .reply) is in
+    let dropped-is : dropped ≡ isDropped (w .ride) gap (w .bytes) next =
+    d ∙ ap₂ (λ (o : Outcome Standing) (x : Ride). eqb (kindOf (w .bytes)) 3 && (quietReply o && isAccepted (checkRecord (x .odometer) next))) reply-is ride-is in
+    one-waits gaps w next (t .ride) dropped e (ride-is ∙ ap (λ (x : Step). x .ride) (s .treats (w .ride)))
+    (dropped-is ∙ drops-same (w .ride) gap own (w .bytes) next (s .treats (w .ride)))
 
 -- what is held for a record serves it
 pub held-serves : (store : Store) (held next : Held) (r : List ℕ) → judged store ≡ gives kept → Holding store held → next ≡ heldFor store held (odometerOf r)
@@ -97,14 +82,17 @@ held-serves store held next r good hold for =
       rw for (record { good = on .gap; treats = λ ride. treat-held store held ride r good hold }),
     )
 
--- the next record then waits, and what serves it serves what waits
-pub serves-waiting : (gaps others : ℕ → ℕ) (gap : ℕ) (w w′ : Waiting) (next : List ℕ) → w′ ≡ waitsNext others w next → Serves gaps gap next → Serves gaps gap (w′ .bytes)
-unfolding waitsNext
-serves-waiting gaps others gap w w′ next e s = subst (λ (b : List ℕ). Serves gaps gap b) (sym (ap (λ (v : Waiting). v .bytes) e)) s
-
 -- ---- the odometer of eight bytes
 
 pub odometer-whole : (bytes : List ℕ) → length bytes ≡ 8 → odometerAt bytes 0 ≡ odometerOf bytes
 odometer-whole bytes e =
     let one : 0 < length bytes / 8 = omega arith in
     sym (odometer-there bytes 0 one) ∙ ap odometerOf (ap (λ (n : ℕ). take n bytes) (sym e) ∙ take-length bytes)
+
+-- ---- the only record of eight bytes
+
+pub treated-whole : (ride : Ride) (gap : ℕ) (bytes : List ℕ) (t : Treated) → length bytes ≡ 8 → allowed gap ≡ true → saysTreated t ≡ treatAt ride gap bytes 0
+    → saysTreated t ≡ byStep (treat ride gap bytes)
+treated-whole ride gap bytes t e good is =
+    let one : 0 < length bytes / 8 = omega arith in
+    is ∙ sym (at-record ride gap bytes 0 good one) ∙ ap (λ (b : List ℕ). byStep (treat ride gap b)) (ap (λ (n : ℕ). take n bytes) (sym e) ∙ take-length bytes)

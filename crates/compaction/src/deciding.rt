@@ -1,21 +1,21 @@
 // One record and the next: whether the first is dropped.
 ghost use mathlib.Core.Path.{_≡_};
-ghost use mathlib.Core.Bool.{true};
+ghost use mathlib.Core.Bool.{true, _&&_};
+ghost use lib.Dec.{eqb};
 ghost use Rattle.ride.specs.Joining.{allowed};
+ghost use Rattle.ride.specs.Record.{kindOf, checkRecord};
 ghost use Rattle.ride.specs.Step.{treat};
-ghost use Rattle.ride.specs.Says.{saysChecked, saysLines, saysReport};
+ghost use Rattle.ride.specs.At.{byStep};
+ghost use Rattle.ride.specs.Says.{saysChecked, saysLines, saysGiven, saysReply, saysTreated};
 ghost use Rattle.words.specs.Answer.{gives};
-ghost use Rattle.compaction.specs.Dropped.{isQuiet, isAccepted, isDropped};
+ghost use Rattle.compaction.specs.Dropped.{isQuiet, isAccepted};
+ghost use Rattle.compaction.specs.Inside.{quietReply};
 use ride::Checked;
+use ride::Given;
 use ride::Lines;
-use ride::Report;
+use ride::Reply;
 use ride::Ride;
-
-// What a record and the next one decide: whether the first is dropped, and the state that it leaves.
-pub struct Decided {
-    pub ride: Ride,
-    pub dropped: bool,
-}
+use ride::Treated;
 
 // Whether there is no line.
 fn is_none(lines: Lines) -> bool
@@ -28,14 +28,24 @@ fn is_none(lines: Lines) -> bool
     }
 }
 
-// Whether a record was accepted and gave no line.
-fn is_quiet(report: Report) -> bool
-    ensures { λ r. ⌜ r ≡ isQuiet (saysReport report) ⌝ }
+// Whether a record was accepted and gave no line,
+fn is_given_none(given: Given) -> bool
+    ensures { λ r. ⌜ r ≡ isQuiet (saysGiven given) ⌝ }
 {
-    match report {
-        Report::Lines(lines) => is_none(lines),
-        Report::Refused(_) => false,
-        Report::Gap => false,
+    match given {
+        Given::Lines(lines) => is_none(lines),
+        Given::Refused(_) => false,
+    }
+}
+
+// as its reply says.
+fn is_quiet(reply: Reply) -> bool
+    ensures { λ r. ⌜ r ≡ quietReply (saysReply reply) ⌝ }
+{
+    match reply {
+        Reply::Record(given) => is_given_none(given),
+        Reply::NoRecord => false,
+        Reply::Gap => false,
     }
 }
 
@@ -49,18 +59,19 @@ fn is_accepted(checked: Checked) -> bool
     }
 }
 
-// The record is treated, and the next one checked.
-pub fn decide(ride: Ride, gap: u32, bytes: [u8; 8], next: [u8; 8]) -> Decided
+// The record of these eight bytes is treated. Its state comes back field by field, as from any
+// record of a trace.
+pub fn treat(ride: Ride, gap: u32, bytes: [u8; 8]) -> Treated
     requires { ⌜ allowed gap ≡ true ⌝ }
-    ensures { λ r. ⌜ r ≡ record { ride = treat ride gap bytes .ride; dropped = isDropped ride gap bytes next } ⌝ }
+    ensures { λ r. ⌜ saysTreated r ≡ byStep (treat ride gap bytes) ⌝ }
 {
-    let stepped = ride::step(ride, gap, bytes);
-    let after = stepped.ride;
-    let report = stepped.report;
-    let dropped = (bytes[4] == 3)
-        & (is_quiet(report) & is_accepted(ride::check_record(after, next)));
-    Decided {
-        ride: after,
-        dropped,
-    }
+    ride::treat_at(ride, gap, &bytes, 0)
+}
+
+// Whether the record of these eight bytes, which was treated with this reply and left this state,
+// is dropped before the next one.
+pub fn is_dropped(after: Ride, bytes: [u8; 8], reply: Reply, next: [u8; 8]) -> bool
+    ensures { λ r. ⌜ r ≡ (eqb (kindOf bytes) 3 && (quietReply (saysReply reply) && isAccepted (checkRecord (after .odometer) next))) ⌝ }
+{
+    (bytes[4] == 3) & (is_quiet(reply) & is_accepted(ride::check_record(after, next)))
 }

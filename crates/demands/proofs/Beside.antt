@@ -8,3 +8,4 @@ pub mod FalsePlaces
 pub mod SyncNoise
 pub mod PlainGap
 pub mod Settings
+pub mod Reasons

@@ -5,6 +5,7 @@ pub mod CallsMet
 pub mod WritingMet
 pub mod MarksMet
 pub mod RidesMet
+pub mod ReasonsMet
 pub mod NumbersMet
 pub mod SectionsMet
 pub mod StoresMet

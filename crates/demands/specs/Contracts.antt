@@ -49,7 +49,7 @@ use Rattle.contact.proofs.next_contact.Kinds as next-kinds
 use Rattle.contact.proofs.next_contact.Reads as next-reads
 use Rattle.contact.proofs.judge.Kinds as judge-kinds
 use Rattle.contact.proofs.judge.Reads as judge-reads
-pub use Rattle.demands.specs.RideContracts.{FitRow, Distance, Speed, JudgeGroup, Fresh, CheckRecord, StepOf, TreatAt, EndOf, RunOver, PutLine, ListInto}
+pub use Rattle.demands.specs.RideContracts.{FitRow, Distance, Speed, JudgeGroup, Fresh, CheckRecord, StepOf, TreatAt, EndOf, RunOver, PutLine, PutEnd, ListInto}
 
 -- The contract of `read_short` allows the answer r for the word w.
 abbrev pub ReadShort : ℕ → ShortRead → Type 0

@@ -6,6 +6,7 @@ pub mod RideContracts
 pub mod Contracts
 pub mod Compacting
 pub mod Steps
+pub mod Reasons
 pub mod Lists
 pub mod Stores
 pub mod Viewing

@@ -1,5 +1,5 @@
--- What the contracts of the public functions of `group_rows`, `group`, `ride` and `ride_text` allow, as Contracts.antt says it. In `put_line` and `list` the
--- bytes of the second and of the sixth parameter at the end are taken out of e.
+-- What the contracts of the public functions of `group_rows`, `group`, `ride` and `ride_text` allow, as Contracts.antt says it. In `put_line`, `put_end` and `list` the
+-- bytes of the second, third and sixth parameter at the end are taken out of e.
 -- Assumes nothing.
 use Prim.Native.Nat.{ℕ}
 use mathlib.Core.Path.{_≡_}
@@ -46,6 +46,8 @@ use Rattle.ride.proofs.run.Kinds as run-kinds
 use Rattle.ride.proofs.run.Reads as run-reads
 use Rattle.ride_text.proofs.put_line.Kinds as put-line-kinds
 use Rattle.ride_text.proofs.put_line.Reads as put-line-reads
+use Rattle.ride_text.proofs.put_end.Kinds as put-end-kinds
+use Rattle.ride_text.proofs.put_end.Reads as put-end-reads
 use Rattle.ride_text.proofs.list.Kinds as list-kinds
 use Rattle.ride_text.proofs.list.Reads as list-reads
 
@@ -102,6 +104,12 @@ abbrev pub PutLine : Line → List ℕ → ℕ → ℕ → List ℕ → Type 0
 PutLine line before at r after =
     (κs : Lfts 1) × (lent : RefT (List ℕ)) × (e : AtExit (endedOf 1 put-line-kinds.ps put-line-kinds.r) κs)
     × (now lent ≡ before) × (now (e .1 .0) ≡ after) × put-line-reads.Post κs (line, (lent, (at, tt))) r e
+
+-- The contract of `put_end` in this style allows the place r for the end of this ride at this place, likewise.
+abbrev pub PutEnd : Style → Ride → List ℕ → ℕ → ℕ → List ℕ → Type 0
+PutEnd style ride before at r after =
+    (κs : Lfts 1) × (lent : RefT (List ℕ)) × (e : AtExit (endedOf 1 put-end-kinds.ps put-end-kinds.r) κs)
+    × (now lent ≡ before) × (now (e .1 .1 .0) ≡ after) × put-end-reads.Post κs (style, (ride, (lent, (at, tt)))) r e
 
 -- The contract of `list` in this style allows the answer r for this trace, and that the lent buffer, which held `before`, holds `after` then.
 abbrev pub ListInto : Style → Ride → Store → ℕ → List ℕ → List ℕ → Listed → List ℕ → Type 0

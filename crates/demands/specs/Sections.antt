@@ -8,7 +8,7 @@ use Prim.Native.Nat.{ℕ, suc, _+_, _*_, _≤_, _<_}
 use mathlib.Core.Path.{_≡_}
 use mathlib.Core.Bool.{Bool, false, _||_}
 use mathlib.Core.List.{List, [], _∷_, _++_}
-use lib.ListN.{length}
+use lib.ListN.{length, take}
 use Rattle.words.specs.Answer.{pick}
 use Rattle.words.specs.Limits.{largest64}
 use Rattle.settings.specs.declared.Store.{Store}
@@ -17,8 +17,7 @@ use Rattle.ride.specs.Record.{odometerOf}
 use Rattle.ride.specs.State.{freshRide}
 use Rattle.ride.specs.Step.{end}
 use Rattle.ride.specs.Over.{records, linesFor, Ridden, rideOver}
-use Rattle.ride.specs.Says.{saysLines, saysStepped}
-use Rattle.ride.specs.declared.Ended.{Ended}
+use Rattle.ride.specs.Says.{saysStepped}
 use Rattle.ride.specs.declared.Line.{Line}
 use Rattle.ride.specs.declared.Ran.{Ran}
 use Rattle.ride.specs.declared.Ride.{Ride}
@@ -26,7 +25,7 @@ use Rattle.ride.specs.declared.Stepped.{Stepped}
 use Rattle.ride_text.specs.Text.{text, textOf}
 use Rattle.ride_text.specs.Style.{plain}
 use Rattle.demands.specs.Table.{badLength}
-use Rattle.demands.specs.Contracts.{Fresh, StepOf, EndOf, RunOver, ListInto}
+use Rattle.demands.specs.Contracts.{Fresh, StepOf, RunOver, PutEnd, ListInto}
 use Rattle.demands.specs.Stores.{Good}
 use Rattle.demands.specs.Output.{output, recordsIn, Forty}
 pub use Rattle.demands.specs.ListCalls.{Whole, Call, taken, bytesOf, Lent, ByCalls, ByList, textFrom, afterCalls, numberAfter}
@@ -133,9 +132,10 @@ pub record Blocks : Type 0 where
   pub all-at-once : (ride : Ride) (store : Store) (number : ℕ) (c : Call) → Good store → Whole (c .block)
       → 128 * recordsIn (c .block) ≤ length (c .before) → number + recordsIn (c .block) ≤ largest64
       → ListInto plain ride store number (c .block) (c .before) (c .answer) (c .after) → taken (c .answer .done) ≡ recordsIn (c .block)
-  -- the cards from a fresh ride, the first record with the number 1, and then the end: what the program writes
-  pub program : (store : Store) (f : Ride) (cards : List (List ℕ)) (calls : List Call) (e : Ended) → Good store → anyBad cards ≡ false → Fresh f
-      → ByList store f 1 (joined cards) calls → EndOf (afterCalls f calls) e → textFrom calls ++ textOf (saysLines (e .lines)) ≡ outputUnder store cards
+  -- the cards from a fresh ride, the first record with the number 1, and then the end by `put_end`: what the program writes
+  pub program : (store : Store) (f : Ride) (cards : List (List ℕ)) (calls : List Call) (before : List ℕ) (n : ℕ) (after : List ℕ) → Good store → anyBad cards ≡ false
+      → Fresh f → ByList store f 1 (joined cards) calls → 128 ≤ length before → PutEnd plain (afterCalls f calls) before 0 n after
+      → textFrom calls ++ take n after ≡ outputUnder store cards
   -- without settings the gap is 40, as document 01 says
   pub forty : (store : Store) (cards : List (List ℕ)) → Forty store → Good store × (outputUnder store cards ≡ outputOf cards)
   -- one card: as document 01 says

@@ -27,6 +27,7 @@ use Rattle.recording.specs.Recording.{Taped, theEnd}
 use Rattle.ride_text.specs.Style.{withReasons}
 use Rattle.ride_text.specs.Told.{stepText, Told, tellOver, endText}
 use Rattle.ride_text.specs.List.{taken}
+use Rattle.ride_text.proofs.Taken.{end-short}
 use Rattle.lead_text.specs.declared.How.{How}
 use Rattle.lead_text.specs.declared.Underway.{Underway}
 use Rattle.lead_text.specs.declared.Written.{Written}
@@ -38,7 +39,6 @@ use Rattle.lead_text.proofs.Judged.{frames-listed, end-listed}
 use Rattle.lead_text_laws.specs.Calls.{Fresh, ListFrames, ListEnd, PutEnd}
 use Rattle.lead_text_laws.specs.Live.{Good, Heard, none, next, Closed, over, Ended, put}
 use Rattle.lead_text_laws.proofs.Comes.{start, comesAll}
-use Rattle.lead_text_laws.proofs.Room.{end-short}
 
 -- A lent buffer with these bytes.
 abbrev pub lent : List ℕ → RefT (List ℕ)
@@ -131,7 +131,7 @@ ended-met ride =
     let b : List ℕ = replicate 320 0 in
     let a : List ℕ = placed t b 0 in
     let wide : 320 ≤ length b = omega (arith, length-replicate {A = ℕ} 320 0) in
-    let fits : 0 + length t ≤ length b = omega (arith, end-short ride) in
+    let fits : 0 + length t ≤ length b = omega (arith, end-short withReasons ride) in
     let says : texts.came (0 + length t) a ≡ texts.put t b 0 =
     sym (ap (λ (x : Bool). pick x (texts.came (0 + length t) a) (texts.came 0 b)) (le-leb (0 + length t) (length b) fits)) in
     let c : PutEnd ride b 0 (0 + length t) a = (([], tt), lent b, (withReasons, (ride, (lent a, (0, tt)))), refl, refl, says) in

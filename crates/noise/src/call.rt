@@ -1,48 +1,61 @@
 // What the arguments ask for.
 use figures::Figure;
 
-// A seed, 1 to 2,147,483,646, and how many bits in a million flip; or that the arguments are no call.
+// A seed, 1 to 2,147,483,646, and how many bits in a million flip; that the arguments are no call; or that one of them is no number, which was said.
 pub enum Asked {
     For { seed: u32, chance: u32 },
-    Odd,
+    Usage,
+    Said,
 }
 
-// A number of the command line, or none.
+// A number of the command line; one out of range; or none, which was said.
 enum Taken {
     Is(u32),
-    Odd,
+    Usage,
+    Said,
 }
 
-// Argument k as a number from `least` to `most`.
-fn number(k: usize, least: u32, most: u32) -> Taken {
-    let mut text = io::buffer();
-    let length = os::arg(k, &mut text);
-    if os::errno() != 0 {
-        return Taken::Odd;
+// Argument k, of this name, as a number from `least` to `most`.
+fn number(name: &[u8], k: usize, least: u32, most: u32) -> Taken {
+    match console::number(k, most as u64) {
+        Figure::Number(n) => in_range(n, least, most),
+        Figure::Above => Taken::Usage,
+        Figure::Odd => {
+            console::wrong(b"noise", name, b"figure", k);
+            Taken::Said
+        }
     }
-    let Figure::Number(n) = figures::decimal(&text[..length], most as u64) else {
-        return Taken::Odd;
-    };
+}
+
+// A number from `least` to `most`.
+fn in_range(n: u64, least: u32, most: u32) -> Taken {
     if n > most as u64 {
-        return Taken::Odd;
+        return Taken::Usage;
     }
     if n < least as u64 {
-        return Taken::Odd;
+        return Taken::Usage;
     }
     Taken::Is(n as u32)
+}
+
+// The call with this seed.
+fn with_seed(seed: u32) -> Asked {
+    match number(b"N", 2, 0, 1000000) {
+        Taken::Is(chance) => Asked::For { seed, chance },
+        Taken::Usage => Asked::Usage,
+        Taken::Said => Asked::Said,
+    }
 }
 
 // The whole call; a lead may follow.
 pub fn arguments() -> Asked {
     let count = os::arg_count();
     if (count != 3) & (count != 4) {
-        return Asked::Odd;
+        return Asked::Usage;
     }
-    let Taken::Is(seed) = number(1, 1, 2147483646) else {
-        return Asked::Odd;
-    };
-    let Taken::Is(chance) = number(2, 0, 1000000) else {
-        return Asked::Odd;
-    };
-    Asked::For { seed, chance }
+    match number(b"SEED", 1, 1, 2147483646) {
+        Taken::Is(seed) => with_seed(seed),
+        Taken::Usage => Asked::Usage,
+        Taken::Said => Asked::Said,
+    }
 }

@@ -19,6 +19,7 @@ fn main() {
     }
     match call::arguments() {
         Asked::For { seed, chance } => send(seed, chance),
-        Asked::Odd => console::usage(b"noise", b"noise SEED N [LEAD]"),
+        Asked::Usage => console::usage(b"noise", b"noise SEED N [LEAD]"),
+        Asked::Said => {}
     }
 }

@@ -6,8 +6,12 @@
 mod blocks;
 mod saying;
 
+pub use blocks::list_all;
+pub use blocks::room;
+pub use blocks::size;
 use console::Found;
 use console::Given;
+pub use saying::refuse_trace;
 use settings::Store;
 
 // Goes over the cards. The buffers are made once: a fresh one for each part of a card would have to be filled with zeroes first.

@@ -1,4 +1,4 @@
--- How many records a listing takes: no more than there are, one where there is room for it, and all where there is room for each.
+-- How many records a listing takes: no more than there are, one where there is room for it, and all where there is room for each; and the room of the end.
 -- Assumes nothing.
 use Prim.Native.Nat.{ℕ, suc, _+_, _-_, _*_, _≤_, _<_}
 use native.Mathlib.Omega.{arith}
@@ -6,10 +6,12 @@ use native.Mathlib.Nat.{suc-mul}
 use mathlib.Core.Path.{_≡_, refl, sym, ap, ap₂, _∙_, subst}
 use mathlib.Core.Bool.{Bool, true, false, _&&_}
 use mathlib.Core.List.{List, [], _∷_, _++_}
-use lib.ListN.{length, length-append}
+use lib.ListN.{length, take, length-append}
 use borrow.Author.Tests.{le-leb, lt-ltb}
 use Rattle.words.specs.Answer.{Outcome, gives, refuses, pick}
 use Rattle.words.specs.Limits.{largest64}
+use Rattle.text.specs.Put.{put, came}
+use Rattle.text.proofs.Standing.{spelled}
 use Rattle.group.specs.declared.Group.{Group}
 use Rattle.group.specs.Judge.{judge}
 use Rattle.ride.specs.declared.Known.{Known}
@@ -19,10 +21,11 @@ use Rattle.ride.specs.Record.{Entry, checkRecord, odometerOf}
 use Rattle.ride.specs.Joining.{isBehind}
 use Rattle.ride.specs.Linking.{missedPlace}
 use Rattle.ride.specs.Closing.{Closing, lineOf, close, leave}
-use Rattle.ride.specs.Step.{Step, isMissed, missedLines, closeBehind, goOn, refuseOr, treat}
+use Rattle.ride.specs.State.{isOpen}
+use Rattle.ride.specs.Step.{Step, isMissed, missedLines, closeBehind, goOn, refuseOr, treat, end}
 use Rattle.ride_text.specs.Style.{Style}
 use Rattle.ride_text.specs.Text.{linesText}
-use Rattle.ride_text.specs.Told.{stepText}
+use Rattle.ride_text.specs.Told.{stepText, endText}
 use Rattle.ride_text.specs.List.{roomFor, isTaken, taken}
 use Rattle.ride_text.proofs.Longest.{half, halves, line-length}
 use Rattle.ride_text.proofs.Texts.{one-is, lines-join}
@@ -65,6 +68,17 @@ module _ (style : Style) where
           two-short (c .closed) (c .lines) (missedLines (e .odometer) (c .group) (c .known))
           (closing-short (c .closed) (ride .group) (ride .known) (isBehind gap (e .odometer) (ride .group)))
           (missed-short (c .closed) (isMissed (e .odometer) (c .group) (c .known)) (Line.Missed (missedPlace (c .known .linking))))
+
+  -- So has the end of a ride: one line at most.
+  pub end-short : (ride : Ride) → length (endText style ride) ≤ half style
+  unfolding endText end Short
+  end-short ride =
+      let c : Closing = pick (isOpen (ride .group)) (close (ride .group) (ride .known)) (leave (ride .group) (ride .known)) in
+      closing-short (c .closed) (ride .group) (ride .known) (isOpen (ride .group))
+
+  -- What `put_end` puts at the start of a buffer with the room of a record is the text of the end.
+  pub end-spelled : {x : List ℕ} {m : ℕ} (ride : Ride) (b : List ℕ) → roomFor style ≤ length b → came m x ≡ put (endText style ride) b 0 → take m x ≡ endText style ride
+  end-spelled ride b wide e = spelled b (endText style ride) (omega (arith, halves style, end-short ride)) e .0
 
   module _ (gaps : ℕ → ℕ) where
     -- what is taken of a record and those behind it, by what decides of the first

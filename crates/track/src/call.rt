@@ -9,26 +9,28 @@ pub struct Call {
     pub n: u32,
 }
 
-// What is asked for, or that the arguments are no call.
+// What is asked for; that the arguments are no call; or that one of them is wrong, which was said.
 pub enum Asked {
     For(Call),
-    Odd,
+    Usage,
+    Said,
 }
 
-// How many frames, or none.
+// How many frames; a number out of range; or no number, which was said.
 enum Frames {
     Is(u32),
-    Odd,
+    Usage,
+    Said,
 }
 
-// Argument k as a word.
-fn word(k: usize) -> Byte {
-    let mut text = io::buffer();
-    let length = os::arg(k, &mut text);
-    if os::errno() != 0 {
-        return Byte::Odd;
-    }
-    figures::hex(&text[..length])
+// Argument k, a sync word of this name; where it is none that is said.
+fn word(name: &[u8], k: usize) -> Byte {
+    let asked = console::word(k);
+    let Byte::Is(_) = asked else {
+        console::wrong(b"track", name, b"word of two hex digits", k);
+        return asked;
+    };
+    asked
 }
 
 // The frames to a decimetre: argument 4, 1 to 1,000; 1 if it is not given.
@@ -36,37 +38,47 @@ fn rate() -> Frames {
     if os::arg_count() == 4 {
         return Frames::Is(1);
     }
-    let mut text = io::buffer();
-    let length = os::arg(4, &mut text);
-    if os::errno() != 0 {
-        return Frames::Odd;
+    match console::number(4, 1000) {
+        Figure::Number(n) => in_range(n),
+        Figure::Above => Frames::Usage,
+        Figure::Odd => {
+            console::wrong(b"track", b"N", b"figure", 4);
+            Frames::Said
+        }
     }
-    let Figure::Number(n) = figures::decimal(&text[..length], 1000) else {
-        return Frames::Odd;
-    };
+}
+
+// A number of frames from 1 to 1,000.
+fn in_range(n: u64) -> Frames {
     if n > 1000 {
-        return Frames::Odd;
+        return Frames::Usage;
     }
     if n == 0 {
-        return Frames::Odd;
+        return Frames::Usage;
     }
     Frames::Is(n as u32)
+}
+
+// The call with this pair.
+fn with_pair(s: u8, t: u8) -> Asked {
+    match rate() {
+        Frames::Is(n) => Asked::For(Call { s, t, n }),
+        Frames::Usage => Asked::Usage,
+        Frames::Said => Asked::Said,
+    }
 }
 
 // The whole call.
 pub fn arguments() -> Asked {
     let count = os::arg_count();
     if (count != 4) & (count != 5) {
-        return Asked::Odd;
+        return Asked::Usage;
     }
-    let Byte::Is(s) = word(2) else {
-        return Asked::Odd;
+    let Byte::Is(s) = word(b"S", 2) else {
+        return Asked::Said;
     };
-    let Byte::Is(t) = word(3) else {
-        return Asked::Odd;
+    let Byte::Is(t) = word(b"S*", 3) else {
+        return Asked::Said;
     };
-    let Frames::Is(n) = rate() else {
-        return Asked::Odd;
-    };
-    Asked::For(Call { s, t, n })
+    with_pair(s, t)
 }

@@ -1,21 +1,14 @@
-// The text, block by block and line by line, gone over twice.
-ghost use Prim.Native.Nat.{_≤_};
-ghost use lib.ListN.{length};
+// The text, line by line, gone over twice.
 use crate::call::Call;
 use crate::saying;
 use crate::taking;
 use crate::taking::How;
 use crate::taking::Stand;
-use lines::Got;
-use lines::Reader;
+use console::Found;
+use libc::SEEK_SET;
+use lines::Line;
 use track_lead::Way;
-
-// A pass in the middle of a text: how it stands, the reader of its line, and whether that line has begun.
-struct Middle {
-    stand: Stand,
-    reader: Reader,
-    begun: bool,
-}
+use typed_lines::How as Came;
 
 // Whether a pass goes on.
 fn goes_on(how: How) -> bool {
@@ -31,122 +24,66 @@ fn goes_on(how: How) -> bool {
     }
 }
 
-// The lines of a block from a place on; what is left of the last one stays with the reader.
-fn block(middle: Middle, text: &[u8], from: usize, room: &mut [u8]) -> Middle {
-    let mut here = middle;
-    let mut i = from;
-    let mut turns = text.len();
-    while turns > 0 {
-        if (i >= text.len()) | !goes_on_with(here) {
-            return here;
-        }
-        let reader = here.reader;
-        let got = lines::next_line(reader, text, i);
-        i = got.next;
-        here = after_line(here, got, room);
-        turns -= 1;
-    }
-    here
-}
-
-// Whether the pass goes on.
-fn goes_on_with(middle: Middle) -> bool {
-    let stand = middle.stand;
-    let how = stand.how;
-    goes_on(how)
-}
-
-// After what a block gave of a line.
-fn after_line(middle: Middle, got: Got, room: &mut [u8]) -> Middle {
-    let stand = middle.stand;
-    let line = got.line;
-    let reader = got.reader;
-    Middle {
-        stand: taking::take_whole(stand, got.ends, line, room),
-        reader,
-        begun: !got.ends,
-    }
-}
-
-// The front of a buffer, so many bytes long, from a place on.
-fn front(middle: Middle, text: &[u8], count: usize, from: usize, room: &mut [u8]) -> Middle
-    requires { ⌜ count ≤ length (now text) ⌝ }
-{
-    block(middle, &text[..count], from, room)
-}
-
-// What stands after the last line end is a line too, unless it is empty.
-fn last(middle: Middle, room: &mut [u8]) -> Stand {
-    let stand = middle.stand;
-    let reader = middle.reader;
-    let how = stand.how;
-    if !middle.begun | !goes_on(how) {
-        return stand;
-    }
-    let got = lines::next_line(reader, b"", 0);
-    let line = got.line;
-    taking::take(stand, line, room)
-}
-
-// A pass over the open text, and whether all of it could be read.
+// A pass over the open text: how it stands, whether all of it could be read, and whether it is over.
 struct Passed {
     stand: Stand,
     is_read: bool,
+    is_over: bool,
+}
+
+// The pass after a line of this number, if it goes on.
+fn after_line(stand: Stand, line: Line, number: u64, room: &mut [u8]) -> Passed {
+    Passed {
+        stand: taking::take(stand, line, number, room),
+        is_read: true,
+        is_over: false,
+    }
+}
+
+// A pass that is over.
+fn over_with(stand: Stand, is_read: bool) -> Passed {
+    Passed {
+        stand,
+        is_read,
+        is_over: true,
+    }
+}
+
+// The pass after what came of the text.
+fn after(stand: Stand, came: Came, line: Line, number: u64, room: &mut [u8]) -> Passed {
+    match came {
+        Came::Line => after_line(stand, line, number, room),
+        Came::End => over_with(stand, true),
+        Came::CannotRead => over_with(stand, false),
+    }
 }
 
 // All lines of the open text. It counts its turns down from a number that no text uses up.
-fn over(fd: i32, stand: Stand, text: &mut [u8], room: &mut [u8]) -> Passed {
-    let mut middle = Middle {
-        stand,
-        reader: lines::fresh(),
-        begun: false,
-    };
-    let mut is_first = true;
+fn over(fd: i32, begun: Stand, text: &mut [u8], room: &mut [u8]) -> Passed {
+    let mut pass = typed_lines::begin(fd);
+    let mut stand = begun;
     let mut turns = u64::MAX;
     while turns > 0 {
-        let got = console::fill(fd, text);
-        if got.failed {
-            let stand = middle.stand;
-            return Passed {
-                stand,
-                is_read: false,
-            };
+        let next = typed_lines::next(pass, text);
+        pass = next.pass;
+        let came = next.how;
+        let line = next.line;
+        let passed = after(stand, came, line, next.number, room);
+        if passed.is_over {
+            return passed;
         }
-        let count = got.count;
-        if count == 0 {
-            return Passed {
-                stand: last(middle, room),
-                is_read: true,
-            };
+        stand = passed.stand;
+        if !is_well(stand) {
+            return over_with(stand, true);
         }
-        middle = front(middle, text, count, from(is_first, text), room);
-        is_first = false;
         turns -= 1;
     }
-    let stand = middle.stand;
-    Passed {
-        stand,
-        is_read: false,
-    }
+    over_with(stand, false)
 }
 
-// Where a block's text begins: the first may have a byte order mark.
-fn from(is_first: bool, text: &[u8]) -> usize {
-    if is_first {
-        return lines::begin(text);
-    }
-    0
-}
-
-// One pass over the text that argument 1 names; what was wrong is said.
-fn pass(stand: Stand, text: &mut [u8], room: &mut [u8]) -> Stand {
-    let fd = console::open_card(1);
-    if fd < 0 {
-        console::cannot_open(b"track", 1);
-        return with_failure(stand);
-    }
+// One pass over the open text that argument 1 names; what was wrong is said.
+fn pass(fd: i32, stand: Stand, text: &mut [u8], room: &mut [u8]) -> Stand {
     let passed = over(fd, stand, text, room);
-    libc::close(fd);
     let after = passed.stand;
     if !passed.is_read {
         console::cannot_read(b"track", 1);
@@ -199,17 +136,32 @@ fn finish(stand: Stand, room: &mut [u8]) {
 }
 
 // The second pass: the frames.
-fn feed(call: Call, way: Way, text: &mut [u8], room: &mut [u8]) {
-    let written = pass(begun(call, way, true), text, room);
+fn feed(fd: i32, call: Call, way: Way, text: &mut [u8], room: &mut [u8]) {
+    let written = pass(fd, begun(call, way, true), text, room);
     finish(written, room);
 }
 
 // Once for what is refused, once for the frames.
-pub fn twice(call: Call, text: &mut [u8], room: &mut [u8]) {
-    let judged = pass(begun(call, track_lead::fresh(), false), text, room);
+fn over_twice(fd: i32, call: Call, text: &mut [u8], room: &mut [u8]) {
+    let judged = pass(fd, begun(call, track_lead::fresh(), false), text, room);
     if !is_well(judged) {
         return;
     }
+    if libc::lseek(fd, 0, SEEK_SET) != 0 {
+        console::say_found(b"track", Found::Once(1));
+        return;
+    }
     let way = judged.way;
-    feed(call, way, text, room);
+    feed(fd, call, way, text, room);
+}
+
+// The text that argument 1 names.
+pub fn twice(call: Call, text: &mut [u8], room: &mut [u8]) {
+    let fd = console::open_card(1);
+    if fd < 0 {
+        console::cannot_open(b"track", 1);
+        return;
+    }
+    over_twice(fd, call, text, room);
+    libc::close(fd);
 }

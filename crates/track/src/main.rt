@@ -34,6 +34,7 @@ fn main() {
     }
     match call::arguments() {
         Asked::For(call) => answer(call),
-        Asked::Odd => console::usage(b"track", b"track FILE S S* [N]"),
+        Asked::Usage => console::usage(b"track", b"track FILE S S* [N]"),
+        Asked::Said => {}
     }
 }

@@ -20,7 +20,7 @@ pub enum How {
     CannotWrite,
 }
 
-// A pass over the text: whether it writes (the second does), how many lines came, the way, the feed, and how it stands.
+// A pass over the text: whether it writes (the second does), the number of its line, the way, the feed, and how it stands.
 pub struct Stand {
     pub writes: bool,
     pub lines: u64,
@@ -104,31 +104,23 @@ fn judge(stand: Stand, place: u32, thing: Thing) -> Stand {
     }
 }
 
-// The pass with one line more counted.
-fn counted(stand: Stand) -> Stand {
+// The pass at the line with this number.
+fn at_line(stand: Stand, number: u64) -> Stand {
     let way = stand.way;
     let feed = stand.feed;
     let how = stand.how;
     Stand {
         writes: stand.writes,
-        lines: std::num::wrapping_add_u64(stand.lines, 1),
+        lines: number,
         way,
         feed,
         how,
     }
 }
 
-// The pass after a line that ends; else as it was.
-pub fn take_whole(stand: Stand, ends: bool, line: Line, room: &mut [u8]) -> Stand {
-    if ends {
-        return take(stand, line, room);
-    }
-    stand
-}
-
 // The pass after a line.
-pub fn take(before: Stand, line: Line, room: &mut [u8]) -> Stand {
-    let stand = counted(before);
+pub fn take(before: Stand, line: Line, number: u64, room: &mut [u8]) -> Stand {
+    let stand = at_line(before, number);
     match track_text::read(line) {
         Entry::Nothing => stand,
         Entry::At { place, thing } => {

@@ -11,3 +11,4 @@ pub mod Writing
 pub mod ByCalls
 pub mod WayMet
 pub mod WayRecorded
+pub mod Demand1

@@ -20,6 +20,7 @@ const FILE: usize = 1;
 fn is_well(program: &[u8], done: Done) -> bool {
     let how = done.how;
     match how {
+        How::On => {}
         How::Whole => {}
         How::CannotRead => {
             console::cannot_read(program, FILE);

@@ -10,19 +10,21 @@ use lib.ListN.{length, take, drop, length-append, length-drop}
 use Rattle.words.specs.Answer.{pick}
 use Rattle.words.specs.Limits.{largest64}
 use Rattle.ride.specs.State.{freshRide}
-use Rattle.ride.specs.Step.{End, end}
+use Rattle.ride.specs.Step.{end}
 use Rattle.ride.specs.Over.{firstRecords, records, Ridden, before, rideOver}
-use Rattle.ride.specs.Says.{saysLines}
-use Rattle.ride.specs.declared.Ended.{Ended}
 use Rattle.ride.specs.declared.Line.{Line}
 use Rattle.ride.specs.declared.Ride.{Ride}
 use Rattle.ride.proofs.Cutting.{records-length, take-records, front-records, cut-records}
 use Rattle.ride.proofs.Sections.{ride-on, ride-joined}
+use Rattle.text.specs.Put as texts
+use Rattle.ride_text.specs.Style.{plain}
 use Rattle.ride_text.specs.Text.{text, textOf}
+use Rattle.ride_text.specs.Told.{endText}
 use Rattle.ride_text.specs.declared.Listed.{Listed}
-use Rattle.ride_text.proofs.Texts.{text-join}
+use Rattle.ride_text.proofs.Texts.{text-join, plain-is}
+use Rattle.ride_text.proofs.Taken.{end-spelled}
 use Rattle.demands.specs.Table.{badLength}
-use Rattle.demands.specs.Contracts.{Fresh, EndOf}
+use Rattle.demands.specs.Contracts.{Fresh, PutEnd}
 use Rattle.demands.specs.Output.{recordsIn, Takes}
 use Rattle.demands.specs.Sections.{Whole, Call, taken, bytesOf, Lent, ByCalls, textFrom, afterCalls, numberAfter, joined, anyBad, outputBy}
 use Rattle.demands.proofs.Beside.Cards.{eights, whole-join}
@@ -181,15 +183,18 @@ module _ (gaps : ℕ → ℕ) (Lists : Ride → ℕ → List ℕ → List ℕ �
       let t = takes ride number (c .block) (c .before) (c .answer) (c .after) whole call in
       ap taken (t .took) ∙ t .all-with-room room small
 
-  pub program-by : (f : Ride) (cards : List (List ℕ)) (calls : List Call) (e : Ended) → anyBad cards ≡ false → Fresh f
-      → ByCalls Lists f 1 (joined cards) calls → EndOf (afterCalls f calls) e → textFrom calls ++ textOf (saysLines (e .lines)) ≡ outputBy gaps cards
-  unfolding outputBy
-  program-by f cards calls e good fresh c ended =
+  pub program-by : (f : Ride) (cards : List (List ℕ)) (calls : List Call) (room : List ℕ) (n : ℕ) (after : List ℕ) → anyBad cards ≡ false → Fresh f
+      → ByCalls Lists f 1 (joined cards) calls → 128 ≤ length room → PutEnd plain (afterCalls f calls) room 0 n after → textFrom calls ++ take n after ≡ outputBy gaps cards
+  unfolding outputBy endText
+  program-by f cards calls room n after good fresh c wide ended =
       let came = comes f 1 (joined cards) calls c in
       let all : Ridden = rideOver gaps freshRide 1 (records (joined cards)) in
-      let ride-is : afterCalls f calls ≡ all .ride = came .after ∙ ap (λ (r : Ride). rideOver gaps r 1 (records (joined cards)) .ride) (fresh .1) in
-      let lines : saysLines (e .lines) ≡ end (all .ride) .lines = ap (λ (v : End). v .lines) (ended .1) ∙ ap (λ (r : Ride). end r .lines) ride-is in
-      ap₂ (λ (t : List ℕ) (l : List Line). t ++ textOf l)
-      (came .text ∙ ap (λ (r : Ride). textOf (rideOver gaps r 1 (records (joined cards)) .lines)) (fresh .1)) lines
+      let last : Ride = afterCalls f calls in
+      let ride-is : last ≡ all .ride = came .after ∙ ap (λ (r : Ride). rideOver gaps r 1 (records (joined cards)) .ride) (fresh .1) in
+      let says : texts.came n after ≡ texts.put (endText plain last) room 0 =
+      ap (texts.came n) (sym (ended .4)) ∙ ended .5 ∙ ap (λ (b : List ℕ). texts.put (endText plain last) b 0) (ended .3) in
+      let written : take n after ≡ textOf (end (all .ride) .lines) =
+      end-spelled plain last room wide says ∙ plain-is (end last .closed) (end last .lines) ∙ ap (λ (r : Ride). textOf (end r .lines)) ride-is in
+      ap₂ _++_ (came .text ∙ ap (λ (r : Ride). textOf (rideOver gaps r 1 (records (joined cards)) .lines)) (fresh .1)) written
       ∙ sym (text-join (all .lines) (end (all .ride) .lines))
       ∙ ap (λ (b : Bool). pick b (text (Line.Trace 16)) (textOf (all .lines ++ end (all .ride) .lines))) (sym good)

@@ -37,9 +37,9 @@ one-more k = go (ltb k 255) refl (ltb (suc k) 255) refl
     go false e false f = refl
 
 -- A balise that is taken up is counted on from the open group, or from nothing.
-taken-up : (g : Group) (odometer : ℕ) (passed : Passed) (heard : Heard) → passed ≡ Passed.Balise heard → takeUp g odometer passed .count ≡ counted (pick (isOpen g) g noGroup .count)
+taken-up : (g : Group) (odometer : ℕ) (what : Passed) (heard : Heard) → what ≡ Passed.Balise heard → takeUp g odometer what .count ≡ counted (pick (isOpen g) g noGroup .count)
 unfolding takeUp join
-taken-up g odometer passed heard e = ap (λ (p : Passed). takeUp g odometer p .count) e
+taken-up g odometer what heard e = ap (λ (p : Passed). takeUp g odometer p .count) e
 
 counts : (k : ℕ) (ride : Ride) → Joined k ride → ride .group .count ≡ upTo255 k
 unfolding noGroup takeUp

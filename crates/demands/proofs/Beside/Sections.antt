@@ -51,7 +51,7 @@ blocks = record {
   whole = λ ride store number trace calls good c. let e = comes (gapAt store) (Lists store) (takes store good) ride number trace calls c in (e .text, e .after, e .next);
   goes-on = λ ride store number c good. goes-on-by (gapAt store) (Lists store) (takes store good) ride number c;
   all-at-once = λ ride store number c good. at-once-by (gapAt store) (Lists store) (takes store good) ride number c;
-  program = λ store f cards calls e good. program-by (gapAt store) (Lists store) (takes store good) f cards calls e;
+  program = λ store f cards calls before n after good. program-by (gapAt store) (Lists store) (takes store good) f cards calls before n after;
   forty = λ store cards f. let gap = forty-so store f in (gap .0, ap (λ (gaps : ℕ → ℕ). outputBy gaps cards) (gap .1));
   one-card = one-card-so;
 }

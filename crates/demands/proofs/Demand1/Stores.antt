@@ -30,12 +30,12 @@ no-more : (o : Outcome Kept) → then o (λ k. gives kept) ≡ o
 no-more (gives kept) = refl
 no-more (refuses n) = refl
 
-begin-so : (gap s t : ℕ) → Decided (Is kept) (settingsRules (firstOf gap s t) []) (settingsOf gap s t)
+pub begin-so : (gap s t : ℕ) → Decided (Is kept) (settingsRules (firstOf gap s t) []) (settingsOf gap s t)
 begin-so gap s t =
     subst (λ (o : Outcome Kept). Decided (Is kept) (settingsRules (firstOf gap s t) []) o) (no-more (settingsOf gap s t))
     (settings-so (Is kept) [] (firstOf gap s t) (λ k. gives kept) refl)
 
-add-so : (store : Store) (v : Version) → Decided (Is kept) (storeRules store (versionRules (lastPlace store) v (row 25 (full (store .count)) ∷ []))) (mayAdd store v)
+pub add-so : (store : Store) (v : Version) → Decided (Is kept) (storeRules store (versionRules (lastPlace store) v (row 25 (full (store .count)) ∷ []))) (mayAdd store v)
 unfolding mayAdd full
 add-so store v =
     store-so (Is kept) (λ k. then (follows (lastPlace store) v) λ j. pick (ltb (store .count) 32) (gives kept) (refuses 25))
@@ -69,11 +69,11 @@ judge-so store odometer b start len =
     (store-so (JudgeReads b start len (h .s) (h .t)) (λ k. pick (ltb highest odometer) (refuses 18) (read h)) (row 18 (tooHigh odometer) ∷ judgeRules b start len (h .s) (h .t)) store
     (if-so (JudgeReads b start len (h .s) (h .t)) (judgeRules b start len (h .s) (h .t)) (refuses 18) (read h) (judging b start len (h .s) (h .t)) (ltb highest odometer)))
 
-opened-answer : (v : Version) (o : Outcome Kept) → openedIf v o .answer ≡ o
+pub opened-answer : (v : Version) (o : Outcome Kept) → openedIf v o .answer ≡ o
 opened-answer v (gives k) = refl
 opened-answer v (refuses n) = refl
 
-added-answer : (store : Store) (v : Version) (o : Outcome Kept) → addedIf store v o .answer ≡ o
+pub added-answer : (store : Store) (v : Version) (o : Outcome Kept) → addedIf store v o .answer ≡ o
 added-answer store v (gives k) = refl
 added-answer store v (refuses n) = refl
 

@@ -120,11 +120,11 @@ alone-met = (
 -- ---- the second record of document 01's ride: the group stays open, and the balise joins it
 
 -- "00000406 00 99 2B 4D"
-abbrev second : List ℕ
+abbrev pub second : List ℕ
 second = 0x00 ∷ 0x00 ∷ 0x04 ∷ 0x06 ∷ 0x00 ∷ 0x99 ∷ 0x2B ∷ 0x4D ∷ []
 
 -- its step
-abbrev joinsStep : OneStep
+abbrev pub joinsStep : OneStep
 joinsStep =
     record {
       ride =
@@ -140,7 +140,7 @@ joinsStep =
       answer = record { ride = record { odometer = 1030; group = itsGroup; known = nothingKnown }; closed = noGroup; report = Report.Lines Lines.None };
     }
 
-joins-met : StaysOpen joinsStep
+pub joins-met : StaysOpen joinsStep
 unfolding odometerOf passedOf inOrder checkRecord noGroup nothingKnown leave closeBehind missedLines afterMissed goOn treat step join takeUp badGap
 joins-met =
     record {

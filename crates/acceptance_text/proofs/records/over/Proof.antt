@@ -20,7 +20,7 @@ use Rattle.ride.proofs.At.{Took, took, past}
 use Rattle.ride.proofs.Under.{alone, Turning, turning-first, spared, looked}
 use Rattle.acceptance_text.specs.Taking.{started, takeAll}
 use Rattle.acceptance_text.specs.Inside.{writes, written}
-use Rattle.acceptance_text.proofs.Turns.{OnTheWay, sets-out, same-length as length-stays, goes-on, comes-to, comes-to-end, in-pieces, quiet}
+use Rattle.acceptance_text.proofs.Way.{OnTheWay, sets-out, same-length as length-stays, goes-on, comes-to, comes-to-end, in-pieces, quiet}
 use Rattle.acceptance_text.proofs.records.over.Statement.{statement}
 use Rattle.acceptance_text.proofs.records.over.Tie as tie
 

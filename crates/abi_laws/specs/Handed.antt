@@ -1,0 +1,22 @@
+-- What `atc2_find` and `atc2_judge` hand out in `out`: the telegram that the stretch reads, as one number, and where.
+-- Assumes nothing.
+use Prim.Native.Nat.{ℕ}
+use mathlib.Core.Path.{_≡_}
+use mathlib.Core.List.{List}
+use lib.IntN.{ℤ, pos}
+use Rattle.words.specs.Answer.{gives}
+use Rattle.telegram.specs.Place.{Single}
+use Rattle.telegram.specs.Place as place
+use Rattle.contact.specs.Judge.{Contact}
+use Rattle.contact.specs.Judge as contact
+use Rattle.abi.specs.Face.{foundPut}
+use Rattle.abi.specs.Contacts.{judgedNumber, judgedPut}
+use Rattle.abi_laws.specs.Calls.{Find, Judge}
+
+pub record HandedOut : Type 0 where
+  -- where the stretch has a place, 0 is returned, and `out` is the first one and its telegram
+  pub find : (b : List ℕ) (start len s t : ℕ) (before : List ℕ) (r : ℤ) (after : List ℕ) (x : Single) → Find b start len s t before r after
+      → place.find b start len s t ≡ gives x → (r ≡ pos 0) × (after ≡ foundPut x before)
+  -- where a contact is read, 1 is returned, and `out` is its telegram, the first place and the number of places; for a marker 2, and `out` as it was
+  pub judge : (b : List ℕ) (start len s t : ℕ) (before : List ℕ) (r : ℤ) (after : List ℕ) (x : Contact) → Judge b start len s t before r after
+      → contact.judge b start len s t ≡ gives x → (r ≡ pos (judgedNumber x)) × (after ≡ judgedPut x before)

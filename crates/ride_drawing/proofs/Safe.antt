@@ -1,0 +1,188 @@
+-- No title needs an escape: a line is made of words that have none of the marks, and of digits.
+-- Assumes nothing.
+use mathlib.Core.Path.{_≡_, refl, sym, ap, _∙_}
+use mathlib.Core.Bool.{Bool, true, false, _&&_}
+use mathlib.Core.List.{List, [], _∷_, _++_}
+use Prim.Native.String.{String}
+use Prim.Native.Nat.{ℕ, zero, suc, _+_, _-_, _/_, _%_, _<_}
+use native.Mathlib.Omega.{arith}
+use lib.Dec.{eqb, ltb}
+use lib.ListN.{length, take}
+use borrow.Author.Tests.{ltb-true, ne-eqb}
+use Rattle.words.specs.Answer.{pick}
+use Rattle.words.specs.declared.Parity.{Parity}
+use Rattle.text.specs.Text.{codes, digit, digits, decimal}
+use Rattle.telegram.specs.declared.Word.{Word}
+use Rattle.group_rows.specs.declared.Direction.{Direction}
+use Rattle.group_rows.specs.declared.Kind.{Kind}
+use Rattle.group.specs.declared.Number.{Number}
+use Rattle.group.specs.declared.Group.{Group}
+use Rattle.ride.specs.declared.Mark.{Mark}
+use Rattle.ride.specs.declared.Seen.{Seen}
+use Rattle.ride.specs.declared.Line.{Line}
+use Rattle.ride_text.specs.Style.{withReasons}
+use Rattle.ride_text.specs.Text.{between, kind, mark, number, seen, textWith, whyText, lineText}
+use Rattle.words.proofs.Linear.{and-parts}
+use Rattle.words.specs.Why.{Why, why, are, unsaid}
+use Rattle.telegram.specs.Telegram.{badWord}
+use Rattle.group_reason.specs.Reason.{Bad, unreadable, word, balises, bad, opens, figure, Explained, noReason, because}
+use Rattle.group_reason.specs.Explain.{explain}
+use Rattle.group_reason.specs.Text.{letter, refusedAs, badly, baliseAt, soMany, reasonText}
+use Rattle.ride_drawing.specs.Sign.{title}
+use Rattle.ride_drawing.specs.Laws.{isSafe, areSafe, NoEscape}
+
+-- A text that needs no escape.
+record Safe (t : List ℕ) : Type 0 where
+  is : areSafe t ≡ true
+
+more : (c : ℕ) (cs : List ℕ) → isSafe c ≡ true → areSafe cs ≡ true → areSafe (c ∷ cs) ≡ true
+unfolding areSafe
+more c cs e f = ap (λ (b : Bool). b && areSafe cs) e ∙ f
+
+joined : (s t : List ℕ) → areSafe s ≡ true → areSafe t ≡ true → areSafe (s ++ t) ≡ true
+unfolding areSafe
+joined [] t e f = f
+joined (c ∷ s) t e f =
+    let parts = and-parts (isSafe c) (areSafe s) e in
+    more c (s ++ t) (parts .0) (joined s t (parts .1) f)
+
+join : {s t : List ℕ} → Safe s → Safe t → Safe (s ++ t)
+join {s} {t} e f = record { is = joined s t (e .is) (f .is) }
+
+words : (s : String) → areSafe (codes s) ≡ true → Safe (codes s)
+words s e = record { is = e }
+
+cut : (k : ℕ) (t : List ℕ) → areSafe t ≡ true → areSafe (take k t) ≡ true
+unfolding areSafe
+cut zero t e = refl
+cut (suc k) [] e = refl
+cut (suc k) (c ∷ t) e =
+    let parts = and-parts (isSafe c) (areSafe t) e in
+    more c (take k t) (parts .0) (cut k t (parts .1))
+
+-- ---- digits
+
+digit-safe : (d : ℕ) → d < 10 → isSafe (digit d) ≡ true
+digit-safe d h =
+    let a : eqb (digit d) 60 ≡ false = ne-eqb (digit d) 60 (λ e. omega arith) in
+    let b : eqb (digit d) 38 ≡ false = ne-eqb (digit d) 38 (λ e. omega arith) in
+    let c : eqb (digit d) 34 ≡ false = ne-eqb (digit d) 34 (λ e. omega arith) in
+    let f : eqb (digit d) 39 ≡ false = ne-eqb (digit d) 39 (λ e. omega arith) in
+    simp (a, b, c, f)
+
+one-safe : (d : ℕ) → d < 10 → Safe (digit d ∷ [])
+unfolding areSafe
+one-safe d h = record { is = more (digit d) [] (digit-safe d h) refl }
+
+digits-by : (s : List ℕ) (n : ℕ) (b : Bool) → ltb n 10 ≡ b → Safe s → Safe (pick b (digit n ∷ []) (s ++ (digit (n % 10) ∷ [])))
+digits-by s n true e f = one-safe n (ltb-true n 10 e)
+digits-by s n false e f = join f (one-safe (n % 10) (omega arith))
+
+digits-safe : (most n : ℕ) → Safe (digits most n)
+unfolding digits areSafe
+digits-safe zero n = record { is = refl }
+digits-safe (suc most) n = digits-by (digits most (n / 10)) n (ltb n 10) refl (digits-safe most (n / 10))
+
+number-of : (n : ℕ) → Safe (decimal n)
+unfolding decimal
+number-of n = digits-safe 20 n
+
+-- ---- groups
+
+between-safe : (d : Direction) → Safe (between d)
+unfolding areSafe
+between-safe Direction.Present = record { is = refl }
+between-safe Direction.Opposite = record { is = refl }
+
+kind-safe : (k : Kind) → Safe (kind k)
+unfolding areSafe
+kind-safe Kind.Signal = record { is = refl }
+kind-safe Kind.Warning = record { is = refl }
+kind-safe Kind.Annulled = record { is = refl }
+kind-safe Kind.Line = record { is = refl }
+kind-safe Kind.Route = record { is = refl }
+
+mark-safe : (m : Mark) → Safe (mark m)
+unfolding areSafe
+mark-safe Mark.Unmarked = record { is = refl }
+mark-safe Mark.First = record { is = refl }
+mark-safe Mark.Early = record { is = refl }
+mark-safe Mark.Good = record { is = refl }
+mark-safe Mark.Late = record { is = refl }
+
+number-safe : (n : Number) → Safe (number n)
+unfolding areSafe
+number-safe Number.None = record { is = refl }
+number-safe (Number.Figure m) = join (words " n" refl) (digits-safe 5 m)
+
+seen-safe : (s : Seen) → Safe (seen s)
+unfolding seen areSafe
+seen-safe s =
+    join (join (join (join (join (number-of (s .place)) (between-safe (s .direction))) (kind-safe (s .kind))) (mark-safe (s .mark))) (number-safe (s .number))) (words "\n" refl)
+
+-- ---- reasons
+
+letter-safe : (w : Word) → Safe (letter w)
+unfolding letter areSafe
+letter-safe Word.X = record { is = refl }
+letter-safe Word.Y = record { is = refl }
+letter-safe Word.Z = record { is = refl }
+letter-safe Word.YZ = record { is = refl }
+
+refused-safe : (y : Why) → Safe (refusedAs y)
+unfolding refusedAs areSafe
+refused-safe (why n (are Parity.Odd)) = join (join (words " refused " refl) (number-of n)) (words " odd" refl)
+refused-safe (why n (are Parity.Even)) = join (join (words " refused " refl) (number-of n)) (words " even" refl)
+refused-safe (why n unsaid) = join (words " refused " refl) (number-of n)
+
+badly-safe : (b : Bad) → Safe (badly b)
+unfolding badly areSafe
+badly-safe unreadable = words " unreadable" refl
+badly-safe (word (badWord w y)) = join (letter-safe w) (refused-safe y)
+
+balise-safe : (i place : ℕ) → Safe (baliseAt i place)
+unfolding baliseAt areSafe
+balise-safe i place = join (join (join (words "balise " refl) (number-of (i + 1))) (words " at " refl)) (number-of place)
+
+many-by : (n : ℕ) (b : Bool) → Safe (pick b (codes "255 or more balises") (decimal n ++ codes " balises"))
+unfolding areSafe
+many-by n true = words "255 or more balises" refl
+many-by n false = join (number-of n) (words " balises" refl)
+
+many-safe : (n : ℕ) → Safe (soMany n)
+unfolding soMany
+many-safe n = many-by n (eqb n 255)
+
+few-by : (k : ℕ) (b : Bool) → Safe (pick b (decimal k ++ codes " balise") (soMany k))
+unfolding areSafe
+few-by k true = join (number-of k) (words " balise" refl)
+few-by k false = many-safe k
+
+reason-safe : (r : Explained) → Safe (reasonText r)
+unfolding reasonText areSafe
+reason-safe noReason = record { is = refl }
+reason-safe (because n (balises k)) = few-by k (eqb n 10)
+reason-safe (because n (bad i place b)) = join (balise-safe i place) (badly-safe b)
+reason-safe (because n (opens run k)) = join (join (join (number-of run) (words " of " refl)) (number-of k)) (words " balises open a permitted group" refl)
+reason-safe (because n (figure i place)) = balise-safe i place
+
+why-safe : (g : Group) → Safe (whyText g)
+unfolding whyText areSafe
+why-safe g = join (words ": " refl) (reason-safe (explain g))
+
+-- ---- lines
+
+line-safe : (reason : List ℕ) (l : Line) → Safe reason → Safe (textWith reason l)
+unfolding textWith areSafe
+line-safe reason (Line.Group s) e = seen-safe s
+line-safe reason (Line.Fault place n) e = join (join (join (join (number-of place) (words " fault " refl)) (number-of n)) e) (words "\n" refl)
+line-safe reason (Line.Missed place) e = join (number-of place) (words " missed\n" refl)
+line-safe reason (Line.Record number n) e = join (join (join (join (words "record " refl) (number-of number)) (words " refused " refl)) (number-of n)) (words "\n" refl)
+line-safe reason (Line.Trace n) e = join (join (words "trace refused " refl) (number-of n)) (words "\n" refl)
+
+title-safe : (g : Group) (l : Line) → areSafe (title g l) ≡ true
+unfolding title
+title-safe g l = cut (length (lineText withReasons g l) - 1) (lineText withReasons g l) (line-safe (whyText g) l (why-safe g) .is)
+
+pub no-escape : NoEscape
+no-escape = record { titles = title-safe }

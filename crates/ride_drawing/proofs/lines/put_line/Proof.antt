@@ -1,0 +1,36 @@
+-- The way there, what was known up to it, and the sign.
+-- Assumes nothing.
+use mathlib.Core.Path.{ap, _∙_}
+use Prim.Native.Nat.{ℕ}
+use Rattle.ride_drawing.proofs.Putting.{none, after, all-as}
+use Rattle.ride_drawing.specs.Drawing.{reached, onItsStrip}
+use Rattle.ride_drawing.specs.Sign.{sign}
+use Rattle.ride_drawing.specs.Span.{span}
+use Rattle.ride_drawing.specs.Strip.{arrive}
+use Rattle.ride_drawing.specs.declared.Pen.{Pen}
+use borrow.Author.Needs.{needs}
+use Rattle.ride_drawing.proofs.lines.put_line.Statement.{statement}
+use Rattle.ride_drawing.proofs.lines.put_line.Tie as tie
+
+returns : tie.Need-returns
+unfolding onItsStrip
+returns c =
+    let p1 = c .before .before in
+    let p2 = p1 .before .before .before .before in
+    let p3 = p2 .before .before in
+    let p4 = p3 .before .before .before in
+    let p5 = p4 .before .before in
+    let a = p5 .before .before .args in
+    after _ _ _ _ (p4 .put-way .ensures)
+    (after _ _ _ _
+    (all-as _ _
+    (ap (λ (v : ℕ). span (p5 .arrive .result .edge) (p5 .arrive .result .from) v (a .known)) (p3 .reached .ensures)
+    ∙ ap (λ (t : Pen). span (t .edge) (t .from) (reached t (a .line) (a .place)) (a .known)) (p5 .arrive .ensures))
+    (p2 .put-span .ensures))
+    (after _ _ _ _ (all-as _ _ (ap (λ (t : Pen). sign (a .closed) (a .line) (t .edge) (a .place)) (p5 .arrive .ensures)) (p1 .put-sign .ensures)) (none _ _)))
+
+pub put-line-spec : {M : Type 1} → statement M
+put-line-spec =
+    tie.close
+    (tie.spec
+    (λ c κs. search needs) (λ c κs. search needs) (λ c κs. search needs) (λ c κs. search needs) (λ c κs. search needs) (λ c. search needs) returns)

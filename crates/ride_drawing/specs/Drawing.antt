@@ -1,0 +1,184 @@
+-- The drawing of a ride: what each record adds to the page, and where the pen stands then.
+-- Assumes nothing.
+use Prim.Native.Nat.{ℕ, suc, _+_, _-_, _/_}
+use mathlib.Core.Bool.{Bool, true, false, not}
+use mathlib.Core.List.{List, [], _∷_, _++_}
+use lib.Dec.{leb, ltb}
+use Rattle.words.specs.Answer.{Outcome, gives, refuses, pick}
+use Rattle.words.specs.Limits.{largest64}
+use Rattle.text.specs.Text.{codes}
+use Rattle.text.specs.Put.{Put}
+use Rattle.settings.specs.declared.Store.{Store}
+use Rattle.settings.specs.declared.Held.{Held}
+use Rattle.settings.specs.At.{heldFor}
+use Rattle.group_rows.specs.declared.Direction.{Direction}
+use Rattle.group_rows.specs.declared.Kind.{Kind}
+use Rattle.group.specs.declared.Group.{Group}
+use Rattle.ride.specs.declared.Seen.{Seen}
+use Rattle.ride.specs.declared.Known.{Known}
+use Rattle.ride.specs.declared.Line.{Line}
+use Rattle.ride.specs.declared.Ride.{Ride}
+use Rattle.ride.specs.State.{isOpen}
+use Rattle.ride.specs.Closing.{firstPlace}
+use Rattle.ride.specs.Step.{Step, end}
+use Rattle.ride.specs.Over.{linesFor}
+use Rattle.ride.specs.At.{odometerAt, Standing, noRecord, treated, Treatment, treatAt}
+use Rattle.ride_drawing.specs.declared.Pen.{Pen}
+use Rattle.ride_drawing.specs.declared.Drawing.{Drawing}
+use Rattle.ride_drawing.specs.Pieces.{puts}
+use Rattle.ride_drawing.specs.Strip.{greater, isFurther, arrive, heading, closing, between}
+use Rattle.ride_drawing.specs.Span.{span}
+use Rattle.ride_drawing.specs.Sign.{sign}
+
+-- What stands in a page: text that is no sign, or the sign of a line, where this group closed, on the strip with this edge at this place.
+pub data Element : Type 0 where
+  plain : List (List ℕ) → Element
+  mark : Group → Line → ℕ → ℕ → Element
+
+-- An element's pieces of text.
+abbrev pub piecesOf : Element → List (List ℕ)
+piecesOf (plain pieces) = pieces
+piecesOf (mark closed line edge place) = sign closed line edge place
+
+-- The pieces of some elements.
+abbrev pub pieces : List Element → List (List ℕ)
+pieces [] = []
+pieces (e ∷ es) = piecesOf e ++ pieces es
+
+-- ---- from strip to strip
+
+-- Before the first strip ends the row of records refused before any accepted one; before any other, what is known is drawn up to the place
+-- `until`, and the kilometres without a strip are told.
+unfoldable pub leaving : Pen → ℕ → ℕ → Known → List (List ℕ)
+leaving pen place until known =
+    pick (pen .is_open)
+    (span (pen .edge) (pen .from) until known ++ closing ∷ between (place / 10000 - pen .edge / 10000))
+    (codes "</p>\n" ∷ [])
+
+-- The way of the pen to a place: nothing on its own strip, or the end of that and the head of the place's.
+unfoldable pub way : Pen → ℕ → ℕ → Known → List (List ℕ)
+way pen place until known = pick (isFurther pen place) (leaving pen place until known ++ heading (place / 10000)) []
+
+-- ---- a line
+
+-- The place of a line's sign: its own; a refused record stands at the last accepted odometer.
+abbrev pub placeOf : Line → ℕ → ℕ
+placeOf (Line.Group s) odometer = s .place
+placeOf (Line.Fault place n) odometer = place
+placeOf (Line.Missed place) odometer = place
+placeOf (Line.Record number n) odometer = odometer
+placeOf (Line.Trace n) odometer = odometer
+
+-- Whether a signal turns what is known: a present one does.
+abbrev pub seenTurns : Direction → Kind → Bool
+seenTurns Direction.Present Kind.Signal = true
+seenTurns Direction.Present Kind.Warning = false
+seenTurns Direction.Present Kind.Annulled = false
+seenTurns Direction.Present Kind.Line = false
+seenTurns Direction.Present Kind.Route = false
+seenTurns Direction.Opposite kind = false
+
+-- Whether a line turns what is known: a present signal, a refused group and a missed signal do.
+abbrev pub turns : Line → Bool
+turns (Line.Group s) = seenTurns (s .direction) (s .kind)
+turns (Line.Fault place n) = true
+turns (Line.Missed place) = true
+turns (Line.Record number n) = false
+turns (Line.Trace n) = false
+
+-- Up to where what was known before a line is drawn at its sign.
+abbrev pub reached : Pen → Line → ℕ → ℕ
+reached pen line place = pick (turns line) (greater (pen .from) place) (pen .from)
+
+-- The pen after the sign of a line.
+unfoldable pub afterLine : Pen → Line → ℕ → Pen
+afterLine pen line odometer =
+    let there : Pen = arrive pen (placeOf line odometer) (placeOf line odometer) in
+    record { edge = there .edge; from = reached there line (placeOf line odometer); is_open = there .is_open }
+
+-- A line on the strip of its place, or on the pen's where that is further: the way there, what was known up to its place, its sign.
+unfoldable pub onItsStrip : Pen → Known → Group → Line → ℕ → List Element
+onItsStrip pen known closed line place =
+    let there : Pen = arrive pen place place in
+    plain (way pen place place known)
+    ∷ plain (span (there .edge) (there .from) (reached there line place) known)
+    ∷ mark closed line (there .edge) place
+    ∷ []
+
+-- Lines in order, with what was known before the first and before the others.
+unfoldable pub drawLines : Pen → Known → Known → Group → List Line → ℕ → List Element
+drawLines pen known then closed [] odometer = []
+drawLines pen known then closed (l ∷ ls) odometer =
+    onItsStrip pen known closed l (placeOf l odometer) ++ drawLines (afterLine pen l odometer) then then closed ls odometer
+
+-- The pen after them.
+abbrev pub afterLines : Pen → List Line → ℕ → Pen
+afterLines pen [] odometer = pen
+afterLines pen (l ∷ ls) odometer = afterLines (afterLine pen l odometer) ls odometer
+
+-- ---- a record and the end
+
+-- Up to where what is known is certain: to the first balise of an open group, else to the odometer.
+unfoldable pub certain : Ride → ℕ
+certain ride = pick (isOpen (ride .group)) (firstPlace (ride .group)) (ride .odometer)
+
+-- A refused record before any accepted one: its sign in a picture of its own, in the row at the head.
+unfoldable pub inTheRow : Group → Line → List Element
+inTheRow closed line = plain (codes "<svg class='r' viewBox='94 188 12 16'>" ∷ []) ∷ mark closed line 0 0 ∷ plain (codes "</svg>\n" ∷ []) ∷ []
+
+-- A refused record: a small tick on the pen's strip, at the last accepted odometer.
+unfoldable pub drawRefused : Pen → ℕ → Group → Line → List Element
+drawRefused pen odometer closed line = pick (pen .is_open) (mark closed line (pen .edge) odometer ∷ []) (inTheRow closed line)
+
+-- An accepted record: its lines, and then the pen goes to the strip of its odometer.
+unfoldable pub drawAccepted : Pen → Ride → List Line → Group → Ride → List Element
+drawAccepted pen ride lines closed after =
+    drawLines pen (ride .known) (end ride .ride .known) closed lines (ride .odometer)
+    ++ plain (way (afterLines pen lines (ride .odometer)) (after .odometer) (certain after) (after .known)) ∷ []
+
+-- What a record adds: the tick of its refusal, or what an accepted one does.
+abbrev pub drawStep : Pen → Ride → ℕ → Outcome (List Line) → Group → Ride → List Element
+drawStep pen ride number (refuses n) closed after = drawRefused pen (ride .odometer) closed (Line.Record number n)
+drawStep pen ride number (gives lines) closed after = drawAccepted pen ride lines closed after
+
+-- The pen after a record.
+abbrev pub penAfter : Pen → ℕ → Outcome (List Line) → Ride → Pen
+penAfter pen odometer (refuses n) after = pen
+penAfter pen odometer (gives lines) after = arrive (afterLines pen lines odometer) (after .odometer) (certain after)
+
+-- The next record's number; the last one that 64 bits hold stays.
+abbrev pub nextNumber : ℕ → ℕ
+nextNumber n = pick (ltb n largest64) (suc n) n
+
+-- What drawing a record comes to: where the drawing stands, and the text that was put.
+pub record Drawn : Type 0 where
+  pub drawing : Drawing
+  pub put : Put
+
+-- Where the drawing stands after a record, and what was put; where the trace has no such record, or the gap is refused, nothing changes.
+abbrev pub byReply : Drawing → Held → Outcome Standing → Group → Ride → List ℕ → ℕ → Drawn
+byReply d held (gives (treated lines)) closed after buffer at =
+    record {
+      drawing = record { ride = after; held = held; number = nextNumber (d .number); pen = penAfter (d .pen) (d .ride .odometer) lines after };
+      put = puts (pieces (drawStep (d .pen) (d .ride) (d .number) lines closed after)) buffer at;
+    }
+byReply d held (gives noRecord) closed after buffer at = record { drawing = d; put = record { next = at; buffer = buffer } }
+byReply d held (refuses n) closed after buffer at = record { drawing = d; put = record { next = at; buffer = buffer } }
+
+-- The record at an index of a trace, drawn: it is treated with the settings that a store has in force at its odometer.
+unfoldable pub drawRecord : Drawing → Store → List ℕ → ℕ → List ℕ → ℕ → Drawn
+drawRecord d store trace i buffer at =
+    let held : Held = heldFor store (d .held) (odometerAt trace i) in
+    let t : Treatment = treatAt (d .ride) (held .gap) trace i in
+    byReply d held (t .reply) (t .closed) (t .ride) buffer at
+
+-- The end of the last strip: what is known is drawn up to the last accepted odometer.
+unfoldable pub lastStrip : Pen → Ride → List (List ℕ)
+lastStrip pen ride = pick (pen .is_open) (span (pen .edge) (pen .from) (ride .odometer) (ride .known) ++ closing ∷ []) (codes "</p>\n" ∷ [])
+
+-- What the end of the ride adds: the line of a group that it closes, and the end of the last strip.
+unfoldable pub drawEnd : Pen → Ride → List Element
+drawEnd pen ride =
+    let e = end ride in
+    drawLines pen (ride .known) (e .ride .known) (e .closed) (e .lines) (ride .odometer)
+    ++ plain (lastStrip (afterLines pen (e .lines) (ride .odometer)) (e .ride)) ∷ []

@@ -1,0 +1,7 @@
+pub mod Pieces
+pub mod Strip
+pub mod Span
+pub mod Sign
+pub mod Drawing
+pub mod Says
+pub mod Laws

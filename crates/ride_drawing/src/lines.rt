@@ -1,0 +1,98 @@
+// The lines of a record or of the end, drawn.
+ghost use mathlib.Core.Path.{_≡_};
+ghost use Rattle.text.specs.Put.{came};
+ghost use Rattle.ride.specs.Says.{saysLines};
+ghost use Rattle.ride.specs.Step.{end};
+ghost use Rattle.ride_drawing.specs.declared.Pen.{Pen};
+ghost use Rattle.ride_drawing.specs.Pieces.{puts};
+ghost use Rattle.ride_drawing.specs.Drawing.{pieces, onItsStrip, drawLines, afterLines};
+use crate::Pen;
+use crate::places::after_line;
+use crate::places::arrive;
+use crate::places::place_of;
+use crate::places::reached;
+use crate::signs::put_sign;
+use crate::spans::put_span;
+use crate::strips::put_way;
+use group::Group;
+use ride::Known;
+use ride::Line;
+use ride::Lines;
+use ride::Ride;
+
+// A line on the strip of its place.
+fn put_line(
+    pen: Pen,
+    known: Known,
+    closed: Group,
+    line: Line,
+    place: u64,
+    buf: &mut [u8],
+    at: usize,
+) -> usize
+    ensures { λ r. ⌜ came r (now (buf .exit)) ≡ puts (pieces (onItsStrip pen known closed line place)) (now (buf .entry)) at ⌝ }
+{
+    let there = arrive(pen, place, place);
+    let a = put_way(pen, place, place, known, buf, at);
+    let b = put_span(
+        there.edge,
+        there.from,
+        reached(there, line, place),
+        known,
+        buf,
+        a,
+    );
+    put_sign(closed, line, there.edge, place, buf, b)
+}
+
+// What is known once an open group has closed.
+fn known_then(ride: Ride) -> Known
+    ensures { λ r. ⌜ r ≡ end ride .ride .known ⌝ }
+{
+    let ended = ride::end(ride);
+    let after = ended.ride;
+    after.known
+}
+
+// Lines in order, where this group closed, in this state.
+pub fn put_lines(
+    pen: Pen,
+    ride: Ride,
+    closed: Group,
+    lines: Lines,
+    buf: &mut [u8],
+    at: usize,
+) -> usize
+    ensures { λ r. ⌜ came r (now (buf .exit)) ≡ puts (pieces (drawLines pen (ride .known) (end ride .ride .known) closed (saysLines lines) (ride .odometer))) (now (buf .entry)) at ⌝ }
+{
+    let known = ride.known;
+    match lines {
+        Lines::None => at,
+        Lines::One(a) => put_line(pen, known, closed, a, place_of(a, ride.odometer), buf, at),
+        Lines::Two(a, b) => {
+            let next = put_line(pen, known, closed, a, place_of(a, ride.odometer), buf, at);
+            let there = after_line(pen, a, ride.odometer);
+            let then = known_then(ride);
+            put_line(
+                there,
+                then,
+                closed,
+                b,
+                place_of(b, ride.odometer),
+                buf,
+                next,
+            )
+        }
+    }
+}
+
+// The pen after them.
+pub fn after_lines(pen: Pen, lines: Lines, odometer: u32) -> Pen
+    ensures { λ r. ⌜ r ≡ afterLines pen (saysLines lines) odometer ⌝ }
+{
+    match lines {
+        Lines::None => pen,
+        Lines::One(a) => after_line(pen, a, odometer),
+        Lines::Two(a, b) => after_line(after_line(pen, a, odometer), b, odometer),
+    }
+}

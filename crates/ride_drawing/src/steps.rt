@@ -1,0 +1,146 @@
+// What a record adds, and the end of the last strip.
+ghost use mathlib.Core.Path.{_≡_};
+ghost use Rattle.text.specs.Put.{came};
+ghost use Rattle.settings.specs.At.{heldFor};
+ghost use Rattle.ride.specs.declared.Line.{Line};
+ghost use Rattle.ride.specs.Says.{saysWrong, saysLines, saysGiven};
+ghost use Rattle.ride_drawing.specs.declared.Pen.{Pen};
+ghost use Rattle.ride_drawing.specs.Pieces.{puts};
+ghost use Rattle.ride_drawing.specs.Drawing.{pieces, drawRefused, drawAccepted, drawStep, penAfter, nextNumber, lastStrip};
+use crate::Pen;
+use crate::lines::after_lines;
+use crate::lines::put_lines;
+use crate::places::arrive;
+use crate::places::certain;
+use crate::signs::put_sign;
+use crate::spans::put_span;
+use crate::strips::put_way;
+use group::Group;
+use ride::Given;
+use ride::Line;
+use ride::Lines;
+use ride::Ride;
+use ride::Wrong;
+use settings::Held;
+use settings::Store;
+use text::put;
+
+// The settings to hold at an odometer.
+pub fn held_for(store: Store, held: Held, odometer: u32) -> Held
+    ensures { λ r. ⌜ r ≡ heldFor store held odometer ⌝ }
+{
+    if settings::leaves(held, odometer) {
+        return settings::hold(store, held, odometer);
+    }
+    held
+}
+
+// The next record's number.
+pub fn next_number(n: u64) -> u64
+    ensures { λ r. ⌜ r ≡ nextNumber n ⌝ }
+{
+    if n < u64::MAX {
+        return n + 1;
+    }
+    n
+}
+
+// The number of a refusal.
+fn refusal(wrong: Wrong) -> u8
+    ensures { λ r. ⌜ r ≡ saysWrong wrong ⌝ }
+{
+    match wrong {
+        Wrong::Malformed => 16,
+        Wrong::TooHigh => 18,
+        Wrong::TooLow => 17,
+    }
+}
+
+// A refused record: on the pen's strip, or in the row at the head.
+fn put_refused(
+    pen: Pen,
+    odometer: u32,
+    closed: Group,
+    line: Line,
+    buf: &mut [u8],
+    at: usize,
+) -> usize
+    ensures { λ r. ⌜ came r (now (buf .exit)) ≡ puts (pieces (drawRefused pen odometer closed line)) (now (buf .entry)) at ⌝ }
+{
+    if pen.is_open {
+        return put_sign(closed, line, pen.edge, odometer as u64, buf, at);
+    }
+    let a = put(b"<svg class='r' viewBox='94 188 12 16'>", buf, at);
+    let b = put_sign(closed, line, 0, 0, buf, a);
+    put(b"</svg>\n", buf, b)
+}
+
+// The lines of an accepted record, and the way to its odometer.
+fn put_accepted(
+    pen: Pen,
+    ride: Ride,
+    lines: Lines,
+    closed: Group,
+    after: Ride,
+    buf: &mut [u8],
+    at: usize,
+) -> usize
+    ensures { λ r. ⌜ came r (now (buf .exit)) ≡ puts (pieces (drawAccepted pen ride (saysLines lines) closed after)) (now (buf .entry)) at ⌝ }
+{
+    let a = put_lines(pen, ride, closed, lines, buf, at);
+    let there = after_lines(pen, lines, ride.odometer);
+    let known = after.known;
+    put_way(there, after.odometer as u64, certain(after), known, buf, a)
+}
+
+// What a record adds.
+pub fn put_step(
+    pen: Pen,
+    ride: Ride,
+    number: u64,
+    given: Given,
+    closed: Group,
+    after: Ride,
+    buf: &mut [u8],
+    at: usize,
+) -> usize
+    ensures { λ r. ⌜ came r (now (buf .exit)) ≡ puts (pieces (drawStep pen ride number (saysGiven given) closed after)) (now (buf .entry)) at ⌝ }
+{
+    match given {
+        Given::Refused(wrong) => put_refused(
+            pen,
+            ride.odometer,
+            closed,
+            Line::Record(number, refusal(wrong)),
+            buf,
+            at,
+        ),
+        Given::Lines(lines) => put_accepted(pen, ride, lines, closed, after, buf, at),
+    }
+}
+
+// The pen after a record.
+pub fn pen_after(pen: Pen, odometer: u32, given: Given, after: Ride) -> Pen
+    ensures { λ r. ⌜ r ≡ penAfter pen odometer (saysGiven given) after ⌝ }
+{
+    match given {
+        Given::Refused(_) => pen,
+        Given::Lines(lines) => arrive(
+            after_lines(pen, lines, odometer),
+            after.odometer as u64,
+            certain(after),
+        ),
+    }
+}
+
+// The end of the last strip.
+pub fn put_last(pen: Pen, ride: Ride, buf: &mut [u8], at: usize) -> usize
+    ensures { λ r. ⌜ came r (now (buf .exit)) ≡ puts (lastStrip pen ride) (now (buf .entry)) at ⌝ }
+{
+    if !pen.is_open {
+        return put(b"</p>\n", buf, at);
+    }
+    let known = ride.known;
+    let a = put_span(pen.edge, pen.from, ride.odometer as u64, known, buf, at);
+    put(b"</svg></div>\n", buf, a)
+}

@@ -1,0 +1,28 @@
+-- Figures and bytes: every figure of a state is eight bytes, the highest first.
+-- Assumes nothing.
+use Prim.Native.Nat.{ℕ, zero, suc, _+_, _-_, _*_, _/_, _%_, _^_}
+use mathlib.Core.List.{List, [], _∷_, _++_}
+use lib.ListN.{length, getD}
+
+-- What a rule gives for each number below n, in order.
+unfoldable pub each : {A : Type 0} → ℕ → (ℕ → A) → List A
+each zero f = []
+each (suc n) f = each n f ++ (f n ∷ [])
+
+-- Byte k of a figure's eight.
+unfoldable pub byteOf : ℕ → ℕ → ℕ
+byteOf figure k = figure / 256 ^ (7 - k) % 256
+
+-- Some figures as bytes: byte j is byte j % 8 of figure j / 8.
+unfoldable pub bytesOf : List ℕ → List ℕ
+bytesOf figures = each (8 * length figures) λ j. byteOf (getD figures (j / 8) 0) (j % 8)
+
+-- Four bytes as a number.
+abbrev pub highFirst : ℕ → ℕ → ℕ → ℕ → ℕ
+highFirst a b c d = ((a * 256 + b) * 256 + c) * 256 + d
+
+-- Figure i of some bytes.
+unfoldable pub figureAt : List ℕ → ℕ → ℕ
+figureAt bytes i =
+    highFirst (getD bytes (8 * i) 0) (getD bytes (8 * i + 1) 0) (getD bytes (8 * i + 2) 0) (getD bytes (8 * i + 3) 0) * 4294967296
+    + highFirst (getD bytes (8 * i + 4) 0) (getD bytes (8 * i + 5) 0) (getD bytes (8 * i + 6) 0) (getD bytes (8 * i + 7) 0)

@@ -1,0 +1,79 @@
+// Figures and their bytes.
+ghost use mathlib.Core.Path.{_≡_};
+ghost use Prim.Native.Nat.{ℕ, _+_, _*_, _%_, _≤_, _<_};
+ghost use lib.ListN.{length, getD};
+ghost use Rattle.state_bytes.specs.Figures.{byteOf, bytesOf, highFirst, figureAt};
+
+// Byte k of a figure's eight, the highest first.
+fn byte_of(figure: u64, k: usize) -> u8
+    requires { ⌜ k < 8 ⌝ }
+    ensures { λ r. ⌜ r ≡ byteOf figure k ⌝ }
+{
+    match k {
+        0 => (figure / 72057594037927936 % 256) as u8,
+        1 => (figure / 281474976710656 % 256) as u8,
+        2 => (figure / 1099511627776 % 256) as u8,
+        3 => (figure / 4294967296 % 256) as u8,
+        4 => (figure / 16777216 % 256) as u8,
+        5 => (figure / 65536 % 256) as u8,
+        6 => (figure / 256 % 256) as u8,
+        _ => (figure % 256) as u8,
+    }
+}
+
+// Some figures into as many eights of bytes.
+pub fn spread(figures: &[u64], bytes: &mut [u8])
+    requires { ⌜ length (now bytes) ≡ 8 * length (now figures) ⌝ }
+    ensures { λ _. ⌜ now (bytes .exit) ≡ bytesOf (now (figures .entry)) ⌝ }
+    ensures { λ _. ⌜ ((i : ℕ) → i < length (now (figures .entry)) → figureAt (now (bytes .exit)) i ≡ getD (now (figures .entry)) i 0) ⌝ }
+{
+    let mut j: usize = 0;
+    while j < bytes.len() {
+        let figure = figures[j / 8];
+        bytes[j] = byte_of(figure, j % 8);
+        j += 1;
+    }
+}
+
+fn wide(x: u8) -> u64
+    ensures { λ r. ⌜ (r ≡ x) × (r < 256) ⌝ }
+{
+    x as u64
+}
+
+// Four bytes as a number, the highest first.
+fn high_first(a: u8, b: u8, c: u8, d: u8) -> u64
+    ensures { λ r. ⌜ (r ≡ highFirst a b c d) × (r < 4294967296) ⌝ }
+{
+    ((wide(a) * 256 + wide(b)) * 256 + wide(c)) * 256 + wide(d)
+}
+
+// Figure i of some bytes.
+pub fn figure_at(bytes: &[u8], i: usize) -> u64
+    requires { ⌜ 8 * i + 8 ≤ length (now bytes) ⌝ }
+    ensures { λ r. ⌜ r ≡ figureAt (now (bytes .entry)) i ⌝ }
+{
+    let at = 8 * i;
+    let high = high_first(bytes[at], bytes[at + 1], bytes[at + 2], bytes[at + 3]);
+    let low = high_first(bytes[at + 4], bytes[at + 5], bytes[at + 6], bytes[at + 7]);
+    high * 4294967296 + low
+}
+
+// The low 32, 16 and 8 bits of a figure.
+pub fn low32(figure: u64) -> u32
+    ensures { λ r. ⌜ r ≡ figure % 4294967296 ⌝ }
+{
+    (figure % 4294967296) as u32
+}
+
+pub fn low16(figure: u64) -> u16
+    ensures { λ r. ⌜ r ≡ figure % 65536 ⌝ }
+{
+    (figure % 65536) as u16
+}
+
+pub fn low8(figure: u64) -> u8
+    ensures { λ r. ⌜ r ≡ figure % 256 ⌝ }
+{
+    (figure % 256) as u8
+}

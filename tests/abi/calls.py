@@ -1,0 +1,75 @@
+"""Calls the Python binding: readings, refusals with number and words, settings, contacts. Its last line is 'N passed, M failed'."""
+import os
+import subprocess
+import sys
+import tempfile
+
+root = os.path.join(os.path.dirname(os.path.abspath(__file__)), "..", "..")
+sys.path.insert(0, os.path.join(root, "bindings"))
+import atc2
+
+passed = failed = 0
+
+
+def same(what, got, wanted):
+    global passed, failed
+    if got == wanted:
+        passed += 1
+    else:
+        failed += 1
+        print("FAILED %s: %r, wanted %r" % (what, got, wanted))
+
+
+def refusal(call, *arguments):
+    try:
+        call(*arguments)
+    except atc2.Refused as refused:
+        return refused.number, refused.line, str(refused)
+    return None
+
+
+for figure in range(16):
+    same("a short word and back", atc2.read_short(atc2.write_short(figure)), figure)
+for figure in range(2048):
+    same("a long word and back", atc2.read_long(atc2.write_long(figure)), figure)
+same("a word refused", refusal(atc2.read_short, 0x18), (1, 0, "refused 1: not a code word"))
+same("a figure too large", refusal(atc2.write_short, 16), (2, 0, "refused 2: figure to write above 15 or above 2,047"))
+same("parity of a bad word", (atc2.parity(0x17), atc2.parity(0x18), atc2.parity(0x19), atc2.parity(0x8807, True)), (None, "even", "odd", "odd"))
+same("a telegram", atc2.read_telegram(0x17, 0x8E, 0x5A), (1, 8, 5))
+same("a number", atc2.read_telegram(0xC3, 0xD1, 0xC6), (12, 1612))
+same("a distance", atc2.distance(0, 14), 1750)
+same("a distance refused", refusal(atc2.distance, 15, 1), (15, 0, "refused 15: distance not allowed"))
+
+bits = atc2.write_balise(1, 8, 5, 0x72, 0x0D, 10)
+same("a balise's length", len(bits), 41)
+same("a balise found", atc2.find(bits, 0, len(bits) * 8, 0x72, 0x0D), (0, (1, 8, 5)))
+same("a stretch beyond", refusal(atc2.find, b"", 0, 1, 0x72, 0x0D), (5, 0, "refused 5: stretch beyond the buffer, or above 16,777,216 bits"))
+line = b"\xff\xff\xff" + bits + b"\xff\xff\xff"
+found = list(atc2.contacts(line))
+same("one contact of a line", len(found), 1)
+same("the contact's telegram", atc2.judge(line, found[0][0], found[0][1], 0x72, 0x0D)[0], (1, 8, 5))
+same("a contact cut", refusal(lambda: list(atc2.contacts(line[:20]))), (9, 0, "refused 9: contact cut by the end of the record"))
+
+two = atc2.Settings(40, 0x72, 0x0D)
+two.add(5200, 60, 0x72, 0x0D)
+same("settings read are settings made", bytes(atc2.Settings.read("0 40 72 0D\n5200 60 72 0D\n")), bytes(two))
+kept = bytes(two)
+same("a place not above", refusal(two.add, 5200, 60, 0x72, 0x0D), (24, 0, "refused 24: place not above the last one"))
+same("a refusal leaves the store", bytes(two), kept)
+same("settings with a bad line", refusal(atc2.Settings.read, "0 40 72 0D\n\n0 40 72 0D\n"), (24, 3, "line 3 refused 24: place not above the last one"))
+same("settings unreadable", refusal(atc2.Settings.read, "0 40\n"), (100, 1, "line 1 refused 100: line unreadable"))
+same("settings with a bad gap", refusal(atc2.Settings, 0, 0x72, 0x0D), (19, 0, "refused 19: gap outside 1 to 200"))
+
+with open(os.path.join(root, "samples", "positions.trace"), "rb") as card:
+    trace = card.read()
+smaller = atc2.compact(trace, 40)
+same("a trace made smaller", len(smaller) < len(trace) and atc2.compact(smaller, 40) == smaller, True)
+same("a trace of half a record", refusal(atc2.compact, trace[:-4], 40), (16, 0, "refused 16: trace length not a multiple of 8"))
+
+with tempfile.NamedTemporaryFile() as file:
+    file.write(line)
+    file.flush()
+    ran = subprocess.run([sys.executable, os.path.join(root, "samples", "contacts.py"), file.name, "72", "0D"], capture_output=True, text=True)
+    same("the sample", ran.stdout, "%d %d %s\n" % (found[0][0], found[0][1], atc2.judge(line, found[0][0], found[0][1], 0x72, 0x0D)))
+print("%d passed, %d failed" % (passed, failed))
+sys.exit(failed != 0)
