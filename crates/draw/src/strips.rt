@@ -68,7 +68,14 @@ fn finish(how: Goes, stand: Stand, out: &mut [u8]) -> bool {
 
 // All records of the cards, whose lengths were kept, as one ride, and its end. A proved loop has to end, and nothing says that a file does: so it
 // counts its turns down from a number that no run uses up.
-fn draw_blocks(drawing: Drawing, store: Store, first: usize, lengths: &[u64], block: &mut [u8], out: &mut [u8]) -> bool {
+fn draw_blocks(
+    drawing: Drawing,
+    store: Store,
+    first: usize,
+    lengths: &[u64],
+    block: &mut [u8],
+    out: &mut [u8],
+) -> bool {
     let mut stand = Stand {
         drawing,
         at: 0,
@@ -94,7 +101,13 @@ fn draw_blocks(drawing: Drawing, store: Store, first: usize, lengths: &[u64], bl
 }
 
 // The strips of the cards' ride, from the settings in force at place 0.
-pub fn draw_cards(store: Store, first: usize, lengths: &[u64], block: &mut [u8], out: &mut [u8]) -> bool {
+pub fn draw_cards(
+    store: Store,
+    first: usize,
+    lengths: &[u64],
+    block: &mut [u8],
+    out: &mut [u8],
+) -> bool {
     let asked = settings::at(store, 0);
     match asked {
         Asked::Refused(_) => false,

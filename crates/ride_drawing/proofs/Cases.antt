@@ -122,7 +122,7 @@ drawn-is d store trace i b at o h t x is-o is-h is-t is =
     ∙ ap (λ (k : Held). byReply d k (treatAt (d .ride) (k .gap) trace i .reply) (treatAt (d .ride) (k .gap) trace i .closed) (treatAt (d .ride) (k .gap) trace i .ride) b at) is-h
     ∙ ap
     (λ (q : ℕ). byReply d (heldFor store (d .held) q) (treatAt (d .ride) (heldFor store (d .held) q .gap) trace i .reply)
-      (treatAt (d .ride) (heldFor store (d .held) q .gap) trace i .closed) (treatAt (d .ride) (heldFor store (d .held) q .gap) trace i .ride) b at) is-o
+    (treatAt (d .ride) (heldFor store (d .held) q .gap) trace i .closed) (treatAt (d .ride) (heldFor store (d .held) q .gap) trace i .ride) b at) is-o
 
 -- what drawing a record came to, of its parts
 abbrev pub drawnOf : Ride → Held → ℕ → Pen → Put → Drawn

@@ -34,7 +34,14 @@ fn put_line(
 {
     let there = arrive(pen, place, place);
     let a = put_way(pen, place, place, known, buf, at);
-    let b = put_span(there.edge, there.from, reached(there, line, place), known, buf, a);
+    let b = put_span(
+        there.edge,
+        there.from,
+        reached(there, line, place),
+        known,
+        buf,
+        a,
+    );
     put_sign(closed, line, there.edge, place, buf, b)
 }
 
@@ -66,7 +73,15 @@ pub fn put_lines(
             let next = put_line(pen, known, closed, a, place_of(a, ride.odometer), buf, at);
             let there = after_line(pen, a, ride.odometer);
             let then = known_then(ride);
-            put_line(there, then, closed, b, place_of(b, ride.odometer), buf, next)
+            put_line(
+                there,
+                then,
+                closed,
+                b,
+                place_of(b, ride.odometer),
+                buf,
+                next,
+            )
         }
     }
 }

@@ -107,7 +107,14 @@ pub fn put_step(
     ensures { λ r. ⌜ came r (now (buf .exit)) ≡ puts (pieces (drawStep pen ride number (saysGiven given) closed after)) (now (buf .entry)) at ⌝ }
 {
     match given {
-        Given::Refused(wrong) => put_refused(pen, ride.odometer, closed, Line::Record(number, refusal(wrong)), buf, at),
+        Given::Refused(wrong) => put_refused(
+            pen,
+            ride.odometer,
+            closed,
+            Line::Record(number, refusal(wrong)),
+            buf,
+            at,
+        ),
         Given::Lines(lines) => put_accepted(pen, ride, lines, closed, after, buf, at),
     }
 }
@@ -118,7 +125,11 @@ pub fn pen_after(pen: Pen, odometer: u32, given: Given, after: Ride) -> Pen
 {
     match given {
         Given::Refused(_) => pen,
-        Given::Lines(lines) => arrive(after_lines(pen, lines, odometer), after.odometer as u64, certain(after)),
+        Given::Lines(lines) => arrive(
+            after_lines(pen, lines, odometer),
+            after.odometer as u64,
+            certain(after),
+        ),
     }
 }
 

@@ -19,7 +19,12 @@ fn put_heading(km: u64, buf: &mut [u8], at: usize) -> usize
     ensures { λ r. ⌜ came r (now (buf .exit)) ≡ puts (heading km) (now (buf .entry)) at ⌝ }
 {
     let a = put_number(b"<h2>km ", km, buf, at);
-    let b = put_number(b"</h2>\n<div class='s'><svg viewBox='0 0 1130 220'><use href='#g'/><text x='100' y='216'>", km, buf, a);
+    let b = put_number(
+        b"</h2>\n<div class='s'><svg viewBox='-12 0 1152 220'><use href='#g'/><text x='100' y='216'>",
+        km,
+        buf,
+        a,
+    );
     let c = put_number(b".0</text><text x='200' y='216'>", km, buf, b);
     let d = put_number(b".1</text><text x='300' y='216'>", km, buf, c);
     let e = put_number(b".2</text><text x='400' y='216'>", km, buf, d);
@@ -45,14 +50,7 @@ fn put_between(n: u64, buf: &mut [u8], at: usize) -> usize
 }
 
 // What stands before the next strip.
-fn put_leaving(
-    pen: Pen,
-    place: u64,
-    until: u64,
-    known: Known,
-    buf: &mut [u8],
-    at: usize,
-) -> usize
+fn put_leaving(pen: Pen, place: u64, until: u64, known: Known, buf: &mut [u8], at: usize) -> usize
     ensures { λ r. ⌜ came r (now (buf .exit)) ≡ puts (leaving pen place until known) (now (buf .entry)) at ⌝ }
 {
     if !pen.is_open {
@@ -75,14 +73,7 @@ fn kilometres(edge: u64, place: u64) -> u64
 }
 
 // The way of the pen to a place.
-pub fn put_way(
-    pen: Pen,
-    place: u64,
-    until: u64,
-    known: Known,
-    buf: &mut [u8],
-    at: usize,
-) -> usize
+pub fn put_way(pen: Pen, place: u64, until: u64, known: Known, buf: &mut [u8], at: usize) -> usize
     ensures { λ r. ⌜ came r (now (buf .exit)) ≡ puts (way pen place until known) (now (buf .entry)) at ⌝ }
 {
     if !is_further(pen, place) {
