@@ -11,14 +11,14 @@ fn put_style() -> bool {
         b"<!DOCTYPE html>\n<html lang='en'><head><meta charset='utf-8'/><meta name='viewport' content='width=device-width, initial-scale=1'/><title>A ride</title><style>
 body{font:16px/1.5 sans-serif;color:#000;background:#fff;max-width:1130px;margin:0 auto;padding:0 8px}
 h1{font-size:22px;margin:8px 0}h2{font-size:16px;margin:16px 0 0;break-after:avoid}p{margin:8px 0}pre{white-space:pre-wrap}
-.s{overflow-x:auto;break-inside:avoid}.s svg{display:block;width:100%;min-width:960px}.s text{font-size:15px}
-.i{display:inline-block;margin-right:14px;white-space:nowrap}.j{height:34px;vertical-align:middle}.r{height:18px}
+.s{overflow-x:auto;break-inside:avoid}.s svg{display:block;width:100%;min-width:960px}.s text{font-size:15px}.y text{font-size:14px}
+.i{display:inline-block;margin-right:14px;white-space:nowrap}.j{height:34px;vertical-align:middle;margin-right:2px}.r{height:18px}
 .k{stroke:#bbb;fill:none}.y{fill:#555}.a{stroke:#000;stroke-width:2}.q{fill:#f3f3f3}
 .p{fill:#fff;stroke:#000;stroke-width:2}.b{fill:#000}.n{fill:none;stroke:#000;stroke-width:2}
 .f{stroke:#c00;stroke-width:3;fill:none}.x{fill:#c00;font-weight:bold}.o{fill:none;stroke:#b50;stroke-width:3;stroke-dasharray:5 3}
 .d{fill:#2a5;fill-opacity:.2;stroke:#2a5}.c{stroke:#163;stroke-width:2;stroke-dasharray:2 3;fill:none}
 .m path{stroke:#03a;stroke-width:3}.t path{stroke:#03a;stroke-width:2;stroke-dasharray:8 5}.m text,.t text{fill:#03a}.t text{transform:translate(0,17px)}
-@media print{body{max-width:none}.s svg{min-width:0}}
+@media print{body{max-width:none}.s svg{min-width:0}.s text{font-size:19px}}
 </style></head><body>\n",
     )
 }

@@ -42,7 +42,7 @@ tick words km = words ++ decimal km
 unfoldable pub heading : ℕ → List (List ℕ)
 heading km =
     tick (codes "<h2>km ") km
-    ∷ tick (codes "</h2>\n<div class='s'><svg viewBox='0 0 1130 220'><use href='#g'/><text x='100' y='216'>") km
+    ∷ tick (codes "</h2>\n<div class='s'><svg viewBox='-12 0 1152 220'><use href='#g'/><text x='100' y='216'>") km
     ∷ tick (codes ".0</text><text x='200' y='216'>") km
     ∷ tick (codes ".1</text><text x='300' y='216'>") km
     ∷ tick (codes ".2</text><text x='400' y='216'>") km

@@ -20,7 +20,7 @@ fn put_heading(km: u64, buf: &mut [u8], at: usize) -> usize
 {
     let a = put_number(b"<h2>km ", km, buf, at);
     let b = put_number(
-        b"</h2>\n<div class='s'><svg viewBox='0 0 1130 220'><use href='#g'/><text x='100' y='216'>",
+        b"</h2>\n<div class='s'><svg viewBox='-12 0 1152 220'><use href='#g'/><text x='100' y='216'>",
         km,
         buf,
         a,
