@@ -129,9 +129,9 @@ const lines = (name, ...args) => native(name, args).stdout.replace(/\n$/, '');
     report('a figure that is refused', (await said()) === native('balise', ['16', '8', '5', '72', '0D', '9', '3']).stderr.trimEnd(), await said());
 
     // ---- a million records: the beginning is shown, all is saved, and it is seen that work goes on
-    const many = Buffer.alloc(32e6);
-    for (let i = 0; i < 4e6; i++) { many.writeUInt32BE(i, 8 * i); many[8 * i + 4] = 4; }
-    const million = file('million.trace', many.subarray(0, 8e6)), four = file('four.trace', many);
+    const many = Buffer.alloc(8e6);
+    for (let i = 0; i < 1e6; i++) { many.writeUInt32BE(i, 8 * i); many[8 * i + 4] = 4; }
+    const million = file('million.trace', many);
     await fresh();
     await choose('#pickCards', million);
     const shown = await out();
@@ -141,12 +141,18 @@ const lines = (name, ...args) => native(name, args).stdout.replace(/\n$/, '');
     const whole = native('checker', [million]).stdout, saved = path.join(room, 'saved', 'listing.txt');
     for (let i = 0; i < 400 && !(fs.existsSync(saved) && fs.statSync(saved).size === whole.length); i++) await pause(25);
     report('a million records: saved whole', fs.existsSync(saved) && fs.readFileSync(saved, 'latin1') === whole, whole.length);
-    await c.files('#pickCards', [four]);
-    let seen = '';
-    for (let i = 0; i < 400 && !seen; i++) { seen = await c.evaluate('($("stop") && $("busy").textContent) || ""'); await pause(25); }
-    report('work that goes on is seen', /^Working.* \.\. \d+ s Stop$/.test(seen), seen);
-    await c.evaluate('$("stop") && $("stop").click()');
-    report('and can be stopped', (await c.evaluate('$("busy").textContent')) === 'Stopped.' || (await out()) !== undefined, 'not');
+    await press('Reasons').then(() => c.evaluate('$("tabListing").click(), $("tabReasons").click()')).then(settle);
+    report('a run that nobody waits for any more is ended', (await c.evaluate('document.querySelector(".call code").textContent')) === './run explain million.trace' && (await out()).startsWith(lines('explain', million).slice(0, 4000)), await out());
+    // Each run is held up for a second here, so that it is seen on any machine.
+    await c.evaluate('Bench.inWorker = ((own) => (...asked) => new Promise((yes) => setTimeout(yes, 1000)).then(() => own.apply(Bench, asked)))(Bench.inWorker)');
+    for (const stops of [false, true]) {
+      await c.evaluate('$("tabListing").click()');
+      let seen = '';
+      for (let i = 0; i < 200 && !seen; i++) { seen = await c.evaluate('($("stop") && $("busy").textContent) || ""'); await pause(25); }
+      report('work that goes on is seen', /^Working.* \.\. \d+ s Stop$/.test(seen), seen);
+      if (stops) await c.evaluate('$("stop").click()').then(() => pause(1500)); else await settle();
+      report(stops ? 'and can be stopped' : 'and comes to its end', stops ? (await c.evaluate('$("busy").textContent + $("results").textContent')) === 'Stopped.' : (await out()).startsWith('record 1 refused 16\n'), await c.evaluate('$("busy").textContent'));
+    }
     await fresh();
 
     // ---- without a worker, and with one that fails
