@@ -57,8 +57,7 @@ const lines = (name, ...args) => native(name, args).stdout.replace(/\n$/, '');
     await compare('a plan as a text', lines('accept', 'track.plan', '20', 'every-line.trace'));
     await press('Smaller');
     report('smaller', (await said()) === native('compact', ['every-line.trace']).stderr.trimEnd() && (await c.evaluate('$("results").textContent')).includes('every line is the same'), await said());
-    await press('Records');
-    await compare('records', lines('records', 'every-line.trace'));
+    await press('Records').then(() => compare('records', lines('records', 'every-line.trace')));
     if (tabs.includes('Picture')) {
       await press('Picture');
       const shown = await c.evaluate('document.querySelector("iframe").srcdoc'), drawn = Buffer.from(native('draw', ['every-line.trace']).stdout, 'latin1').toString('utf8');
@@ -87,8 +86,7 @@ const lines = (name, ...args) => native(name, args).stdout.replace(/\n$/, '');
     await drop(first, second);
     await compare('two cards of one name, dropped', lines('checker', first, second));
     for (const [name, cards] of [['in the other order', [second, first]], ['and back', [first, second]]]) { await press('↓'); await compare(name, lines('checker', ...cards)); }
-    await press('remove');
-    await compare('one removed', lines('checker', second));
+    await press('remove').then(() => compare('one removed', lines('checker', second)));
     await press('remove').then(() => drop(path.join(samples, 'workshop.txt')));
     await compare('a text, made a trace', lines('checker', 'workshop.trace'));
     await choose('#pickSettings', path.join(samples, 'workshop.settings'));
@@ -106,15 +104,13 @@ const lines = (name, ...args) => native(name, args).stdout.replace(/\n$/, '');
     await c.evaluate('$("typed").value = "1000 1 8 5\\n1030 9 2 4\\n6000 position\\n"');
     await after(() => c.evaluate('$("useTyped").click()'));
     await compare('records typed in, and back', lines('records', 'one-ride.trace'));
-    await press('Listing');
-    await compare('and listed', lines('checker', 'one-ride.trace'));
+    await press('Listing').then(() => compare('and listed', lines('checker', 'one-ride.trace')));
 
     // ---- a lead, a balise
     await fresh();
     await drop(path.join(samples, 'one-ride.lead'));
     report('a lead', (await said()) === native('record', ['72', '0D', 'one-ride.lead']).stderr.trimEnd(), await said());
-    await press('Reasons');
-    await compare('and its reasons', lines('explain', 'one-ride.trace'));
+    await press('Reasons').then(() => compare('and its reasons', lines('explain', 'one-ride.trace')));
     await press('Lead');
     await value('syncT', '0E');
     report('a pair that is refused', (await said()) === native('record', ['72', '0E', 'one-ride.lead']).stderr.trimEnd(), await said());
