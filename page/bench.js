@@ -44,7 +44,8 @@ const Bench = {
 
   // NAME ARGS.. over files (a Map from names to { id, bytes }) and standard input. What is answered has stdout, stderr with the launcher's line, status, trap and the time in ms.
   async run(name, args, files, stdin) {
-    const began = performance.now(), r = await this.inWorker(name, args, files || new Map(), stdin || new Uint8Array(0));
+    const began = performance.now(), mine = turn, r = await this.inWorker(name, args, files || new Map(), stdin || new Uint8Array(0));
+    if (mine !== turn) throw new Stopped('stopped');
     const ended = Host.ended(name, r.told, LAUNCHER), line = utf8(ended.line), stderr = new Uint8Array(r.stderr.length + line.length);
     stderr.set(r.stderr);
     stderr.set(line, r.stderr.length);

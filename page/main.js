@@ -25,16 +25,17 @@ function controls() {
 }
 
 // What is under way, once it takes longer than half a second.
-function busy(began) {
+function busy(began, mine) {
   let read = '';
   const tell = () => {
+    if (mine !== turn) return;
     const seconds = Math.floor((performance.now() - began) / 1000);
     $('busy').replaceChildren('Working' + (read ? ' (' + read + ')' : '') + ' .. ' + seconds + ' s ', button('Stop', () => { turn++; Bench.stop(); $('busy').replaceChildren('Stopped.'); $('panel').setAttribute('aria-busy', 'false'); show(); document.body.dataset.done = String(turn); }, { className: 'small', id: 'stop' }));
   };
   Bench.going = (name, bytes) => { read = name + ', ' + (bytes / 1e6).toFixed(1) + ' MB read'; };
   let each = 0;
   const late = setTimeout(() => { tell(); each = setInterval(tell, 250); }, LATE);
-  return () => { clearTimeout(late); clearInterval(each); Bench.going = null; };
+  return () => { clearTimeout(late); clearInterval(each); if (mine === turn) Bench.going = null; };
 }
 
 // Runs what the tab shows. A newer call ends an older one.
@@ -46,7 +47,7 @@ async function refresh(keep) {
   const named = given.cards.map((f) => f.name).join(', ');
   $('paperHead').textContent = tab + (TABS[tab].asks || tab === 'Records' ? ' of ' + (named || 'no card') : '') + (given.settings ? ', settings ' + given.settings.name : '') + (tab === 'Accept' && given.plan ? ', plan ' + given.plan.name + ', tolerance ' + given.tolerance + ' dm' : '') + '; printed ' + new Date().toLocaleString();
   if (TABS[tab].asks && !given.cards.length) { show(hint('No card yet: drop one, choose one above, or try a sample.')); document.body.dataset.done = String(mine); return; }
-  const done = busy(performance.now());
+  const done = busy(performance.now(), mine);
   $('panel').setAttribute('aria-busy', 'true');
   try { await TABS[tab].run(); } catch (e) {
     if (e instanceof Stopped || mine !== turn) return;
@@ -65,7 +66,9 @@ function changed(said) {
   cardList();
   return refresh();
 }
-async function add(list, as) { return changed(await take(list, as)); }
+async function add(list, as) {
+  try { return await changed(await take(list, as)); } catch (e) { if (!(e instanceof Stopped)) throw e; }
+}
 
 function choose(name, focus) { tab = name; const done = refresh(); if (focus) [...$('tabs').children].find((b) => b.textContent === name).focus(); return done; }
 for (const name of tabs) $('tabs').append(make('button', { type: 'button', role: 'tab', id: 'tab' + name, onclick: () => choose(name) }, name));

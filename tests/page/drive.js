@@ -57,8 +57,7 @@ const lines = (name, ...args) => native(name, args).stdout.replace(/\n$/, '');
     await compare('a plan as a text', lines('accept', 'track.plan', '20', 'every-line.trace'));
     await press('Smaller');
     report('smaller', (await said()) === native('compact', ['every-line.trace']).stderr.trimEnd() && (await c.evaluate('$("results").textContent')).includes('every line is the same'), await said());
-    await press('Records');
-    await compare('records', lines('records', 'every-line.trace'));
+    await press('Records').then(() => compare('records', lines('records', 'every-line.trace')));
     if (tabs.includes('Picture')) {
       await press('Picture');
       const shown = await c.evaluate('document.querySelector("iframe").srcdoc'), drawn = Buffer.from(native('draw', ['every-line.trace']).stdout, 'latin1').toString('utf8');
@@ -87,8 +86,7 @@ const lines = (name, ...args) => native(name, args).stdout.replace(/\n$/, '');
     await drop(first, second);
     await compare('two cards of one name, dropped', lines('checker', first, second));
     for (const [name, cards] of [['in the other order', [second, first]], ['and back', [first, second]]]) { await press('↓'); await compare(name, lines('checker', ...cards)); }
-    await press('remove');
-    await compare('one removed', lines('checker', second));
+    await press('remove').then(() => compare('one removed', lines('checker', second)));
     await press('remove').then(() => drop(path.join(samples, 'workshop.txt')));
     await compare('a text, made a trace', lines('checker', 'workshop.trace'));
     await choose('#pickSettings', path.join(samples, 'workshop.settings'));
@@ -106,15 +104,13 @@ const lines = (name, ...args) => native(name, args).stdout.replace(/\n$/, '');
     await c.evaluate('$("typed").value = "1000 1 8 5\\n1030 9 2 4\\n6000 position\\n"');
     await after(() => c.evaluate('$("useTyped").click()'));
     await compare('records typed in, and back', lines('records', 'one-ride.trace'));
-    await press('Listing');
-    await compare('and listed', lines('checker', 'one-ride.trace'));
+    await press('Listing').then(() => compare('and listed', lines('checker', 'one-ride.trace')));
 
     // ---- a lead, a balise
     await fresh();
     await drop(path.join(samples, 'one-ride.lead'));
     report('a lead', (await said()) === native('record', ['72', '0D', 'one-ride.lead']).stderr.trimEnd(), await said());
-    await press('Reasons');
-    await compare('and its reasons', lines('explain', 'one-ride.trace'));
+    await press('Reasons').then(() => compare('and its reasons', lines('explain', 'one-ride.trace')));
     await press('Lead');
     await value('syncT', '0E');
     report('a pair that is refused', (await said()) === native('record', ['72', '0E', 'one-ride.lead']).stderr.trimEnd(), await said());
@@ -129,9 +125,9 @@ const lines = (name, ...args) => native(name, args).stdout.replace(/\n$/, '');
     report('a figure that is refused', (await said()) === native('balise', ['16', '8', '5', '72', '0D', '9', '3']).stderr.trimEnd(), await said());
 
     // ---- a million records: the beginning is shown, all is saved, and it is seen that work goes on
-    const many = Buffer.alloc(32e6);
-    for (let i = 0; i < 4e6; i++) { many.writeUInt32BE(i, 8 * i); many[8 * i + 4] = 4; }
-    const million = file('million.trace', many.subarray(0, 8e6)), four = file('four.trace', many);
+    const many = Buffer.alloc(8e6);
+    for (let i = 0; i < 1e6; i++) { many.writeUInt32BE(i, 8 * i); many[8 * i + 4] = 4; }
+    const million = file('million.trace', many);
     await fresh();
     await choose('#pickCards', million);
     const shown = await out();
@@ -141,12 +137,18 @@ const lines = (name, ...args) => native(name, args).stdout.replace(/\n$/, '');
     const whole = native('checker', [million]).stdout, saved = path.join(room, 'saved', 'listing.txt');
     for (let i = 0; i < 400 && !(fs.existsSync(saved) && fs.statSync(saved).size === whole.length); i++) await pause(25);
     report('a million records: saved whole', fs.existsSync(saved) && fs.readFileSync(saved, 'latin1') === whole, whole.length);
-    await c.files('#pickCards', [four]);
-    let seen = '';
-    for (let i = 0; i < 400 && !seen; i++) { seen = await c.evaluate('($("stop") && $("busy").textContent) || ""'); await pause(25); }
-    report('work that goes on is seen', /^Working.* \.\. \d+ s Stop$/.test(seen), seen);
-    await c.evaluate('$("stop") && $("stop").click()');
-    report('and can be stopped', (await c.evaluate('$("busy").textContent')) === 'Stopped.' || (await out()) !== undefined, 'not');
+    await press('Reasons').then(() => c.evaluate('$("tabListing").click(), $("tabReasons").click()')).then(settle);
+    report('a run that nobody waits for any more is ended', (await c.evaluate('document.querySelector(".call code").textContent')) === './run explain million.trace' && (await out()).startsWith(lines('explain', million).slice(0, 4000)), await out());
+    // Each run is held up for a second here, so that it is seen on any machine.
+    await c.evaluate('Bench.inWorker = ((own) => (...asked) => new Promise((yes) => setTimeout(yes, 1000)).then(() => own.apply(Bench, asked)))(Bench.inWorker)');
+    for (const stops of [false, true]) {
+      await c.evaluate('$("tabListing").click()');
+      let seen = '';
+      for (let i = 0; i < 200 && !seen; i++) { seen = await c.evaluate('($("stop") && $("busy").textContent) || ""'); await pause(25); }
+      report('work that goes on is seen', /^Working.* \.\. \d+ s Stop$/.test(seen), seen);
+      if (stops) await c.evaluate('$("stop").click()').then(() => pause(1500)); else await settle();
+      report(stops ? 'and can be stopped' : 'and comes to its end', stops ? (await c.evaluate('$("busy").textContent + $("results").textContent')) === 'Stopped.' : (await out()).startsWith('record 1 refused 16\n'), await c.evaluate('$("busy").textContent'));
+    }
     await fresh();
 
     // ---- without a worker, and with one that fails
