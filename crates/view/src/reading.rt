@@ -201,7 +201,7 @@ fn say_none() {
     console::fail(b"view", b"no record is at or past that place");
 }
 
-// How the line ends that says where a fresh ride begins: whether not all records after it have room.
+// Goes the line ends that says where a fresh ride begins: whether not all records after it have room.
 fn put_rest(how: Goes, buf: &mut [u8], at: usize) -> usize {
     match how {
         Goes::NoRoom => text::put(b"; of those after it the first 524288 have room\n", buf, at),
