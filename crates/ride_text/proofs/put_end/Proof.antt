@@ -39,10 +39,13 @@ spelled c =
     begins 320 (endText (a .reasons) (a .ride)) (omega (arith, ap length is, lines-short (a .reasons) (r .closed) (r .lines), room-within (a .reasons)))
     (c .put-lines .ensures ∙ ap (λ (u : List ℕ). put u (replicate 320 0) 0) is)
 
+returns : tie.Need-returns
+returns c = put-as _ _ (spelled (c .before .before .before .before .before .before)) (c .before .before .put .ensures)
+
 pub put-end-spec : {M : Type 1} → statement M
 put-end-spec =
     tie.close
     (tie.spec
     (λ c κs. search needs) (λ c. search needs) (λ c κs. omega (arith, room-within (c .before .before .before .before .args .reasons)))
     (λ c. spelled (c .before) .within) (λ c. as-long (spelled (c .before .before)))
-    (λ c κs. search needs) (λ c. search needs) (λ c. put-as _ _ (spelled (c .before .before .before .before .before .before)) (c .before .before .put .ensures)))
+    (λ c κs. search needs) (λ c. search needs) returns)

@@ -17,10 +17,13 @@ spelled c =
     let a = c .before .before .before .args in
     begins 160 (lineText (a .reasons) (a .closed) (a .line)) (line-within (a .reasons) (a .closed) (a .line)) (c .put-text .ensures)
 
+returns : tie.Need-returns
+returns c = put-as _ _ (spelled (c .before .before .before .before .before .before)) (c .before .before .put .ensures)
+
 pub put-styled-spec : {M : Type 1} → statement M
 put-styled-spec =
     tie.close
     (tie.spec
     (λ c. search needs) (λ c κs. let a = c .before .before .args in omega (arith, line-within (a .reasons) (a .closed) (a .line)))
     (λ c. spelled (c .before) .within) (λ c. as-long (spelled (c .before .before)))
-    (λ c κs. search needs) (λ c. search needs) (λ c. put-as _ _ (spelled (c .before .before .before .before .before .before)) (c .before .before .put .ensures)))
+    (λ c κs. search needs) (λ c. search needs) returns)
