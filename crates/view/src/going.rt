@@ -1,15 +1,66 @@
-// Going as a command asks.
-use crate::passing;
+// Going as a command asks, and the lines of the records that are passed.
+ghost use Prim.Native.Nat.{_+_, _/_, _<_, _≤_};
+ghost use lib.ListN.{length};
+use ride::Ride;
+use ride_text::Done;
+use ride_text::REASONS;
+use settings::Store;
 use viewer::Moved;
 use viewer::Stand;
 
-// Forward so often; the lines of the records that are passed are written where no terminal shows them.
-pub fn forth(trace: &[u8], from: Stand, times: usize, terminal: bool) -> Moved {
+// The smaller of two.
+fn smaller(a: usize, b: usize) -> usize
+    ensures { λ r. ⌜ (r ≤ a) × (r ≤ b) ⌝ }
+{
+    if a < b {
+        return a;
+    }
+    b
+}
+
+// Where a block ends: 200 records on, for whose lines the buffer surely has room, or at the last.
+fn end_of(number: usize, to: usize) -> usize
+    requires { ⌜ number < to ⌝ }
+    ensures { λ r. ⌜ (number < r) × (r ≤ to) ⌝ }
+{
+    if to - number > 200 {
+        return number + 200;
+    }
+    to
+}
+
+// Writes the lines of some records, the first with this number, in this state; the state after them.
+fn write_block(ride: Ride, store: Store, number: u64, records: &[u8], out: &mut [u8]) -> Ride {
+    let listed = ride_text::list(REASONS, ride, store, number, records, out);
+    let done = listed.done;
+    let after = listed.ride;
+    let Done::Took { records: _, bytes } = done else {
+        return after;
+    };
+    console::put(b"view", out, bytes);
+    after
+}
+
+// Writes the lines of the records that were passed, from where a viewer stood.
+fn write_passed(trace: &[u8], from: Stand, number: usize) {
+    let to = smaller(number, trace.len() / 8);
+    let store = from.settings;
+    let mut out = io::large_buffer();
+    let mut ride = from.ride;
+    let mut at = from.number;
+    while at < to {
+        let end = end_of(at, to);
+        let first = at as u64 + 1;
+        ride = write_block(ride, store, first, &trace[at * 8..end * 8], &mut out);
+        at = end;
+    }
+}
+
+// Forward so often, and writes the lines of the records that are passed.
+pub fn forth(trace: &[u8], from: Stand, times: usize) -> Moved {
     let moved = viewer::forwards_at(trace, from, times);
     let stand = moved.stand;
-    if !terminal {
-        passing::write_passed(trace, from, stand.number);
-    }
+    write_passed(trace, from, stand.number);
     moved
 }
 
@@ -22,10 +73,10 @@ fn afresh(trace: &[u8], from: Stand, times: usize) -> Moved {
 }
 
 // To where so many records lie before the viewer: forward; back as far as the history goes; or, further back, as a fresh viewer.
-pub fn to_number(trace: &[u8], from: Stand, before: usize, terminal: bool) -> Moved {
+pub fn to_number(trace: &[u8], from: Stand, before: usize) -> Moved {
     let number = from.number;
     if before >= number {
-        return forth(trace, from, before - number, terminal);
+        return forth(trace, from, before - number);
     }
     if number - before <= from.kept {
         return viewer::backs_at(from, number - before);
@@ -34,7 +85,7 @@ pub fn to_number(trace: &[u8], from: Stand, before: usize, terminal: bool) -> Mo
 }
 
 // To just before the first record at or past the place, but for those that will be refused.
-pub fn to_place(trace: &[u8], from: Stand, place: u64, terminal: bool) -> Moved {
+pub fn to_place(trace: &[u8], from: Stand, place: u64) -> Moved {
     let before = viewer::times_to(trace, 0, place);
-    to_number(trace, from, before, terminal)
+    to_number(trace, from, before)
 }

@@ -1,0 +1,77 @@
+// Lines from standard input.
+ghost use Prim.Native.Nat.{_≤_};
+ghost use lib.ListN.{length};
+use libc::STDIN_FILENO;
+
+// A line: how many bytes it has, and whether the input ended before it began. One that fills its room has no byte: no command is that long.
+pub struct Line {
+    pub count: usize,
+    pub is_end: bool,
+}
+
+// A byte, or the end of the input.
+struct Got {
+    byte: u8,
+    is_end: bool,
+}
+
+// The next byte.
+fn read_one() -> Got {
+    let mut one = [0u8; 1];
+    let got = libc::read(STDIN_FILENO, &mut one);
+    Got {
+        byte: one[0],
+        is_end: got < 1,
+    }
+}
+
+// The byte after so many that stand in buf, if it has room, and how many there are then.
+fn keep(byte: u8, buf: &mut [u8], count: usize) -> usize
+    requires { ⌜ count ≤ length (now buf) ⌝ }
+    ensures { λ r. ⌜ r ≤ length (now (buf .entry)) ⌝ }
+{
+    if count < buf.len() {
+        buf[count] = byte;
+        return count + 1;
+    }
+    count
+}
+
+// The line of so many bytes in a room of so many.
+fn line_of(count: usize, room: usize) -> Line
+    ensures { λ r. ⌜ r .count ≤ count ⌝ }
+{
+    if count >= room {
+        return Line {
+            count: 0,
+            is_end: false,
+        };
+    }
+    Line {
+        count,
+        is_end: false,
+    }
+}
+
+// The next line, without its newline, into buf. The last one may lack its newline. No run uses up the turns.
+pub fn next(buf: &mut [u8]) -> Line
+    ensures { λ r. ⌜ r .count ≤ length (now (buf .entry)) ⌝ }
+{
+    let mut count: usize = 0;
+    let mut turns = u64::MAX;
+    while turns > 0 {
+        let got = read_one();
+        if got.is_end & (count == 0) {
+            return Line {
+                count: 0,
+                is_end: true,
+            };
+        }
+        if got.is_end | (got.byte == b'\n') {
+            break;
+        }
+        count = keep(got.byte, buf, count);
+        turns -= 1;
+    }
+    line_of(count, buf.len())
+}

@@ -1,12 +1,10 @@
-// The cards joined in one buffer of 4 MiB, half a million records: all of them, or those from a place on.
+// The cards joined in one buffer of 4 MiB, half a million records.
 ghost use mathlib.Core.Path.{_≡_};
 ghost use Prim.Native.Nat.{_≤_};
 ghost use lib.ListN.{length};
-use crate::beginning::From;
 use crate::session;
 use console::Goes;
 use console::Pass;
-use libc::STDERR_FILENO;
 use settings::Store;
 
 // The most bytes of a trace.
@@ -33,6 +31,12 @@ fn fits(lengths: &[u64]) -> bool {
     true
 }
 
+// What reading the cards comes to: so many bytes, or that it failed and was said.
+struct Read {
+    bytes: usize,
+    is_good: bool,
+}
+
 // Where filling the buffer stands: the pass over the cards, how many bytes there are, and how it goes on.
 struct Step {
     pass: Pass,
@@ -41,14 +45,10 @@ struct Step {
 }
 
 // The next block after those that the buffer has.
-fn next(pass: Pass, lengths: &[u64], trace: &mut [u8], have: usize) -> Step {
-    if have > trace.len() {
-        return Step {
-            pass,
-            have: 0,
-            how: Goes::NoRoom,
-        };
-    }
+fn next(pass: Pass, lengths: &[u64], trace: &mut [u8], have: usize) -> Step
+    requires { ⌜ have ≤ length (now trace) ⌝ }
+    ensures { λ r. ⌜ r .have ≤ length (now (trace .entry)) ⌝ }
+{
     let block = console::next_block(pass, lengths, &mut trace[have..]);
     let how = block.how;
     let then = block.pass;
@@ -59,140 +59,41 @@ fn next(pass: Pass, lengths: &[u64], trace: &mut [u8], have: usize) -> Step {
     }
 }
 
-// Whether more may come; what failed is said.
-fn goes_on(how: Goes) -> bool {
-    match how {
-        Goes::More => true,
-        Goes::End => false,
-        Goes::CannotOpen(number) => {
-            console::cannot_open(b"view", number);
-            false
-        }
-        Goes::CannotRead(number) => {
-            console::cannot_read(b"view", number);
-            false
-        }
-        Goes::NoRoom => false,
-    }
-}
-
-// Whether a pass ended well: with the last card, or with the buffer full.
-fn ended_well(how: Goes) -> bool {
-    match how {
-        Goes::End => true,
-        Goes::NoRoom => true,
-        Goes::More => false,
-        Goes::CannotOpen(_) => false,
-        Goes::CannotRead(_) => false,
-    }
-}
-
-// The cards, one after the other, into the buffer, after so many bytes; a full buffer ends it. No run uses up the turns.
-fn fill(begun: Pass, lengths: &[u64], trace: &mut [u8], had: usize) -> Step {
-    let mut step = next(begun, lengths, trace, had);
+// The cards, one after the other, into the buffer. No run uses up the turns.
+fn fill(first: usize, lengths: &[u64], trace: &mut [u8]) -> Read
+    ensures { λ r. ⌜ r .bytes ≤ length (now (trace .entry)) ⌝ }
+{
+    let mut pass = console::begin(first);
+    let mut have: usize = 0;
     let mut turns = u64::MAX;
     while turns > 0 {
+        let step = next(pass, lengths, trace, have);
         let how = step.how;
-        if !goes_on(how) {
-            return step;
-        }
-        let pass = step.pass;
-        step = next(pass, lengths, trace, step.have);
-        turns -= 1;
-    }
-    step
-}
-
-// All bytes of a buffer so many places down.
-fn shift(trace: &mut [u8], by: usize) {
-    if by > trace.len() {
-        return;
-    }
-    let count = trace.len() - by;
-    let mut i: usize = 0;
-    while i < count {
-        trace[i] = trace[i + by];
-        i += 1;
-    }
-}
-
-// Where the first record at or past a place was found: the pass, the bytes that the buffer has, how many records lie before it, at which byte it stands,
-// and whether there is one.
-struct Sought {
-    pass: Pass,
-    have: usize,
-    before: u64,
-    at: usize,
-    is_there: bool,
-}
-
-// So many records more; a count that no card reaches stays.
-fn more(before: u64, count: usize) -> u64 {
-    if count as u64 > u64::MAX - before {
-        return before;
-    }
-    before + count as u64
-}
-
-// What a block gives: the record at or past the place, if it has one.
-fn look_in(step: Step, before: u64, trace: &[u8], place: u64) -> Sought {
-    let have = step.have;
-    let pass = step.pass;
-    if have > trace.len() {
-        return Sought {
-            pass,
-            have: 0,
-            before,
-            at: 0,
-            is_there: false,
-        };
-    }
-    let times = viewer::times_to(&trace[..have], 0, place);
-    if times >= have / 8 {
-        return Sought {
-            pass,
-            have,
-            before: more(before, have / 8),
-            at: 0,
-            is_there: false,
-        };
-    }
-    Sought {
-        pass,
-        have,
-        before: more(before, times),
-        at: times * 8,
-        is_there: true,
-    }
-}
-
-// Goes over the cards to the first record at or past the place. No run uses up the turns.
-fn seek(first: usize, lengths: &[u64], trace: &mut [u8], place: u64) -> Sought {
-    let begun = console::begin(first);
-    let mut sought = Sought {
-        pass: begun,
-        have: 0,
-        before: 0,
-        at: 0,
-        is_there: false,
-    };
-    let mut turns = u64::MAX;
-    while turns > 0 {
-        let pass = sought.pass;
-        let step = next(pass, lengths, trace, 0);
-        let how = step.how;
-        sought = look_in(step, sought.before, trace, place);
-        if sought.is_there {
-            return sought;
-        }
-        if !goes_on(how) {
-            if ended_well(how) {
-                say_none();
+        pass = step.pass;
+        have = step.have;
+        match how {
+            Goes::More => {}
+            Goes::End => {
+                return Read {
+                    bytes: have,
+                    is_good: true,
+                };
             }
-            return sought;
+            Goes::CannotOpen(number) => {
+                console::cannot_open(b"view", number);
+                break;
+            }
+            Goes::CannotRead(number) => {
+                console::cannot_read(b"view", number);
+                break;
+            }
+            Goes::NoRoom => {
+                break;
+            }
         }
         turns -= 1;
     }
+<<<<<<< HEAD
     sought
 }
 
@@ -277,15 +178,27 @@ fn open_all(store: Store, first: usize, lengths: &[u64]) {
     let how = step.how;
     if ended_well(how) {
         hold_front(store, &trace, step.have);
+=======
+    Read {
+        bytes: 0,
+        is_good: false,
+>>>>>>> vw
     }
 }
 
 // Reads the cards, whose lengths were kept, and looks at them.
-pub fn open(store: Store, from: From, first: usize, lengths: &[u64]) {
-    match from {
-        From::First => open_all(store, first, lengths),
-        From::Place(place) => open_from(store, place, first, lengths),
-        From::Usage => {}
-        From::Said => {}
+pub fn open(store: Store, first: usize, lengths: &[u64]) {
+    if !fits(lengths) {
+        console::fail(
+            b"view",
+            b"the cards have more than 4 MiB together: compact them first",
+        );
+        return;
+    }
+    let mut trace = room();
+    let read = fill(first, lengths, &mut trace);
+    let bytes = read.bytes;
+    if read.is_good {
+        session::hold(store, &trace[..bytes]);
     }
 }

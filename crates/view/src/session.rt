@@ -1,119 +1,65 @@
 // A session: where the viewer stands is shown at the start and after each command.
 ghost use mathlib.Core.Path.{_≡_};
-ghost use lib.ListN.{length};
 use crate::going::forth;
 use crate::going::to_number;
 use crate::going::to_place;
 use crate::input;
 use crate::out;
-use crate::passing;
-use crate::screen;
 use settings::Store;
 use viewer::Begun;
 use viewer::Moved;
 use viewer::Stand;
 use viewer_text::Command;
 
-// Where a command leads, and what is said of it.
-struct After {
-    stand: Stand,
-    told: u8,
-}
-
-// A move, and why it made no further step.
-fn after(moved: Moved) -> After {
+// Where a move ended, after the refusal that stopped it, if there was one.
+fn tell(moved: Moved) -> Stand {
     let stand = moved.stand;
     let ending = moved.ending;
-    After {
-        stand,
-        told: out::told_of(ending),
-    }
+    out::tell(ending);
+    stand
 }
 
-// The same place, and what is said.
-fn stay(stand: Stand, told: u8) -> After {
-    After { stand, told }
-}
-
-// Forward past the next line that has the word.
-fn find(trace: &[u8], stand: Stand, word: &[u8], terminal: bool) -> After {
-    let before = passing::number_of(trace, stand, word);
-    if before == 0 {
-        return stay(stand, out::NO_LINE);
-    }
-    after(to_number(trace, stand, before, terminal))
-}
-
-// The same with the word that stands in a line from one place up to another.
-fn find_in(
-    trace: &[u8],
-    stand: Stand,
-    line: &[u8],
-    from: usize,
-    to: usize,
-    terminal: bool,
-) -> After {
-    if to > line.len() {
-        return stay(stand, out::HELP);
-    }
-    if from > to {
-        return stay(stand, out::HELP);
-    }
-    find(trace, stand, &line[from..to], terminal)
-}
-
-// One command but `q`, which stands in a line.
-fn obey(trace: &[u8], stand: Stand, line: &[u8], terminal: bool) -> After {
-    let command = viewer_text::read(line);
+// One command but `q`: where the viewer stands after it.
+fn obey(trace: &[u8], stand: Stand, command: Command) -> Stand {
     match command {
-        Command::Forward(times) => after(forth(trace, stand, times as usize, terminal)),
-        Command::Back(times) => after(viewer::backs_at(stand, times as usize)),
-        Command::Go(before) => after(to_number(trace, stand, before as usize, terminal)),
-        Command::Place(place) => after(to_place(trace, stand, place, terminal)),
-        Command::Find { from, to } => find_in(trace, stand, line, from, to, terminal),
-        Command::Again => stay(stand, out::HELP),
-        Command::Quit => stay(stand, out::NOTHING),
-        Command::Unknown => stay(stand, out::HELP),
+        Command::Forward(times) => tell(forth(trace, stand, times as usize)),
+        Command::Back(times) => tell(viewer::backs_at(stand, times as usize)),
+        Command::Go(before) => tell(to_number(trace, stand, before as usize)),
+        Command::Place(place) => tell(to_place(trace, stand, place)),
+        Command::Quit => stand,
+        Command::Find { from: _, to: _ } => help(stand),
+        Command::Again => help(stand),
+        Command::Unknown => help(stand),
     }
 }
 
-// What a line asks for, of which so many bytes are there.
-fn command_of(line: &[u8], count: usize) -> Command {
-    if count > line.len() {
-        return Command::Unknown;
-    }
-    viewer_text::read(&line[..count])
+// The list of commands, and the viewer where it stands.
+fn help(stand: Stand) -> Stand {
+    out::help();
+    stand
 }
 
-// One line: what it asks for, or, where that is the same again, the line that is kept.
-fn turn(
-    trace: &[u8],
-    stand: Stand,
-    command: Command,
-    last: &[u8],
-    kept: usize,
-    terminal: bool,
-) -> After {
-    if is_unknown(command) {
-        return stay(stand, out::HELP);
-    }
-    if kept > last.len() {
-        return stay(stand, out::HELP);
-    }
-    obey(trace, stand, &last[..kept], terminal)
-}
-
-// Whether a line is one that Enter repeats: a command.
-fn is_command(command: Command) -> bool {
-    match command {
-        Command::Forward(_) => true,
-        Command::Back(_) => true,
-        Command::Go(_) => true,
-        Command::Place(_) => true,
-        Command::Find { from: _, to: _ } => true,
-        Command::Again => false,
-        Command::Quit => false,
-        Command::Unknown => false,
+// The commands up to `q`, the end of the input, or where nothing can be written any more. No run uses up the turns.
+fn obey_all(trace: &[u8], first: Stand) {
+    let mut stand = first;
+    let mut line = [0u8; 256];
+    let mut turns = u64::MAX;
+    while turns > 0 {
+        if !out::show(trace, stand) {
+            return;
+        }
+        out::prompt();
+        let got = input::next(&mut line);
+        let count = got.count;
+        if got.is_end {
+            return;
+        }
+        let command = viewer_text::read(&line[..count]);
+        if is_quit(command) {
+            return;
+        }
+        stand = obey(trace, stand, command);
+        turns -= 1;
     }
 }
 
@@ -131,69 +77,14 @@ fn is_quit(command: Command) -> bool {
     }
 }
 
-// Whether nothing that is known is asked for.
-fn is_unknown(command: Command) -> bool {
-    match command {
-        Command::Unknown => true,
-        Command::Quit => false,
-        Command::Forward(_) => false,
-        Command::Back(_) => false,
-        Command::Go(_) => false,
-        Command::Place(_) => false,
-        Command::Find { from: _, to: _ } => false,
-        Command::Again => false,
-    }
-}
-
-// A line that is kept for Enter alone: the line itself, of which so many bytes are there, where it is a command, else the one before; how many bytes it has.
-fn keep(command: Command, line: &[u8], count: usize, last: &mut [u8], kept: usize) -> usize {
-    if !is_command(command) {
-        return kept;
-    }
-    if count > line.len() {
-        return kept;
-    }
-    text::put(&line[..count], last, 0)
-}
-
-// The commands up to `q`, the end of the input, or where nothing can be written any more. No run uses up the turns.
-fn obey_all(trace: &[u8], first: Stand, terminal: bool) {
-    let mut stand = first;
-    let mut told: u8 = 0;
-    let mut line = [0u8; 256];
-    let mut last = [0u8; 256];
-    let mut kept: usize = 0;
-    let mut turns = u64::MAX;
-    while turns > 0 {
-        if !screen::show(trace, stand, told, terminal) {
-            return;
-        }
-        out::prompt();
-        let got = input::next(&mut line);
-        let count = got.count;
-        if got.is_end {
-            return;
-        }
-        let command = command_of(&line, count);
-        if is_quit(command) {
-            return;
-        }
-        kept = keep(command, &line, count, &mut last, kept);
-        let then = turn(trace, stand, command, &last, kept, terminal);
-        stand = then.stand;
-        told = then.told;
-        turns -= 1;
-    }
-}
-
 // A viewer of the trace under these settings.
 pub fn hold(store: Store, trace: &[u8]) {
     let opened = viewer::start_at(store, trace);
     let stand = opened.stand;
     let begun = opened.begun;
     let Begun::Open = begun else {
-        console::refuse_trace(b"view");
+        out::refuse_trace();
         return;
     };
-    obey_all(trace, stand, out::is_terminal());
+    obey_all(trace, stand);
 }
