@@ -93,96 +93,9 @@ fn fill(first: usize, lengths: &[u64], trace: &mut [u8]) -> Read
         }
         turns -= 1;
     }
-<<<<<<< HEAD
-    sought
-}
-
-// That no record is there.
-fn say_none() {
-    console::fail(b"view", b"no record is at or past that place");
-}
-
-// Goes the line ends that says where a fresh ride begins: whether not all records after it have room.
-fn put_rest(how: Goes, buf: &mut [u8], at: usize) -> usize {
-    match how {
-        Goes::NoRoom => text::put(b"; of those after it the first 524288 have room\n", buf, at),
-        Goes::More => text::put(b"\n", buf, at),
-        Goes::End => text::put(b"\n", buf, at),
-        Goes::CannotOpen(_) => text::put(b"\n", buf, at),
-        Goes::CannotRead(_) => text::put(b"\n", buf, at),
-    }
-}
-
-// That a fresh ride begins at a record.
-fn say_fresh(before: u64, place: u64, how: Goes) {
-    let mut line = [0u8; 192];
-    let a = text::put_number(
-        b"view: a fresh ride from record ",
-        more(before, 1),
-        &mut line,
-        0,
-    );
-    let b = text::put_number(b" on, the first at or past ", place, &mut line, a);
-    let c = put_rest(how, &mut line, b);
-    console::write(STDERR_FILENO, &line, c);
-}
-
-// What is left of a number of bytes.
-fn left(have: usize, at: usize) -> usize {
-    if have < at {
-        return 0;
-    }
-    have - at
-}
-
-// Looks at the first bytes of a buffer.
-fn hold_front(store: Store, trace: &[u8], have: usize) {
-    if have > trace.len() {
-        return;
-    }
-    session::hold(store, &trace[..have]);
-}
-
-// Looks at the cards from the first record at or past the place on, as at a fresh ride.
-fn open_from(store: Store, place: u64, first: usize, lengths: &[u64]) {
-    let mut trace = room();
-    let sought = seek(first, lengths, &mut trace, place);
-    if !sought.is_there {
-        return;
-    }
-    shift(&mut trace, sought.at);
-    let step = fill(
-        sought.pass,
-        lengths,
-        &mut trace,
-        left(sought.have, sought.at),
-    );
-    let how = step.how;
-    if ended_well(how) {
-        say_fresh(sought.before, place, how);
-        hold_front(store, &trace, step.have);
-    }
-}
-
-// Looks at all records of the cards.
-fn open_all(store: Store, first: usize, lengths: &[u64]) {
-    if !fits(lengths) {
-        console::fail(
-            b"view",
-            b"the cards have more than 4 MiB together: compact them first, or begin at a place with -from PLACE",
-        );
-        return;
-    }
-    let mut trace = room();
-    let step = fill(console::begin(first), lengths, &mut trace, 0);
-    let how = step.how;
-    if ended_well(how) {
-        hold_front(store, &trace, step.have);
-=======
     Read {
         bytes: 0,
         is_good: false,
->>>>>>> vw
     }
 }
 
