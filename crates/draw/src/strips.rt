@@ -11,7 +11,7 @@ struct Stand {
     is_good: bool,
 }
 
-// Writes what waits, if it is much.
+// Writes what waits, if it is much; no place at all where that fails.
 fn relieved(at: usize, out: &[u8]) -> usize {
     if at < 65536 {
         return at;
@@ -27,13 +27,10 @@ fn draw_records(from: Stand, store: Store, records: &[u8], out: &mut [u8]) -> St
     let mut drawing = from.drawing;
     let mut at = from.at;
     let mut i: usize = 0;
-    while i < records.len() / 8 {
+    while (i < records.len() / 8) & (at < usize::MAX) {
         let put = ride_drawing::draw_record(drawing, store, records, i, out, at);
         drawing = put.drawing;
         at = relieved(put.next, out);
-        if at == usize::MAX {
-            break;
-        }
         i += 1;
     }
     Stand {
