@@ -70,6 +70,14 @@
         return to;
       },
       isatty(fd) { world.errno = world.open.has(fd) ? ENOTTY : EBADF; return 0; },
+      // The seconds since 1970, for what says how far long work is; without a terminal nobody asks.
+      time(p) {
+        const buf = lent(p, 8n);
+        if (!buf) return BigInt(fail(EFAULT));
+        const now = BigInt(Math.floor(Date.now() / 1000));
+        new DataView(buf.buffer, buf.byteOffset, 8).setBigInt64(0, now, true);
+        return now;
+      },
       close(fd) { return world.open.delete(fd) ? 0 : fail(EBADF); },
       rattle_open_to_read(p) {
         const buf = lent(p, PATH_MAX);
