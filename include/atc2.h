@@ -1,14 +1,20 @@
 /*
- * The balise bench checker's libraries for C and C++, by what one wants to do: words, telegrams, contacts, test balises, settings, traces.
+ * The balise bench checker's libraries for C and C++, by what one wants to do: words, telegrams,
+ * contacts, test balises, settings, traces.
  *
- * Link with target/staticlib/libabi.a (rt staticlib abi; x86-64 Linux). Each function is total: whatever numbers and bytes are passed, it returns one of
- * the values listed, and a refusal, -N for the number N of documents 01 and 02, leaves every lent array as it was. Lengths and places are 64 bits
- * everywhere. A buffer is used only while the call runs. The caller keeps: a pointer points to as many bytes or numbers as is said beside it and is
- * not NULL, even where there are none; and no two of them overlap.
+ * Link with target/staticlib/libabi.a (rt staticlib abi; x86-64 Linux), or with what ./install puts
+ * down; port/README.md has other processors, with the code and stack of each call. Each function is
+ * total: whatever numbers and bytes are passed, it returns one of the values listed, and a refusal,
+ * -N for the number N of documents 01 and 02, leaves every lent array as it was. Lengths and places
+ * have 64 bits on every processor, results 32 or 64. A buffer is used only while the call runs. The
+ * caller keeps: a pointer points to as many bytes or numbers as is said beside it and is not NULL,
+ * even where there are none; and no two of them overlap.
  *
- * A store of settings is ATC2_STORE bytes that the caller lends and keeps; what stands in them is ours. Any other bytes are some store too, and are
- * refused as a store that is not in order: 25, 19, 24, 4 or 18. Groups, rides and their lines are not here: for those there is the program checker.
- * samples/settings.c, samples/settings.cpp and bindings/atc2.py show how it is used; tests/abi/calls.c calls every function.
+ * A store of settings is ATC2_STORE bytes that the caller lends and keeps; what stands in them is
+ * ours. Any other bytes are some store too, and are refused as a store that is not in order: 25, 19,
+ * 24, 4 or 18. Groups, rides and their lines are not here: for those there is the program checker.
+ * samples/settings.c, samples/balise.cpp and bindings/atc2.py show how it is used;
+ * tests/abi/calls.c calls every function.
  */
 #ifndef ATC2_H
 #define ATC2_H
