@@ -9,7 +9,7 @@ use console::Found;
 use console::Given;
 use settings::Store;
 
-// Given it is called.
+// How it is called.
 fn usage() {
     console::usage(b"compact", b"compact [-s SETTINGS] CARD..");
 }

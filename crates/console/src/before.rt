@@ -23,7 +23,7 @@ const GAP: u32 = 40;
 // The argument of the settings' file.
 const FILE: usize = 2;
 
-// Given asking for the settings went.
+// How asking for the settings went.
 pub enum Given {
     Plain,
     Settings,
@@ -71,7 +71,7 @@ fn tell_of(program: &[u8], aside: bool, line: u32, how: Condition) {
     }
 }
 
-// Given a call ends by bad settings: refused by a number, or their text cannot be read.
+// How a call ends by bad settings: refused by a number, or their text cannot be read.
 fn ended(how: Condition) -> Ended {
     match how {
         Condition::Refused(_) => Ended::Refused,

@@ -23,7 +23,7 @@ fn draw_ride(store: Store, first: usize, lengths: &[u64], block: &mut [u8], out:
         return;
     }
     if page::put_listing() {
-        ride_console::list_all(b"draw", REASONS, store, first, lengths, block, out);
+        ride_console::list_all(b"draw", REASONS, store, first, lengths, block);
         page::put_foot();
     }
 }
@@ -45,9 +45,8 @@ fn draw_cards(store: Store, first: usize) {
     let found = console::go_over(first, &mut lengths, &mut block);
     match found {
         Found::Cards => {
-            let mut out = ride_console::room();
-            let size = ride_console::size(REASONS);
-            draw_ride(store, first, &lengths, &mut block[..size], &mut out);
+            let mut out = strips::room();
+            draw_ride(store, first, &lengths, &mut block, &mut out);
         }
         Found::BadLength(_) => draw_refused(),
         Found::NoCard => usage(),

@@ -1,8 +1,17 @@
 // The strips of a ride, record by record. What a record adds is far less than the room behind the first 65,536 bytes of the lent buffer.
+ghost use mathlib.Core.Path.{_≡_};
+ghost use lib.ListN.{length};
 use console::Goes;
 use ride_drawing::Drawing;
 use settings::Asked;
 use settings::Store;
+
+// Room for what waits to be written, and for a record's pieces behind it.
+pub fn room() -> [u8; 131072]
+    ensures { λ r. ⌜ 131072 ≡ length r ⌝ }
+{
+    [0; 131072]
+}
 
 // Where the drawing stands, how many bytes wait to be written, and whether all reads and writes so far succeeded.
 struct Stand {

@@ -13,13 +13,13 @@ pub fn room() -> [u8; 8192]
     [0; 8192]
 }
 
-// Goes many records were written, and whether all writes so far succeeded.
+// How many records were written, and whether all writes so far succeeded.
 struct Stand {
     count: u64,
     is_good: bool,
 }
 
-// Goes many bytes of lines stand in a buffer, and how many records they are of all.
+// How many bytes of lines stand in a buffer, and how many records they are of all.
 struct Lines {
     bytes: usize,
     count: u64,

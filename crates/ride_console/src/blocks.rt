@@ -10,14 +10,21 @@ use ride::Ride;
 use ride_text::Done;
 use settings::Store;
 
-// Goes many bytes a block of records has: 8,192 records of 128 bytes of lines fill the room for lines, 3,276 of 320.
-pub fn size(reasons: bool) -> usize
-    ensures { λ r. ⌜ r ≤ 65536 ⌝ }
+// How many bytes of a lent block are used at once: 8,192 records of 128 bytes of lines fill the room
+// for lines, 3,276 of 320.
+pub fn size(reasons: bool, lent: usize) -> usize
+    ensures { λ r. ⌜ r ≤ lent ⌝ }
 {
     if reasons {
-        return 26208;
+        if 26208 < lent {
+            return 26208;
+        }
+        return lent;
     }
-    65536
+    if 65536 < lent {
+        return 65536;
+    }
+    lent
 }
 
 // Room for the lines of a block.
@@ -88,7 +95,7 @@ fn finish(program: &[u8], reasons: bool, how: Goes, stand: Stand) {
 
 // The lines of all records of the cards from this argument on, whose lengths were kept, as one ride under the settings, and of its end. A proved loop has to
 // end, and nothing says that a file does: so it counts its turns down from a number that no run uses up.
-pub fn list_all(
+pub fn over(
     program: &[u8],
     reasons: bool,
     store: Store,

@@ -6,33 +6,42 @@
 mod blocks;
 mod saying;
 
-pub use blocks::list_all;
-pub use blocks::room;
-pub use blocks::size;
 use console::Found;
 use console::Given;
 pub use saying::refuse_trace;
 use settings::Store;
 
-// Goes over the cards. The buffers are made once: a fresh one for each part of a card would have to be filled with zeroes first.
+// The lines of the cards from this argument on, whose lengths were kept, by way of a lent block. The
+// room for lines is made once: a fresh one for each part of a card would have to be filled with zeroes
+// first.
+pub fn list_all(
+    program: &[u8],
+    reasons: bool,
+    store: Store,
+    first: usize,
+    lengths: &[u64],
+    block: &mut [u8],
+) {
+    let mut out = blocks::room();
+    let size = blocks::size(reasons, block.len());
+    blocks::over(
+        program,
+        reasons,
+        store,
+        first,
+        lengths,
+        &mut block[..size],
+        &mut out,
+    );
+}
+
+// Goes over the cards twice.
 fn go_over(program: &[u8], call: &[u8], reasons: bool, store: Store, first: usize) {
     let mut lengths = [0u64; 8192];
     let mut block = io::large_buffer();
     let found = console::go_over(first, &mut lengths, &mut block);
     match found {
-        Found::Cards => {
-            let mut out = blocks::room();
-            let size = blocks::size(reasons);
-            blocks::list_all(
-                program,
-                reasons,
-                store,
-                first,
-                &lengths,
-                &mut block[..size],
-                &mut out,
-            );
-        }
+        Found::Cards => list_all(program, reasons, store, first, &lengths, &mut block),
         Found::BadLength(_) => saying::refuse_trace(program, reasons),
         Found::NoCard => saying::usage(program, call, reasons),
         Found::TooMany => saying::say_found(program, reasons, found),

@@ -1,4 +1,4 @@
--- `list_all` lists block after block, and counts its turns down. The two buffers keep their lengths.
+-- `over` lists block after block, and counts its turns down. The two buffers keep their lengths.
 use Prim.Native.Nat.{ℕ, _≤_}
 use mathlib.Core.Path.{_≡_, refl, sym, _∙_}
 use mathlib.Core.List.{List}
@@ -6,8 +6,8 @@ use native.Mathlib.Omega.{arith}
 use lib.ListN.{length}
 use lib.Seq.{length-take-le}
 use borrow.Author.Needs.{needs}
-use Rattle.ride_console.proofs.blocks.list_all.Statement.{statement}
-use Rattle.ride_console.proofs.blocks.list_all.Tie as tie
+use Rattle.ride_console.proofs.blocks.over.Statement.{statement}
+use Rattle.ride_console.proofs.blocks.over.Tie as tie
 
 -- a buffer has the length that it had
 abbrev same : List ℕ → List ℕ → Type 0
@@ -63,8 +63,8 @@ same-length-5 c = c .before .loop .inv .0
 same-length-6 : tie.Need-same-length-6 Inv-loop μ-loop
 same-length-6 c = c .before .loop .inv .1
 
-pub list-all-spec : {M : Type 1} → statement M
-list-all-spec =
+pub over-spec : {M : Type 1} → statement M
+over-spec =
     tie.close
     (tie.spec
     Inv-loop
