@@ -51,7 +51,7 @@ begin gap s t = openedIf (firstOf gap s t) (settingsOf gap s t)
 abbrev pub plain : ℕ → Store
 plain gap = begin gap 0x00 0x7F .store
 
--- ---- a lent store, judged as opening it and adding version by version would
+-- ---- a lent store: 25, 19, 24 for the store as a whole, then as adding version by version would
 
 -- The versions after one that is in force from `last` on, each added after the one before: the first bad one refuses.
 unfoldable pub allFollow : ℕ → List Version → Outcome Kept

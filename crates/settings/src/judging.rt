@@ -1,4 +1,4 @@
-// Judging a lent store as opening it and adding version by version would, and whether it takes one version more.
+// Judging a lent store: 25, 19, 24 for the store as a whole, then as adding version by version would; and whether it takes one version more.
 ghost use mathlib.Core.Path.{_≡_};
 ghost use Prim.Native.Nat.{_≤_};
 ghost use lib.ListN.{take, drop};

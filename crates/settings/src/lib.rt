@@ -1,7 +1,7 @@
 // Settings that change on the way (document 02, M-111): up to 32 versions of gap, S and S*, each in force from a place of
 // the odometer until the next one's.
 // Promises: a store that begin and add made is never empty and in order; any place up to 4,000,000,000 has one version in force; a lent store
-// that they did not make is refused with the number that opening it and adding version by version would have given.
+// that they did not make is refused with 25, 19 or 24 for the store as a whole, then as adding version by version would.
 // Specification: specs/Versions.antt, Store.antt, At.antt, Says.antt (the answers); laws: specs/Laws.antt.
 // A store's own refusal is that of a lent store which begin and add did not make: 25 for a count above 32, 19 for a count of 0, 24 for a first place
 // that is not 0, else the number that its first bad version would have been given.
