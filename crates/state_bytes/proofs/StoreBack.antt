@@ -10,7 +10,8 @@ use Rattle.settings.specs.declared.Version.{Version}
 use Rattle.settings.specs.declared.Store.{Store}
 use Rattle.settings.specs.Store.{noVersion}
 use Rattle.state_bytes.specs.Figures.{each, figureAt}
-use Rattle.state_bytes.specs.Stores.{versionFigure, widthOf, figuresOf, versionAt, storeIn}
+use Rattle.state_bytes.specs.Inside.{widthOf}
+use Rattle.state_bytes.specs.Stores.{versionFigure, figuresOf, versionAt, storeIn}
 use Rattle.state_bytes.proofs.Bytes.{each-length, each-at, is-each}
 
 -- a figure that is small is its own low bits

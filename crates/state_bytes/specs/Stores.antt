@@ -36,9 +36,3 @@ versionAt bytes i =
 -- The store in some bytes.
 unfoldable pub storeIn : List ℕ → Store
 storeIn bytes = record { versions = each 32 (versionAt bytes); count = figureAt bytes 128 }
-
--- How many values figure k of a version has.
-abbrev pub widthOf : ℕ → ℕ
-widthOf zero = 4294967296
-widthOf (suc zero) = 4294967296
-widthOf (suc (suc k)) = 256

@@ -9,7 +9,8 @@ use borrow.Author.Needs.{needs}
 use Rattle.settings.specs.declared.Version.{Version}
 use Rattle.settings.specs.Store.{noVersion}
 use Rattle.state_bytes.specs.Figures.{each}
-use Rattle.state_bytes.specs.Stores.{versionFigure, widthOf, figuresOf}
+use Rattle.state_bytes.specs.Inside.{widthOf}
+use Rattle.state_bytes.specs.Stores.{versionFigure, figuresOf}
 use Rattle.state_bytes.proofs.Bytes.{then-last, more, and-then}
 use Rattle.state_bytes.proofs.stores.figures.Statement.{statement}
 use Rattle.state_bytes.proofs.stores.figures.Tie as tie

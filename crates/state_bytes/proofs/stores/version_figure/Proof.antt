@@ -5,7 +5,8 @@ use Prim.Native.Nat.{ℕ, _<_}
 use native.Mathlib.Omega.{arith}
 use borrow.Author.Needs.{needs}
 use Rattle.settings.specs.declared.Version.{Version}
-use Rattle.state_bytes.specs.Stores.{versionFigure, widthOf}
+use Rattle.state_bytes.specs.Inside.{widthOf}
+use Rattle.state_bytes.specs.Stores.{versionFigure}
 use Rattle.state_bytes.proofs.Bytes.{above, exactly}
 use Rattle.state_bytes.proofs.stores.version_figure.Statement.{statement}
 use Rattle.state_bytes.proofs.stores.version_figure.Tie as tie
