@@ -1,5 +1,5 @@
 -- Demand 1 for the viewer of document 02's M-108: "19, then 16 refuse it"; "22 for back exactly if the kept count is 0; 23 for forward exactly at
--- the end; both leave the viewer unchanged." Each function stands here twice: over a viewer, with what its contract allows as
+-- the end; both leave the viewer unchanged." `start`, `forward` and `back` stand here twice: over a viewer, with what the contract allows as
 -- viewer/specs/Laws.antt says it, and over a plain slice (`.._at`). Many at once (`forwards_at`,
 -- `backs_at`) refuse nothing: they say how many calls were made (`Going` of viewer_laws/specs/Session.antt).
 -- Assumes nothing.
@@ -22,6 +22,7 @@ use Rattle.viewer.specs.declared.Viewer.{Viewer}
 use Rattle.viewer.specs.declared.Started.{Started}
 use Rattle.viewer.specs.declared.Forwarded.{Forwarded}
 use Rattle.viewer.specs.declared.Backed.{Backed}
+use Rattle.viewer.specs.Stand.{opened}
 use Rattle.viewer.specs.Viewing.{Done, done}
 use Rattle.viewer.specs.Says.{saysBegun, saysHow}
 use Rattle.viewer.specs.Laws.{Starts, Forwards, Backs}
@@ -70,15 +71,16 @@ pub record ViewersDecided : Type 0 where
   pub back-at : (s : Stand) (r : Came) → BackAt s r → Decided (Is done) (backRules (s .kept)) (saysHow (r .how))
 
 -- What a refusal leaves: "both leave the viewer unchanged", and a refused forward gives no line and closes no group. A refused opening answers a viewer over an
--- empty slice, with nothing kept: forward is 23 there, and back 22.
+-- empty slice that stands as any viewer opens (`opened`): number 0, nothing kept, a fresh ride, a history of fresh rides, and the settings that were given. So it hands out
+-- neither a ride nor a history; forward is 23 there, and back 22.
 pub record ViewersUntouched : Type 0 where
   pub start : (store : Store) (trace : RefT (List ℕ)) (r : Started) (n : ℕ) → Starts store trace r → saysBegun (r .begun) ≡ refuses n
-      → (now (r .viewer .trace) ≡ []) × (r .viewer .stand .number ≡ 0) × (r .viewer .stand .kept ≡ 0)
+      → (now (r .viewer .trace) ≡ []) × (r .viewer .stand ≡ opened store)
   pub forward : (v : Viewer) (r : Forwarded) (n : ℕ) → Forwards v r → saysHow (r .how) ≡ refuses n
       → (r .viewer ≡ v) × (r .lines ≡ Lines.None) × (r .closed ≡ noGroup)
   pub back : (v : Viewer) (r : Backed) (n : ℕ) → Backs v r → saysHow (r .how) ≡ refuses n → r .viewer ≡ v
   pub start-at : (store : Store) (trace : List ℕ) (r : Opened) (n : ℕ) → StartAt store trace r → saysBegun (r .begun) ≡ refuses n
-      → (r .stand .number ≡ 0) × (r .stand .kept ≡ 0)
+      → r .stand ≡ opened store
   pub forward-at : (trace : List ℕ) (s : Stand) (r : Went) (n : ℕ) → ForwardAt trace s r → saysHow (r .how) ≡ refuses n
       → (r .stand ≡ s) × (r .lines ≡ Lines.None) × (r .closed ≡ noGroup)
   pub back-at : (s : Stand) (r : Came) (n : ℕ) → BackAt s r → saysHow (r .how) ≡ refuses n → r .stand ≡ s

@@ -6,3 +6,4 @@ pub mod LiveMet
 pub mod Eights
 pub mod Explain
 pub mod ExplainMet
+pub mod Demand1

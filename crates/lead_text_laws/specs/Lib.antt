@@ -1,3 +1,4 @@
 pub mod Calls
 pub mod Live
 pub mod Explain
+pub mod Demand1

@@ -143,12 +143,11 @@ no-lines : (ls : Lines) → saysLines ls ≡ [] → ls ≡ Lines.None
 no-lines ls e = sym (lines-back ls) ∙ ap linesOf e
 
 pub viewers-untouched : ViewersUntouched
-unfolding opened
 viewers-untouched = record {
   start = λ store trace r n c e.
       let begun = ap (λ (x : Holding). x .start) c in
       let left = begun ∙ start-left store (now trace) n (sym (ap (λ (x : Start). x .answer) begun) ∙ e) in
-      (ap (λ (x : Start). x .trace) left, ap (λ (x : Start). x .stand .number) left, ap (λ (x : Start). x .stand .kept) left);
+      (ap (λ (x : Start). x .trace) left, ap (λ (x : Start). x .stand) left);
   forward = λ v r n c e.
       let left = c ∙ ap (over (v .trace)) (forward-left (now (v .trace)) (v .stand) n (sym (ap (λ (o : Over Forward). o .answer .answer) c) ∙ e)) in
       (ap viewerOf left, no-lines (r .lines) (ap (λ (o : Over Forward). o .answer .lines) left), ap (λ (o : Over Forward). o .answer .closed) left);
@@ -158,7 +157,7 @@ viewers-untouched = record {
   start-at = λ store trace r n c e.
       let is = c .4 ∙ ap (start store) (c .3) in
       let left = is ∙ start-left store trace n (sym (ap (λ (x : Start). x .answer) is) ∙ e) in
-      (ap (λ (x : Start). x .stand .number) left, ap (λ (x : Start). x .stand .kept) left);
+      ap (λ (x : Start). x .stand) left;
   forward-at = λ trace s r n c e.
       let is = c .4 ∙ ap (λ (t : List ℕ). forward t s) (c .3) in
       let left = is ∙ forward-left trace s n (sym (ap (λ (f : Forward). f .answer) is) ∙ e) in
