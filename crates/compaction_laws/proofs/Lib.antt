@@ -4,3 +4,4 @@ pub mod Trace
 pub mod Blocks
 pub mod TraceMet
 pub mod BlocksMet
+pub mod NumberMet
