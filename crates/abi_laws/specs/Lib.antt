@@ -3,3 +3,4 @@ pub mod Demand1
 pub mod Settings
 pub mod Handed
 pub mod Sent
+pub mod SettingsText

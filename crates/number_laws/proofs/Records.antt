@@ -12,6 +12,10 @@ use Rattle.words.proofs.Told.{told as once}
 use Rattle.words.proofs.Never.{cannot-be}
 use Rattle.telegram.specs.declared.Telegram.{Telegram}
 use Rattle.contact.specs.declared.Judged.{Judged}
+use Rattle.contact.proofs.Determined.{judgedOf, judged-back}
+use Rattle.antenna.specs.declared.Until.{Until}
+use Rattle.antenna.specs.Piece.{First, openedAt, closedAt, usedUp}
+use Rattle.antenna.specs.Says.{saysUntil}
 use Rattle.balise_writer.specs.Words.{Words, asked, tooLarge, hasFifteen, wordsOf, spell}
 use Rattle.recorder.specs.Record.{Content, Made, made, Recording, telegramOf, informed, bytesOf, contentOf, atOdometer, recordOf, recording, eightZeroes}
 use Rattle.recorder.specs.Says.{saysWent}
@@ -107,10 +111,24 @@ zeroes : (o : Outcome (List ℕ)) (n : ℕ) → recording o .answer ≡ refuses 
 zeroes (gives bytes) n e = cannot-be cc
 zeroes (refuses m) n e = refl
 
+-- From what an answer of `hear_piece` says, the answer.
+abbrev untilOf : Outcome First → Until
+untilOf (gives (openedAt ear at)) = Until.Opened ear at
+untilOf (gives (closedAt ear at length judgement)) = Until.Closed ear at length (judgedOf judgement)
+untilOf (gives (usedUp ear)) = Until.Over ear
+untilOf (refuses n) = Until.Beyond
+
+until-back : (r : Until) → untilOf (saysUntil r) ≡ r
+until-back (Until.Opened ear at) = refl
+until-back (Until.Closed ear at length judged) = ap (Until.Closed ear at length) (judged-back judged)
+until-back (Until.Over ear) = refl
+until-back Until.Beyond = refl
+
 pub records-decided : RecordsDecided
 records-decided = record {
   record-of = λ odometer j r c. let e = ap (λ (x : Recording). x .answer) (c .1) in rw e (record-so odometer j);
   went = λ n r r′ p q. once saysWent wentOf went-back r r′ p q;
+  heard = λ n r r′ p q. once saysUntil untilOf until-back r r′ p q;
   no-bytes = λ odometer j r n c e.
       ap (λ (x : Recording). x .bytes) (c .1) ∙ zeroes (recordOf odometer j) n (sym (ap (λ (x : Recording). x .answer) (c .1)) ∙ e);
 }

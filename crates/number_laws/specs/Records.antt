@@ -1,5 +1,5 @@
 -- Demand 1 for what records a lead: `recorder::record_of`, which makes a record of a judged contact, and `recording_text::count_frames`, which counts the frames.
--- Each refuses with the first number of its list whose condition holds, and a refusal hands out no figure.
+-- Each refuses with the first number of its list whose condition holds, and a refusal hands out no figure; nor does one of `antenna::hear_piece`, whose list is in recording_laws.
 -- Assumes nothing.
 use Prim.Native.Nat.{ℕ, _*_, _<_}
 use mathlib.Core.Path.{_≡_}
@@ -14,6 +14,7 @@ use lib.ListN.{length}
 use Rattle.words.specs.Answer.{Outcome, refuses}
 use Rattle.telegram.specs.declared.Telegram.{Telegram}
 use Rattle.contact.specs.declared.Judged.{Judged}
+use Rattle.antenna.specs.Says.{saysUntil}
 use Rattle.recorder.specs.Record.{Made, made, eightZeroes}
 use Rattle.recorder.specs.Says.{saysWent}
 use Rattle.recorder.specs.declared.Recorded.{Recorded}
@@ -81,6 +82,7 @@ pub record RecordsDecided : Type 0 where
   pub record-of : (odometer : ℕ) (j : Judged) (r : Recorded) → RecordOf odometer j r → Decided (Is made) (makingRules odometer j) (saysWent (r .went))
   -- no refusal carries a figure, and no byte of a record
   pub went : Bare saysWent
+  pub heard : Bare saysUntil
   pub no-bytes : (odometer : ℕ) (j : Judged) (r : Recorded) (n : ℕ) → RecordOf odometer j r → saysWent (r .went) ≡ refuses n → r .bytes ≡ eightZeroes
 
 -- ---- the frames of a lead

@@ -51,7 +51,7 @@ long-so false text e =
     let long : ltb longest (length text) ≡ true = lt-ltb longest (length text) (leb-false (length text) longest e) in
     (λ f. bad-says 0 Condition.TooLong refl, λ f. absurd (true-not-false (sym long ∙ f)))
 
-sheet-so : (text : List ℕ) → Decided (Is (leaves noStore (linesIn text))) (textRules text) (says (sheet text))
+pub sheet-so : (text : List ℕ) → Decided (Is (leaves noStore (linesIn text))) (textRules text) (says (sheet text))
 unfolding sheet
 sheet-so text = long-so (leb (length text) longest) text refl
 
