@@ -6,7 +6,7 @@
 -- all of them: specs/RowCases.antt. What accepted groups say: specs/Said.antt. The ride, its marks and missed signals: specs/Ride.antt. The table of proved cases:
 -- specs/Cases.antt. The ride in full, and what the program writes: specs/Output.antt. That all of this holds: proofs/Demand2.antt.
 -- It does not say that the rows, tables and speeds of document 01 are those of the railway's own papers: source 000's tables are
--- compared by running programs (crates vectors and rows).
+-- compared by running programs (crates test_words and test_rows).
 -- Assumes nothing.
 use Prim.Native.Nat.{ℕ, _+_, _*_, _≤_, _<_}
 use mathlib.Core.Path.{_≡_}

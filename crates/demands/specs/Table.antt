@@ -154,7 +154,7 @@ isMisfit (fit kind a) = false
 unfoldable pub noRow : List Placed → Bool
 noRow bs = isMisfit (fitIn present bs) && isMisfit (fitIn opposite bs)
 
--- 14 is not used, and never will be again: no group fits a row of each direction (`OneWay`, of walk's specs/OneWay.antt, which demand 2
+-- 14 is not used, and never will be again: no group fits a row of each direction (`OneWay`, of group_rows/specs/OneWay.antt, which demand 2
 -- cites).
 
 -- Whether a distance is judged: "for present signals and present warning boards only".

@@ -49,7 +49,7 @@ Bare {R} {A} says = (refusal : R) (r r′ : A) → says r ≡ refuses refusal �
 
 -- "A refusal hands out no figure, and lent memory and the running state stay untouched unless the table says otherwise."
 -- Of the functions with a list only those of `ride_text`, `balise_writer` and `compaction` are lent memory that they may write; a search is given by value,
--- and a refusal of `next_contact` gives none back. Those that put a text into a lent buffer (of `text`, `contact_text`, `group_reason`, `ride_text`, `settings_text`, `acceptance_text`, `depot`,
+-- and a refusal of `next_contact` gives none back. Those that put a text into a lent buffer (of `text`, `contact_text`, `group_reason`, `ride_text`, `settings_text`, `acceptance_text`,
 -- `viewer_text`, `audibility`) refuse with no number: what they leave without room is in their contracts. (The face for C: `left` of crates/abi/specs/Face.antt.)
 pub record Untouched : Type 0 where
   -- a refused step closes no group, and it and a refused run leave the ride as it was

@@ -1,5 +1,5 @@
 -- The judgement of a closed group (document 01, "Groups" and "Refusal numbers"): 10, 11, 12, 13, 15 in this order, or the
--- group's message. 14 is not used: no group fits a row of each direction (walk's specs/OneWay.antt).
+-- group's message. 14 is not used: no group fits a row of each direction (group_rows/specs/OneWay.antt).
 -- A message (`Message`) has the group's direction and kind, the place of its A balise, AY and AZ, the figure of its number balise or none, and
 -- its content (`Content`), what it says beyond its kind. That of a present signal: its distance (a preset point's is table DF's figure, and links nothing), whether it is a preset point, its main speed and its
 -- target; of a present warning board: its distance; of a route board: its speed; of any other group: nothing.

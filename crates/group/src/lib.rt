@@ -1,6 +1,6 @@
 // Balises as received, and the judgement of a closed group: rows, distances, speeds.
 // Promises: a group is its message, or refused with 10, 11, 12, 13 or 15, exactly as document 01's rows and tables say.
-// Specification: walk's specs/Rows.antt (the rows), specs/Judge.antt (the judgement), specs/Distance.antt, specs/Speed.antt, specs/Says.antt.
+// Specification: specs/Rows.antt of group_rows (the rows), specs/Judge.antt (the judgement), specs/Distance.antt, specs/Speed.antt, specs/Says.antt.
 // 14 is not used: no group fits a row of each direction (specs/OneWay.antt of `group_rows`).
 ghost use mathlib.Core.Path.{_≡_};
 ghost use Rattle.group.specs.Distance.{distance};

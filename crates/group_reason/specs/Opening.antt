@@ -1,5 +1,5 @@
 -- How far the balises of a group go along with document 01's rows: "the length of the longest opening run that also opens some permitted
--- group of either direction, with all figure conditions of the rows". The rows are gone through as in walk's specs/Row.antt, and stopped
+-- group of either direction, with all figure conditions of the rows". The rows are gone through as in group_rows/specs/Row.antt, and stopped
 -- early; specs/Truths.antt says what this comes to.
 -- Assumes nothing.
 use Prim.Native.Nat.{ℕ, zero, suc}
