@@ -10,6 +10,7 @@ use Rattle.group_rows.specs.declared.Part.{Part}
 use Rattle.group_rows.specs.declared.Placed.{Placed}
 use Rattle.group_rows.specs.Row.{Figures, all, _to_, Asked, category, oneOf, M, Member, A, must, may, row, isCategory, meets, fits, Found, none, found, first, calledA, fitWith, fitRow}
 use Rattle.group_rows.specs.Rows.{howMany}
+use Rattle.group_rows.specs.Opening.{isSendable, areSendable}
 use Rattle.group_rows.proofs.Bools.{both, false-true}
 use Rattle.group_reason.specs.Opening.{opensMembers}
 use Rattle.group_reason.specs.Explain.{isFound}
@@ -42,9 +43,12 @@ ending (A w ∷ ms) (b ∷ bs) = ending ms bs
 ending (must w ∷ ms) (b ∷ bs) = ending ms bs
 ending (may w ∷ ms) (b ∷ bs) = pick (meets w (b .part) && opensMembers ms bs) (ending ms bs) (ending ms (b ∷ bs))
 
--- A balise that is what is asked and no 12.
+-- A balise that is what is asked, no 12, and can be.
+abbrev isPlain : Asked → Bool
+isPlain w = not (isCategory 12 (sample w .part)) && isSendable (sample w .part)
+
 abbrev canFill : Asked → Bool
-canFill w = meets w (sample w .part) && not (isCategory 12 (sample w .part))
+canFill w = meets w (sample w .part) && isPlain w
 
 -- Every member that must be there has one.
 abbrev pub fillable : List Member → Bool
@@ -58,10 +62,10 @@ unfolding fits
 filled-fits [] t = refl
 filled-fits (A w ∷ ms) t =
     let h = both (canFill w) (fillable ms) t in
-    and-both (meets w (sample w .part)) (fits ms (filled ms)) (both (meets w (sample w .part)) (not (isCategory 12 (sample w .part))) (h .0) .0) (filled-fits ms (h .1))
+    and-both (meets w (sample w .part)) (fits ms (filled ms)) (both (meets w (sample w .part)) (isPlain w) (h .0) .0) (filled-fits ms (h .1))
 filled-fits (must w ∷ ms) t =
     let h = both (canFill w) (fillable ms) t in
-    and-both (meets w (sample w .part)) (fits ms (filled ms)) (both (meets w (sample w .part)) (not (isCategory 12 (sample w .part))) (h .0) .0) (filled-fits ms (h .1))
+    and-both (meets w (sample w .part)) (fits ms (filled ms)) (both (meets w (sample w .part)) (isPlain w) (h .0) .0) (filled-fits ms (h .1))
 filled-fits (may w ∷ ms) t = left-out w ms (filled ms) (filled-fits ms t)
   where
     left-out : (w : Asked) (ms : List Member) (l : List Placed) → fits ms l ≡ true → fits (may w ∷ ms) l ≡ true
@@ -77,11 +81,25 @@ unfolding howMany
 filled-numbers [] t = refl
 filled-numbers (A w ∷ ms) t =
     let h = both (canFill w) (fillable ms) t in
-    rw (not-true (isCategory 12 (sample w .part)) (both (meets w (sample w .part)) (not (isCategory 12 (sample w .part))) (h .0) .1)) (filled-numbers ms (h .1))
+    let plain = both (not (isCategory 12 (sample w .part))) (isSendable (sample w .part)) (both (meets w (sample w .part)) (isPlain w) (h .0) .1) in
+    rw (not-true (isCategory 12 (sample w .part)) (plain .0)) (filled-numbers ms (h .1))
 filled-numbers (must w ∷ ms) t =
     let h = both (canFill w) (fillable ms) t in
-    rw (not-true (isCategory 12 (sample w .part)) (both (meets w (sample w .part)) (not (isCategory 12 (sample w .part))) (h .0) .1)) (filled-numbers ms (h .1))
+    let plain = both (not (isCategory 12 (sample w .part))) (isSendable (sample w .part)) (both (meets w (sample w .part)) (isPlain w) (h .0) .1) in
+    rw (not-true (isCategory 12 (sample w .part)) (plain .0)) (filled-numbers ms (h .1))
 filled-numbers (may w ∷ ms) t = filled-numbers ms t
+
+filled-sendable : (ms : List Member) → fillable ms ≡ true → areSendable (filled ms) ≡ true
+filled-sendable [] t = refl
+filled-sendable (A w ∷ ms) t =
+    let h = both (canFill w) (fillable ms) t in
+    let plain = both (not (isCategory 12 (sample w .part))) (isSendable (sample w .part)) (both (meets w (sample w .part)) (isPlain w) (h .0) .1) in
+    and-both (isSendable (sample w .part)) (areSendable (filled ms)) (plain .1) (filled-sendable ms (h .1))
+filled-sendable (must w ∷ ms) t =
+    let h = both (canFill w) (fillable ms) t in
+    let plain = both (not (isCategory 12 (sample w .part))) (isSendable (sample w .part)) (both (meets w (sample w .part)) (isPlain w) (h .0) .1) in
+    and-both (isSendable (sample w .part)) (areSendable (filled ms)) (plain .1) (filled-sendable ms (h .1))
+filled-sendable (may w ∷ ms) t = filled-sendable ms t
 
 pub ending-fits : (ms : List Member) (bs : List Placed) → fillable ms ≡ true → opensMembers ms bs ≡ true → fits ms (bs ++ ending ms bs) ≡ true
 unfolding fits opensMembers ending
@@ -115,6 +133,18 @@ ending-numbers (must w ∷ ms) (b ∷ bs) t = ending-numbers ms bs (both (canFil
 ending-numbers (may w ∷ ms) (b ∷ bs) t = go (meets w (b .part) && opensMembers ms bs) (ending-numbers ms bs t) (ending-numbers ms (b ∷ bs) t)
   where
     go : (so : Bool) → howMany 12 (ending ms bs) ≡ 0 → howMany 12 (ending ms (b ∷ bs)) ≡ 0 → howMany 12 (pick so (ending ms bs) (ending ms (b ∷ bs))) ≡ 0
+    go true p q = p
+    go false p q = q
+
+pub ending-sendable : (ms : List Member) (bs : List Placed) → fillable ms ≡ true → areSendable (ending ms bs) ≡ true
+unfolding ending
+ending-sendable ms [] t = filled-sendable ms t
+ending-sendable [] (b ∷ bs) t = refl
+ending-sendable (A w ∷ ms) (b ∷ bs) t = ending-sendable ms bs (both (canFill w) (fillable ms) t .1)
+ending-sendable (must w ∷ ms) (b ∷ bs) t = ending-sendable ms bs (both (canFill w) (fillable ms) t .1)
+ending-sendable (may w ∷ ms) (b ∷ bs) t = go (meets w (b .part) && opensMembers ms bs) (ending-sendable ms bs t) (ending-sendable ms (b ∷ bs) t)
+  where
+    go : (so : Bool) → areSendable (ending ms bs) ≡ true → areSendable (ending ms (b ∷ bs)) ≡ true → areSendable (pick so (ending ms bs) (ending ms (b ∷ bs))) ≡ true
     go true p q = p
     go false p q = q
 

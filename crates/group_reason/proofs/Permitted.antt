@@ -11,10 +11,10 @@ use Rattle.group_rows.specs.declared.Placed.{Placed}
 use Rattle.group_rows.specs.Row.{_to_, A, Row, row, fits, found, Fit, misfit, fit, fitRow, fitRows}
 use Rattle.group_rows.specs.Rows.{present, opposite, howMany, fitIn}
 use Rattle.group_rows.specs.Fitting.{rowsFor}
-use Rattle.group_rows.specs.Opening.{Opens}
+use Rattle.group_rows.specs.Opening.{Opens, areSendable}
 use Rattle.group_rows.proofs.Bools.{both, false-true}
 use Rattle.group_reason.specs.Opening.{opensMembers, opensRows, isOpening}
-use Rattle.group_reason.proofs.Endings.{ending, fillable, ending-fits, ending-numbers, hasA, fits-row}
+use Rattle.group_reason.proofs.Endings.{ending, fillable, ending-fits, ending-numbers, ending-sendable, hasA, fits-row}
 use Rattle.group_reason.proofs.Openings.{or-cases, or-first, or-second, isFit, or-fit, many-append}
 
 -- Every row calls a balise A, and can be filled.
@@ -22,10 +22,11 @@ abbrev whole : List Row → Bool
 whole [] = true
 whole (row kind ms ∷ rs) = (hasA ms && fillable ms) && whole rs
 
--- Balises without a 12 that make these a group of one of the rows.
+-- Balises that can be, without a 12, that make these a group of one of the rows.
 record Ended (rs : List Row) (bs : List Placed) : Type 0 where
   more : List Placed
   numbers : howMany 12 more ≡ 0
+  sendable : areSendable more ≡ true
   fits-one : isFit (fitRows rs (bs ++ more)) ≡ true
 
 rows-end : (rs : List Row) (bs : List Placed) → whole rs ≡ true → opensRows rs bs ≡ true → Ended rs bs
@@ -38,6 +39,7 @@ rows-end (row kind ms ∷ rs) bs t e =
     (λ q. record {
       more = ending ms bs;
       numbers = ending-numbers ms bs (a .1);
+      sendable = ending-sendable ms bs (a .1);
       fits-one =
           or-fit (fitRow (row kind ms) (bs ++ ending ms bs)) (fitRows rs (bs ++ ending ms bs))
           ∙ or-first (isFit (fitRow (row kind ms) (bs ++ ending ms bs))) (isFit (fitRows rs (bs ++ ending ms bs)))
@@ -46,24 +48,29 @@ rows-end (row kind ms ∷ rs) bs t e =
     (λ q. let r = rows-end rs bs (h .1) q in record {
       more = r .more;
       numbers = r .numbers;
+      sendable = r .sendable;
       fits-one =
           or-fit (fitRow (row kind ms) (bs ++ r .more)) (fitRows rs (bs ++ r .more))
           ∙ or-second (isFit (fitRow (row kind ms) (bs ++ r .more))) (isFit (fitRows rs (bs ++ r .more))) (r .fits-one);
     })
 
-opens-by : (way : Direction) (bs : List Placed) → leb (howMany 12 bs) 1 ≡ true → Ended (rowsFor way) bs → Opens bs
+-- The balises open a permitted group, with some that can be.
+abbrev pub Opened : List Placed → Type 0
+Opened bs = (o : Opens bs) × (areSendable (o .more) ≡ true)
+
+opens-by : (way : Direction) (bs : List Placed) → leb (howMany 12 bs) 1 ≡ true → Ended (rowsFor way) bs → Opened bs
 unfolding fitIn
 opens-by way bs few d = go (fitRows (rowsFor way) (bs ++ d .more)) refl (d .fits-one)
   where
     once : leb (howMany 12 (bs ++ d .more)) 1 ≡ true
     once = le-leb (howMany 12 (bs ++ d .more)) 1 (omega (arith, leb-true (howMany 12 bs) 1 few, many-append 12 bs (d .more), d .numbers))
 
-    go : (f : Fit) → fitRows (rowsFor way) (bs ++ d .more) ≡ f → isFit f ≡ true → Opens bs
+    go : (f : Fit) → fitRows (rowsFor way) (bs ++ d .more) ≡ f → isFit f ≡ true → Opened bs
     go misfit q e = false-true e
-    go (fit kind a) q e = record { more = d .more; way = way; kind = kind; a = a; fits = rw (once, q) }
+    go (fit kind a) q e = (record { more = d .more; way = way; kind = kind; a = a; fits = rw (once, q) }, d .sendable)
 
 -- Balises that are found to open a permitted group do so.
-pub real-opening : (bs : List Placed) → isOpening bs ≡ true → Opens bs
+pub real-opening : (bs : List Placed) → isOpening bs ≡ true → Opened bs
 unfolding isOpening
 real-opening bs e =
     let h = both (leb (howMany 12 bs) 1) (opensRows present bs || opensRows opposite bs) e in

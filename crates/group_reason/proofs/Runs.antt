@@ -61,7 +61,8 @@ module _ (bs : List Placed) where
   run-is-longest =
       record {
         within = at-most (length bs);
-        opens = real-opening (take (openingRun bs) bs) (is-open (length bs));
+        opens = real-opening (take (openingRun bs) bs) (is-open (length bs)) .0;
+        sendable = real-opening (take (openingRun bs) bs) (is-open (length bs)) .1;
         no-more = λ h o. false-true (sym (not-open (length bs) (openingRun bs + 1) (omega arith) (omega arith)) ∙ seen-opening (take (openingRun bs + 1) bs) o);
       }
 

@@ -64,7 +64,7 @@ pub record FirstBad (bs : List Balise) (i place : ℕ) (what : Bad) : Type 0 whe
 -- ---- 13: "no row fits"
 
 -- The balises were read, no row fits them, and the first `run` of the `many` open a permitted group: some balises more (given in
--- `Longest`) make them fit a row of either direction. If they are not all, no balises more make the first `run` + 1 fit one.
+-- `Longest`, and such as can be) make them fit a row of either direction. If they are not all, no balises more make the first `run` + 1 fit one.
 pub record OpensSoFar (g : Group) (run many : ℕ) : Type 0 where
   pub parts : List Placed
   pub read : received.readAll (received.balises g) ≡ gives parts

@@ -1,7 +1,8 @@
 -- Wherever the walk stands, some balises more make a permitted group.
 -- Assumes nothing.
 use Prim.Native.Nat.{ℕ}
-use mathlib.Core.Path.{_≡_}
+use mathlib.Core.Path.{_≡_, refl}
+use mathlib.Core.Bool.{true}
 use mathlib.Core.List.{List, [], _∷_}
 use lib.Dec.{leb·zero}
 use Rattle.group_rows.specs.declared.Direction.{Direction}
@@ -17,6 +18,7 @@ use Rattle.group_rows.specs.declared.stands.Stand.{Stand}
 use Rattle.group_rows.specs.Row.{fit}
 use Rattle.group_rows.specs.Rows.{howMany}
 use Rattle.group_rows.specs.Open.{fitFrom, fitRest, fitMost}
+use Rattle.group_rows.specs.Opening.{areSendable}
 use Rattle.group_rows.specs.Stands.{mustBe, mayBe, rowsBefore, withRest, rowsOf}
 use Rattle.group_rows.proofs.Laws.{along-self}
 
@@ -47,6 +49,23 @@ abbrev pub finish : Stand → List Placed
 finish (Stand.Before passed) = finishBefore passed
 finish (Stand.After (Tail.Must next) p) = finishMust next
 finish (Stand.After (Tail.May next) p) = []
+
+-- Balises can be so.
+pub finish-sendable : (at : Stand) → areSendable (finish at) ≡ true
+finish-sendable (Stand.Before Before.Nothing) = refl
+finish-sendable (Stand.Before Before.Number) = refl
+finish-sendable (Stand.Before Before.Eight) = refl
+finish-sendable (Stand.Before Before.NumberEight) = refl
+finish-sendable (Stand.Before Before.BackFourteen) = refl
+finish-sendable (Stand.Before Before.BackNine) = refl
+finish-sendable (Stand.Before Before.BackMarker) = refl
+finish-sendable (Stand.Before Before.BackNumberMarker) = refl
+finish-sendable (Stand.After (Tail.Must Must.Nine) p) = refl
+finish-sendable (Stand.After (Tail.Must Must.LowNine) p) = refl
+finish-sendable (Stand.After (Tail.Must Must.Five) p) = refl
+finish-sendable (Stand.After (Tail.Must Must.Marker) p) = refl
+finish-sendable (Stand.After (Tail.Must Must.ThreeFiveSeven) p) = refl
+finish-sendable (Stand.After (Tail.May next) p) = refl
 
 -- They fit a row that is still open, with 12 at most m times.
 pub record Finishes (at : Stand) (m : ℕ) : Type 0 where

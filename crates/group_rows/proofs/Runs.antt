@@ -23,7 +23,7 @@ use Rattle.group_rows.specs.Stands.{rowsOf, ended}
 use Rattle.group_rows.specs.Opening.{Opens, Longest, Ran}
 use Rattle.group_rows.proofs.Laws.{at-end}
 use Rattle.group_rows.proofs.Ends.{ended-right, nothing-fits}
-use Rattle.group_rows.proofs.Finish.{finish, finishes}
+use Rattle.group_rows.proofs.Finish.{finish, finishes, finish-sendable}
 use Rattle.words.proofs.Never.{cannot-be}
 
 -- The first n of five, or all five.
@@ -67,8 +67,17 @@ module _ (p : List Placed) (n few : ℕ) (long : length p ≡ 5) (is : few ≡ p
         record {
           within = omega (arith, ran .within);
           opens =
-              subst Opens (sym (within (ran .within)))
-              (record { more = finish (r .at); way = f .way; kind = f .kind; a = f .a; fits = ran .leads (f .way) (finish (r .at)) ∙ f .fits });
+              record {
+                more = finish (r .at);
+                way = f .way;
+                kind = f .kind;
+                a = f .a;
+                fits =
+                    ap (λ (l : List Placed). fitIn (rowsFor (f .way)) (l ++ finish (r .at))) (within (ran .within))
+                    ∙ ran .leads (f .way) (finish (r .at))
+                    ∙ f .fits;
+              };
+          sendable = finish-sendable (r .at);
           no-more = λ h o.
               let less : r .count < few = omega arith in
               let next : r .count + 1 ≤ few = omega arith in

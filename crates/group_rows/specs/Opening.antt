@@ -2,10 +2,13 @@
 -- Assumes nothing.
 use Prim.Native.Nat.{ℕ, _+_, _≤_, _<_}
 use mathlib.Core.Path.{_≡_}
+use mathlib.Core.Bool.{Bool, true, not, _&&_}
 use mathlib.Core.List.{List, [], _∷_, _++_}
+use lib.Dec.{eqb, leb}
 use lib.ListN.{length, take}
 use Rattle.group_rows.specs.declared.Direction.{Direction}
 use Rattle.group_rows.specs.declared.Kind.{Kind}
+use Rattle.group_rows.specs.declared.Part.{Part}
 use Rattle.group_rows.specs.declared.Placed.{Placed}
 use Rattle.group_rows.specs.declared.running.Run.{Run}
 use Rattle.group_rows.specs.Row.{Found, none, found, fit, misfit}
@@ -22,10 +25,22 @@ pub record Opens (bs : List Placed) : Type 0 where
   pub a : Placed
   pub fits : fitIn (rowsFor way) (bs ++ more) ≡ fit kind a
 
--- The first r of the balises open one, and one balise more does not.
+-- Whether a balise can be so: three figures of 0 to 14, of which the first is not 12; a number to 2,047; or a marker.
+abbrev pub isSendable : Part → Bool
+isSendable (Part.Figures x y z) = leb x 14 && not (eqb x 12) && leb y 14 && leb z 14
+isSendable (Part.Number m) = leb m 2047
+isSendable Part.Marker = true
+
+-- Whether each of them can be.
+abbrev pub areSendable : List Placed → Bool
+areSendable [] = true
+areSendable (b ∷ bs) = isSendable (b .part) && areSendable bs
+
+-- The first r of the balises open one, with balises that can be, and one balise more does not, whatever follows.
 pub record Longest (bs : List Placed) (r : ℕ) : Type 0 where
   pub within : r ≤ length bs
   pub opens : Opens (take r bs)
+  pub sendable : areSendable (opens .more) ≡ true
   pub no-more : r < length bs → Opens (take (r + 1) bs) → ⊥
 
 -- ---- for the walk alone
