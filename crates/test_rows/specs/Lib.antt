@@ -1,2 +1,3 @@
 pub mod Counting
 pub mod Spelling
+pub mod Answers

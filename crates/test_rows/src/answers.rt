@@ -1,76 +1,64 @@
-// What judging a group answers, as text into a lent buffer: each function puts its text at `at` and answers the next place.
+// What judging a group answers, as text into a lent buffer: each function puts its pieces from `at` on, each whole or not at all, and answers the place after them.
+ghost use mathlib.Core.Path.{_≡_};
+ghost use mathlib.Core.List.{[], _∷_};
+ghost use Rattle.text.specs.Put.{put, came};
+ghost use Rattle.test_rows.specs.Answers.{puts, directionWord, kindWord, toldPieces, distancePieces, contentPieces, balisePieces, numberPieces, messagePieces, answerPieces};
 use group::Content;
 use group::GroupJudged;
 use group::Message;
+use group::Number;
 use group::Told;
 use group_rows::Direction;
 use group_rows::Kind;
 
-// One byte, if there is room.
-fn byte(out: &mut [u8], at: usize, b: u8) -> usize {
-    if at < out.len() {
-        out[at] = b;
-        return at + 1;
-    }
-    at
-}
-
-fn text(out: &mut [u8], at: usize, s: &[u8]) -> usize {
-    let mut to = at;
-    let mut i = 0;
-    while i < s.len() {
-        to = byte(out, to, s[i]);
-        i += 1;
-    }
-    to
-}
-
-// A number after a text.
-fn number(out: &mut [u8], at: usize, s: &[u8], n: u32) -> usize {
-    let next = text(out, at, s);
-    let mut digits = [0u8; 20];
-    let k = io::decimal(n as u64, &mut digits);
-    text(out, next, &digits[..k])
-}
-
-fn direction(out: &mut [u8], at: usize, d: Direction) -> usize {
+fn direction(d: Direction, out: &mut [u8], at: usize) -> usize
+    ensures { λ r. ⌜ came r (now (out .exit)) ≡ put (directionWord d) (now (out .entry)) at ⌝ }
+{
     match d {
-        Direction::Present => text(out, at, b"present "),
-        Direction::Opposite => text(out, at, b"opposite "),
+        Direction::Present => text::put(b"present ", out, at),
+        Direction::Opposite => text::put(b"opposite ", out, at),
     }
 }
 
-fn kind(out: &mut [u8], at: usize, k: Kind) -> usize {
+fn kind(k: Kind, out: &mut [u8], at: usize) -> usize
+    ensures { λ r. ⌜ came r (now (out .exit)) ≡ put (kindWord k) (now (out .entry)) at ⌝ }
+{
     match k {
-        Kind::Signal => text(out, at, b"signal"),
-        Kind::Warning => text(out, at, b"warning"),
-        Kind::Annulled => text(out, at, b"annulled"),
-        Kind::Line => text(out, at, b"line"),
-        Kind::Route => text(out, at, b"route"),
+        Kind::Signal => text::put(b"signal", out, at),
+        Kind::Warning => text::put(b"warning", out, at),
+        Kind::Annulled => text::put(b"annulled", out, at),
+        Kind::Line => text::put(b"line", out, at),
+        Kind::Route => text::put(b"route", out, at),
     }
 }
 
-// A speed after a text.
-fn told(out: &mut [u8], at: usize, s: &[u8], t: Told) -> usize {
+// A speed after its words, or a dash.
+fn told(words: &[u8], t: Told, out: &mut [u8], at: usize) -> usize
+    ensures { λ r. ⌜ came r (now (out .exit)) ≡ puts (toldPieces (now (words .entry)) t) (now (out .entry)) at ⌝ }
+{
     match t {
-        Told::Kmh(v) => number(out, at, s, v as u32),
+        Told::Kmh(v) => text::put_number(words, v as u64, out, at),
         Told::Unknown => {
-            let next = text(out, at, s);
-            text(out, next, b"-")
+            let next = text::put(words, out, at);
+            text::put(b"-", out, next)
         }
     }
 }
 
-fn distance(out: &mut [u8], at: usize, dm: u32, preset: bool) -> usize {
-    let next = number(out, at, b", ", dm);
+fn distance(dm: u32, preset: bool, out: &mut [u8], at: usize) -> usize
+    ensures { λ r. ⌜ came r (now (out .exit)) ≡ puts (distancePieces dm preset) (now (out .entry)) at ⌝ }
+{
+    let next = text::put_number(b", ", dm as u64, out, at);
     if preset {
-        text(out, next, b" dm preset")
-    } else {
-        text(out, next, b" dm")
+        return text::put(b" dm preset", out, next);
     }
+    text::put(b" dm", out, next)
 }
 
-fn content(out: &mut [u8], at: usize, c: Content) -> usize {
+// What the group says beyond its kind.
+fn content(c: Content, out: &mut [u8], at: usize) -> usize
+    ensures { λ r. ⌜ came r (now (out .exit)) ≡ puts (contentPieces c) (now (out .entry)) at ⌝ }
+{
     match c {
         Content::Signal {
             distance: dm,
@@ -78,51 +66,59 @@ fn content(out: &mut [u8], at: usize, c: Content) -> usize {
             main,
             target,
         } => {
-            let next = distance(out, at, dm, preset);
-            let last = told(out, next, b", main ", main);
-            told(out, last, b", target ", target)
+            let next = distance(dm, preset, out, at);
+            let last = told(b", main ", main, out, next);
+            told(b", target ", target, out, last)
         }
-        Content::Warning { distance: dm } => distance(out, at, dm, false),
-        Content::Route(v) => number(out, at, b", speed ", v as u32),
+        Content::Warning { distance: dm } => distance(dm, false, out, at),
+        Content::Route(v) => text::put_number(b", speed ", v as u64, out, at),
         Content::Nothing => at,
     }
 }
 
 // The place and the figures of the A balise.
-fn balise(out: &mut [u8], at: usize, place: u32, ay: u8, az: u8) -> usize {
-    let after_place = number(out, at, b", A at ", place);
-    let after_ay = number(out, after_place, b", AY ", ay as u32);
-    number(out, after_ay, b", AZ ", az as u32)
+fn balise(place: u32, ay: u8, az: u8, out: &mut [u8], at: usize) -> usize
+    ensures { λ r. ⌜ came r (now (out .exit)) ≡ puts (balisePieces place ay az) (now (out .entry)) at ⌝ }
+{
+    let after_place = text::put_number(b", A at ", place as u64, out, at);
+    let after_ay = text::put_number(b", AY ", ay as u64, out, after_place);
+    text::put_number(b", AZ ", az as u64, out, after_ay)
 }
 
 // The group's number, if it has one.
-fn numbered(out: &mut [u8], at: usize, n: group::Number) -> usize {
+fn number(n: Number, out: &mut [u8], at: usize) -> usize
+    ensures { λ r. ⌜ came r (now (out .exit)) ≡ puts (numberPieces n) (now (out .entry)) at ⌝ }
+{
     match n {
-        group::Number::None => at,
-        group::Number::Figure(m) => number(out, at, b", n", m as u32),
+        Number::None => at,
+        Number::Figure(m) => text::put_number(b", n", m as u64, out, at),
     }
 }
 
-fn message(out: &mut [u8], m: Message) -> usize {
+fn message(m: Message, out: &mut [u8], at: usize) -> usize
+    ensures { λ r. ⌜ came r (now (out .exit)) ≡ puts (messagePieces m) (now (out .entry)) at ⌝ }
+{
     let d = m.direction;
     let k = m.kind;
     let n = m.number;
     let c = m.content;
-    let after_direction = direction(out, 0, d);
-    let after_kind = kind(out, after_direction, k);
-    let after_balise = balise(out, after_kind, m.place, m.ay, m.az);
-    let after_number = numbered(out, after_balise, n);
-    content(out, after_number, c)
+    let after_direction = direction(d, out, at);
+    let after_kind = kind(k, out, after_direction);
+    let after_balise = balise(m.place, m.ay, m.az, out, after_kind);
+    let after_number = number(n, out, after_balise);
+    content(c, out, after_number)
 }
 
-// The whole answer; answers how many bytes it has.
-pub fn put(out: &mut [u8], j: GroupJudged) -> usize {
+// The whole answer at the start of out, piece by piece, each whole or not at all; answers how many bytes it has.
+pub fn put(j: GroupJudged, out: &mut [u8]) -> usize
+    ensures { λ r. ⌜ came r (now (out .exit)) ≡ puts (answerPieces j) (now (out .entry)) 0 ⌝ }
+{
     match j {
-        GroupJudged::Accepted(m) => message(out, m),
-        GroupJudged::One => text(out, 0, b"refused 10"),
-        GroupJudged::Many => text(out, 0, b"refused 11"),
-        GroupJudged::Unread => text(out, 0, b"refused 12"),
-        GroupJudged::NoRow => text(out, 0, b"refused 13"),
-        GroupJudged::NoDistance => text(out, 0, b"refused 15"),
+        GroupJudged::Accepted(m) => message(m, out, 0),
+        GroupJudged::One => text::put(b"refused 10", out, 0),
+        GroupJudged::Many => text::put(b"refused 11", out, 0),
+        GroupJudged::Unread => text::put(b"refused 12", out, 0),
+        GroupJudged::NoRow => text::put(b"refused 13", out, 0),
+        GroupJudged::NoDistance => text::put(b"refused 15", out, 0),
     }
 }

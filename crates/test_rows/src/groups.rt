@@ -77,7 +77,7 @@ fn is_so(came: &[u8], wanted: &[u8]) -> bool {
 // Whether the judgement of a group is what must come.
 fn is_judged_so(g: Group, wanted: &[u8]) -> bool {
     let mut out = io::buffer();
-    let n = answers::put(&mut out, group::judge(g));
+    let n = answers::put(group::judge(g), &mut out);
     is_so(front(&out, n), wanted)
 }
 

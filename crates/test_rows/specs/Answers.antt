@@ -1,0 +1,75 @@
+-- What judging a group answers, as the file of groups writes it: `present signal, A at 100, AY 8, AZ 5, n1612, 4000 dm, main 130, target 80`, or `refused 13`.
+-- It is put piece by piece into a lent buffer, each piece whole or not at all.
+-- Assumes nothing.
+use Prim.Native.Nat.{ℕ}
+use mathlib.Core.Bool.{Bool, true, false}
+use mathlib.Core.List.{List, [], _∷_, _++_}
+use Rattle.words.specs.Answer.{pick}
+use Rattle.text.specs.Text.{codes, decimal}
+use Rattle.text.specs.Put.{Put, put, came}
+use Rattle.group_rows.specs.declared.Direction.{Direction}
+use Rattle.group_rows.specs.declared.Kind.{Kind}
+use Rattle.group.specs.declared.Told.{Told}
+use Rattle.group.specs.declared.Number.{Number}
+use Rattle.group.specs.declared.Content.{Content}
+use Rattle.group.specs.declared.Message.{Message}
+use Rattle.group.specs.declared.GroupJudged.{GroupJudged}
+
+-- Pieces put one after the other: each as `text` puts it, where the one before ended.
+unfoldable pub puts : List (List ℕ) → List ℕ → ℕ → Put
+puts [] buffer at = came at buffer
+puts (piece ∷ pieces) buffer at = puts pieces (put piece buffer at .buffer) (put piece buffer at .next)
+
+-- The words for a direction and a kind.
+abbrev pub directionWord : Direction → List ℕ
+directionWord Direction.Present = codes "present "
+directionWord Direction.Opposite = codes "opposite "
+
+abbrev pub kindWord : Kind → List ℕ
+kindWord Kind.Signal = codes "signal"
+kindWord Kind.Warning = codes "warning"
+kindWord Kind.Annulled = codes "annulled"
+kindWord Kind.Line = codes "line"
+kindWord Kind.Route = codes "route"
+
+-- A speed after its words, or a dash where nothing is told.
+abbrev pub toldPieces : List ℕ → Told → List (List ℕ)
+toldPieces words (Told.Kmh v) = (words ++ decimal v) ∷ []
+toldPieces words Told.Unknown = words ∷ codes "-" ∷ []
+
+-- A distance, and whether it is a preset point's.
+abbrev pub distancePieces : ℕ → Bool → List (List ℕ)
+distancePieces dm preset = (codes ", " ++ decimal dm) ∷ pick preset (codes " dm preset") (codes " dm") ∷ []
+
+-- What a group says beyond its kind.
+abbrev pub contentPieces : Content → List (List ℕ)
+contentPieces (Content.Signal dm preset main target) = distancePieces dm preset ++ toldPieces (codes ", main ") main ++ toldPieces (codes ", target ") target
+contentPieces (Content.Warning dm) = distancePieces dm false
+contentPieces (Content.Route v) = (codes ", speed " ++ decimal v) ∷ []
+contentPieces Content.Nothing = []
+
+-- The place and the figures of the A balise.
+abbrev pub balisePieces : ℕ → ℕ → ℕ → List (List ℕ)
+balisePieces place ay az = (codes ", A at " ++ decimal place) ∷ (codes ", AY " ++ decimal ay) ∷ (codes ", AZ " ++ decimal az) ∷ []
+
+-- The group's number, if it has one.
+abbrev pub numberPieces : Number → List (List ℕ)
+numberPieces Number.None = []
+numberPieces (Number.Figure m) = (codes ", n" ++ decimal m) ∷ []
+
+-- An accepted group.
+abbrev pub messagePieces : Message → List (List ℕ)
+messagePieces m =
+    (directionWord (m .direction) ∷ kindWord (m .kind) ∷ [])
+    ++ balisePieces (m .place) (m .ay) (m .az)
+    ++ numberPieces (m .number)
+    ++ contentPieces (m .content)
+
+-- The whole answer.
+abbrev pub answerPieces : GroupJudged → List (List ℕ)
+answerPieces (GroupJudged.Accepted m) = messagePieces m
+answerPieces GroupJudged.One = codes "refused 10" ∷ []
+answerPieces GroupJudged.Many = codes "refused 11" ∷ []
+answerPieces GroupJudged.Unread = codes "refused 12" ∷ []
+answerPieces GroupJudged.NoRow = codes "refused 13" ∷ []
+answerPieces GroupJudged.NoDistance = codes "refused 15" ∷ []
