@@ -5,7 +5,7 @@
 -- lists specs/Lists.antt and, for a store, Stores.antt; what the contracts allow is specs/Contracts.antt. That every call ends is the kit's own check of each
 -- function, and no theorem here. Of the crates whose functions have one, those without a list give no number: `fresh`, `speed` and `end` always answer; `put_line`
 -- says that a line has no room, for which document 01 has no number; `settings::allowed` says whether row 19's condition does not hold; what M-111 added
--- without a number is named in specs/Stores.antt; but `balise_writer::spell` gives the first two of `write`'s. Where
+-- without a number is named in specs/Stores.antt; but `telegram::spell` gives the first two of `write`'s. Where
 -- the other crates say when they refuse, the face for C among them (crates/abi_laws), is in docs/DEMANDS.md.
 -- Assumes nothing.
 use Prim.Native.Nat.{ℕ, _+_, _*_}

@@ -6,7 +6,7 @@ ghost use Rattle.trace_text.specs.Says.{saysHow, saysRecorded};
 ghost use Rattle.trace_text.specs.declared.What.{What};
 use crate::How;
 use crate::Recorded;
-use balise_writer::Spelt;
+use telegram::Spelt;
 
 // No record, and why.
 fn refused(how: How) -> Recorded
@@ -36,7 +36,7 @@ pub fn made(place: u32, kind: u8, x: u8, y: u8, z: u8) -> Recorded
 pub fn balise(place: u32, x: u8, y: u16, z: u8) -> Recorded
     ensures { λ r. ⌜ saysRecorded r ≡ recording (recordOf place (What.Balise x y z)) ⌝ }
 {
-    let spelt = balise_writer::spell(x, y, z);
+    let spelt = telegram::spell(x, y, z);
     match spelt {
         Spelt::Words { x: a, y: b, z: c } => made(place, 0, a, b, c),
         Spelt::TooLarge => refused(How::TooLarge),

@@ -10,7 +10,7 @@ use lib.ListN.{length, getD, drop, length-append}
 use borrow.Author.Tests.{ne-eqb}
 use Rattle.words.specs.Answer.{Outcome, gives, refuses, then, pick}
 use Rattle.words.proofs.Never.{cannot-be}
-use Rattle.balise_writer.specs.Words.{Words, asked, spell}
+use Rattle.telegram.specs.Spelling.{Words, asked, spell}
 use Rattle.lines.specs.declared.Line.{Line}
 use Rattle.lines.specs.Text.{blank, hash, upTo, cut, some, wordsOf, linesOf, beginning, linesIn}
 use Rattle.lines.specs.Words.{lineOf, noWords, keptAll}

@@ -7,7 +7,7 @@ use mathlib.Core.List.{List, [], _∷_, _++_}
 use lib.Dec.{eqb}
 use Rattle.words.specs.Answer.{Answer, Outcome, gives, refuses, then, pick}
 use Rattle.words.proofs.Never.{cannot-be}
-use Rattle.balise_writer.specs.Words.{Words, asked, spell}
+use Rattle.telegram.specs.Spelling.{Words, asked, spell}
 use Rattle.lines.specs.declared.Line.{Line}
 use Rattle.lines_laws.specs.Texts.{keptOf}
 use Rattle.lines.specs.Text.{linesIn}

@@ -9,9 +9,9 @@ use Rattle.words.specs.Answer.{Answer, Outcome, gives, refuses, then, pick}
 use Rattle.words.proofs.Told.{told}
 use Rattle.words.proofs.Never.{cannot-be}
 use Rattle.telegram.specs.declared.Telegram.{Telegram}
-use Rattle.balise_writer.specs.Words.{Words, asked, tooLarge, hasFifteen, wordsOf, spell}
-use Rattle.balise_writer.specs.Says.{saysSpelt}
-use Rattle.balise_writer.proofs.Determined.{speltOf, spelt-back}
+use Rattle.telegram.specs.Spelling.{Words, asked, tooLarge, hasFifteen, wordsOf, spell}
+use Rattle.telegram.specs.Says.{saysSpelt}
+use Rattle.telegram.proofs.Determined.{speltOf, spelt-back}
 use Rattle.trace_text.specs.declared.What.{What}
 use Rattle.trace_text.specs.declared.Recorded.{Recorded}
 use Rattle.trace_text.specs.Record.{Made, Recording, recording, recordOf, bytesOf}

@@ -10,10 +10,10 @@ use lib.Dec.{ltb}
 use borrow.Fn.Kinds.{endedOf}
 use denote.Triple.Clauses.{AtExit}
 use Rattle.words.specs.Answer.{Answer, Outcome, refuses}
-use Rattle.balise_writer.specs.Says.{saysSpelt}
-use Rattle.balise_writer.specs.declared.spelling.Spelt.{Spelt}
-use Rattle.balise_writer.proofs.spell.Kinds as spell-kinds
-use Rattle.balise_writer.proofs.spell.Reads as spell-reads
+use Rattle.telegram.specs.Says.{saysSpelt}
+use Rattle.telegram.specs.declared.spelling.Spelt.{Spelt}
+use Rattle.telegram.proofs.spell.Kinds as spell-kinds
+use Rattle.telegram.proofs.spell.Reads as spell-reads
 use Rattle.trace_text.specs.declared.What.{What}
 use Rattle.trace_text.specs.declared.Recorded.{Recorded}
 use Rattle.trace_text.specs.Record.{eightZeroes}
@@ -29,7 +29,7 @@ use Rattle.demands.specs.Table02.{someAbove, someFifteen, tooHigh}
 use Rattle.demands.specs.Untouched.{Bare}
 use Rattle.track_laws.specs.Calls.{TakeLine}
 
--- The contract of `balise_writer::spell` allows the answer r for these figures.
+-- The contract of `telegram::spell` allows the answer r for these figures.
 abbrev pub Spell : ℕ → ℕ → ℕ → Spelt → Type 0
 Spell x y z r = (e : AtExit (endedOf 0 spell-kinds.ps spell-kinds.r) tt) × spell-reads.Post tt (x, (y, (z, tt))) r e
 

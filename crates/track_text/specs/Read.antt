@@ -3,7 +3,7 @@
 use Prim.Native.Nat.{ℕ}
 use lib.Dec.{eqb}
 use Rattle.words.specs.Answer.{Outcome, gives, refuses, pick}
-use Rattle.balise_writer.specs.Words.{Words, asked, spell}
+use Rattle.telegram.specs.Spelling.{Words, asked, spell}
 use Rattle.lines.specs.declared.Line.{Line}
 use Rattle.trace_text.specs.declared.What.{What}
 use Rattle.trace_text.specs.declared.Said.{Said}

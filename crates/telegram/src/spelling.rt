@@ -1,10 +1,10 @@
-// The words of a test balise.
+// The words to send for a telegram.
 ghost use mathlib.Core.Path.{_≡_};
 ghost use Rattle.words.specs.Code.{writeShort};
 ghost use Rattle.words.specs.Says.{saysShortWritten};
 ghost use Rattle.telegram.specs.declared.Telegram.{Telegram};
-ghost use Rattle.balise_writer.specs.Words.{asked, spell};
-ghost use Rattle.balise_writer.specs.Says.{saysSpelt};
+ghost use Rattle.telegram.specs.Spelling.{asked, spell};
+ghost use Rattle.telegram.specs.Says.{saysSpelt};
 use words::LongWritten;
 use words::ShortWritten;
 

@@ -7,8 +7,8 @@ use lib.Dec.{eqb, leb, ltb}
 use borrow.Author.Tests.{leb-true, leb-false, lt-ltb, le-ltb}
 use Rattle.words.specs.Answer.{Outcome, gives, refuses, pick}
 use Rattle.words.specs.Code.{writeWord, sent}
 use Rattle.telegram.specs.declared.Telegram.{Telegram}
-use Rattle.balise_writer.specs.Words.{tooLarge, hasFifteen, wordsOf, spell}
+use Rattle.telegram.specs.Spelling.{tooLarge, hasFifteen, wordsOf, spell}
 use Rattle.words.proofs.Never.{cannot-be}
 
 module _ (n largest x : ℕ) where

@@ -5,9 +5,9 @@ use borrow.Author.Needs.{needs}
 use borrow.Author.Tests.{lt-ltb, le-ltb}
 use Rattle.words.specs.Code.{sent}
 use Rattle.words.specs.Says.{saysShortWritten}
-use Rattle.balise_writer.proofs.Spelt.{written, unwritten, large, fifteen, spelt-out}
-use Rattle.balise_writer.proofs.spelling.figures.Statement.{statement}
-use Rattle.balise_writer.proofs.spelling.figures.Tie as tie
+use Rattle.telegram.proofs.Spelt.{written, unwritten, large, fifteen, spelt-out}
+use Rattle.telegram.proofs.spelling.figures.Statement.{statement}
+use Rattle.telegram.proofs.spelling.figures.Tie as tie
 
 returns : tie.Need-returns
 returns c =

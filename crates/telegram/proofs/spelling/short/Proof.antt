@@ -4,8 +4,8 @@ use native.Mathlib.Omega.{arith}
 use borrow.Author.Needs.{needs}
 use borrow.Author.Tests.{lt-leb}
 use Rattle.words.specs.Code.{writeWord}
-use Rattle.balise_writer.proofs.spelling.short.Statement.{statement}
-use Rattle.balise_writer.proofs.spelling.short.Tie as tie
+use Rattle.telegram.proofs.spelling.short.Statement.{statement}
+use Rattle.telegram.proofs.spelling.short.Tie as tie
 
 returns : tie.Need-returns
 unfolding writeWord

@@ -4,10 +4,10 @@ use mathlib.Core.Bool.{Bool}
 use borrow.Author.Needs.{needs}
 use borrow.Author.Tests.{eq-eqb, ne-eqb}
 use Rattle.words.specs.Answer.{pick}
 use Rattle.telegram.specs.declared.Telegram.{Telegram}
-use Rattle.balise_writer.specs.Words.{asked, spell}
-use Rattle.balise_writer.proofs.spelling.spell.Statement.{statement}
-use Rattle.balise_writer.proofs.spelling.spell.Tie as tie
+use Rattle.telegram.specs.Spelling.{asked, spell}
+use Rattle.telegram.proofs.spelling.spell.Statement.{statement}
+use Rattle.telegram.proofs.spelling.spell.Tie as tie
 
 returns : tie.Need-returns
 unfolding asked

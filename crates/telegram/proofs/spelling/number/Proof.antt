@@ -7,10 +7,10 @@ use Rattle.words.specs.Bits.{word}
 use Rattle.words.specs.Plain.{isCheck, covers, count, carriers, carried, madeEven, plainWord}
 use Rattle.words.specs.Code.{other, exchanged, sent}
 use Rattle.words.specs.Says.{saysLongWritten}
-use Rattle.balise_writer.specs.Words.{wordsOf}
-use Rattle.balise_writer.proofs.Spelt.{written, unwritten, large-number, number-out}
-use Rattle.balise_writer.proofs.spelling.number.Statement.{statement}
-use Rattle.balise_writer.proofs.spelling.number.Tie as tie
+use Rattle.telegram.specs.Spelling.{wordsOf}
+use Rattle.telegram.proofs.Spelt.{written, unwritten, large-number, number-out}
+use Rattle.telegram.proofs.spelling.number.Statement.{statement}
+use Rattle.telegram.proofs.spelling.number.Tie as tie
 
 returns : tie.Need-returns
 returns c =
