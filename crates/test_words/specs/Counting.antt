@@ -2,7 +2,7 @@
 -- Assumes nothing.
 use Prim.Native.Nat.{ℕ}
 use mathlib.Core.Bool.{Bool, true, not}
-use Rattle.fields.specs.Fields.{more}
+use Rattle.figures.specs.Fields.{more}
 use Rattle.test_words.specs.declared.counts.Found.{Found}
 use Rattle.test_words.specs.declared.counts.Cells.{Cells}
 use Rattle.test_words.specs.declared.counts.Counts.{Counts}

@@ -2,7 +2,7 @@
 ghost use mathlib.Core.Path.{_≡_};
 ghost use Rattle.test_words.specs.Counting.{noCells, noCounts, oneMore, missed, readableCell, rightCell, misreadCell, unreadableCell, anyCell, unknownLine};
 use crate::say;
-use fields::more;
+use figures::more;
 
 // How the word of a cell was found: written so, read so by the checks, read so by the list.
 pub struct Found {

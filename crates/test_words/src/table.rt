@@ -132,7 +132,7 @@ pub fn compare(text: &[u8]) {
     let mut c = counts::none();
     let mut at = 0;
     while at < text.len() {
-        let end = fields::place_of(text, at, b'\n');
+        let end = figures::place_of(text, at, b'\n');
         c = line(c, &text[at..end]);
         at = end + 1;
     }

@@ -2,9 +2,9 @@
 use mathlib.Core.Bool.{and-false}
 use borrow.Author.Needs.{needs}
 use borrow.Author.Tests.{lt-ltb, le-ltb}
-use Rattle.fields.specs.Fields.{more}
-use Rattle.fields.proofs.more.Statement.{statement}
-use Rattle.fields.proofs.more.Tie as tie
+use Rattle.figures.specs.Fields.{more}
+use Rattle.figures.proofs.fields.more.Statement.{statement}
+use Rattle.figures.proofs.fields.more.Tie as tie
 
 returns : tie.Need-returns
 unfolding more

@@ -4,10 +4,10 @@ use Prim.Native.Nat.{ℕ}
 use lib.Dec.{ltb}
 use lib.ListN.{length}
 use borrow.Author.Needs.{needs}
-use Rattle.fields.specs.Fields.{has}
-use Rattle.fields.proofs.Signs.{place-first}
-use Rattle.fields.proofs.has.Statement.{statement}
-use Rattle.fields.proofs.has.Tie as tie
+use Rattle.figures.specs.Fields.{has}
+use Rattle.figures.proofs.Signs.{place-first}
+use Rattle.figures.proofs.fields.has.Statement.{statement}
+use Rattle.figures.proofs.fields.has.Tie as tie
 
 returns : tie.Need-returns
 unfolding has

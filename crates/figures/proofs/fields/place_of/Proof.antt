@@ -3,10 +3,10 @@ use mathlib.Core.Path.{_≡_, refl, sym, _∙_}
 use Prim.Native.Nat.{_+_, _-_}
 use native.Mathlib.Omega.{arith}
 use lib.ListN.{length, drop}
-use Rattle.fields.specs.Fields.{before, placeOf}
-use Rattle.fields.proofs.Signs.{at-sign, at-other, at-end}
-use Rattle.fields.proofs.place_of.Statement.{statement}
-use Rattle.fields.proofs.place_of.Tie as tie
+use Rattle.figures.specs.Fields.{before, placeOf}
+use Rattle.figures.proofs.Signs.{at-sign, at-other, at-end}
+use Rattle.figures.proofs.fields.place_of.Statement.{statement}
+use Rattle.figures.proofs.fields.place_of.Tie as tie
 
 abbrev Inv-loop : tie.InvT-loop
 Inv-loop text from sign i₀ i = i + before sign (drop i text) ≡ placeOf text from sign

@@ -1,10 +1,6 @@
 // The fields of a line of text, between which one sign stands, and counting: what the programs that compare tables share.
-// Promises: every text is answered; a field that a text has not is empty.
-// Specification: specs/Fields.antt.
 ghost use mathlib.Core.Path.{_≡_};
-ghost use Rattle.fields.specs.Fields.{placeOf, field, has, more};
-
-mod places;
+ghost use Rattle.figures.specs.Fields.{placeOf, startOf, field, lies, part, has, more};
 
 // The place of the first such sign at or after the place `from`, or the text's end if there is none; a place beyond the text is answered as it is.
 pub fn place_of(text: &[u8], from: usize, sign: u8) -> usize
@@ -20,11 +16,28 @@ pub fn place_of(text: &[u8], from: usize, sign: u8) -> usize
     i
 }
 
-// Field k of a text, counted from 0, where the sign stands between two fields; empty if there is none.
-pub fn field(text: &[u8], sign: u8, k: usize) -> &[u8]
-    ensures { λ r. ⌜ now r ≡ field (now (text .entry)) sign k ⌝ }
+// Where field k of a text starts; the text's end if there is none.
+fn start_of(text: &[u8], sign: u8, k: usize) -> usize
+    ensures { λ r. ⌜ r ≡ startOf (now (text .entry)) sign k ⌝ }
 {
-    let start = places::start_of(text, sign, k);
+    let mut at = 0;
+    let mut i = 0;
+    while i < k {
+        let end = place_of(text, at, sign);
+        if text.len() <= end {
+            return text.len();
+        }
+        at = end + 1;
+        i += 1;
+    }
+    at
+}
+
+// Field k of a text, counted from 0, where the sign stands between two fields: the very part of the text; empty, and at the text's end, if there is none.
+pub fn field(text: &[u8], sign: u8, k: usize) -> &[u8]
+    ensures { λ r. ⌜ lies r ≡ part (text .entry) (startOf (now (text .entry)) sign k) (field (now (text .entry)) sign k) ⌝ }
+{
+    let start = start_of(text, sign, k);
     let end = place_of(text, start, sign);
     &text[start..end]
 }

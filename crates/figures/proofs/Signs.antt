@@ -1,17 +1,18 @@
 -- The first sign, place by place, and the fields from there on.
 -- Assumes nothing.
-use mathlib.Core.Path.{_≡_, refl, sym, ap, _∙_, subst}
+use mathlib.Core.Path.{_≡_, refl, sym, ap, ap₂, _∙_, subst}
 use mathlib.Core.Bool.{Bool, true, false}
 use mathlib.Core.List.{List, [], _∷_}
 use Prim.Native.Nat.{ℕ, zero, suc, _+_, _-_, _≤_, _<_}
 use native.Mathlib.Numerals.{add-one}
 use native.Mathlib.Omega.{arith}
-use lib.Dec.{eqb}
+use lib.Dec.{eqb, ltb}
 use lib.ListN.{length, getD, take, drop, length-drop, drop-of-length-le}
-use lib.Seq.{drop-cons, drop-length, drop-drop}
-use borrow.Author.Tests.{eq-eqb, ne-eqb}
+use lib.Seq.{drop-cons, drop-drop}
+use borrow.Author.Tests.{eq-eqb, ne-eqb, lt-ltb, le-ltb, ltb-true}
+use denote.Ref.{RefT}
 use Rattle.words.specs.Answer.{pick}
-use Rattle.fields.specs.Fields.{before, placeOf, after, field}
+use Rattle.figures.specs.Fields.{before, placeOf, after, has, startOf, first, Lies, lies, part}
 
 -- No more bytes stand before the sign than there are.
 pub before-most : (sign : ℕ) (text : List ℕ) → before sign text ≤ length text
@@ -46,12 +47,6 @@ module _ (sign : ℕ) (text : List ℕ) (i : ℕ) where
       let none : before sign (drop i text) ≡ 0 = ap (before sign) (drop-of-length-le text h) in
       omega arith
 
--- Nothing has no fields.
-pub field-none : (sign k : ℕ) → field [] sign k ≡ []
-unfolding field before after
-field-none sign zero = refl
-field-none sign (suc k) = field-none sign k
-
 module _ (sign : ℕ) (text : List ℕ) (at k : ℕ) (in-text : at ≤ length text) where
   -- what stands after the first sign from `at` on
   rest : after sign (drop at text) ≡ drop (placeOf text at sign + 1) text
@@ -60,27 +55,51 @@ module _ (sign : ℕ) (text : List ℕ) (at k : ℕ) (in-text : at ≤ length te
       let e : at + suc (before sign (drop at text)) ≡ at + before sign (drop at text) + 1 = omega arith in
       drop-drop (suc (before sign (drop at text))) at text ∙ ap (λ (n : ℕ). drop n text) e
 
-  -- The fields after the first are those after the sign;
-  pub next-field : field (drop at text) sign (suc k) ≡ field (drop (placeOf text at sign + 1) text) sign k
-  unfolding field
-  next-field = ap (λ (l : List ℕ). field l sign k) rest
+  -- the field after this one, by whether there is a sign
+  after-this : (t : Bool) → has (drop at text) sign ≡ t
+      → at + startOf (drop at text) sign (suc k)
+      ≡ at + pick t (suc (before sign (drop at text)) + startOf (drop (placeOf text at sign + 1) text) sign k) (length (drop at text))
+  unfolding startOf
+  after-this t e =
+      ap₂ (λ (u : Bool) (l : List ℕ). at + pick u (suc (before sign (drop at text)) + startOf l sign k) (length (drop at text))) e rest
 
-  -- without a sign there are none.
-  pub no-next : length text ≤ placeOf text at sign → field (drop at text) sign (suc k) ≡ []
-  no-next h =
-      let beyond : length text ≤ placeOf text at sign + 1 = omega arith in
-      next-field ∙ ap (λ (l : List ℕ). field l sign k) (drop-of-length-le text beyond) ∙ field-none sign k
+  -- After a sign it starts as many bytes later as its field from there on;
+  pub next-start : placeOf text at sign < length text
+      → placeOf text at sign + 1 + startOf (drop (placeOf text at sign + 1) text) sign k ≡ at + startOf (drop at text) sign (suc k)
+  unfolding has placeOf
+  next-start h =
+      let few : before sign (drop at text) < length (drop at text) = omega (arith, length-drop at text) in
+      let on = after-this true (lt-ltb _ _ few) in
+      omega (arith, on)
 
--- Field 0 from `at` on ends before the first sign there.
-pub field-from : (sign : ℕ) (text : List ℕ) (at : ℕ) → take (placeOf text at sign - at) (drop at text) ≡ field (drop at text) sign 0
-unfolding field placeOf
+  -- without a sign at the end.
+  pub no-start : length text ≤ placeOf text at sign → length text ≡ at + startOf (drop at text) sign (suc k)
+  unfolding has placeOf
+  no-start h =
+      let all : length (drop at text) ≤ before sign (drop at text) = omega (arith, length-drop at text) in
+      let none = after-this false (le-ltb _ _ all) in
+      omega (arith, length-drop at text, none)
+
+-- A field starts within the text.
+pub start-within : (sign : ℕ) (text : List ℕ) (k : ℕ) → startOf text sign k ≤ length text
+unfolding startOf has after
+start-within sign text zero = omega arith
+start-within sign text (suc k) = go (ltb (before sign text) (length text)) refl (start-within sign later k)
+  where
+    later : List ℕ
+    later = drop (suc (before sign text)) text
+
+    go : (t : Bool) → ltb (before sign text) (length text) ≡ t → startOf later sign k ≤ length later
+        → pick t (suc (before sign text) + startOf later sign k) (length text) ≤ length text
+    go true e h = omega (arith, ltb-true (before sign text) (length text) e, h, length-drop (suc (before sign text)) text)
+    go false e h = omega arith
+
+-- What stands from a place to the first sign from there on.
+pub field-from : (sign : ℕ) (text : List ℕ) (at : ℕ) → take (placeOf text at sign - at) (drop at text) ≡ first sign (drop at text)
+unfolding placeOf
 field-from sign text at =
     let e : at + before sign (drop at text) - at ≡ before sign (drop at text) = omega arith in
     ap (λ (n : ℕ). take n (drop at text)) e
-
--- After the last place there is an empty field.
-pub field-end : (sign : ℕ) (text : List ℕ) → field (drop (length text) text) sign 0 ≡ []
-field-end sign text = ap (λ (l : List ℕ). field l sign 0) (drop-length text) ∙ field-none sign 0
 
 -- From the start on.
 pub place-first : (sign : ℕ) (text : List ℕ) → placeOf text 0 sign ≡ before sign text
@@ -93,3 +112,7 @@ unfolding placeOf
 found-within sign text from r e =
     let most : before sign (drop from text) ≤ length text - from = subst (λ (k : ℕ). before sign (drop from text) ≤ k) (length-drop from text) (before-most sign (drop from text)) in
     (omega arith, omega arith)
+
+-- What a field holds.
+pub its-bytes : (r text : RefT (List ℕ)) (n : ℕ) (bytes : List ℕ) → lies r ≡ part text n bytes → r .now ≡ bytes
+its-bytes r text n bytes e = ap (λ (l : Lies). l .bytes) e
