@@ -10,9 +10,8 @@ use lib.Dec.{eqb, ltb}
 use lib.ListN.{length, getD, take, drop, length-drop, drop-of-length-le}
 use lib.Seq.{drop-cons, drop-drop}
 use borrow.Author.Tests.{eq-eqb, ne-eqb, lt-ltb, le-ltb, ltb-true}
-use denote.Ref.{RefT}
 use Rattle.words.specs.Answer.{pick}
-use Rattle.figures.specs.Fields.{before, placeOf, after, has, startOf, first, Lies, lies, part}
+use Rattle.figures.specs.Fields.{before, placeOf, after, has, startOf, first, Lies}
 
 -- No more bytes stand before the sign than there are.
 pub before-most : (sign : ℕ) (text : List ℕ) → before sign text ≤ length text
@@ -113,6 +112,6 @@ found-within sign text from r e =
     let most : before sign (drop from text) ≤ length text - from = subst (λ (k : ℕ). before sign (drop from text) ≤ k) (length-drop from text) (before-most sign (drop from text)) in
     (omega arith, omega arith)
 
--- What a field holds.
-pub its-bytes : (r text : RefT (List ℕ)) (n : ℕ) (bytes : List ℕ) → lies r ≡ part text n bytes → r .now ≡ bytes
-its-bytes r text n bytes e = ap (λ (l : Lies). l .bytes) e
+-- Slices that lie alike hold the same bytes.
+pub its-bytes : {a b : Lies} → a ≡ b → a .bytes ≡ b .bytes
+its-bytes e = ap (λ (l : Lies). l .bytes) e

@@ -4,7 +4,7 @@
 ghost use mathlib.Core.Path.{_≡_};
 ghost use Rattle.track_text.specs.Read.{thingAt, readSaid, read, balise};
 ghost use Rattle.telegram.specs.Spelling.{asked, spell};
-use lines::Line;
+use lines::TextLine;
 use telegram::Spelt;
 use trace_text::Said;
 use trace_text::What;
@@ -73,7 +73,7 @@ fn read_said(said: Said) -> Entry
 }
 
 // What a line of the text says.
-pub fn read(line: Line) -> Entry
+pub fn read(line: TextLine) -> Entry
     ensures { λ r. ⌜ r ≡ read line ⌝ }
 {
     read_said(trace_text::read(line))

@@ -13,7 +13,7 @@ use Rattle.test_words.proofs.cells.read.Tie as tie
 
 -- what the figure's column says
 figured : (d : tie.After-decimal) → d .decimal .result ≡ decimal (column (d .before .before .before .before .before .args .line .now) 0) 2047
-figured d = d .decimal .ensures ∙ ap (λ (t : List ℕ). decimal t 2047) (its-bytes _ _ _ _ (d .before .field .ensures))
+figured d = d .decimal .ensures ∙ ap (λ (t : List ℕ). decimal t 2047) (its-bytes (d .before .field .ensures))
 
 returns : tie.Need-returns
 unfolding cellOf
