@@ -37,7 +37,7 @@ pub enum Said {
 }
 
 // How making a record went: made, or refusal 2 or 3.
-pub enum Making {
+pub enum MakingWent {
     Made,
     TooLarge,
     Fifteen,
@@ -46,7 +46,7 @@ pub enum Making {
 // What making a record answers: its eight bytes, all zero if it is not made, and how it went.
 pub struct Recorded {
     pub bytes: [u8; 8],
-    pub how: Making,
+    pub how: MakingWent,
 }
 
 // What a line says.

@@ -2,15 +2,15 @@
 ghost use mathlib.Core.Path.{_≡_};
 ghost use Rattle.words.specs.Answer.{gives};
 ghost use Rattle.trace_text.specs.Record.{bytesOf, recordOf, recording, eightZeroes};
-ghost use Rattle.trace_text.specs.Says.{saysMaking, saysRecorded};
+ghost use Rattle.trace_text.specs.Says.{saysMakingWent, saysRecorded};
 ghost use Rattle.trace_text.specs.declared.What.{What};
-use crate::Making;
+use crate::MakingWent;
 use crate::Recorded;
 use telegram::Spelt;
 
 // No record, and why.
-fn refused(how: Making) -> Recorded
-    ensures { λ r. ⌜ saysRecorded r ≡ record { answer = saysMaking how; bytes = eightZeroes } ⌝ }
+fn refused(how: MakingWent) -> Recorded
+    ensures { λ r. ⌜ saysRecorded r ≡ record { answer = saysMakingWent how; bytes = eightZeroes } ⌝ }
 {
     Recorded {
         bytes: [0, 0, 0, 0, 0, 0, 0, 0],
@@ -28,7 +28,7 @@ pub fn made(place: u32, kind: u8, x: u8, y: u8, z: u8) -> Recorded
     let d = (place % 256) as u8;
     Recorded {
         bytes: [a, b, c, d, kind, x, y, z],
-        how: Making::Made,
+        how: MakingWent::Made,
     }
 }
 
@@ -39,7 +39,7 @@ pub fn balise(place: u32, x: u8, y: u16, z: u8) -> Recorded
     let spelt = telegram::spell(x, y, z);
     match spelt {
         Spelt::Words { x: a, y: b, z: c } => made(place, 0, a, b, c),
-        Spelt::TooLarge => refused(Making::TooLarge),
-        Spelt::Fifteen => refused(Making::Fifteen),
+        Spelt::TooLarge => refused(MakingWent::TooLarge),
+        Spelt::Fifteen => refused(MakingWent::Fifteen),
     }
 }

@@ -20,12 +20,12 @@ use Rattle.lines_laws.proofs.Laws.{first-line}
 use Rattle.lines_laws.proofs.Texts.{all-lines}
 use Rattle.trace_text.specs.declared.What.{What}
 use Rattle.trace_text.specs.declared.Said.{Said}
-use Rattle.trace_text.specs.declared.Making.{Making}
+use Rattle.trace_text.specs.declared.MakingWent.{MakingWent}
 use Rattle.trace_text.specs.declared.Recorded.{Recorded}
 use Rattle.trace_text.specs.Said.{said}
 use Rattle.trace_text.specs.Record.{Made, Recording, recording, recordOf, bytesOf}
 use Rattle.trace_text.specs.Record as recorded
-use Rattle.trace_text.specs.Says.{saysMaking, saysRecorded}
+use Rattle.trace_text.specs.Says.{saysMakingWent, saysRecorded}
 use Rattle.trace_text_laws.specs.Calls.{ReadLine, RecordOf}
 use Rattle.trace_text_laws.specs.Texts.{Result, made, unreadable, refused, before, Writes, Comes, no-more, nothing, thing, wrong, bad, Taken}
 
@@ -134,12 +134,12 @@ eight-bytes place What.Unreadable bytes e = let is : bytes ≡ bytesOf place 2 0
 eight-bytes place What.Position bytes e = let is : bytes ≡ bytesOf place 3 0 0 0 = cc in ap length is
 eight-bytes place (What.Raw kind x y z) bytes e = let is : bytes ≡ bytesOf place kind x y z = cc in ap length is
 
-made-eight : (place : ℕ) (what : What) (r : Recorded) → RecordOf place what r → r .how ≡ Making.Made → length (r .bytes) ≡ 8
+made-eight : (place : ℕ) (what : What) (r : Recorded) → RecordOf place what r → r .how ≡ MakingWent.Made → length (r .bytes) ≡ 8
 made-eight place what r records how = by (recordOf place what) refl (records .1)
   where
     by : (o : Outcome (List ℕ)) → recordOf place what ≡ o → saysRecorded r ≡ recording o → length (r .bytes) ≡ 8
     by (gives bytes) is e = ap (λ (x : Recording). length (x .bytes)) e ∙ eight-bytes place what bytes is
-    by (refuses n) is e = cannot-be (let z : _≡_ {A = Outcome Made} (gives recorded.made) (refuses n) = sym (ap saysMaking how) ∙ ap (λ (x : Recording). x .answer) e in cc)
+    by (refuses n) is e = cannot-be (let z : _≡_ {A = Outcome Made} (gives recorded.made) (refuses n) = sym (ap saysMakingWent how) ∙ ap (λ (x : Recording). x .answer) e in cc)
 
 Whole : Result → Type 0
 Whole r = (records : List (List ℕ)) → r ≡ made records → length (joined records) % 8 ≡ 0

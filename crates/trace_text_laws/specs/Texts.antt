@@ -10,9 +10,9 @@ use Rattle.lines.specs.declared.TextLine.{TextLine}
 use Rattle.lines_laws.specs.Texts.{ReadOut, Enough, joined}
 use Rattle.trace_text.specs.declared.What.{What}
 use Rattle.trace_text.specs.declared.Said.{Said}
-use Rattle.trace_text.specs.declared.Making.{Making}
+use Rattle.trace_text.specs.declared.MakingWent.{MakingWent}
 use Rattle.trace_text.specs.declared.Recorded.{Recorded}
-use Rattle.trace_text.specs.Says.{saysMaking}
+use Rattle.trace_text.specs.Says.{saysMakingWent}
 use Rattle.trace_text_laws.specs.Calls.{ReadLine, RecordOf, ThingAt, PutRecord}
 use Rattle.trace_text_laws.specs.Laws.{Bytes}
 
@@ -57,10 +57,10 @@ pub data Comes : List TextLine → Result → Type 0 where
   no-more : Comes [] (made [])
   nothing : {l : TextLine} {ls : List TextLine} {rest : Result} → ReadLine l Said.Nothing → Comes ls rest → Comes (l ∷ ls) rest
   thing : {l : TextLine} {ls : List TextLine} {rest : Result} {place : ℕ} {what : What} (r : Recorded)
-      → ReadLine l (Said.Thing place what) → RecordOf place what r → r .how ≡ Making.Made → Comes ls rest → Comes (l ∷ ls) (before (r .bytes) rest)
+      → ReadLine l (Said.Thing place what) → RecordOf place what r → r .how ≡ MakingWent.Made → Comes ls rest → Comes (l ∷ ls) (before (r .bytes) rest)
   wrong : {l : TextLine} {ls : List TextLine} → ReadLine l Said.Unreadable → Comes (l ∷ ls) unreadable
   bad : {l : TextLine} {ls : List TextLine} {place n : ℕ} {what : What} (r : Recorded)
-      → ReadLine l (Said.Thing place what) → RecordOf place what r → saysMaking (r .how) ≡ refuses n → Comes (l ∷ ls) (refused n)
+      → ReadLine l (Said.Thing place what) → RecordOf place what r → saysMakingWent (r .how) ≡ refuses n → Comes (l ∷ ls) (refused n)
 
 -- A text in blocks was read, and this came of it.
 pub record Taken (text : List ℕ) (result : Result) : Type 0 where

@@ -16,7 +16,7 @@ use Rattle.trace_text.specs.declared.What.{What}
 use Rattle.trace_text.specs.declared.Recorded.{Recorded}
 use Rattle.trace_text.specs.Record.{Made, Recording, recording, recordOf, bytesOf}
 use Rattle.trace_text.specs.Record as recorded
-use Rattle.trace_text.specs.Says.{saysMaking, saysRecorded}
+use Rattle.trace_text.specs.Says.{saysMakingWent, saysRecorded}
 use Rattle.track_lead.specs.declared.Thing.{Thing}
 use Rattle.track_lead.specs.declared.Way.{Way}
 use Rattle.track_lead.specs.declared.Taken.{Taken}

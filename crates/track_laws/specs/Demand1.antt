@@ -17,7 +17,7 @@ use Rattle.telegram.proofs.spell.Reads as spell-reads
 use Rattle.trace_text.specs.declared.What.{What}
 use Rattle.trace_text.specs.declared.Recorded.{Recorded}
 use Rattle.trace_text.specs.Record.{eightZeroes}
-use Rattle.trace_text.specs.Says.{saysMaking}
+use Rattle.trace_text.specs.Says.{saysMakingWent}
 use Rattle.trace_text_laws.specs.Calls.{RecordOf}
 use Rattle.track_lead.specs.declared.Thing.{Thing}
 use Rattle.track_lead.specs.declared.Way.{Way}
@@ -52,12 +52,12 @@ takeRules way place thing =
 
 pub record Demand1 : Type 0 where
   pub spell : (x y z : ℕ) (r : Spelt) → Spell x y z r → Decided Given (figureRules x y z) (saysSpelt r)
-  pub record-of : (place : ℕ) (what : What) (r : Recorded) → RecordOf place what r → Decided Given (whatRules what) (saysMaking (r .how))
+  pub record-of : (place : ℕ) (what : What) (r : Recorded) → RecordOf place what r → Decided Given (whatRules what) (saysMakingWent (r .how))
   pub take : (way : Way) (place : ℕ) (thing : Thing) (r : Taken) → TakeLine way place thing r
       → Decided Given (takeRules way place thing) (saysTaken r)
 
 -- "A refusal hands out no figure": the same refusal is the same answer, whatever was asked; the bytes beside a refused record are zero.
 pub record Untouched : Type 0 where
   pub spell : Bare saysSpelt
-  pub record-of : (place : ℕ) (what : What) (r : Recorded) (n : ℕ) → RecordOf place what r → saysMaking (r .how) ≡ refuses n → r .bytes ≡ eightZeroes
+  pub record-of : (place : ℕ) (what : What) (r : Recorded) (n : ℕ) → RecordOf place what r → saysMakingWent (r .how) ≡ refuses n → r .bytes ≡ eightZeroes
   pub take : Bare saysTaken

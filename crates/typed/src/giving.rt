@@ -40,9 +40,9 @@ fn recorded(made: Recorded) -> Given {
     let bytes = made.bytes;
     let how = made.how;
     match how {
-        trace_text::Making::Made => these(bytes),
-        trace_text::Making::TooLarge => nothing(2),
-        trace_text::Making::Fifteen => nothing(3),
+        trace_text::MakingWent::Made => these(bytes),
+        trace_text::MakingWent::TooLarge => nothing(2),
+        trace_text::MakingWent::Fifteen => nothing(3),
     }
 }
 
