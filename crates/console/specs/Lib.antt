@@ -1,2 +1,2 @@
-pub mod AskedFor
+pub mod Asked
 pub mod Pass
