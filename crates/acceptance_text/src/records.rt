@@ -16,16 +16,14 @@ use ride::Reply;
 use settings::Held;
 use settings::Store;
 
-// The records in turn, up to the last, while there is room for the lines of one more. The store is
-// asked only where an odometer leaves the places of the settings that are held; what is held at
-// first is what is in force at place 0. One version alone is in force throughout: then no odometer
-// is looked at for it. The run is touched only by a record that gives a line or is refused.
+// The records in turn, up to the last, while there is room for the lines of one more. What is held
+// at first is what is in force at place 0. The run is touched only by a record that gives a line or
+// is refused.
 pub fn over(from: Going, store: Store, first: Held, trace: &[u8], out: &mut [u8]) -> Advanced
     requires { ⌜ (judged store ≡ gives kept) × (first ≡ heldAt store 0) ⌝ }
     ensures { λ r. ⌜ saysAdvanced r (now (out .exit)) ≡ acceptTaken (gapAt store) from (records (now (trace .entry))) (now (out .entry)) ⌝ }
 {
     let count = trace.len() / 8;
-    let throughout = store.count == 1;
     let mut now = from.ride;
     let mut run = from.run;
     let mut troubles = from.troubles;
@@ -33,12 +31,7 @@ pub fn over(from: Going, store: Store, first: Held, trace: &[u8], out: &mut [u8]
     let mut i: usize = 0;
     let mut at: usize = 0;
     while (i < count) & (out.len() - at >= 128) {
-        if !throughout {
-            let odometer = ride::odometer_at(trace, i);
-            if settings::leaves(held, odometer) {
-                held = settings::hold(store, held, odometer);
-            }
-        }
+        held = ride::held_at(store, held, trace, i);
         let treated = ride::treat_at(now, held.gap, trace, i);
         let reply = treated.reply;
         let Reply::Record(given) = reply else {

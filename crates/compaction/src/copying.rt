@@ -3,7 +3,6 @@ ghost use mathlib.Core.Path.{_≡_};
 ghost use Prim.Native.Nat.{_+_, _≤_};
 ghost use lib.ListN.{length, take, drop};
 ghost use Rattle.text.specs.Put.{placed};
-ghost use Rattle.ride.specs.Record.{odometerOf};
 
 // The eight bytes of a trace from this one on.
 pub fn eight(trace: &[u8], at: usize) -> [u8; 8]
@@ -33,11 +32,4 @@ pub fn put_eight(bytes: [u8; 8], trace: &mut [u8], at: usize)
         trace[at + i] = bytes[i];
         i += 1;
     }
-}
-
-// The odometer of a record.
-pub fn odometer_of(bytes: [u8; 8]) -> u32
-    ensures { λ r. ⌜ r ≡ odometerOf bytes ⌝ }
-{
-    ride::odometer_at(&bytes, 0)
 }

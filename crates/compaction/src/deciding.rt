@@ -2,8 +2,9 @@
 ghost use mathlib.Core.Path.{_≡_};
 ghost use mathlib.Core.Bool.{true, _&&_};
 ghost use lib.Dec.{eqb};
+ghost use Rattle.settings.specs.At.{heldFor};
 ghost use Rattle.ride.specs.Joining.{allowed};
-ghost use Rattle.ride.specs.Record.{kindOf, checkRecord};
+ghost use Rattle.ride.specs.Record.{odometerOf, kindOf, checkRecord};
 ghost use Rattle.ride.specs.Step.{treat};
 ghost use Rattle.ride.specs.At.{byStep};
 ghost use Rattle.ride.specs.Says.{saysChecked, saysLines, saysGiven, saysReply, saysTreated};
@@ -16,6 +17,8 @@ use ride::Lines;
 use ride::Reply;
 use ride::Ride;
 use ride::Treated;
+use settings::Held;
+use settings::Store;
 
 // Whether there is no line.
 fn is_none(lines: Lines) -> bool
@@ -57,6 +60,13 @@ fn is_accepted(checked: Checked) -> bool
         Checked::Accepted(_, _) => true,
         Checked::Refused(_) => false,
     }
+}
+
+// The settings to hold for the record of these eight bytes.
+pub fn held_for(store: Store, held: Held, bytes: [u8; 8]) -> Held
+    ensures { λ r. ⌜ r ≡ heldFor store held (odometerOf bytes) ⌝ }
+{
+    ride::held_at(store, held, &bytes, 0)
 }
 
 // The record of these eight bytes is treated. Its state comes back field by field, as from any

@@ -3,12 +3,12 @@ ghost use mathlib.Core.Path.{_≡_};
 ghost use Rattle.words.specs.Answer.{gives};
 ghost use Rattle.settings.specs.Versions.{kept};
 ghost use Rattle.settings.specs.Store.{judged};
-ghost use Rattle.settings.specs.At.{heldAt, gapAt, heldFor};
+ghost use Rattle.settings.specs.At.{heldAt, gapAt};
 ghost use Rattle.compaction.specs.Inside.{Over};
 use crate::Waiting;
 use crate::copying::eight;
-use crate::copying::odometer_of;
 use crate::copying::put_eight;
+use crate::deciding::held_for;
 use crate::deciding::is_dropped;
 use crate::deciding::treat;
 use settings::Held;
@@ -22,17 +22,6 @@ pub struct Walked {
     pub bytes: usize,
 }
 
-// The settings held for a record: the store is asked only where the odometer leaves the places of
-// those that are held.
-fn held_for(store: Store, held: Held, odometer: u32) -> Held
-    ensures { λ r. ⌜ r ≡ heldFor store held odometer ⌝ }
-{
-    if settings::leaves(held, odometer) {
-        return settings::hold(store, held, odometer);
-    }
-    held
-}
-
 // The records of a block in turn, each treated with the gap in force at its own odometer. What is
 // kept is written no further on than what is read. The record that waits is held in pieces: a copy
 // of the whole would carry the bytes between its fields too, from record to record.
@@ -44,7 +33,7 @@ pub fn over(waiting: Waiting, store: Store, first: Held, block: &mut [u8]) -> Wa
     let mut ride = waiting.ride;
     let mut bytes = waiting.bytes;
     let mut waits = waiting.waits;
-    let mut held = held_for(store, first, odometer_of(bytes));
+    let mut held = held_for(store, first, bytes);
     let mut i: usize = 0;
     let mut at: usize = 0;
     while i < count {
@@ -58,10 +47,7 @@ pub fn over(waiting: Waiting, store: Store, first: Held, block: &mut [u8]) -> Wa
                 at += 8;
             }
         }
-        let odometer = odometer_of(next);
-        if settings::leaves(held, odometer) {
-            held = settings::hold(store, held, odometer);
-        }
+        held = held_for(store, held, next);
         bytes = next;
         waits = true;
         i += 1;

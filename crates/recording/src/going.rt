@@ -18,6 +18,7 @@ use crate::marking;
 use antenna::Ear;
 use antenna::Until;
 use contact::Judged;
+use settings::Asked;
 use settings::Held;
 use settings::Store;
 
@@ -34,12 +35,23 @@ fn none_held() -> Held
     }
 }
 
+// The settings in force at this odometer, as the store answers; none where it refuses to.
+fn in_force(store: Store, odometer: u32) -> Held
+    ensures { λ r. ⌜ r ≡ heldAt store odometer ⌝ }
+{
+    let asked = settings::at(store, odometer);
+    match asked {
+        Asked::InForce(held) => held,
+        Asked::Refused(_) => none_held(),
+    }
+}
+
 // The settings in force at this odometer: the store is asked only where those held are not.
 fn held_for(store: Store, held: Held, odometer: u32) -> Held
     ensures { λ r. ⌜ r ≡ pick (leaves held odometer) (heldAt store odometer) held ⌝ }
 {
     if settings::leaves(held, odometer) {
-        return settings::hold(store, none_held(), odometer);
+        return in_force(store, odometer);
     }
     held
 }

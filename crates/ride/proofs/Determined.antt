@@ -40,6 +40,8 @@ use Rattle.ride.proofs.run.Kinds as run-kinds
 use Rattle.ride.proofs.run.Reads as run-reads
 use Rattle.ride.proofs.trace.odometer_at.Kinds as odometer-at-kinds
 use Rattle.ride.proofs.trace.odometer_at.Reads as odometer-at-reads
+use Rattle.ride.proofs.holding.held_at.Kinds as held-at-kinds
+use Rattle.ride.proofs.holding.held_at.Reads as held-at-reads
 use Rattle.words.proofs.Told.{Fixed}
 
 -- From what an answer says, the answer.
@@ -155,3 +157,6 @@ run-determined κs a r r′ x x′ p q = sym (ran-back r) ∙ ap ranOf (p ∙ sy
 
 pub odometer-at-determined : Fixed 1 odometer-at-kinds.ps odometer-at-kinds.r odometer-at-reads.Post
 odometer-at-determined κs a r r′ x x′ p q = p ∙ sym q
+
+pub held-at-determined : Fixed 1 held-at-kinds.ps held-at-kinds.r held-at-reads.Post
+held-at-determined κs a r r′ x x′ p q = p ∙ sym q

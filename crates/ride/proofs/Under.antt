@@ -5,22 +5,28 @@ use mathlib.Core.Path.{_≡_, refl, ap, sym, _∙_}
 use mathlib.Core.Bool.{Bool, true, false, not}
 use mathlib.Core.List.{List, [], _∷_}
 use lib.Dec.{eqb, ltb}
-use lib.ListN.{length, take}
-use borrow.Author.Tests.{lt-ltb, le-ltb, eqb-true}
+use lib.ListN.{length}
+use borrow.Author.Tests.{lt-ltb, le-ltb}
+use types.Run.{OneOf}
+use denote.Enum.Declared.{tagOf}
 use Rattle.words.specs.Answer.{Outcome, gives, refuses, pick}
-use Rattle.settings.specs.declared.Version.{Version}
 use Rattle.settings.specs.declared.Store.{Store}
 use Rattle.settings.specs.declared.Held.{Held}
 use Rattle.settings.specs.Versions.{highest, Kept, kept}
-use Rattle.settings.specs.Store.{versionsOf, judged}
-use Rattle.settings.specs.At.{heldFrom, heldAmong, heldAt, gapAt, heldFor}
-use Rattle.settings.proofs.Holding.{Holding, holding-at, keeps, held-is}
+use Rattle.settings.specs.Store.{judged}
+use Rattle.settings.specs.At.{heldAt, gapAt, heldFor}
+use Rattle.settings.proofs.Holding.{Holding, keeps, held-is}
 use Rattle.ride.specs.declared.Ride.{Ride}
 use Rattle.ride.specs.Record.{Entry, odometerOf, passedOf, inOrder, checkRecord}
 use Rattle.ride.specs.Step.{Step, refuseOr, treat}
-use Rattle.ride.specs.At.{recordAt, odometerAt}
+use Rattle.ride.specs.declared.trace.Given.{Given}
+use Rattle.ride.specs.declared.trace.Reply.{Reply}
+use Rattle.ride.specs.declared.trace.Treated.{Treated}
+use Rattle.ride.specs.At.{recordAt, odometerAt, Treatment, treatAt}
 use Rattle.ride.specs.Over.{records, linesFor, before, rideOver, through, Run, run}
-use Rattle.words.proofs.Never.{cannot-be}
+use Rattle.ride.specs.Says.{saysGiven, saysTreated}
+use Rattle.ride.proofs.At.{took, past, at-record}
+use Rattle.ride.proofs.trace.Reply.{the-type}
 
 -- ---- the odometer at an index
 
@@ -56,57 +62,59 @@ pub treat-held : (store : Store) (held : Held) (ride : Ride) (r : List ℕ) → 
     → treat ride (heldFor store held (odometerOf r) .gap) r ≡ treat ride (gapAt store (odometerOf r)) r
 treat-held store held ride r h hold = treat-by (ltb highest (odometerOf r)) store held ride r refl h hold
 
--- A turn over a trace: what is held for the record at an index stays held, and treats it so.
-pub turn : (store : Store) (held next : Held) (ride : Ride) (trace : List ℕ) (i odometer : ℕ) → judged store ≡ gives kept → Holding store held
-    → i < length trace / 8 → odometer ≡ odometerAt trace i → next ≡ heldFor store held odometer
-    → Holding store next × (treat ride (next .gap) (recordAt trace i) ≡ treat ride (gapAt store (odometerOf (recordAt trace i))) (recordAt trace i))
-turn store held next ride trace i odometer h hold there is for =
-    let own : next ≡ heldFor store held (odometerOf (recordAt trace i)) = for ∙ ap (heldFor store held) (is ∙ sym (odometer-there trace i there)) in (
-      rw own (keeps store held (odometerOf (recordAt trace i)) h hold),
-      rw own (treat-held store held ride (recordAt trace i) h hold),
-    )
+-- ---- a turn over a trace
 
--- ---- one version alone
+-- What is held for the record at an index stays held,
+pub held-next : (store : Store) (held next : Held) (trace : List ℕ) (i : ℕ) → judged store ≡ gives kept → Holding store held
+    → next ≡ heldFor store held (odometerAt trace i) → Holding store next
+held-next store held next trace i h hold for = rw for (keeps store held (odometerAt trace i) h hold)
 
--- Whether a store has one version alone.
-abbrev pub alone : Store → Bool
-alone store = eqb (store .count) 1
+-- and treats it as the gap in force at its own odometer does.
+pub held-treats : (store : Store) (held next : Held) (ride : Ride) (trace : List ℕ) (i : ℕ) → judged store ≡ gives kept → Holding store held
+    → next ≡ heldFor store held (odometerAt trace i) → i < length trace / 8
+    → treat ride (next .gap) (recordAt trace i) ≡ treat ride (gapAt store (odometerOf (recordAt trace i))) (recordAt trace i)
+held-treats store held next ride trace i h hold for there =
+    let own : next ≡ heldFor store held (odometerOf (recordAt trace i)) = for ∙ ap (heldFor store held) (sym (odometer-there trace i there)) in
+    rw own (treat-held store held ride (recordAt trace i) h hold)
 
-one-among : (vs : List Version) (a b : ℕ) → heldAmong (take 1 vs) a ≡ heldAmong (take 1 vs) b
-unfolding heldFrom
-one-among [] a b = refl
-one-among (v ∷ vs) a b = refl
-
--- It is in force at every place.
-one-version : (store : Store) (place : ℕ) → store .count ≡ 1 → heldAt store 0 ≡ heldAt store place
-unfolding heldAt versionsOf
-one-version store place e = rw e (one-among (store .versions) 0 place)
-
-throughout : (store : Store) (held : Held) (ride : Ride) (r : List ℕ) → alone store ≡ true → held ≡ heldAt store 0
-    → treat ride (held .gap) r ≡ treat ride (gapAt store (odometerOf r)) r
-unfolding gapAt
-throughout store held ride r e is =
-    ap (λ (x : Held). treat ride (x .gap) r) (is ∙ one-version store (odometerOf r) (eqb-true (store .count) 1 e))
-
--- What is held, going over a trace: where one version is alone, that one.
-pub record Turning (store : Store) (held : Held) : Type 0 where
+-- A turn: what is held for the record at an index, and the answer of treating it so.
+pub record Turning (store : Store) (held next : Held) (ride : Ride) (trace : List ℕ) (i : ℕ) (t : Treated) : Type 0 where
+  pub good : judged store ≡ gives kept
   pub holding : Holding store held
-  pub first : alone store ≡ true → held ≡ heldAt store 0
+  pub next-is : next ≡ heldFor store held (odometerAt trace i)
+  pub says : saysTreated t ≡ treatAt ride (next .gap) trace i
 
-pub turning-first : (store : Store) (held : Held) → judged store ≡ gives kept → held ≡ heldAt store 0 → Turning store held
-turning-first store held h is = record { holding = rw is (holding-at store 0 h); first = λ e. is }
+module _ (store : Store) (held next : Held) (ride : Ride) (trace : List ℕ) (i : ℕ) (t : Treated) (turn : Turning store held next ride trace i t) where
+  abbrev now-held : Holding store next
+  now-held = held-next store held next trace i (turn .good) (turn .holding) (turn .next-is)
 
--- A turn of the loop: the look at the odometer is spared where one version is alone.
-pub spared : (store : Store) (held next : Held) (ride : Ride) (r : List ℕ) → alone store ≡ true → Turning store held → next ≡ held
-    → Turning store next × (treat ride (next .gap) r ≡ treat ride (gapAt store (odometerOf r)) r)
-spared store held next ride r e t is = rw is (t, throughout store held ride r e (t .first e))
+  -- With a record: it stands in the trace, and its step is that with the gap in force at its own odometer.
+  pub record Turned (g : Given) : Type 0 where
+    pub there : i < length trace / 8
+    pub holding : Holding store next
+    pub step : _≡_ {A = Step} (record { lines = saysGiven g; closed = t .closed; ride = t .ride }) (treat ride (gapAt store (odometerOf (recordAt trace i))) (recordAt trace i))
 
-pub looked : (store : Store) (held next : Held) (ride : Ride) (trace : List ℕ) (i odometer : ℕ) → alone store ≡ false → judged store ≡ gives kept → Turning store held
-    → i < length trace / 8 → odometer ≡ odometerAt trace i → next ≡ heldFor store held odometer
-    → Turning store next × (treat ride (next .gap) (recordAt trace i) ≡ treat ride (gapAt store (odometerOf (recordAt trace i))) (recordAt trace i))
-looked store held next ride trace i odometer e h t there is for =
-    let turned = turn store held next ride trace i odometer h (t .holding) there is for in
-    (record { holding = turned .0; first = λ a. cannot-be cc }, turned .1)
+  pub turned : (g : Given) → t .reply ≡ Reply.Record g → Turned g
+  turned g e =
+      let one = took ride (next .gap) trace i t g (now-held .gap) (turn .says) e in
+      record {
+        there = one .there;
+        holding = now-held;
+        step = one .step ∙ held-treats store held next ride trace i (turn .good) (turn .holding) (turn .next-is) (one .there);
+      }
+
+  -- Without one: the trace has no record there.
+  pub turned-past : OneOf (0 ∷ 1 ∷ []) (tagOf the-type (t .reply)) → length trace / 8 ≤ i
+  turned-past other = past ride (next .gap) trace i t (now-held .gap) (turn .says) other
+
+  -- Where a record is known to stand there, its reply need not be looked at.
+  pub turned-on : i < length trace / 8 → Holding store next × (t .ride ≡ treat ride (gapAt store (odometerOf (recordAt trace i))) (recordAt trace i) .ride)
+  turned-on there =
+      let says = turn .says ∙ sym (at-record ride (next .gap) trace i (now-held .gap) there) in (
+        now-held,
+        ap (λ (x : Treatment). x .ride) says
+            ∙ ap (λ (x : Step). x .ride) (held-treats store held next ride trace i (turn .good) (turn .holding) (turn .next-is) there),
+      )
 
 -- ---- the rule counts only at the records' own odometers
 

@@ -10,6 +10,7 @@ ghost use Rattle.ride.specs.Says.{saysStepped, saysEnded, saysRan};
 
 mod anew;
 mod closing;
+mod holding;
 mod joining;
 mod knowing;
 mod marks;
@@ -25,6 +26,7 @@ use group::Number;
 use group::Told;
 use group_rows::Direction;
 use group_rows::Kind;
+pub use holding::held_at;
 pub use records::check_record;
 use settings::Asked;
 use settings::Bad;

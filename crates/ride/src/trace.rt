@@ -16,6 +16,7 @@ use crate::Ride;
 use crate::Way;
 use crate::Wrong;
 use crate::anew::ride_anew;
+use crate::holding::held_at;
 use crate::joining::no_group;
 use crate::records::high_first;
 use crate::stepping::treat;
@@ -112,25 +113,17 @@ pub fn went(ride: Ride, way: Way) -> Ran
     Ran { ride, way }
 }
 
-// The state after all records of the trace, each treated with the gap in force at its own odometer. The store is asked only where that leaves
-// the places of the settings that are held; what is held at first is what is in force at place 0. One version alone is in force throughout: then no
-// odometer is looked at for it.
+// The state after all records of the trace, each treated with the gap in force at its own odometer; what is held at first is what is in force at place 0.
 pub fn over(ride: Ride, store: Store, first: Held, trace: &[u8]) -> Ride
     requires { ⌜ (judged store ≡ gives kept) × (first ≡ heldAt store 0) ⌝ }
     ensures { λ r. ⌜ r ≡ rideOver (gapAt store) ride 1 (records (now (trace .entry))) .ride ⌝ }
 {
     let count = trace.len() / 8;
-    let throughout = store.count == 1;
     let mut now = ride;
     let mut held = first;
     let mut i: usize = 0;
     while i < count {
-        if !throughout {
-            let odometer = odometer_at(trace, i);
-            if settings::leaves(held, odometer) {
-                held = settings::hold(store, held, odometer);
-            }
-        }
+        held = held_at(store, held, trace, i);
         let treated = treat_at(now, held.gap, trace, i);
         now = treated.ride;
         i += 1;

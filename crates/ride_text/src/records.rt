@@ -87,9 +87,8 @@ fn put_given(
     }
 }
 
-// The records in turn, up to the last, while there is room for the lines of one more and the next number fits. The store is asked only where
-// an odometer leaves the places of the settings that are held; what is held at first is what is in force at place 0. One version alone is in force
-// throughout: then no odometer is looked at for it. A group that a record closes is the one that was open before it.
+// The records in turn, up to the last, while there is room for the lines of one more and the next number fits. What is held at first is what is in force at
+// place 0. A group that a record closes is the one that was open before it.
 pub fn over(
     reasons: bool,
     ride: Ride,
@@ -103,7 +102,6 @@ pub fn over(
     ensures { λ r. ⌜ saysListed r (now (out .exit)) ≡ listTaken reasons (gapAt store) ride number (records (now (trace .entry))) (now (out .entry)) ⌝ }
 {
     let count = trace.len() / 8;
-    let throughout = store.count == 1;
     let needed = room(reasons);
     let mut now = ride;
     let mut held = first;
@@ -111,12 +109,7 @@ pub fn over(
     let mut i: usize = 0;
     let mut at: usize = 0;
     while (i < count) & ((out.len() - at >= needed) & (next < u64::MAX)) {
-        if !throughout {
-            let odometer = ride::odometer_at(trace, i);
-            if settings::leaves(held, odometer) {
-                held = settings::hold(store, held, odometer);
-            }
-        }
+        held = ride::held_at(store, held, trace, i);
         let treated = ride::treat_at(now, held.gap, trace, i);
         let reply = treated.reply;
         let Reply::Record(given) = reply else {

@@ -28,8 +28,7 @@ fn ended(left: usize) -> Ending
     Ending::AtEnd
 }
 
-// Forward so many times, or to the end. The store is asked only where an odometer leaves the places of the settings that are held; what is
-// held at first is what is in force at place 0.
+// Forward so many times, or to the end. What is held at first is what is in force at place 0.
 fn over(trace: &[u8], from: Stand, first: Held, times: usize) -> Moved
     requires { ⌜ (judged (from .settings) ≡ gives kept) × (first ≡ heldAt (from .settings) 0) ⌝ }
     ensures { λ r. ⌜ saysMoved r ≡ forwards times (now (trace .entry)) from ⌝ }
@@ -43,10 +42,7 @@ fn over(trace: &[u8], from: Stand, first: Held, times: usize) -> Moved
     let mut last = from.last;
     let mut left = times;
     while (left > 0) & (number < count) {
-        let odometer = ride::odometer_at(trace, number);
-        if settings::leaves(held, odometer) {
-            held = settings::hold(store, held, odometer);
-        }
+        held = ride::held_at(store, held, trace, number);
         let treated = ride::treat_at(now, held.gap, trace, number);
         let at = number % 256;
         last[at] = now;

@@ -5,7 +5,6 @@ ghost use mathlib.Core.List.{[]};
 ghost use mathlib.Core.Bool.{true};
 ghost use lib.ListN.{length};
 ghost use Rattle.settings.specs.Versions.{allowed};
-ghost use Rattle.settings.specs.At.{heldFor};
 ghost use Rattle.ride.specs.Step.{treat};
 ghost use Rattle.ride.specs.At.{recordAt};
 ghost use Rattle.ride.specs.Over.{linesFor};
@@ -29,7 +28,6 @@ use ride::Ride;
 use ride::Wrong;
 use settings::Asked;
 use settings::Held;
-use settings::Store;
 
 // One more state kept, up to 256.
 pub fn one_more(kept: usize) -> usize
@@ -80,16 +78,6 @@ fn lines_of(number: u64, given: Given) -> Lines
         Given::Refused(wrong) => Lines::One(Line::Record(number, refusal(wrong))),
         Given::Lines(lines) => lines,
     }
-}
-
-// The settings to hold at an odometer.
-fn held_for(store: Store, first: Held, odometer: u32) -> Held
-    ensures { λ r. ⌜ r ≡ heldFor store first odometer ⌝ }
-{
-    if settings::leaves(first, odometer) {
-        return settings::hold(store, first, odometer);
-    }
-    first
 }
 
 // A refused forward.
@@ -143,8 +131,7 @@ pub fn forward_at(trace: &[u8], stand: Stand) -> Went
     match asked {
         Asked::Refused(bad) => unmoved(stand, How::Settings(bad)),
         Asked::InForce(first) => {
-            let odometer = ride::odometer_at(trace, number);
-            let held = held_for(store, first, odometer);
+            let held = ride::held_at(store, first, trace, number);
             step_at(trace, stand, held)
         }
     }

@@ -7,17 +7,14 @@ use native.Mathlib.Omega.{arith}
 use mathlib.Core.Bool.{true}
 use lib.Dec.{leb, ltb}
 use lib.ListN.{length}
-use borrow.Author.Tests.{ltb-true, leb-true, not-true, not-false}
+use borrow.Author.Tests.{leb-true, not-false}
 use Rattle.words.proofs.Linear.{and-parts}
 use Rattle.settings.specs.At.{gapAt}
-use Rattle.settings.proofs.Holding.{asked-for, stays-for}
-use Rattle.ride.specs.Record.{odometerOf}
-use Rattle.ride.specs.Step.{Step, treat}
-use Rattle.ride.specs.At.{recordAt}
+use Rattle.settings.proofs.Holding.{Holding, holding-at}
+use Rattle.ride.specs.Step.{Step}
 use Rattle.ride.specs.Over.{linesFor}
 use Rattle.ride.specs.Says.{saysGiven}
-use Rattle.ride.proofs.At.{Took, took, past}
-use Rattle.ride.proofs.Under.{alone, Turning, turning-first, spared, looked}
+use Rattle.ride.proofs.Under.{Turning, Turned, turned, turned-past}
 use Rattle.acceptance_text.specs.Taking.{started, takeAll}
 use Rattle.acceptance_text.specs.Inside.{writes, written}
 use Rattle.acceptance_text.proofs.Way.{OnTheWay, sets-out, same-length as length-stays, goes-on, comes-to, comes-to-end, in-pieces, quiet}
@@ -25,21 +22,21 @@ use Rattle.acceptance_text.proofs.records.over.Statement.{statement}
 use Rattle.acceptance_text.proofs.records.over.Tie as tie
 
 abbrev Inv-loop : tie.InvT-loop
-Inv-loop store trace out₀ count throughout now₀ run₀ troubles₀ held₀ i₀ at₀ out now run troubles held i at =
+Inv-loop store trace out₀ count now₀ run₀ troubles₀ held₀ i₀ at₀ out now run troubles held i at =
     (i ≤ length trace / 8)
-    × Turning store held
+    × Holding store held
     × OnTheWay (gapAt store) (record { ride = now₀; run = run₀; troubles = troubles₀ }) trace out₀ now run troubles i at out
 
 abbrev μ-loop : tie.MeasureT-loop
-μ-loop store trace out₀ count throughout now₀ run₀ troubles₀ held₀ i₀ at₀ out now run troubles held i at = length trace / 8 - i
+μ-loop store trace out₀ count now₀ run₀ troubles₀ held₀ i₀ at₀ out now run troubles held i at = length trace / 8 - i
 
 loop-holds : tie.Need-loop-holds Inv-loop μ-loop
 loop-holds c =
-    let s = c .before .before .before .before .before .before in
-    (omega arith, turning-first (s .args .store) _ (s .pre .0) (s .pre .1), sets-out (gapAt (s .args .store)) (s .args .from) (s .args .trace .now) (s .args .out .now))
+    let s = c .before .before .before .before .before in
+    (omega arith, rw (s .pre .1) (holding-at (s .args .store) 0 (s .pre .0)), sets-out (gapAt (s .args .store)) (s .args .from) (s .args .trace .now) (s .args .out .now))
 
 -- the buffer has its length
-stays : (l : tie.At-loop Inv-loop μ-loop) → length (l .loop .out) ≡ length (l .before .before .before .before .before .before .before .args .out .now)
+stays : (l : tie.At-loop Inv-loop μ-loop) → length (l .loop .out) ≡ length (l .before .before .before .before .before .before .args .out .now)
 stays l = length-stays _ _ _ _ _ _ _ _ _ _ (l .loop .inv .2)
 
 sub-loop : tie.Need-sub-loop Inv-loop μ-loop
@@ -48,49 +45,28 @@ sub-loop c = omega (arith, stays c, c .loop .inv .2 .fits)
 -- what the loop's test says: a record is left, and there is room
 test : (c : tie.In-loop Inv-loop μ-loop) →
     let l = c .before .loop in
-    (ltb (l .i) (length (c .before .before .before .before .before .before .before .before .args .trace .now) / 8) ≡ true) × (leb 128 (length (l .out) - l .at) ≡ true)
+    (ltb (l .i) (length (c .before .before .before .before .before .before .before .args .trace .now) / 8) ≡ true) × (leb 128 (length (l .out) - l .at) ≡ true)
 test c =
     let l = c .before .loop in
-    and-parts (ltb (l .i) (length (c .before .before .before .before .before .before .before .before .args .trace .now) / 8)) (leb 128 (length (l .out) - l .at)) (c .loop-test .taken)
+    and-parts (ltb (l .i) (length (c .before .before .before .before .before .before .before .args .trace .now) / 8)) (leb 128 (length (l .out) - l .at)) (c .loop-test .taken)
 
--- what is held for a record treats it as the gap in force at its odometer does
-turned : (j : tie.Joined1 Inv-loop μ-loop) →
-    let l = j .before .before in
-    let a = l .before .before .before .before .before .before .before .args in
-    let r = recordAt (a .trace .now) (l .loop .i) in
-    Turning (a .store) (j .if1 .held) × (treat (l .loop .now) (j .if1 .held .gap) r ≡ treat (l .loop .now) (gapAt (a .store) (odometerOf r)) r)
-turned j =
-    let l = j .before .before in
-    let s = l .before .before .before .before .before .before .before in
-    let a = s .args in
-    let turning = l .loop .inv .1 in
-    let there = ltb-true _ _ (test (j .before) .0) in
-    let looks = looked (a .store) (l .loop .held) (j .if1 .held) (l .loop .now) (a .trace .now) (l .loop .i) in
-    ⊎-elim
-    (λ w. looks (w .1 .result) (not-true (alone (a .store)) (w .0 .taken)) (s .pre .0) turning there (w .1 .ensures)
-    (asked-for (a .store) (l .loop .held) (j .if1 .held) (w .1 .result) (sym (w .2 .ensures) ∙ w .3 .taken) (w .5 ∙ w .4 .ensures)))
-    (λ v. ⊎-elim
-    (λ w. looks (w .1 .result) (not-true (alone (a .store)) (w .0 .taken)) (s .pre .0) turning there (w .1 .ensures)
-    (stays-for (a .store) (l .loop .held) (j .if1 .held) (w .1 .result) (sym (w .2 .ensures) ∙ w .3 .left) (w .4)))
-    (λ w. spared (a .store) (l .loop .held) (j .if1 .held) (l .loop .now) (recordAt (a .trace .now) (l .loop .i)) (not-false (alone (a .store)) (w .0 .left)) turning (w .1))
-    v)
-    (j .if1 .came)
+-- the turn of a record
+turn : (t : tie.After-treat-at Inv-loop μ-loop) →
+    let h = t .before in
+    let l = h .before .before in
+    let a = l .before .before .before .before .before .before .args in
+    Turning (a .store) (l .loop .held) (h .held-at .result) (l .loop .now) (a .trace .now) (l .loop .i) (t .treat-at .result)
+turn t =
+    let h = t .before in
+    let l = h .before .before in
+    record { good = l .before .before .before .before .before .before .pre .0; holding = l .loop .inv .1; next-is = h .held-at .ensures; says = t .treat-at .ensures }
 
 enum-known-reply : tie.Need-enum-known-reply Inv-loop μ-loop
 enum-known-reply c = c .match .keys1
 
 -- what the reply says of a record that is taken
-took-one : (c : tie.After-reply Inv-loop μ-loop) →
-    let t = c .before .before in
-    let l = t .before .before .before in
-    let a = l .before .before .before .before .before .before .before .args in
-    Took (l .loop .now) (t .before .if1 .held .gap) (a .trace .now) (l .loop .i) (t .treat-at .result) (c .reply .given .0 .0)
-took-one c =
-    let t = c .before .before in
-    let l = t .before .before .before in
-    let s = l .before .before .before .before .before .before .before in
-    took (l .loop .now) (t .before .if1 .held .gap) (s .args .trace .now) (l .loop .i) (t .treat-at .result) (c .reply .given .0 .0) (turned (t .before) .0 .holding .gap)
-    (t .treat-at .ensures) (c .reply .given .1)
+took-one : (c : tie.After-reply Inv-loop μ-loop) → Turned _ _ _ _ _ _ _ (turn (c .before .before)) (c .reply .given .0 .0)
+took-one c = turned _ _ _ _ _ _ _ (turn (c .before .before)) (c .reply .given .0 .0) (c .reply .given .1)
 
 take-given-requires : tie.Need-take-given-requires Inv-loop μ-loop
 take-given-requires c κs =
@@ -117,7 +93,7 @@ wrote j =
     (f .came)
 
 -- an index of the trace has a next one
-next-fits : (l : tie.At-loop Inv-loop μ-loop) → l .loop .i < length (l .before .before .before .before .before .before .before .args .trace .now) / 8 → l .loop .i + 1 < 18446744073709551616
+next-fits : (l : tie.At-loop Inv-loop μ-loop) → l .loop .i < length (l .before .before .before .before .before .before .args .trace .now) / 8 → l .loop .i + 1 < 18446744073709551616
 next-fits l h = omega arith
 
 add-i : tie.Need-add-i Inv-loop μ-loop
@@ -134,11 +110,11 @@ loop-again c =
     let g = j .before .before .before in
     let t = g .before .before in
     let l = t .before .before .before in
-    let s = l .before .before .before .before .before .before .before in
+    let s = l .before .before .before .before .before .before in
     let one = took-one g in
-    let stepped = one .step ∙ turned (t .before) .1 in (
+    let stepped = one .step in (
       omega (arith, one .there),
-      turned (t .before) .0,
+      one .holding,
       goes-on (gapAt (s .args .store)) (s .args .from) (s .args .trace .now) (s .args .out .now) (l .loop .now) (l .loop .run) (l .loop .troubles) (l .loop .i) (l .loop .at) (l .loop .out)
           (l .loop .inv .2) (g .reply .given .0 .0) (t .treat-at .result .ride)
           (record { run = j .if3 .run; troubles = j .if3 .troubles; next = j .if3 .at }) (j .if3 .out) (one .there) (test (t .before .before) .1)
@@ -156,12 +132,7 @@ same-length-2 c = stays (c .before .before .before .before)
 
 returns-2 : tie.Need-returns-2 Inv-loop μ-loop
 returns-2 c =
-    let t = c .before in
-    let j = t .before in
-    let l = j .before .before in
-    let a = l .before .before .before .before .before .before .before .args in
-    comes-to-end _ _ _ _ _ _ _ _ _ _ (l .loop .inv .2)
-    (past (l .loop .now) (j .if1 .held .gap) (a .trace .now) (l .loop .i) (t .treat-at .result) (turned j .0 .holding .gap) (t .treat-at .ensures) (c .match .keys2))
+    comes-to-end _ _ _ _ _ _ _ _ _ _ (c .before .before .before .before .loop .inv .2) (turned-past _ _ _ _ _ _ _ (turn (c .before)) (c .match .keys2))
 
 pub over-spec : {M : Type 1} → statement M
 over-spec =
@@ -171,7 +142,7 @@ over-spec =
     μ-loop
     loop-holds
     sub-loop
-    (λ c κs. tt) (λ c κs. tt) (λ c κs. tt) (λ c κs. tt) enum-known-reply
+    (λ c κs. tt) (λ c κs. tt) enum-known-reply
     (λ c κs. tt) take-given-requires
     add-i
     loop-less

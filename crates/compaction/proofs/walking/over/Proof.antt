@@ -10,8 +10,8 @@ use lib.ListN.{length}
 use borrow.Author.Tests.{not-true, not-false}
 use Rattle.words.specs.Answer.{pick}
 use Rattle.text.specs.Put.{placed}
-use Rattle.settings.specs.At.{gapAt, heldFor}
-use Rattle.settings.proofs.Holding.{Holding, holding-at, asked-for, stays-for}
+use Rattle.settings.specs.At.{gapAt}
+use Rattle.settings.proofs.Holding.{Holding, holding-at}
 use Rattle.ride.specs.declared.Ride.{Ride}
 use Rattle.compaction.specs.declared.Waiting.{Waiting}
 use Rattle.compaction.specs.Blocks.{waitsNext}
@@ -39,12 +39,10 @@ abbrev μ-loop : tie.MeasureT-loop
 
 loop-holds : tie.Need-loop-holds Inv-loop μ-loop
 loop-holds c =
-    let o = c .before in
-    let s = o .before .before .before .before in
+    let s = c .before .before .before .before in
     let a = s .args in
     let first : Holding (a .store) (a .first) = rw (s .pre .1) (holding-at (a .store) 0 (s .pre .0)) in
-    let held = held-serves (a .store) (a .first) (c .held-for .result) (a .waiting .bytes) (s .pre .0) first
-    (c .held-for .ensures ∙ ap (heldFor (a .store) (a .first)) (o .odometer-of .ensures)) in
+    let held = held-serves (a .store) (a .first) (c .held-for .result) (a .waiting .bytes) (s .pre .0) first (c .held-for .ensures) in
     (refl, omega arith, refl, walk-first (gapAt (a .store)) (a .waiting) (a .block .now), held .0, held .1)
 
 treat-requires : tie.Need-treat-requires Inv-loop μ-loop
@@ -63,18 +61,18 @@ add-at : tie.Need-add-at Inv-loop μ-loop
 add-at c = omega (arith, fits (c .before .before .before .before .before .before .before .before .before .before .before))
 
 add-i : tie.Need-add-i Inv-loop μ-loop
-add-i c = omega (arith, fits (c .before .before .before .before .before .before))
+add-i c = omega (arith, fits (c .before .before .before .before))
 
 -- what the record that was read leaves of the one that waited
 walked : (j : tie.Joined1 Inv-loop μ-loop) →
     let e = j .before in
     let l = e .before .before .before in
-    let a = l .before .before .before .before .before .before .args in
+    let a = l .before .before .before .before .before .args in
     Walk (gapAt (a .store)) (a .waiting) (a .block .now) (l .loop .i + 1) (from (j .if1 .ride) (e .eight .result) true) (j .if1 .at) (j .if1 .block)
 walked j =
     let e = j .before in
     let l = e .before .before .before in
-    let a = l .before .before .before .before .before .before .args in
+    let a = l .before .before .before .before .before .args in
     let gaps : ℕ → ℕ = gapAt (a .store) in
     let w : Waiting = from (l .loop .ride) (l .loop .bytes) (l .loop .waits) in
     let next = e .eight .result in
@@ -106,22 +104,14 @@ walked j =
 
 loop-again : tie.Need-loop-again Inv-loop μ-loop
 loop-again c =
-    let v = c .before in
-    let o = v .before in
-    let j = o .before in
+    let j = c .before in
     let e = j .before in
     let l = e .before .before .before in
-    let f = l .before .before .before .before .before .before in
+    let f = l .before .before .before .before .before in
     let a = f .args in
     let gaps : ℕ → ℕ = gapAt (a .store) in
     let on : l .loop .i + 1 ≤ length (a .block .now) / 8 = omega arith in
-    let for : c .if3 .held ≡ heldFor (a .store) (l .loop .held) (o .odometer-of2 .result) =
-    ⊎-elim
-    (λ k. asked-for (a .store) (l .loop .held) (c .if3 .held) (o .odometer-of2 .result) (sym (v .leaves .ensures) ∙ k .0 .taken) (k .2 ∙ k .1 .ensures))
-    (λ k. stays-for (a .store) (l .loop .held) (c .if3 .held) (o .odometer-of2 .result) (sym (v .leaves .ensures) ∙ k .0 .left) (k .1))
-    (c .if3 .came) in
-    let held = held-serves (a .store) (l .loop .held) (c .if3 .held) (e .eight .result) (f .pre .0) (l .loop .inv .4)
-    (for ∙ ap (heldFor (a .store) (l .loop .held)) (o .odometer-of2 .ensures)) in (
+    let held = held-serves (a .store) (l .loop .held) (c .held-for2 .result) (e .eight .result) (f .pre .0) (l .loop .inv .4) (c .held-for2 .ensures) in (
       refl,
       on,
       walk-length gaps (a .waiting) (a .block .now) (l .loop .i + 1) (from (j .if1 .ride) (e .eight .result) true) (j .if1 .at) (j .if1 .block) (walked j) on,
@@ -136,7 +126,7 @@ same-length c = c .before .loop .inv .2
 returns : tie.Need-returns Inv-loop μ-loop
 returns c =
     let l = c .before in
-    let a = l .before .before .before .before .before .before .args in
+    let a = l .before .before .before .before .before .args in
     let gaps : ℕ → ℕ = gapAt (a .store) in
     let w : Waiting = from (l .loop .ride) (l .loop .bytes) (l .loop .waits) in
     let all : l .loop .i ≡ length (a .block .now) / 8 = omega arith in
@@ -150,11 +140,11 @@ over-spec =
     (tie.spec
     Inv-loop
     μ-loop
-    (λ c κs. tt) (λ c κs. tt) loop-holds
+    (λ c κs. tt) loop-holds
     (λ c. omega arith) (λ c κs. omega arith) treat-requires
     (λ c κs. tt) put-eight-requires
     add-at
-    (λ c κs. tt) (λ c κs. tt) (λ c κs. tt) add-i
+    (λ c κs. tt) add-i
     (λ c. omega arith) loop-again
     same-length
     returns)

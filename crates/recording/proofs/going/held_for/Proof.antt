@@ -3,20 +3,16 @@
 use mathlib.Core.Path.{sym, ap, _∙_}
 use mathlib.Core.Bool.{Bool}
 use Rattle.words.specs.Answer.{pick}
-use Rattle.settings.specs.declared.Held.{Held}
-use Rattle.settings.specs.At.{hold}
 use Rattle.recording.specs.Recording.{heldAt}
 use borrow.Author.Needs.{needs}
 use Rattle.recording.proofs.going.held_for.Statement.{statement}
 use Rattle.recording.proofs.going.held_for.Tie as tie
 
 returns : tie.Need-returns
-unfolding heldAt
 returns c =
-    let l = c .before .before .before in
+    let l = c .before .before in
     let a = l .before .args in
-    c .hold .ensures ∙ ap (λ (h : Held). hold (a .store) h (a .odometer)) (c .before .none-held .ensures)
-    ∙ ap (λ (b : Bool). pick b (heldAt (a .store) (a .odometer)) (a .held)) (sym (sym (l .leaves .ensures) ∙ c .before .before .if1 .taken))
+    c .in-force .ensures ∙ ap (λ (b : Bool). pick b (heldAt (a .store) (a .odometer)) (a .held)) (sym (sym (l .leaves .ensures) ∙ c .before .if1 .taken))
 
 returns-2 : tie.Need-returns-2
 returns-2 c =
@@ -25,4 +21,4 @@ returns-2 c =
 
 pub held-for-spec : {M : Type 1} → statement M
 held-for-spec =
-    tie.close (tie.spec (λ c κs. search needs) (λ c κs. search needs) (λ c κs. search needs) returns returns-2)
+    tie.close (tie.spec (λ c κs. search needs) (λ c κs. search needs) returns returns-2)

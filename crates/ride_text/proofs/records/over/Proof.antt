@@ -7,17 +7,15 @@ use native.Mathlib.Numerals.{add-one}
 use mathlib.Core.Bool.{Bool, true, _&&_}
 use lib.Dec.{leb, ltb}
 use lib.ListN.{length}
-use borrow.Author.Tests.{ltb-true, leb-true, not-true, not-false}
-use mathlib.Core.Logic.{⊎-elim}
+use borrow.Author.Tests.{ltb-true, leb-true}
 use Rattle.settings.specs.At.{gapAt}
-use Rattle.settings.proofs.Holding.{asked-for, stays-for}
+use Rattle.settings.proofs.Holding.{Holding, holding-at}
 use Rattle.ride.specs.Record.{odometerOf}
 use Rattle.ride.specs.Step.{Step, treat}
 use Rattle.ride.specs.At.{recordAt}
 use Rattle.ride.specs.Over.{records, linesFor}
 use Rattle.ride.specs.Says.{saysGiven}
-use Rattle.ride.proofs.At.{Took, took, past}
-use Rattle.ride.proofs.Under.{alone, Turning, turning-first, spared, looked}
+use Rattle.ride.proofs.Under.{Turning, Turned, turned, turned-past}
 use Rattle.text.specs.Put.{placed, put}
 use Rattle.text.proofs.Placing.{placed-length}
 use Rattle.text.proofs.Standing.{stands}
@@ -31,88 +29,67 @@ use Rattle.ride_text.proofs.records.over.Statement.{statement}
 use Rattle.ride_text.proofs.records.over.Tie as tie
 
 abbrev Inv-loop : tie.InvT-loop
-Inv-loop style store number trace out₀ count throughout needed now₀ held₀ next₀ i₀ at₀ out now held next i at =
+Inv-loop style store number trace out₀ count needed now₀ held₀ next₀ i₀ at₀ out now held next i at =
     (at ≤ length out)
     × (length out ≡ length out₀)
     × (next ≤ 18446744073709551615)
     × (i ≤ length trace / 8)
-    × Turning store held
+    × Holding store held
     × (fromHere style (gapAt store) now next i at (leftOf trace (length trace / 8) i) out ≡ fromHere style (gapAt store) now₀ number 0 0 (leftOf trace (length trace / 8) 0) out₀)
 
 abbrev μ-loop : tie.MeasureT-loop
-μ-loop style store number trace out₀ count throughout needed now₀ held₀ next₀ i₀ at₀ out now held next i at = length trace / 8 - i
+μ-loop style store number trace out₀ count needed now₀ held₀ next₀ i₀ at₀ out now held next i at = length trace / 8 - i
 
 loop-holds : tie.Need-loop-holds Inv-loop μ-loop
 loop-holds c =
-    let s = c .before .before .before .before in
-    (omega arith, refl, omega arith, omega arith, turning-first (s .args .store) _ (s .pre .0) (s .pre .1), refl)
+    let s = c .before .before .before in
+    (omega arith, refl, omega arith, omega arith, rw (s .pre .1) (holding-at (s .args .store) 0 (s .pre .0)), refl)
 
 -- the loop's test of room is the style's
 room-is : (l : tie.At-loop Inv-loop μ-loop) →
     let n = l .before .room .result in
     let left = length (l .loop .out) - l .loop .at in
-    (leb n left && ltb (l .loop .next) 18446744073709551615) ≡ isTaken (l .before .before .before .before .before .args .reasons) (l .loop .next) left
+    (leb n left && ltb (l .loop .next) 18446744073709551615) ≡ isTaken (l .before .before .before .before .args .reasons) (l .loop .next) left
 room-is l = ap (λ (n : ℕ). leb n (length (l .loop .out) - l .loop .at) && ltb (l .loop .next) 18446744073709551615) (l .before .room .ensures)
 
 -- what the loop's test says: a record is left, there is room, and there is a next number
 test : (c : tie.In-loop Inv-loop μ-loop) →
     let l = c .before .loop in
-    let a = c .before .before .before .before .before .before .args in
+    let a = c .before .before .before .before .before .args in
     (l .i < length (a .trace .now) / 8) × (isTaken (a .reasons) (l .next) (length (l .out) - l .at) ≡ true)
 test c =
     let l = c .before .loop in
-    let a = c .before .before .before .before .before .before .args in
+    let a = c .before .before .before .before .before .args in
     let parts = both (ltb (l .i) (length (a .trace .now) / 8)) (leb (c .before .before .room .result) (length (l .out) - l .at) && ltb (l .next) 18446744073709551615) (c .loop-test .taken) in
     (ltb-true _ _ (parts .0), sym (room-is (c .before)) ∙ parts .1)
 
 -- a record that is taken has room, and a next number
 room : (c : tie.In-loop Inv-loop μ-loop) →
     let l = c .before .loop in
-    (l .at + roomFor (c .before .before .before .before .before .before .args .reasons) ≤ length (l .out)) × (l .next < 18446744073709551615)
+    (l .at + roomFor (c .before .before .before .before .before .args .reasons) ≤ length (l .out)) × (l .next < 18446744073709551615)
 room c =
     let l = c .before .loop in
-    let n = roomFor (c .before .before .before .before .before .before .args .reasons) in
+    let n = roomFor (c .before .before .before .before .before .args .reasons) in
     let parts = both (leb n (length (l .out) - l .at)) (ltb (l .next) 18446744073709551615) (test c .1) in
     (omega (arith, leb-true n (length (l .out) - l .at) (parts .0)), ltb-true _ _ (parts .1))
 
--- what is held for a record treats it as the gap in force at its odometer does
-turned : (j : tie.Joined1 Inv-loop μ-loop) →
-    let l = j .before .before in
-    let a = l .before .before .before .before .before .args in
-    let r = recordAt (a .trace .now) (l .loop .i) in
-    Turning (a .store) (j .if1 .held) × (treat (l .loop .now) (j .if1 .held .gap) r ≡ treat (l .loop .now) (gapAt (a .store) (odometerOf r)) r)
-turned j =
-    let l = j .before .before in
-    let s = l .before .before .before .before .before in
-    let a = s .args in
-    let turning = l .loop .inv .4 in
-    let there = test (j .before) .0 in
-    let looks = looked (a .store) (l .loop .held) (j .if1 .held) (l .loop .now) (a .trace .now) (l .loop .i) in
-    ⊎-elim
-    (λ w. looks (w .1 .result) (not-true (alone (a .store)) (w .0 .taken)) (s .pre .0) turning there (w .1 .ensures)
-    (asked-for (a .store) (l .loop .held) (j .if1 .held) (w .1 .result) (sym (w .2 .ensures) ∙ w .3 .taken) (w .5 ∙ w .4 .ensures)))
-    (λ v. ⊎-elim
-    (λ w. looks (w .1 .result) (not-true (alone (a .store)) (w .0 .taken)) (s .pre .0) turning there (w .1 .ensures)
-    (stays-for (a .store) (l .loop .held) (j .if1 .held) (w .1 .result) (sym (w .2 .ensures) ∙ w .3 .left) (w .4)))
-    (λ w. spared (a .store) (l .loop .held) (j .if1 .held) (l .loop .now) (recordAt (a .trace .now) (l .loop .i)) (not-false (alone (a .store)) (w .0 .left)) turning (w .1))
-    v)
-    (j .if1 .came)
+-- the turn of a record
+turn : (t : tie.After-treat-at Inv-loop μ-loop) →
+    let h = t .before in
+    let l = h .before .before in
+    let a = l .before .before .before .before .args in
+    Turning (a .store) (l .loop .held) (h .held-at .result) (l .loop .now) (a .trace .now) (l .loop .i) (t .treat-at .result)
+turn t =
+    let h = t .before in
+    let l = h .before .before in
+    record { good = l .before .before .before .before .pre .0; holding = l .loop .inv .4; next-is = h .held-at .ensures; says = t .treat-at .ensures }
 
 enum-known-reply : tie.Need-enum-known-reply Inv-loop μ-loop
 enum-known-reply c = c .match .keys1
 
 -- what the reply says of a record that is taken
-took-one : (c : tie.After-reply Inv-loop μ-loop) →
-    let t = c .before .before in
-    let l = t .before .before .before in
-    let a = l .before .before .before .before .before .args in
-    Took (l .loop .now) (t .before .if1 .held .gap) (a .trace .now) (l .loop .i) (t .treat-at .result) (c .reply .given .0 .0)
-took-one c =
-    let t = c .before .before in
-    let l = t .before .before .before in
-    let s = l .before .before .before .before .before in
-    took (l .loop .now) (t .before .if1 .held .gap) (s .args .trace .now) (l .loop .i) (t .treat-at .result) (c .reply .given .0 .0) (turned (t .before) .0 .holding .gap)
-    (t .treat-at .ensures) (c .reply .given .1)
+took-one : (c : tie.After-reply Inv-loop μ-loop) → Turned _ _ _ _ _ _ _ (turn (c .before .before)) (c .reply .given .0 .0)
+took-one c = turned _ _ _ _ _ _ _ (turn (c .before .before)) (c .reply .given .0 .0) (c .reply .given .1)
 
 put-given-requires : tie.Need-put-given-requires Inv-loop μ-loop
 put-given-requires c κs = omega (arith, room (c .before .before .before .before .before .before .before) .0)
@@ -121,7 +98,7 @@ add-next : tie.Need-add-next Inv-loop μ-loop
 add-next c = omega (arith, room (c .before .before .before .before .before .before .before .before .before .before .before) .1)
 
 -- an index of the trace has a next one
-next-fits : (l : tie.At-loop Inv-loop μ-loop) → l .loop .i < length (l .before .before .before .before .before .args .trace .now) / 8 → l .loop .i + 1 < 18446744073709551616
+next-fits : (l : tie.At-loop Inv-loop μ-loop) → l .loop .i < length (l .before .before .before .before .args .trace .now) / 8 → l .loop .i + 1 < 18446744073709551616
 next-fits l h = omega arith
 
 add-i : tie.Need-add-i Inv-loop μ-loop
@@ -138,7 +115,7 @@ loop-again c =
     let g = p .before .before .before .before in
     let t = g .before .before in
     let l = t .before .before .before in
-    let s = l .before .before .before .before .before in
+    let s = l .before .before .before .before in
     let style = s .args .reasons in
     let gaps = gapAt (s .args .store) in
     let trace = s .args .trace .now in
@@ -151,7 +128,7 @@ loop-again c =
     let rest = leftOf trace (length trace / 8) (i + 1) in
     let given = g .reply .given .0 .0 in
     let one = took-one g in
-    let stepped = one .step ∙ turned (t .before) .1 in
+    let stepped = one .step in
     let ride-is : t .treat-at .result .ride ≡ treat ride (gaps (odometerOf r)) r .ride = ap (λ (x : Step). x .ride) stepped in
     let w : List ℕ = stepText style next (stepAt gaps ride r) in
     let text-is : linesText style (ride .group) (linesFor next (saysGiven given)) ≡ w =
@@ -169,7 +146,7 @@ loop-again c =
       length-is ∙ l .loop .inv .1,
       omega arith,
       omega (arith, one .there),
-      turned (t .before) .0,
+      one .holding,
       here
           ∙ sym (from-next style gaps ride next i at r rest out (test (t .before .before) .1) fits)
           ∙ ap (λ (rs : List (List ℕ)). fromHere style gaps ride next i at rs out) (sym (left-next trace (length trace / 8) i (one .there)))
@@ -178,13 +155,13 @@ loop-again c =
 
 -- where no record more is taken, the listing is whole
 whole : (l : tie.At-loop Inv-loop μ-loop) →
-    let s = l .before .before .before .before .before in
+    let s = l .before .before .before .before in
     let a = s .args in
     taken (a .reasons) (gapAt (a .store)) (l .loop .now) (l .loop .next) (length (l .loop .out) - l .loop .at) (leftOf (a .trace .now) (length (a .trace .now) / 8) (l .loop .i)) ≡ 0
     → listing (l .loop .i) (l .loop .at) (l .loop .now) (l .loop .next) (l .loop .out)
     ≡ listTaken (a .reasons) (gapAt (a .store)) (a .ride) (a .number) (records (a .trace .now)) (a .out .now)
 whole l none =
-    let s = l .before .before .before .before .before in
+    let s = l .before .before .before .before in
     let gaps = gapAt (s .args .store) in
     let trace = s .args .trace .now in
     from-last (s .args .reasons) gaps (l .loop .now) (l .loop .next) (l .loop .i) (l .loop .at) (leftOf trace (length trace / 8) (l .loop .i)) (l .loop .out) none
@@ -198,7 +175,7 @@ same-length c = c .before .loop .inv .1
 returns : tie.Need-returns Inv-loop μ-loop
 returns c =
     let l = c .before in
-    let a = l .before .before .before .before .before .args in
+    let a = l .before .before .before .before .args in
     whole l
     (no-more (a .reasons) (gapAt (a .store)) (l .loop .now) (l .loop .next) (length (l .loop .out) - l .loop .at) (a .trace .now) (length (a .trace .now) / 8) (l .loop .i)
     (ap (λ (b : Bool). ltb (l .loop .i) (length (a .trace .now) / 8) && b) (sym (room-is l)) ∙ c .loop-test .left))
@@ -209,13 +186,12 @@ same-length-2 c = c .before .before .before .before .loop .inv .1
 returns-2 : tie.Need-returns-2 Inv-loop μ-loop
 returns-2 c =
     let t = c .before in
-    let j = t .before in
-    let l = j .before .before in
-    let s = l .before .before .before .before .before in
+    let l = t .before .before .before in
+    let s = l .before .before .before .before in
     let trace = s .args .trace .now in
     whole l
     (none-left (s .args .reasons) (gapAt (s .args .store)) (l .loop .now) (l .loop .next) (length (l .loop .out) - l .loop .at) trace (length trace / 8) (l .loop .i)
-    (past (l .loop .now) (j .if1 .held .gap) trace (l .loop .i) (t .treat-at .result) (turned j .0 .holding .gap) (t .treat-at .ensures) (c .match .keys2)))
+    (turned-past _ _ _ _ _ _ _ (turn t) (c .match .keys2)))
 
 pub over-spec : {M : Type 1} → statement M
 over-spec =
@@ -224,7 +200,7 @@ over-spec =
     Inv-loop
     μ-loop
     (λ c κs. tt) loop-holds
-    (λ c. omega arith) (λ c κs. tt) (λ c κs. tt) (λ c κs. tt) (λ c κs. tt) enum-known-reply
+    (λ c. omega arith) (λ c κs. tt) (λ c κs. tt) enum-known-reply
     put-given-requires
     add-next
     add-i

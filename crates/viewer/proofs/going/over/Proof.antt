@@ -1,20 +1,15 @@
 -- `over` passes the records one by one, with what is held for each: the forwards that are left, from here, are all of them.
 use mathlib.Core.Path.{_≡_, refl, ap, sym, _∙_}
 use mathlib.Core.Bool.{Bool, true, false, _&&_}
-use mathlib.Core.Logic.{⊎-elim}
 use Prim.Native.Nat.{ℕ, _+_, _-_, _/_, _%_, _<_, _≤_}
 use native.Mathlib.Omega.{arith}
 use borrow.Author.Tests.{ltb-true}
 use lib.Dec.{eqb, ltb}
 use lib.ListN.{length, set}
 use Rattle.settings.specs.declared.Store.{Store}
-use Rattle.settings.specs.At.{heldFor}
-use Rattle.settings.proofs.Holding.{Holding, holding-at, asked-for, stays-for}
+use Rattle.settings.proofs.Holding.{Holding, holding-at}
 use Rattle.ride.specs.declared.Ride.{Ride}
-use Rattle.ride.specs.Step.{Step}
-use Rattle.ride.specs.At.{Treatment}
-use Rattle.ride.proofs.At.{at-record}
-use Rattle.ride.proofs.Under.{turn}
+use Rattle.ride.proofs.Under.{turned-on}
 use mathlib.Core.List.{List}
 use Rattle.words.specs.Answer.{pick}
 use Rattle.viewer.specs.declared.Stand.{Stand}
@@ -56,23 +51,21 @@ test c =
     (ltb-true _ _ (parts .0), ltb-true _ _ (parts .1))
 
 add-number : tie.Need-add-number Inv-loop μ-loop
-add-number c = omega (arith, test (c .before .before .before .before .before .before) .1)
+add-number c = omega (arith, test (c .before .before .before .before) .1)
 
 sub-left : tie.Need-sub-left Inv-loop μ-loop
-sub-left c = omega (arith, test (c .before .before .before .before .before .before) .0)
+sub-left c = omega (arith, test (c .before .before .before .before) .0)
 
 loop-less : tie.Need-loop-less Inv-loop μ-loop
-loop-less c = omega (arith, test (c .before .before .before .before .before .before) .0)
+loop-less c = omega (arith, test (c .before .before .before .before) .0)
 
 loop-again : tie.Need-loop-again Inv-loop μ-loop
 unfolding passed
 loop-again c =
     let m = c .before in
     let r = m .before in
-    let j = r .before in
-    let v = j .before in
-    let o = v .before in
-    let t = o .before in
+    let h = r .before in
+    let t = h .before in
     let l = t .before in
     let s = l .before .before .before .before .before in
     let a = s .args in
@@ -80,25 +73,19 @@ loop-again c =
     let trace = a .trace .now in
     let left = test t in
     let stand = here (l .loop .number) (l .loop .kept) (l .loop .now) (l .loop .last) store in
-    let for : j .if1 .held ≡ heldFor store (l .loop .held) (o .odometer-at .result) =
-    ⊎-elim
-    (λ w. asked-for store (l .loop .held) (j .if1 .held) (o .odometer-at .result) (sym (v .leaves .ensures) ∙ w .0 .taken) (w .2 ∙ w .1 .ensures))
-    (λ w. stays-for store (l .loop .held) (j .if1 .held) (o .odometer-at .result) (sym (v .leaves .ensures) ∙ w .0 .left) (w .1))
-    (j .if1 .came) in
-    let turned = turn store (l .loop .held) (j .if1 .held) (l .loop .now) trace (l .loop .number) (o .odometer-at .result) (s .pre .0) (l .loop .inv .0)
-    (left .1) (o .odometer-at .ensures) for in
-    let treated = r .treat-at .ensures ∙ sym (at-record (l .loop .now) (j .if1 .held .gap) trace (l .loop .number) (turned .0 .gap) (left .1)) in
+    let on = turned-on store (l .loop .held) (h .held-at .result) (l .loop .now) trace (l .loop .number) (r .treat-at .result)
+    (record { good = s .pre .0; holding = l .loop .inv .0; next-is = h .held-at .ensures; says = r .treat-at .ensures }) (left .1) in
     let most : l .loop .left ≤ a .times = l .loop .inv .1 in
     let passes : ℕ → Stand = λ k. here (l .loop .number + 1) k (r .treat-at .result .ride) (set (l .loop .last) (l .loop .number % 256) (l .loop .now)) store in
     let steps : a .times - (l .loop .left - 1) ≡ a .times - l .loop .left + 1 = omega (arith, left .0) in (
-      turned .0,
+      on .0,
       omega arith,
       ap (λ (k : ℕ). after (a .times - (l .loop .left - 1)) (forwards (l .loop .left - 1) trace (passes k))) (m .one-more .ensures)
           ∙ ap (λ (n : ℕ). after n (forwards (l .loop .left - 1) trace (passed stand (r .treat-at .result .ride)))) steps
           ∙ sym (after-after (a .times - l .loop .left) 1 (forwards (l .loop .left - 1) trace (passed stand (r .treat-at .result .ride))))
           ∙ ap (after (a .times - l .loop .left))
           (forwards-next (l .loop .left) trace stand (r .treat-at .result .ride) (left .0) (left .1) (s .pre .0)
-          (ap (λ (x : Treatment). x .ride) treated ∙ ap (λ (x : Step). x .ride) (turned .1)))
+          (on .1))
           ∙ l .loop .inv .2,
     )
 
@@ -114,9 +101,6 @@ returns c =
     ∙ ap (after (a .times - l .loop .left)) (forwards-stop (l .loop .left) (a .trace .now) stand (e .loop-test .left))
     ∙ l .loop .inv .2
 
-sub-steps : tie.Need-sub-t17 Inv-loop μ-loop
-sub-steps c = omega (arith, c .before .loop .inv .1)
-
 pub over-spec : {M : Type 1} → statement M
 over-spec =
     tie.close
@@ -124,10 +108,9 @@ over-spec =
     Inv-loop
     μ-loop
     loop-holds
-    (λ c κs. tt) (λ c κs. tt) (λ c κs. tt) (λ c κs. tt) (λ c. search needs) (λ c. search needs)
+    (λ c κs. tt) (λ c κs. tt) (λ c. search needs) (λ c. search needs)
     (λ c κs. tt) add-number
     sub-left
     loop-less
     loop-again
-    sub-steps
-    (λ c κs. tt) returns)
+    (λ c. omega (arith, c .before .loop .inv .1)) (λ c κs. tt) returns)

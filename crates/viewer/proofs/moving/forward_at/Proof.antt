@@ -2,7 +2,7 @@
 use mathlib.Core.Path.{_≡_, ap, sym, _∙_}
 use Rattle.settings.specs.Says.{saysAsked}
 use Rattle.settings.proofs.Holding.{Holding, held-given, store-refused, holding-at}
-use Rattle.ride.proofs.Under.{turn}
+use Rattle.ride.proofs.Under.{held-next, held-treats}
 use Rattle.ride.specs.Step.{treat}
 use Rattle.ride.specs.At.{recordAt}
 use Rattle.viewer.specs.Viewing.{byStep, stepOf}
@@ -17,22 +17,23 @@ returns c =
     c .unmoved .ensures ∙ forward-end (a .trace .now) (a .stand) (c .before .if1 .taken)
 
 -- what is held for the record
-for-record : (c : tie.After-held-for) →
-    let a = c .before .before .before .before .before .before .before .before .before .args in
-    Holding (a .stand .settings) (c .held-for .result)
-    × (treat (a .stand .ride) (c .held-for .result .gap) (recordAt (a .trace .now) (a .stand .number)) ≡ stepOf (a .stand) (recordAt (a .trace .now) (a .stand .number)))
+for-record : (c : tie.After-held-at) →
+    let a = c .before .before .before .before .before .before .before .before .args in
+    Holding (a .stand .settings) (c .held-at .result)
+    × (treat (a .stand .ride) (c .held-at .result .gap) (recordAt (a .trace .now) (a .stand .number)) ≡ stepOf (a .stand) (recordAt (a .trace .now) (a .stand .number)))
 for-record c =
-    let o = c .before in
-    let k = o .before .before in
+    let k = c .before .before in
     let q = k .before .before in
     let e = q .before .before in
     let a = e .before .before .args in
-    let held = held-given (a .stand .settings) 0 _ (sym (q .at .ensures) ∙ ap saysAsked (k .asked2 .given .1)) in
-    turn (a .stand .settings) (k .asked2 .given .0 .0) (c .held-for .result) (a .stand .ride) (a .trace .now) (a .stand .number) (o .odometer-at .result) (held .0)
-    (rw (held .2) (holding-at (a .stand .settings) 0 (held .0))) (e .if1 .left) (o .odometer-at .ensures) (c .held-for .ensures)
+    let asked = held-given (a .stand .settings) 0 _ (sym (q .at .ensures) ∙ ap saysAsked (k .asked2 .given .1)) in
+    let first : Holding (a .stand .settings) (k .asked2 .given .0 .0) = rw (asked .2) (holding-at (a .stand .settings) 0 (asked .0)) in (
+      held-next (a .stand .settings) (k .asked2 .given .0 .0) (c .held-at .result) (a .trace .now) (a .stand .number) (asked .0) first (c .held-at .ensures),
+      held-treats (a .stand .settings) (k .asked2 .given .0 .0) (c .held-at .result) (a .stand .ride) (a .trace .now) (a .stand .number) (asked .0) first (c .held-at .ensures) (e .if1 .left),
+    )
 
 step-at-requires : tie.Need-step-at-requires
-step-at-requires c κs = (c .before .before .before .before .before .before .before .if1 .left, for-record c .0 .gap)
+step-at-requires c κs = (c .before .before .before .before .before .before .if1 .left, for-record c .0 .gap)
 
 returns-2 : tie.Need-returns-2
 returns-2 c =
@@ -46,7 +47,7 @@ returns-2 c =
 returns-3 : tie.Need-returns-3
 returns-3 c =
     let h = c .before in
-    let k = h .before .before .before in
+    let k = h .before .before in
     let q = k .before .before in
     let e = q .before .before in
     let a = e .before .before .args in
@@ -58,6 +59,6 @@ forward-at-spec =
     tie.close
     (tie.spec
     (λ c κs. search needs) returns
-    (λ c κs. search needs) (λ c. search needs) (λ c κs. search needs) (λ c. search needs) (λ c κs. search needs) (λ c κs. search needs) step-at-requires
+    (λ c κs. search needs) (λ c. search needs) (λ c κs. search needs) (λ c. search needs) (λ c κs. search needs) step-at-requires
     returns-2
     returns-3)
