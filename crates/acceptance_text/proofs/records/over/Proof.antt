@@ -75,17 +75,17 @@ take-given-requires c κs =
     omega (arith, leb-true 128 (length (l .out) - l .at) (test n .1))
 
 -- what the record's lines leave
-wrote : (j : tie.Joined3 Inv-loop μ-loop) →
+wrote : (j : tie.Joined1 Inv-loop μ-loop) →
     let g = j .before .before .before in
     let l = g .before .before .before .before .before .loop in
-    written (record { run = j .if3 .run; troubles = j .if3 .troubles; next = j .if3 .at }) (j .if3 .out)
+    written (record { run = j .if1 .run; troubles = j .if1 .troubles; next = j .if1 .at }) (j .if1 .out)
     ≡ writes (takeAll (started (l .run) (l .troubles)) (linesFor 0 (saysGiven (g .reply .given .0 .0)))) (l .out) (l .at)
 wrote j =
     let q = j .before in
     let g = q .before .before in
     let l = g .before .before .before .before .before .loop in
     let given = g .reply .given .0 .0 in
-    let f = j .if3 in
+    let f = j .if1 in
     ⊎-elim
     (λ w. in-pieces (w .2 .result) (w .2 .last .1 .1 .1 .0) _ (f .run) (f .troubles) (f .at) (f .out) (w .7) (w .8) (w .9) (w .10) (w .2 .ensures))
     (λ w. in-pieces (record { run = l .run; troubles = l .troubles; next = l .at }) (l .out) _ (f .run) (f .troubles) (f .at) (f .out) (w .1) (w .2) (w .3) (w .4)
@@ -117,7 +117,7 @@ loop-again c =
       one .holding,
       goes-on (gapAt (s .args .store)) (s .args .from) (s .args .trace .now) (s .args .out .now) (l .loop .now) (l .loop .run) (l .loop .troubles) (l .loop .i) (l .loop .at) (l .loop .out)
           (l .loop .inv .2) (g .reply .given .0 .0) (t .treat-at .result .ride)
-          (record { run = j .if3 .run; troubles = j .if3 .troubles; next = j .if3 .at }) (j .if3 .out) (one .there) (test (t .before .before) .1)
+          (record { run = j .if1 .run; troubles = j .if1 .troubles; next = j .if1 .at }) (j .if1 .out) (one .there) (test (t .before .before) .1)
           (ap (λ (x : Step). x .lines) stepped) (ap (λ (x : Step). x .ride) stepped) (wrote j),
     )
 
