@@ -1,6 +1,8 @@
 // The depot's acceptance run: a plan of the test track, the cards of a ride, and the report.
-// Promises: it is safe and it ends; what it prints is made by the crates acceptance_text and acceptance, block by block.
-// Specification: none of its own; what cannot be said of a program's reads and writes stands in docs/EXCEPTIONS.md.
+// Promises: it is safe and it ends; what it prints is made by the crates acceptance_text and
+// acceptance, block by block.
+// Specification: none of its own; what cannot be said of a program's reads and writes stands in
+// docs/EXCEPTIONS.md.
 mod out;
 mod plans;
 mod riding;

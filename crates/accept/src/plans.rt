@@ -3,7 +3,8 @@ use acceptance::Acceptance;
 use acceptance::PlanJudged;
 use figures::Figure;
 
-// A tolerance: a number of dm (one that is too large for any plan stands for all such), or no number.
+// A tolerance: a number of dm (one that is too large for any plan stands for all such), or no
+// number.
 pub enum Tolerance {
     Dm(u32),
     Odd,
@@ -34,7 +35,8 @@ pub fn asked_for(number: usize) -> Tolerance {
     }
 }
 
-// The plan of the open file, with this tolerance. A plan has 512 bytes at most; a longer file shows by one byte more.
+// The plan of the open file, with this tolerance. A plan has 512 bytes at most; a longer file shows
+// by one byte more.
 pub fn read(fd: i32, tolerance: u32) -> Plan {
     let mut bytes = [0u8; 513];
     let got = console::fill(fd, &mut bytes);

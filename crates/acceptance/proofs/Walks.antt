@@ -1,4 +1,5 @@
--- Going over the first n entries of a plan one by one: what a test at one of them says of those that are left.
+-- Going over the first n entries of a plan one by one: what a test at one of them says of those
+-- that are left.
 -- Assumes nothing.
 use Prim.Native.Nat.{ℕ, zero, suc, _+_, _-_, _*_, _≤_, _<_}
 use native.Mathlib.Omega.{arith}

@@ -1,6 +1,7 @@
--- A plan of the test track (document 02, M-113): "up to 64 entries of kind, place in dm and one tolerance for all, 0 to 500 dm, with
--- neighbouring places more than twice the tolerance apart." "Plan records are of one fixed size, no header: 8 bytes, place in 0 to 3
--- high byte first, kind in 4 (0 signal, 1 warning, 2 annulled, 3 line, 4 route), 5 to 7 zero."
+-- A plan of the test track (document 02, M-113): "up to 64 entries of kind, place in dm and one
+-- tolerance for all, 0 to 500 dm, with neighbouring places more than twice the tolerance apart."
+-- "Plan records are of one fixed size, no header: 8 bytes, place in 0 to 3 high byte first, kind in
+-- 4 (0 signal, 1 warning, 2 annulled, 3 line, 4 route), 5 to 7 zero."
 -- Assumes nothing.
 use Prim.Native.Nat.{ℕ, _+_, _-_, _*_, _/_, _%_}
 use mathlib.Core.Bool.{Bool, true, _&&_}
@@ -76,17 +77,19 @@ emptyPlan = planWith 0 []
 pub data Good : Type 0 where
   good : Good
 
--- What reading a plan answers: that it is good, or the number of its refusal; and the plan, "with no report" of a refused one: the empty plan.
+-- What reading a plan answers: that it is good, or the number of its refusal; and the plan, "with
+-- no report" of a refused one: the empty plan.
 pub record Planning : Type 0 where
   pub answer : Outcome Good
   pub plan : Acceptance
 
--- Whether the bytes are a plan's: "a bad plan record, length or count above 64" is what they are not.
+-- Whether the bytes are a plan's: "a bad plan record, length or count above 64" is what they are
+-- not.
 unfoldable pub wellFormed : List ℕ → Bool
 wellFormed bytes = eqb (length bytes % 8) 0 && leb (length bytes / 8) 64 && allGood (records bytes)
 
--- "26 for a bad plan record, length or count above 64; 27 for entries out of order or too near; 28 for the tolerance; judged 28, 26, 27,
--- with no report."
+-- "26 for a bad plan record, length or count above 64; 27 for entries out of order or too near; 28
+-- for the tolerance; judged 28, 26, 27, with no report."
 unfoldable pub plan : List ℕ → ℕ → Planning
 plan bytes tolerance =
     pick (leb tolerance 500)

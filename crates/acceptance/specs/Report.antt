@@ -13,8 +13,8 @@ use Rattle.acceptance.specs.declared.Sums.{Sums}
 use Rattle.acceptance.specs.Plan.{noEntry}
 use Rattle.acceptance.specs.Taking.{planned, isAbsent}
 
--- The entry with this index, the first has 0: its place and kind, and that it is absent or the place of the group that met it; or that there is
--- no such entry.
+-- The entry with this index, the first has 0: its place and kind, and that it is absent or the
+-- place of the group that met it; or that there is no such entry.
 unfoldable pub report : Acceptance → ℕ → Reported
 report s i = pick (ltb i (length (planned s))) (Reported.Entry (getD (planned s) i noEntry)) Reported.NoEntry
 
@@ -27,8 +27,8 @@ metIn (e ∷ es) = pick (isAbsent (e .met)) (metIn es) (suc (metIn es))
 abbrev pub upToMost : ℕ → ℕ
 upToMost n = pick (leb n largest64) n largest64
 
--- The sums: the entries, those met and those absent; the present groups, and those of them that are extra. The others are wanted: as many as the
--- entries met.
+-- The sums: the entries, those met and those absent; the present groups, and those of them that are
+-- extra. The others are wanted: as many as the entries met.
 unfoldable pub sumUp : Acceptance → Sums
 sumUp s =
     let met : ℕ = metIn (planned s) in

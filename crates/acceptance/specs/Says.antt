@@ -6,7 +6,8 @@ use Rattle.acceptance.specs.declared.PlanJudged.{PlanJudged}
 use Rattle.acceptance.specs.declared.Planned.{Planned}
 use Rattle.acceptance.specs.Plan.{Good, good, Planning}
 
--- "26 for a bad plan record, length or count above 64; 27 for entries out of order or too near; 28 for the tolerance"
+-- "26 for a bad plan record, length or count above 64; 27 for entries out of order or too near; 28
+-- for the tolerance"
 abbrev pub saysPlanJudged : PlanJudged → Outcome Good
 saysPlanJudged PlanJudged.Good = gives good
 saysPlanJudged PlanJudged.Tolerance = refuses 28

@@ -1,7 +1,8 @@
--- A ride's line is taken (document 02, M-113): "an entry is met by the first present group of its kind whose A place lies within the
--- tolerance. Report .. each accepted present group as wanted (it is the one that met an entry) or extra; the groups are answered one at a
--- time as the ride's lines come, so no list of them is kept. A place exactly at the tolerance is within it." "Opposite and refused groups
--- take no part."
+-- A ride's line is taken (document 02, M-113): "an entry is met by the first present group of its
+-- kind whose A place lies within the tolerance. Report .. each accepted present group as wanted (it
+-- is the one that met an entry) or extra; the groups are answered one at a time as the ride's lines
+-- come, so no list of them is kept. A place exactly at the tolerance is within it." "Opposite and
+-- refused groups take no part."
 -- Assumes nothing.
 use Prim.Native.Nat.{ℕ, suc, _+_}
 use mathlib.Core.Bool.{Bool, true, false, _&&_}
@@ -81,7 +82,8 @@ takeGroup s place kind =
 abbrev pub noPart : Acceptance → Took
 noPart s = record { state = s; answer = Role.NoPart }
 
--- A line of the ride: a present group is wanted or extra; an opposite or a refused group, a missed signal and a refusal take no part.
+-- A line of the ride: a present group is wanted or extra; an opposite or a refused group, a missed
+-- signal and a refusal take no part.
 unfoldable pub takeLine : Acceptance → Line → Took
 takeLine s (Line.Group g) = pick (isPresent (g .direction)) (takeGroup s (g .place) (g .kind)) (noPart s)
 takeLine s (Line.Fault place n) = noPart s

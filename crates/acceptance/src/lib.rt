@@ -1,7 +1,10 @@
-// The depot's acceptance run over the lines of a ride: the entries of a plan of the test track are met or absent, the present groups wanted or extra.
-// Promises: an entry is met by the first present group of its kind whose A place lies within the tolerance, and each such group is wanted; all
-// other present groups are extra; nothing else takes part.
-// Specification: specs/Plan.antt (a plan), specs/Taking.antt (a line is taken), specs/Report.antt, specs/Says.antt (the refusals).
+// The depot's acceptance run over the lines of a ride: the entries of a plan of the test track are
+// met or absent, the present groups wanted or extra.
+// Promises: an entry is met by the first present group of its kind whose A place lies within the
+// tolerance, and each such group is wanted; all other present groups are extra; nothing else takes
+// part.
+// Specification: specs/Plan.antt (a plan), specs/Taking.antt (a line is taken), specs/Report.antt,
+// specs/Says.antt (the refusals).
 ghost use mathlib.Core.Path.{_≡_};
 ghost use Rattle.acceptance.specs.Plan.{plan};
 ghost use Rattle.acceptance.specs.Taking.{takeLine};
@@ -29,7 +32,8 @@ pub struct Entry {
     pub met: Met,
 }
 
-// A run: the plan's entries, of which there are `count`, with what met them; the tolerance; how many groups were extra.
+// A run: the plan's entries, of which there are `count`, with what met them; the tolerance; how
+// many groups were extra.
 pub struct Acceptance {
     pub entries: [Entry; 64],
     pub count: usize,
@@ -37,8 +41,8 @@ pub struct Acceptance {
     pub extra: u64,
 }
 
-// How a plan was judged: good, or refused for the tolerance (28), for a record, the length or the count (26), or for entries out of order or
-// too near (27).
+// How a plan was judged: good, or refused for the tolerance (28), for a record, the length or the
+// count (26), or for entries out of order or too near (27).
 pub enum PlanJudged {
     Good,
     Tolerance,
@@ -46,13 +50,15 @@ pub enum PlanJudged {
     Near,
 }
 
-// What reading a plan answers: a run over it that has not begun, and how it was judged; a refused one is the empty plan.
+// What reading a plan answers: a run over it that has not begun, and how it was judged; a refused
+// one is the empty plan.
 pub struct Planned {
     pub plan: Acceptance,
     pub judged: PlanJudged,
 }
 
-// What part a line takes: the group met the entry with this index, it is extra, or the line takes no part.
+// What part a line takes: the group met the entry with this index, it is extra, or the line takes
+// no part.
 pub enum Role {
     Wanted(usize),
     Extra,
@@ -80,7 +86,8 @@ pub struct Sums {
     pub extra: u64,
 }
 
-// The plan that the bytes are, with this tolerance, not begun; or the empty plan with 28, 26, 27 in this order.
+// The plan that the bytes are, with this tolerance, not begun; or the empty plan with 28, 26, 27 in
+// this order.
 pub fn plan(bytes: &[u8], tolerance: u32) -> Planned
     ensures { λ r. ⌜ saysPlanned r ≡ plan (now (bytes .entry)) tolerance ⌝ }
 {
@@ -101,8 +108,9 @@ pub fn plan(bytes: &[u8], tolerance: u32) -> Planned
     }
 }
 
-// A line of the ride taken: a present group meets the first entry of its kind that is not met and lies within the tolerance, and is wanted, else it is
-// extra; any other line takes no part and changes nothing.
+// A line of the ride taken: a present group meets the first entry of its kind that is not met and
+// lies within the tolerance, and is wanted, else it is extra; any other line takes no part and
+// changes nothing.
 pub fn take(run: Acceptance, line: Line) -> Took
     ensures { λ r. ⌜ r ≡ takeLine run line ⌝ }
 {
@@ -123,7 +131,8 @@ pub fn take(run: Acceptance, line: Line) -> Took
     }
 }
 
-// The entry with this index, the first has 0, absent or with the place of the group that met it; or that there is none.
+// The entry with this index, the first has 0, absent or with the place of the group that met it; or
+// that there is none.
 pub fn report(run: Acceptance, i: usize) -> Reported
     ensures { λ r. ⌜ r ≡ report run i ⌝ }
 {
@@ -134,7 +143,8 @@ pub fn report(run: Acceptance, i: usize) -> Reported
     Reported::NoEntry
 }
 
-// How many entries there are, are met and are absent; how many present groups there were, and were extra.
+// How many entries there are, are met and are absent; how many present groups there were, and were
+// extra.
 pub fn sum_up(run: Acceptance) -> Sums
     ensures { λ r. ⌜ r ≡ sumUp run ⌝ }
 {

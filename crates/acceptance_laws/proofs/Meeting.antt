@@ -1,4 +1,5 @@
--- A group meets the first entry that waits for it: where the entries lie apart, that is every entry that it is for and none met before.
+-- A group meets the first entry that waits for it: where the entries lie apart, that is every entry
+-- that it is for and none met before.
 -- Assumes nothing.
 use Prim.Native.Nat.{ℕ, zero, suc, _+_, _*_, _≤_, _<_}
 use native.Mathlib.Omega.{arith}

@@ -1,4 +1,5 @@
--- Entries that lie more than twice the tolerance apart: a group lies within the tolerance of one of them at most.
+-- Entries that lie more than twice the tolerance apart: a group lies within the tolerance of one of
+-- them at most.
 -- Assumes nothing.
 use Prim.Native.Nat.{ℕ, zero, suc, _+_, _*_, _≤_, _<_}
 use native.Mathlib.Omega.{arith}

@@ -70,7 +70,8 @@ module _ (s : Acceptance) (ls : List Line) (a : apart (s .tolerance) (planned s)
     entry-met =
         ap (λ (e : Entry). e .met) (entry-after i h) ∙ ap (metAll (firstFor (s .tolerance) (getD (planned s) i noEntry) ls)) fresh
 
-    -- Whether entry i waits for a group after these lines: none of them was for it, and the group is.
+    -- Whether entry i waits for a group after these lines: none of them was for it, and the group
+    -- is.
     pub waits-is : (place : ℕ) (kind : Kind) → waits (runOver s ls .tolerance) place kind (getD (planned (runOver s ls)) i noEntry)
         ≡ (not (someFor (s .tolerance) (getD (planned s) i noEntry) ls) && isFor (s .tolerance) place kind (getD (planned s) i noEntry))
     waits-is place kind =

@@ -1,4 +1,5 @@
--- No false reading in pieces: what the calls hand out are the contacts of the whole line in one buffer, each judged there, and of those none is read falsely.
+-- No false reading in pieces: what the calls hand out are the contacts of the whole line in one
+-- buffer, each judged there, and of those none is read falsely.
 -- Assumes nothing.
 use Prim.Native.Nat.{ℕ, _+_, _-_, _<_, _^_}
 use mathlib.Core.Path.{_≡_, refl, sym, ap, subst, _∙_}

@@ -1,4 +1,5 @@
--- A balise passed with two flips in forty bits, heard in two pieces and read, with every call in full: the hypotheses are met.
+-- A balise passed with two flips in forty bits, heard in two pieces and read, with every call in
+-- full: the hypotheses are met.
 -- Assumes nothing.
 use Prim.Native.Nat.{ℕ, _+_, _-_, _≤_, _<_}
 use mathlib.Core.Path.{_≡_, refl, sym, ap, _∙_}

@@ -1,4 +1,5 @@
--- No false reading, of a line that comes in pieces: what the antenna reads over one balise, whatever noise falls on the line, up to so many flips in forty bits.
+-- No false reading, of a line that comes in pieces: what the antenna reads over one balise,
+-- whatever noise falls on the line, up to so many flips in forty bits.
 -- Assumes nothing.
 use Prim.Native.Nat.{ℕ, _-_, _<_}
 use mathlib.Core.Path.{_≡_}
@@ -20,14 +21,17 @@ use Rattle.recording_laws.specs.Hearing.{Piece, bitsIn, lineS, lineT, Heard, In
 abbrev pub WithItsPair : OneBalise → List Piece → Type 0
 WithItsPair o ps = (k : ℕ) → k < bitsIn ps → (lineS ps k ≡ o .s) × (lineT ps k ≡ o .t)
 
--- Each of the contacts handed out, if it is read as a telegram, reads the one sent. (Of refusals nothing is said.)
+-- Each of the contacts handed out, if it is read as a telegram, reads the one sent. (Of refusals
+-- nothing is said.)
 abbrev pub AllTheSent : OneBalise → List Told → Type 0
 AllTheSent o [] = Unit
 AllTheSent o (told start len judgement ∷ l) =
     ((m : Telegram) (first count : ℕ) → judgement ≡ gives (read (gives m) first count) → m ≡ o .telegram) × AllTheSent o l
 
--- One balise is passed, at any phase, for any length, and its line is heard piece by piece, however it is cut, with the balise's sync pair. If no forty bits of
--- the line in a row, quiet parts included, hold more flips than the pair's equal bit allows, every contact that is handed out as read reads the telegram sent.
+-- One balise is passed, at any phase, for any length, and its line is heard piece by piece, however
+-- it is cut, with the balise's sync pair. If no forty bits of the line in a row, quiet parts
+-- included, hold more flips than the pair's equal bit allows, every contact that is handed out as
+-- read reads the telegram sent.
 abbrev pub NoFalseReadingInPieces : Type 0
 NoFalseReadingInPieces =
     (o : OneBalise) → Proper o → (k : ℕ) → EqualBit o k → (ps : List Piece) → InOne (o .buffer) ps → WithItsPair o ps

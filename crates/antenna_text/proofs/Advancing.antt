@@ -1,4 +1,5 @@
--- What an answer of `hear_piece` names is a bit of the piece: whoever asks on from the bit after it comes to the piece's end.
+-- What an answer of `hear_piece` names is a bit of the piece: whoever asks on from the bit after it
+-- comes to the piece's end.
 -- Assumes nothing.
 use Prim.Native.Nat.{ℕ, _+_, _-_, _≤_, _<_}
 use mathlib.Core.Path.{_≡_, subst, ap, sym, _∙_}

@@ -1,4 +1,5 @@
--- What is heard on a line that comes in pieces, as text: the lines of `contact_text`, with each contact's start counted from the first bit of the line.
+-- What is heard on a line that comes in pieces, as text: the lines of `contact_text`, with each
+-- contact's start counted from the first bit of the line.
 -- Assumes nothing.
 use Prim.Native.Nat.{ℕ, _-_}
 use mathlib.Core.Bool.{Bool, true, false}

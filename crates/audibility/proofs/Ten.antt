@@ -1,4 +1,5 @@
--- Ten bytes hold every sixteen bits in a row of a balise's line: what it repeats, and its first sixteen bits once more.
+-- Ten bytes hold every sixteen bits in a row of a balise's line: what it repeats, and its first
+-- sixteen bits once more.
 -- Assumes nothing.
 use Prim.Native.Nat.{ℕ, zero, suc, _+_, _-_, _/_, _%_, _^_, _≤_, _<_}
 use mathlib.Core.Path.{_≡_, refl, ap, ap₂, _∙_}

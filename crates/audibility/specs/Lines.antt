@@ -1,4 +1,5 @@
--- The lines of the list: `0 3 14`, `12 127`, `5 telegrams and 260 numbers are never read with this pair`.
+-- The lines of the list: `0 3 14`, `12 127`,
+-- `5 telegrams and 260 numbers are never read with this pair`.
 -- Assumes nothing.
 use Prim.Native.Nat.{ℕ}
 use mathlib.Core.List.{List, _++_}

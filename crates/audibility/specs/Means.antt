@@ -1,4 +1,5 @@
--- What the answers mean: they are the `Audible` and `Broken` of `contact_laws`, of any balise that sends the words of what was asked for.
+-- What the answers mean: they are the `Audible` and `Broken` of `contact_laws`, of any balise that
+-- sends the words of what was asked for.
 -- Assumes nothing.
 use Prim.Native.Nat.{ℕ}
 use mathlib.Core.Path.{_≡_}
@@ -8,7 +9,8 @@ use Rattle.telegram.specs.Spelling.{Words, asked, spell}
 use Rattle.contact_laws.specs.Zeroes.{Audible, Broken}
 use Rattle.audibility.specs.Sound.{Heard, audible, broken, soundOf}
 
--- The balise o sends the words spelt for x, y and z, and the answer for them and its sync words is a.
+-- The balise o sends the words spelt for x, y and z, and the answer for them and its sync words is
+-- a.
 pub record Asked (x y z : ℕ) (o : OneBalise) (a : Heard) : Type 0 where
   pub words : Words
   pub spelt-so : spell (asked x y z) ≡ gives words

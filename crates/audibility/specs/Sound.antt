@@ -1,4 +1,5 @@
--- Whether a telegram can be heard with a sync pair: by the zeroes of its line (`contact_laws/specs/Zeroes.antt`).
+-- Whether a telegram can be heard with a sync pair: by the zeroes of its line
+-- (`contact_laws/specs/Zeroes.antt`).
 -- Assumes nothing.
 use Prim.Native.Nat.{ℕ, zero, suc}
 use mathlib.Core.Bool.{Bool, true, false, _||_}
@@ -16,11 +17,13 @@ unfoldable pub some : (ℕ → Bool) → ℕ → Bool
 some test zero = false
 some test (suc n) = test n || some test n
 
--- Whether some sixteen bits in a row of a balise's line have fewer than five zeroes. The line repeats itself after 64 bits.
+-- Whether some sixteen bits in a row of a balise's line have fewer than five zeroes. The line
+-- repeats itself after 64 bits.
 unfoldable pub isBroken : OneBalise → Bool
 isBroken o = some (λ j. ltb (zeroesSent o j 16) fewest) 64
 
--- The balise that sends these words with the sync words s and t, over no stretch: only its line is looked at.
+-- The balise that sends these words with the sync words s and t, over no stretch: only its line is
+-- looked at.
 abbrev pub sending : ℕ → ℕ → Words → OneBalise
 sending s t w =
     record { buffer = []; start = 0; len = 0; s = s; t = t; x = w .x; y = w .y; z = w .z; telegram = Telegram.Figures 0 0 0; phase = 0 }

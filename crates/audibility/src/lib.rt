@@ -1,5 +1,7 @@
-// What can never be heard with a sync pair: the telegrams whose line closes every contact too soon, and the lines of text that list them.
-// Promises: a telegram is called broken exactly if some sixteen bits in a row of its line have four zeroes or fewer; texts are written whole or not at all.
+// What can never be heard with a sync pair: the telegrams whose line closes every contact too soon,
+// and the lines of text that list them.
+// Promises: a telegram is called broken exactly if some sixteen bits in a row of its line have four
+// zeroes or fewer; texts are written whole or not at all.
 // Specification: specs/Sound.antt, specs/Lines.antt (the words), specs/Says.antt (the answers).
 ghost use mathlib.Core.Path.{_≡_};
 ghost use Rattle.telegram.specs.Spelling.{asked};
@@ -22,7 +24,8 @@ pub enum Sound {
     NotSeven,
 }
 
-// Whether the balise that says x, y, z (or, for x = 12, the number y) with the sync words s and t is audible or broken; or 2, 3, 4 in this order.
+// Whether the balise that says x, y, z (or, for x = 12, the number y) with the sync words s and t
+// is audible or broken; or 2, 3, 4 in this order.
 pub fn sound_of(x: u8, y: u16, z: u8, s: u8, t: u8) -> Sound
     ensures { λ r. ⌜ saysSound r ≡ soundOf x y z s t ⌝ }
 {
@@ -34,8 +37,8 @@ pub fn sound_of(x: u8, y: u16, z: u8, s: u8, t: u8) -> Sound
     }
 }
 
-// The line of figures, or of 12 and a number, to the letter, into buf from `at` on, all other bytes as they were, and the place after it; without room
-// nothing is written, and the answer is `at`.
+// The line of figures, or of 12 and a number, to the letter, into buf from `at` on, all other bytes
+// as they were, and the place after it; without room nothing is written, and the answer is `at`.
 pub fn put_telegram(x: u8, y: u16, z: u8, buf: &mut [u8], at: usize) -> usize
     ensures { λ r. ⌜ came r (now (buf .exit)) ≡ put (telegramLine (asked x y z)) (now (buf .entry)) at ⌝ }
 {

@@ -48,7 +48,8 @@ fn some_few(buf: &[u8]) -> bool
     false
 }
 
-// The balise with these words: a good pair first. What it repeats, and its first sixteen bits once more, are ten bytes.
+// The balise with these words: a good pair first. What it repeats, and its first sixteen bits once
+// more, are ten bytes.
 pub fn sound(x: u8, y: u8, z: u8, s: u8, t: u8) -> Sound
     ensures { λ r. ⌜ saysSound r ≡ soundWith s t record { x = x; y = y; z = z } ⌝ }
 {

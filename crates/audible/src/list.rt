@@ -2,7 +2,8 @@
 use crate::out;
 use audibility::Sound;
 
-// What is listed so far: the place after the lines that stand in the buffer, and how many there are. There are 5,198 telegrams.
+// What is listed so far: the place after the lines that stand in the buffer, and how many there
+// are. There are 5,198 telegrams.
 pub struct Listed {
     pub at: usize,
     pub count: u32,

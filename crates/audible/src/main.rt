@@ -1,6 +1,9 @@
-// What can never be heard with a sync pair: the figures of every broken telegram, a line each, then the numbers, then how many there are.
-// Promises: it is safe and it ends; what is broken is said by audibility::sound_of, and the lines are those of audibility.
-// Specification: none of its own; what cannot be said of a program's writes stands in docs/EXCEPTIONS.md.
+// What can never be heard with a sync pair: the figures of every broken telegram, a line each, then
+// the numbers, then how many there are.
+// Promises: it is safe and it ends; what is broken is said by audibility::sound_of, and the lines
+// are those of audibility.
+// Specification: none of its own; what cannot be said of a program's writes stands in
+// docs/EXCEPTIONS.md.
 mod list;
 mod out;
 

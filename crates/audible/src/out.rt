@@ -1,6 +1,7 @@
 // Lines, gathered in a buffer and written when it is full.
 
-// The line of a telegram after those that stand; where it has no room, they are written first. The place after it.
+// The line of a telegram after those that stand; where it has no room, they are written first. The
+// place after it.
 pub fn add(x: u8, y: u16, z: u8, buf: &mut [u8], at: usize) -> usize {
     let next = audibility::put_telegram(x, y, z, buf, at);
     if next > at {

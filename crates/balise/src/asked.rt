@@ -4,7 +4,8 @@ use console::sync_word;
 use figures::Byte;
 use figures::Figure;
 
-// A balise: its figures, its sync words, the number of telegrams, and the bytes of quiet line around them.
+// A balise: its figures, its sync words, the number of telegrams, and the bytes of quiet line
+// around them.
 pub struct Call {
     pub x: u8,
     pub y: u16,
@@ -15,14 +16,16 @@ pub struct Call {
     pub idle: usize,
 }
 
-// What is asked for; that there are too few or too many arguments; or that one of them is wrong, which was said.
+// What is asked for; that there are too few or too many arguments; or that one of them is wrong,
+// which was said.
 pub enum Called {
     For(Call),
     Usage,
     Said,
 }
 
-// A number of the command line, where the largest asked for stands for all above it; or none, which was said.
+// A number of the command line, where the largest asked for stands for all above it; or none, which
+// was said.
 enum Taken {
     Is(u64),
     Said,
@@ -40,7 +43,8 @@ fn figure(name: &[u8], k: usize, most: u64) -> Taken {
     }
 }
 
-// A figure of one byte, of two and of four: the largest stands for all above it, and is refused as they are.
+// A figure of one byte, of two and of four: the largest stands for all above it, and is refused as
+// they are.
 fn one_byte(n: u64) -> u8 {
     if n > 255 {
         return 255;

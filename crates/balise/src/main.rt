@@ -1,6 +1,8 @@
 // A test balise: its packed bits to standard output, between so many bytes of ones, the quiet line.
-// Promises: it is safe and it ends; the bytes are balise_writer::write's; a figure that is too large is refused as the figure it is.
-// Specification: none of its own; what cannot be said of a program's reads and writes stands in docs/EXCEPTIONS.md.
+// Promises: it is safe and it ends; the bytes are balise_writer::write's; a figure that is too
+// large is refused as the figure it is.
+// Specification: none of its own; what cannot be said of a program's reads and writes stands in
+// docs/EXCEPTIONS.md.
 ghost use mathlib.Core.Path.{_≡_};
 ghost use lib.ListN.{length};
 

@@ -1,4 +1,5 @@
--- The hypotheses on the flips can be computed: beyond the stretch nothing flips, so each is a test up to its end.
+-- The hypotheses on the flips can be computed: beyond the stretch nothing flips, so each is a test
+-- up to its end.
 -- Assumes nothing.
 use mathlib.Core.Path.{_≡_, refl, ap, _∙_}
 use mathlib.Core.Bool.{Bool, true, false, _&&_}

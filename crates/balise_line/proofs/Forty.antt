@@ -1,5 +1,5 @@
--- At most so many flips in forty bits in a row, sync words included, are too few for a false place, where every wrong offset costs more with the
--- equal bit where it is.
+-- At most so many flips in forty bits in a row, sync words included, are too few for a false place,
+-- where every wrong offset costs more with the equal bit where it is.
 -- Assumes nothing.
 use mathlib.Core.Path.{_≡_, ap, _∙_}
 use mathlib.Core.Bool.{true}

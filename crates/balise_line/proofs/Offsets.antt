@@ -1,7 +1,8 @@
--- The wrong offsets. A false place r bits after a telegram's beginning, 0 < r < 32, wants two bytes, 32 bits apart, that
--- differ as the sync words do: in every bit but one, e. What is sent there differs otherwise: data bits 32 apart are sent
--- alike, and sync bits differ as the sync words do. Each bit in which the two disagree costs a flip. A flip of a sync bit
--- counts so many times: where no sync bit flips, as many as one likes.
+-- The wrong offsets. A false place r bits after a telegram's beginning, 0 < r < 32, wants two
+-- bytes, 32 bits apart, that differ as the sync words do: in every bit but one, e. What is sent
+-- there differs otherwise: data bits 32 apart are sent alike, and sync bits differ as the sync
+-- words do. Each bit in which the two disagree costs a flip. A flip of a sync bit counts so many
+-- times: where no sync bit flips, as many as one likes.
 -- Assumes nothing.
 use mathlib.Core.Path.{_≡_, subst}
 use mathlib.Core.Bool.{Bool, true}
@@ -37,12 +38,14 @@ at-least w least e t zero pos l = absurd (omega arith)
 at-least w least e t (suc r) pos l =
     leb→le least (sum (cost w e (suc r)) 8) (below (λ r. leb least (sum (cost w e (suc r)) 8)) 31 t r (omega arith))
 
--- Where no sync bit flips, and each that would counts four, every wrong offset costs four, wherever the equal bit is.
+-- Where no sync bit flips, and each that would counts four, every wrong offset costs four, wherever
+-- the equal bit is.
 pub four : (e : ℕ) → e < 8 → T (dear 4 4 e)
 unfolding dear cost weigh apart sum notAt unequal
 four e l = below (dear 4 4) 8 tt e l
 
--- Whether, a sync bit counting as any other, every wrong offset costs so much at least, if the equal bit, e, is one of those listed.
+-- Whether, a sync bit counting as any other, every wrong offset costs so much at least, if the
+-- equal bit, e, is one of those listed.
 unfoldable pub dearAmong : List ℕ → ℕ → ℕ → Bool
 dearAmong ks least e = pick (among (suc e) ks) (dear 1 least e) true
 

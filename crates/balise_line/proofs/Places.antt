@@ -29,7 +29,8 @@ pub or-right : (a : Bool) {b : Bool} → b ≡ true → (a || b) ≡ true
 or-right true e = refl
 or-right false e = e
 
--- What makes a place: it lies in the stretch, its outer bytes are the sync words, its words are accepted.
+-- What makes a place: it lies in the stretch, its outer bytes are the sync words, its words are
+-- accepted.
 module _ (b : List ℕ) (start len s t p : ℕ) where
   pub place-parts : isPlace b start len s t p ≡ true
       → (p + 40 ≤ start + len) × (areSyncs s t (bitsAt b p 8) (bitsAt b (p + 32) 8) ≡ true) × (accepted (wordsAt b p) ≡ true)

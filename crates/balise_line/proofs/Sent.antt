@@ -1,4 +1,5 @@
--- What it is for bit p to have the words sent, at their true place; and that a telegram is read there as it was sent.
+-- What it is for bit p to have the words sent, at their true place; and that a telegram is read
+-- there as it was sent.
 -- Assumes nothing.
 use mathlib.Core.Path.{_≡_, ap₂, _∙_}
 use mathlib.Core.Bool.{true, _&&_}

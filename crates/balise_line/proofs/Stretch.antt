@@ -1,5 +1,6 @@
--- Over a stretch with too few flips for a false place every place has the words sent, at their true place: the sync words of a place lie at a telegram's
--- beginning, and there each word is accepted only if it is the word sent.
+-- Over a stretch with too few flips for a false place every place has the words sent, at their true
+-- place: the sync words of a place lie at a telegram's beginning, and there each word is accepted
+-- only if it is the word sent.
 -- Assumes nothing.
 use mathlib.Core.Path.{_≡_, sym, ap, ap₂, _∙_, subst}
 use mathlib.Core.Bool.{true}

@@ -139,7 +139,8 @@ pub record Missing (f : ℕ → ℕ) (n : ℕ) : Type 0 where
   pub within : at < n
   pub is : (i : ℕ) → i < n → f i ≡ notAt at i
 
--- Bits that add up to as many as they are are all ones; those that add up to one less are all ones but one.
+-- Bits that add up to as many as they are are all ones; those that add up to one less are all ones
+-- but one.
 module _ (f : ℕ → ℕ) (small : (i : ℕ) → f i < 2) where
   sum-small : (n : ℕ) → sum f n ≤ n
   unfolding sum

@@ -22,7 +22,8 @@ use Rattle.balise_line.proofs.Bits.{ones-differing}
 use Rattle.words.proofs.HowMany.{onesOf}
 use Rattle.words.proofs.Never.{cannot-be}
 
--- Of either code: a word that is accepted and differs from a code word in at most three bits is that code word.
+-- Of either code: a word that is accepted and differs from a code word in at most three bits is
+-- that code word.
 pub still : {n : ℕ} → Width n → (c w x y : ℕ) → c < 2 ^ n → w < 2 ^ n → readWord n c ≡ gives x → readWord n w ≡ gives y → differing w c n ≤ 3 → w ≡ c
 still {n} wide c w x y hc hw sent received few = go (onesOf f n) refl
   where

@@ -1,4 +1,5 @@
--- Too few flips for a false place: what any hypothesis on the flips has to come to for every place to be a true one with the words sent.
+-- Too few flips for a false place: what any hypothesis on the flips has to come to for every place
+-- to be a true one with the words sent.
 -- Assumes nothing.
 use mathlib.Core.Path.{_≡_, refl, subst}
 use mathlib.Core.Bool.{Bool, true, false}
@@ -13,12 +14,13 @@ use Rattle.balise_line.proofs.Round.{pattern}
 use Rattle.balise_line.proofs.Offsets.{weigh, dear, four}
 use Rattle.balise_line.proofs.Window.{flips-part, sync-quiet, with-syncs}
 
--- what the flips at the bits i of two bytes count, the first from line bit q on, the second 32 bits later; a flip of a sync bit counts w times
+-- what the flips at the bits i of two bytes count, the first from line bit q on, the second 32 bits
+-- later; a flip of a sync bit counts w times
 unfoldable pub paid : OneBalise → ℕ → ℕ → ℕ → ℕ
 paid o w q i = weigh w ((q + i) % 32) * (flip o (q + i) + flip o (q + 32 + i))
 
--- Of any forty bits of the stretch the two outer bytes have less than a false place costs, with this pair's equal bit; and a telegram
--- has at most three flipped data bits.
+-- Of any forty bits of the stretch the two outer bytes have less than a false place costs, with
+-- this pair's equal bit; and a telegram has at most three flipped data bits.
 pub record TooFew (o : OneBalise) : Type 0 where
   pub weight : ℕ
   pub least : ℕ

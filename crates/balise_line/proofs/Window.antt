@@ -1,4 +1,5 @@
--- Forty bits of the stretch, from bit p of the buffer on: what is received there is what was sent, but for the flips.
+-- Forty bits of the stretch, from bit p of the buffer on: what is received there is what was sent,
+-- but for the flips.
 -- Assumes nothing.
 use mathlib.Core.Path.{_≡_, sym, ap, ap₂, _∙_}
 use mathlib.Core.Bool.{Bool, true, _&&_}

@@ -1,5 +1,5 @@
--- No place lies at a wrong offset, where there are too few flips for it: what the two sync words of a place want and was not sent costs a
--- flip for each bit.
+-- No place lies at a wrong offset, where there are too few flips for it: what the two sync words of
+-- a place want and was not sent costs a flip for each bit.
 -- Assumes nothing.
 use mathlib.Core.Path.{_≡_, refl, sym, ap, ap₂, _∙_, subst}
 use mathlib.Core.Logic.{_⊎_, inl, inr}

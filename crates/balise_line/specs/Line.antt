@@ -1,7 +1,8 @@
 -- What one balise sends, and what is received of it over a stretch.
--- "Highest bit first: sync word, X, Y, Z, sync word. A balise repeats its telegram without a break, each sharing a sync
--- word with the next, so S and S* alternate every 32 bits." (document 01, "A telegram")
--- Line bits are counted from 0, where a telegram begins with the sync word s; telegram k begins at line bit 32 k.
+-- "Highest bit first: sync word, X, Y, Z, sync word. A balise repeats its telegram without a break,
+-- each sharing a sync word with the next, so S and S* alternate every 32 bits." (document 01, "A
+-- telegram") Line bits are counted from 0, where a telegram begins with the sync word s; telegram k
+-- begins at line bit 32 k.
 -- Assumes nothing.
 use Prim.Native.Nat.{ℕ, zero, suc, _+_, _-_, _*_, _%_, _≤_, _<_}
 use mathlib.Core.Path.{_≡_}
@@ -29,10 +30,12 @@ pub record OneBalise : Type 0 where
   pub y : ℕ
   pub z : ℕ
   pub telegram : Telegram
-  -- the line bit with which the stretch begins: any, so either sync word comes first, and the first telegram may be cut
+  -- the line bit with which the stretch begins: any, so either sync word comes first, and the first
+  -- telegram may be cut
   pub phase : ℕ
 
--- The sync words and the telegram are good, and the stretch is taken: what is not refused with 4 or 5.
+-- The sync words and the telegram are good, and the stretch is taken: what is not refused with 4 or
+-- 5.
 pub record Proper (o : OneBalise) : Type 0 where
   pub bytes : (o .s < 256) × (o .t < 256) × (o .x < 256) × (o .y < 256) × (o .z < 256)
   pub pair : isGood (o .s) (o .t) ≡ true
@@ -76,12 +79,13 @@ flips o j n = sum (λ i. flip o (j + i)) n
 unfoldable pub syncFlips : OneBalise → ℕ → ℕ
 syncFlips o k = flips o (32 * k) 8
 
--- The flipped data bits of telegram k, those of its words X, Y and Z: of a telegram that the stretch cuts, those in the stretch.
+-- The flipped data bits of telegram k, those of its words X, Y and Z: of a telegram that the
+-- stretch cuts, those in the stretch.
 unfoldable pub dataFlips : OneBalise → ℕ → ℕ
 dataFlips o k = flips o (32 * k + 8) 24
 
--- Demand 3's hypothesis on the flips: no sync bit in the stretch flips, and no telegram together with the next has more than three
--- flipped data bits in the stretch; so none alone has.
+-- Demand 3's hypothesis on the flips: no sync bit in the stretch flips, and no telegram together
+-- with the next has more than three flipped data bits in the stretch; so none alone has.
 pub record FewFlips (o : OneBalise) : Type 0 where
   pub syncs : (k : ℕ) → syncFlips o k ≡ 0
   pub few : (k : ℕ) → dataFlips o k + dataFlips o (k + 1) ≤ 3
@@ -94,12 +98,13 @@ Clean o = (j : ℕ) → flip o j ≡ 0
 unfoldable pub lineBit : OneBalise → ℕ → ℕ
 lineBit o p = o .phase + (p - o .start)
 
--- Whether a telegram of the balise begins at bit p of the buffer, and lies with both its sync words in the stretch: a true
--- place.
+-- Whether a telegram of the balise begins at bit p of the buffer, and lies with both its sync words
+-- in the stretch: a true place.
 unfoldable pub sentAt : OneBalise → ℕ → Bool
 sentAt o p = leb (o .start) p && leb (p + 40) (o .start + o .len) && eqb (lineBit o p % 32) 0
 
--- How many of the forty bits of the telegram that begins at bit p, both its sync words included, were flipped.
+-- How many of the forty bits of the telegram that begins at bit p, both its sync words included,
+-- were flipped.
 unfoldable pub flipsAt : OneBalise → ℕ → ℕ
 flipsAt o p = flips o (lineBit o p) 40
 

@@ -1,4 +1,5 @@
--- The bytes of the telegrams are the eight bytes that the balise repeats, again and again; what stands in a buffer after them stays.
+-- The bytes of the telegrams are the eight bytes that the balise repeats, again and again; what
+-- stands in a buffer after them stays.
 -- Assumes nothing.
 use mathlib.Core.Path.{_≡_, refl, sym, ap, _∙_}
 use mathlib.Core.Bool.{Bool, true, false}

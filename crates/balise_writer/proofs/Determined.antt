@@ -1,4 +1,5 @@
--- Each contract fixes the whole answer and every byte of the buffer: any two answers that it allows are equal, and so are the buffers then.
+-- Each contract fixes the whole answer and every byte of the buffer: any two answers that it allows
+-- are equal, and so are the buffers then.
 -- Assumes nothing.
 use mathlib.Core.Path.{_≡_, refl, sym, ap, _∙_}
 use Prim.Native.Nat.{ℕ}

@@ -27,7 +27,8 @@ pub number : write 12 1612 200 0x72 0x0d 2 ten
 unfolding write spell asked tooLarge hasFifteen wordsOf bytesOf inRange telegrams isGood differing sent exchanged other word plainWord madeEven carried carriers count covers isCheck
 number = refl
 
--- Everything is wrong: 2. The figures in range: 3. None of them 15: 4. The pair good: 20. The number in range: 21.
+-- Everything is wrong: 2. The figures in range: 3. None of them 15: 4. The pair good: 20. The
+-- number in range: 21.
 pub in-order : (write 15 16 0 0x72 0x72 1 [] ≡ record { answer = refuses 2; buffer = [] })
     × (write 15 14 0 0x72 0x72 1 [] ≡ record { answer = refuses 3; buffer = [] })
     × (write 14 14 0 0x72 0x72 1 [] ≡ record { answer = refuses 4; buffer = [] })

@@ -1,4 +1,5 @@
--- What is written is one balise's line, received clean; so its places are 0, 32, .., one for each telegram.
+-- What is written is one balise's line, received clean; so its places are 0, 32, .., one for each
+-- telegram.
 -- Assumes nothing.
 use mathlib.Core.Path.{_≡_, refl, sym, ap, ap₂, _∙_}
 use mathlib.Core.Bool.{Bool, true, false, _&&_}

@@ -6,8 +6,9 @@ use Rattle.words.specs.Answer.{Outcome, gives, refuses}
 use Rattle.balise_writer.specs.Write.{Writing}
 use Rattle.balise_writer.specs.declared.Written.{Written}
 
--- How many bytes were written; "figure to write above 15 or above 2,047" is 2, "a short word of a telegram reads 15" is 3, "sync pair
--- doesn't differ in seven bits" is 4, n out of range is 20, a short buffer is 21.
+-- How many bytes were written; "figure to write above 15 or above 2,047" is 2, "a short word of a
+-- telegram reads 15" is 3, "sync pair doesn't differ in seven bits" is 4, n out of range is 20, a
+-- short buffer is 21.
 abbrev pub saysAnswer : Written → Outcome ℕ
 saysAnswer (Written.Bytes n) = gives n
 saysAnswer Written.TooLarge = refuses 2

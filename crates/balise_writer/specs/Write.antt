@@ -1,6 +1,7 @@
--- The bytes of a test balise (document 02, M-100): "write the packed bits into a lent buffer: a sync word S first, telegrams
--- with alternating sync words, one sync word to close, so 4n + 1 bytes. Bytes after them stay." "Refusals: 2 and 3 as in 01; 20
--- for n out of range; 21 for a short buffer; order 2, 3, 4, 20, 21."
+-- The bytes of a test balise (document 02, M-100): "write the packed bits into a lent buffer: a
+-- sync word S first, telegrams with alternating sync words, one sync word to close, so 4n + 1
+-- bytes. Bytes after them stay." "Refusals: 2 and 3 as in 01; 20 for n out of range; 21 for a short
+-- buffer; order 2, 3, 4, 20, 21."
 -- Assumes nothing.
 use Prim.Native.Nat.{ℕ, zero, suc, _+_, _*_}
 use mathlib.Core.Bool.{Bool, not, _&&_}
@@ -11,7 +12,8 @@ use Rattle.words.specs.Answer.{Outcome, gives, refuses, then, pick}
 use Rattle.telegram.specs.Sync.{isGood}
 use Rattle.telegram.specs.Spelling.{asked, Words, spell}
 
--- n telegrams of the same words, the sync words s and t in turn, s first, and one sync word to close.
+-- n telegrams of the same words, the sync words s and t in turn, s first, and one sync word to
+-- close.
 unfoldable pub telegrams : ℕ → ℕ → Words → ℕ → List ℕ
 telegrams s t w zero = s ∷ []
 telegrams s t w (suc n) = s ∷ w .x ∷ w .y ∷ w .z ∷ telegrams t s w n
@@ -28,7 +30,8 @@ bytesOf s t n room w =
     (pick (ltb room (4 * n + 1)) (refuses 21)
     (gives (telegrams s t w n))))
 
--- What writing comes to: how many bytes were written, or the number of the refusal; and the buffer then.
+-- What writing comes to: how many bytes were written, or the number of the refusal; and the buffer
+-- then.
 pub record Writing : Type 0 where
   pub answer : Outcome ℕ
   pub buffer : List ℕ
@@ -38,6 +41,7 @@ abbrev pub onto : List ℕ → Outcome (List ℕ) → Writing
 onto out (gives bytes) = record { answer = gives (length bytes); buffer = bytes ++ drop (length bytes) out }
 onto out (refuses n) = record { answer = refuses n; buffer = out }
 
--- Writing a test balise: n telegrams of the figures x, y, z with the sync words s and t, into the buffer `out`.
+-- Writing a test balise: n telegrams of the figures x, y, z with the sync words s and t, into the
+-- buffer `out`.
 unfoldable pub write : ℕ → ℕ → ℕ → ℕ → ℕ → ℕ → List ℕ → Writing
 write x y z s t n out = onto out (then (spell (asked x y z)) (bytesOf s t n (length out)))

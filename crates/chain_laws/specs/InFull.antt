@@ -1,4 +1,5 @@
--- One way in full, from figures to a line: two test balises are written and passed, heard, judged, recorded, and ridden over.
+-- One way in full, from figures to a line: two test balises are written and passed, heard, judged,
+-- recorded, and ridden over.
 -- Assumes nothing.
 use Prim.Native.Nat.{ℕ}
 use mathlib.Core.Path.{_≡_}
@@ -20,7 +21,8 @@ use Rattle.ride_text.specs.Text.{codes, textOf}
 abbrev pub room : List ℕ
 room = 0 ∷ 0 ∷ 0 ∷ 0 ∷ 0 ∷ 0 ∷ 0 ∷ 0 ∷ 0 ∷ 0 ∷ 0 ∷ 0 ∷ 0 ∷ 0 ∷ 0 ∷ 0 ∷ 0 ∷ 0 ∷ 0 ∷ 0 ∷ 0 ∷ 0 ∷ 0 ∷ 0 ∷ 0 ∷ []
 
--- What is sent for 1 8 5 and for 9 2 4, the balises of document 01's ride, with the sync words 72 and 0D hex.
+-- What is sent for 1 8 5 and for 9 2 4, the balises of document 01's ride, with the sync words 72
+-- and 0D hex.
 abbrev pub A : List ℕ
 A = write 1 8 5 0x72 0x0d 6 room .buffer
 

@@ -1,4 +1,5 @@
--- A record says what was judged: `check_record` accepts what `record_of` makes, after an odometer not above its own, and it is the same balise.
+-- A record says what was judged: `check_record` accepts what `record_of` makes, after an odometer
+-- not above its own, and it is the same balise.
 -- Assumes nothing.
 use Prim.Native.Nat.{ℕ, _+_, _≤_}
 use mathlib.Core.Path.{_≡_}
@@ -29,8 +30,9 @@ RecordOf odometer j r = (e : AtExit (endedOf 0 record-kinds.ps record-kinds.r) t
 abbrev pub CheckRecord : Ride → List ℕ → Checked → Type 0
 CheckRecord ride bytes k = (e : AtExit (endedOf 0 check-kinds.ps check-kinds.r) tt) × check-reads.Post tt (ride, (bytes, tt)) k e
 
--- What a record's balise h is, where j was judged of a contact in the buffer b: the words received at the first place, which say the telegram read; a marker; or
--- unreadable, after refusals 7 and 8. Of what was refused with 4 or 5 there is no record.
+-- What a record's balise h is, where j was judged of a contact in the buffer b: the words received
+-- at the first place, which say the telegram read; a marker; or unreadable, after refusals 7 and 8.
+-- Of what was refused with 4 or 5 there is no record.
 abbrev pub Same : List ℕ → Judged → Heard → Type 0
 Same b (Judged.Read m first count) h =
     (h ≡ Heard.Words (bitsAt b (first + 8) 8) (bitsAt b (first + 16) 8) (bitsAt b (first + 24) 8)) × (partHeard h ≡ gives (partSaid m))

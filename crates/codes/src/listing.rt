@@ -34,7 +34,8 @@ fn put_at(figure: usize, word: u16, first: usize) -> bool {
     true
 }
 
-// The words, by figure, eight to a line, each without so many of its first digits; as far as they can be written.
+// The words, by figure, eight to a line, each without so many of its first digits; as far as they
+// can be written.
 pub fn put(words: &[u16], first: usize) -> bool {
     let mut figure = 0;
     while figure < words.len() {

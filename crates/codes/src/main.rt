@@ -1,6 +1,9 @@
-// The words of both codes as a list to pin to the wall: in each line its first figure, then eight words in hexadecimal.
-// Promises: it is safe and it ends; it reads nothing, so the file stdout beside it is all that it can write, and is the printed list.
-// Specification: specs/Hex.antt (the digits of a word); the words are those of words::write_short and words_list::list.
+// The words of both codes as a list to pin to the wall: in each line its first figure, then eight
+// words in hexadecimal.
+// Promises: it is safe and it ends; it reads nothing, so the file stdout beside it is all that it
+// can write, and is the printed list.
+// Specification: specs/Hex.antt (the digits of a word); the words are those of words::write_short
+// and words_list::list.
 mod hex;
 mod listing;
 

@@ -1,4 +1,5 @@
-// The records of the cards, block by block: in through `compact_block`, what is kept out to standard output.
+// The records of the cards, block by block: in through `compact_block`, what is kept out to
+// standard output.
 ghost use Prim.Native.Nat.{_≤_};
 ghost use lib.ListN.{length};
 use crate::counts;
@@ -8,7 +9,8 @@ use console::Goes;
 use libc::STDOUT_FILENO;
 use settings::Store;
 
-// Where the trace stands: what waits, how many records came and how many were kept, and whether all writes so far succeeded.
+// Where the trace stands: what waits, how many records came and how many were kept, and whether all
+// writes so far succeeded.
 struct Stand {
     waiting: Waiting,
     records: u64,
@@ -78,8 +80,9 @@ fn finish(how: Goes, stand: Stand) {
     }
 }
 
-// The compacted trace of all records of the cards, whose lengths were kept, as one ride. A proved loop has to end, and nothing says that
-// a file does: so it counts its turns down from a number that no run uses up.
+// The compacted trace of all records of the cards, whose lengths were kept, as one ride. A proved
+// loop has to end, and nothing says that a file does: so it counts its turns down from a number
+// that no run uses up.
 pub fn write_cards(store: Store, first: usize, lengths: &[u64], block: &mut [u8]) {
     let ride = ride::fresh();
     let mut stand = Stand {

@@ -1,7 +1,10 @@
-// The compacted trace of the cards that are named, as one ride, to standard output; on standard error how many records it had and how many are kept.
-// Promises: it is safe and it ends; what is kept is compaction::compact_block's, block by block and card by card.
-// Specification: specs/Counting.antt for its counts; what the blocks come to is crates/compaction_laws/specs/Blocks.antt, what cannot be said of a program's reads
-// and writes stands in docs/EXCEPTIONS.md.
+// The compacted trace of the cards that are named, as one ride, to standard output; on standard
+// error how many records it had and how many are kept.
+// Promises: it is safe and it ends; what is kept is compaction::compact_block's, block by block and
+// card by card.
+// Specification: specs/Counting.antt for its counts; what the blocks come to is
+// crates/compaction_laws/specs/Blocks.antt, what cannot be said of a program's reads and writes
+// stands in docs/EXCEPTIONS.md.
 mod blocks;
 mod counts;
 
@@ -14,7 +17,8 @@ fn usage() {
     console::usage(b"compact", b"compact [-s SETTINGS] CARD..");
 }
 
-// Goes over the cards twice: once for their lengths, once for the records. Nothing is written before all of them can be read and have whole records.
+// Goes over the cards twice: once for their lengths, once for the records. Nothing is written
+// before all of them can be read and have whole records.
 fn go_over(store: Store, first: usize) {
     let mut lengths = [0u64; 8192];
     let mut block = io::large_buffer();

@@ -1,4 +1,5 @@
--- The blocks of a trace, and then the record that waits after the last, are the compaction of the whole.
+-- The blocks of a trace, and then the record that waits after the last, are the compaction of the
+-- whole.
 -- Assumes nothing.
 use Prim.Native.Nat.{ℕ, zero, suc, _+_, _*_, _/_, _≤_}
 use native.Mathlib.Omega.{arith}

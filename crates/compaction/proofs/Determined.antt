@@ -1,5 +1,5 @@
--- Each contract fixes its function's whole answer and every byte of what it was lent: any two answers that it allows are equal, and so are
--- the buffers then.
+-- Each contract fixes its function's whole answer and every byte of what it was lent: any two
+-- answers that it allows are equal, and so are the buffers then.
 -- Assumes nothing.
 use Prim.Native.Nat.{ℕ}
 use mathlib.Core.Path.{_≡_, refl, sym, ap, _∙_}

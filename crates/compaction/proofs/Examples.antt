@@ -35,12 +35,14 @@ pub last-kept : compactOver (λ odometer. 40) freshRide (at 5 ∷ at 6 ∷ at 7 
 unfolding noGroup nothingKnown freshRide odometerOf passedOf inOrder checkRecord takeUp close leave closeBehind missedLines afterMissed goOn treat isDropped compactOver
 last-kept = refl
 
--- a record before a refused one is kept, and so is the refused one: 5 after 6 is "below the last accepted one"
+-- a record before a refused one is kept, and so is the refused one: 5 after 6 is "below the last
+-- accepted one"
 pub before-refused : compactOver (λ odometer. 40) freshRide (at 5 ∷ at 6 ∷ at 5 ∷ at 7 ∷ at 7 ∷ []) ≡ at 6 ∷ at 5 ∷ at 7 ∷ []
 unfolding noGroup nothingKnown freshRide odometerOf passedOf inOrder checkRecord takeUp close leave closeBehind missedLines afterMissed goOn treat isDropped compactOver
 before-refused = refl
 
--- document 01's ride with positions between its records: a balise is kept, and so is the position at which the group's line and *missed* come
+-- document 01's ride with positions between its records: a balise is kept, and so is the position
+-- at which the group's line and *missed* come
 pub with-lines : compactOver (λ odometer. 40) freshRide
     (heard 1000 0x17 0x8E 0x5A ∷ at 1010 ∷ heard 1030 0x99 0x2B 0x4D ∷ at 1060 ∷ at 6000 ∷ at 6001 ∷ at 6002 ∷ [])
     ≡ heard 1000 0x17 0x8E 0x5A ∷ heard 1030 0x99 0x2B 0x4D ∷ at 6000 ∷ at 6002 ∷ []

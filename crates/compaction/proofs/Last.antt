@@ -26,7 +26,8 @@ use Rattle.compaction.specs.Says.{saysSize}
 use Rattle.compaction.proofs.Walk.{bytes-join, onto-more}
 use Rattle.compaction.proofs.Blocks.{whole, state, eights, room}
 
--- The record that waits, put after the bytes that are kept: the state, the length and the buffer then.
+-- The record that waits, put after the bytes that are kept: the state, the length and the buffer
+-- then.
 pub record Finished (gaps : ℕ → ℕ) (w : Waiting) (at : ℕ) (before : List ℕ) (ride : Ride) (size : Size) (after : List ℕ) : Type 0 where
   pub ride-is : ride ≡ rideOver gaps (w .ride) 1 (waitingRecord w) .ride
   pub size-is : size ≡ Size.Bytes (at + length (bytesOf (waitingRecord w)))

@@ -1,5 +1,5 @@
--- The two laws that compaction rests on: a quiet position record changes the odometer alone, and the odometer matters to refusal 17
--- alone.
+-- The two laws that compaction rests on: a quiet position record changes the odometer alone, and
+-- the odometer matters to refusal 17 alone.
 -- Assumes nothing.
 use Prim.Native.Nat.{ℕ, _≤_}
 use native.Mathlib.Nat.{le-refl, le-trans}

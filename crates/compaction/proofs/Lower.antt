@@ -1,5 +1,5 @@
--- A dropped record, and the states before and after it: a lower state, with a lower last odometer before a record that is accepted, goes on
--- as the higher one does.
+-- A dropped record, and the states before and after it: a lower state, with a lower last odometer
+-- before a record that is accepted, goes on as the higher one does.
 -- Assumes nothing.
 use Prim.Native.Nat.{ℕ, _≤_}
 use native.Mathlib.Nat.{le-refl, le-trans}

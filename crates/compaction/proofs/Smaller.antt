@@ -1,5 +1,5 @@
--- The compacted records ride as the original ones do: where a record is dropped, the next one is accepted from the lower odometer too, and
--- from there on all is the same.
+-- The compacted records ride as the original ones do: where a record is dropped, the next one is
+-- accepted from the lower odometer too, and from there on all is the same.
 -- Assumes nothing.
 use Prim.Native.Nat.{ℕ, suc}
 use mathlib.Core.Path.{_≡_, refl, sym, ap, subst}

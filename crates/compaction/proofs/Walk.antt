@@ -1,4 +1,5 @@
--- The records of a block one after the other: what is kept stands at the block's start, and everything after it is as it was.
+-- The records of a block one after the other: what is kept stands at the block's start, and
+-- everything after it is as it was.
 -- Assumes nothing.
 use Prim.Native.Nat.{ℕ, zero, suc, _+_, _-_, _*_, _/_, _≤_, _<_}
 use native.Mathlib.Omega.{arith}
@@ -60,7 +61,8 @@ onto-more k x b =
 
 -- ---- the walk
 
--- After the first i records of a block: what waits, where the next kept record goes, and the block then.
+-- After the first i records of a block: what waits, where the next kept record goes, and the block
+-- then.
 pub record Walk (gaps : ℕ → ℕ) (w₀ : Waiting) (b₀ : List ℕ) (i : ℕ) (w : Waiting) (at : ℕ) (b : List ℕ) : Type 0 where
   pub waits : w ≡ waitsAfter gaps w₀ (firstRecords i b₀)
   pub bytes : at ≡ length (bytesOf (keptOver gaps w₀ (firstRecords i b₀)))

@@ -1,4 +1,5 @@
--- A trace in blocks: whether a record is dropped hangs on the next one, so the last record of a block waits for the next block.
+-- A trace in blocks: whether a record is dropped hangs on the next one, so the last record of a
+-- block waits for the next block.
 -- Assumes nothing.
 use Prim.Native.Nat.{ℕ}
 use mathlib.Core.Bool.{Bool, true}

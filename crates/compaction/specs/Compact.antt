@@ -1,5 +1,6 @@
--- A trace made smaller in place (document 02, M-107): "The result says the new length; bytes beyond it stay. Refusals: 19, then 16 for a
--- bad trace length." The settings are a store (M-111): "M-107, M-108 and M-109 hold with one fixed store on both sides."
+-- A trace made smaller in place (document 02, M-107): "The result says the new length; bytes beyond
+-- it stay. Refusals: 19, then 16 for a bad trace length." The settings are a store (M-111): "M-107,
+-- M-108 and M-109 hold with one fixed store on both sides."
 -- Assumes nothing.
 use Prim.Native.Nat.{ℕ, _%_}
 use mathlib.Core.List.{List, [], _∷_, _++_}
@@ -27,7 +28,8 @@ onto bytes buffer = bytes ++ drop (length bytes) buffer
 
 -- ---- a whole trace
 
--- What compacting comes to: the new length or the number of the refusal; the state after the trace; and the lent buffer then.
+-- What compacting comes to: the new length or the number of the refusal; the state after the trace;
+-- and the lent buffer then.
 pub record Compaction : Type 0 where
   pub answer : Outcome ℕ
   pub ride : Ride
@@ -37,7 +39,8 @@ pub record Compaction : Type 0 where
 abbrev pub untouched : Ride → List ℕ → ℕ → Compaction
 untouched ride trace n = record { answer = refuses n; ride = ride; buffer = trace }
 
--- The compaction of a trace of whole records, with a rule of the gap: the kept records' bytes, and their length.
+-- The compaction of a trace of whole records, with a rule of the gap: the kept records' bytes, and
+-- their length.
 unfoldable pub smallerTrace : (ℕ → ℕ) → Ride → List ℕ → Compaction
 smallerTrace gaps ride trace =
     let bytes : List ℕ = bytesOf (compactOver gaps ride (records trace)) in
@@ -48,8 +51,8 @@ abbrev pub judgedFirst : Ride → List ℕ → Outcome Kept → Compaction → C
 judgedFirst ride trace (gives k) compaction = compaction
 judgedFirst ride trace (refuses n) compaction = untouched ride trace n
 
--- Compacting a trace from a state: the settings' own refusal, then "trace length not a multiple of 8" is 16; else what is kept in the ride with the
--- gap in force at each record's odometer.
+-- Compacting a trace from a state: the settings' own refusal, then "trace length not a multiple of
+-- 8" is 16; else what is kept in the ride with the gap in force at each record's odometer.
 unfoldable pub compact : Ride → Store → List ℕ → Compaction
 compact ride store trace =
     judgedFirst ride trace (judged store)
@@ -57,7 +60,8 @@ compact ride store trace =
 
 -- ---- a block of a trace
 
--- What a block comes to: how many bytes are settled as kept, or the number of the refusal; what waits then; and the lent block then.
+-- What a block comes to: how many bytes are settled as kept, or the number of the refusal; what
+-- waits then; and the lent block then.
 pub record Settling : Type 0 where
   pub answer : Outcome ℕ
   pub waiting : Waiting

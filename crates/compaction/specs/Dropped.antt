@@ -1,6 +1,7 @@
--- Which records of a trace are dropped (document 02, M-107): "a kind 3 record is dropped exactly if, in the ride over the original
--- trace, it was accepted, gave no line, isn't the last record, and the next record is accepted. All others keep their order."
--- A ride is over a rule of the gap: the gap that a record is treated with, by the record's own odometer.
+-- Which records of a trace are dropped (document 02, M-107): "a kind 3 record is dropped exactly
+-- if, in the ride over the original trace, it was accepted, gave no line, isn't the last record,
+-- and the next record is accepted. All others keep their order." A ride is over a rule of the gap:
+-- the gap that a record is treated with, by the record's own odometer.
 -- Assumes nothing.
 use Prim.Native.Nat.{ℕ}
 use mathlib.Core.Bool.{Bool, true, false, _&&_}
@@ -23,8 +24,8 @@ abbrev pub isAccepted : Outcome Entry → Bool
 isAccepted (gives e) = true
 isAccepted (refuses n) = false
 
--- Whether a record before a next one is dropped, in a state and with a gap: it is of kind 3, it is accepted and gives no line, and the
--- next record is accepted in the state that it leaves.
+-- Whether a record before a next one is dropped, in a state and with a gap: it is of kind 3, it is
+-- accepted and gives no line, and the next record is accepted in the state that it leaves.
 unfoldable pub isDropped : Ride → ℕ → List ℕ → List ℕ → Bool
 isDropped ride gap r next =
     let s : Step = treat ride gap r in

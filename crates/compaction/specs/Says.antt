@@ -9,7 +9,8 @@ use Rattle.compaction.specs.declared.Compacted.{Compacted}
 use Rattle.compaction.specs.declared.Block.{Block}
 use Rattle.compaction.specs.Compact.{Compaction, Settling}
 
--- The new length in bytes; the number of the settings' refusal, for a plain gap 19; "trace length not a multiple of 8" is 16.
+-- The new length in bytes; the number of the settings' refusal, for a plain gap 19; "trace length
+-- not a multiple of 8" is 16.
 abbrev pub saysSize : Size → Outcome ℕ
 saysSize (Size.Bytes n) = gives n
 saysSize (Size.Settings bad) = refuses (saysBad bad)

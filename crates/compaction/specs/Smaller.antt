@@ -1,6 +1,7 @@
--- What the compacted records are (document 02, M-107): "The compacted trace has the same end state, any count of records apart, and
--- gives the same group and missed lines; the refused lines agree but for the record number." Of any state and any rule of the gap.
--- That it is so: proofs/Smaller.antt.
+-- What the compacted records are (document 02, M-107): "The compacted trace has the same end state,
+-- any count of records apart, and gives the same group and missed lines; the refused lines agree
+-- but for the record number." Of any state and any rule of the gap. That it is so:
+-- proofs/Smaller.antt.
 -- Assumes nothing.
 use Prim.Native.Nat.{ℕ}
 use mathlib.Core.Path.{_≡_}
@@ -11,7 +12,8 @@ use Rattle.ride.specs.Record.{kindOf}
 use Rattle.ride.specs.Over.{rideOver}
 use Rattle.compaction.specs.Dropped.{compactOver}
 
--- The lines of a ride but for those of refused records: groups, faults and missed signals, in order.
+-- The lines of a ride but for those of refused records: groups, faults and missed signals, in
+-- order.
 abbrev pub withoutRefused : List Line → List Line
 withoutRefused [] = []
 withoutRefused (Line.Group seen ∷ ls) = Line.Group seen ∷ withoutRefused ls
@@ -41,7 +43,8 @@ pub data KeptOf : List (List ℕ) → List (List ℕ) → Type 0 where
   kept : {r : List ℕ} {ks rs : List (List ℕ)} → KeptOf ks rs → KeptOf (r ∷ ks) (r ∷ rs)
   dropped : {r : List ℕ} {ks rs : List (List ℕ)} → kindOf r ≡ 3 → KeptOf ks rs → KeptOf ks (r ∷ rs)
 
--- The claims, each from any state, with any rule of the gap; the first record's number may differ too.
+-- The claims, each from any state, with any rule of the gap; the first record's number may differ
+-- too.
 pub record Smaller : Type 0 where
   -- "has the same end state"
   pub end-state : (gaps : ℕ → ℕ) (ride : Ride) (k m : ℕ) (rs : List (List ℕ))

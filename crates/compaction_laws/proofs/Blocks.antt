@@ -1,4 +1,5 @@
--- The blocks of a trace are its compaction: each settles what the fold over its records settles, and the folds join.
+-- The blocks of a trace are its compaction: each settles what the fold over its records settles,
+-- and the folds join.
 -- Assumes nothing.
 use Prim.Native.Nat.{ℕ, _%_}
 use mathlib.Core.Path.{_≡_, refl, sym, ap, ap₂, _∙_}

@@ -1,5 +1,5 @@
--- The hypotheses of the law of blocks are met, computed: the trace under a store of two versions, cut after its third record, which waits for the
--- second block and is dropped there.
+-- The hypotheses of the law of blocks are met, computed: the trace under a store of two versions,
+-- cut after its third record, which waits for the second block and is dropped there.
 -- Assumes nothing.
 use Prim.Native.Nat.{ℕ}
 use mathlib.Core.Path.{_≡_, refl}

@@ -1,4 +1,5 @@
--- The records that a compaction leaves, by the answers of `step`: a step is accepted exactly if the record's check is.
+-- The records that a compaction leaves, by the answers of `step`: a step is accepted exactly if the
+-- record's check is.
 -- Assumes nothing.
 use Prim.Native.Nat.{ℕ}
 use mathlib.Core.Path.{_≡_, refl, sym, ap, ap₂, _∙_}

@@ -1,4 +1,5 @@
--- The state after a compaction has the number of the last present signal (M-110), computed: of a ride with a signal of number 1612 three positions are dropped.
+-- The state after a compaction has the number of the last present signal (M-110), computed: of a
+-- ride with a signal of number 1612 three positions are dropped.
 -- Assumes nothing.
 use Prim.Native.Nat.{ℕ, _/_, _%_}
 use mathlib.Core.Path.{_≡_, refl}
@@ -41,7 +42,8 @@ use Rattle.compaction_laws.proofs.TraceMet.{at, two}
 abbrev heard : ℕ → ℕ → ℕ → ℕ → List ℕ
 heard o x y z = 0 ∷ 0 ∷ o / 256 ∷ o % 256 ∷ 0 ∷ x ∷ y ∷ z ∷ []
 
--- `1 8 5`, `9 2 4` and `12 1612`, with positions between and after them: that at 1101 closes the group, the last is kept.
+-- `1 8 5`, `9 2 4` and `12 1612`, with positions between and after them: that at 1101 closes the
+-- group, the last is kept.
 abbrev all : List (List ℕ)
 all = heard 1000 0x17 0x8E 0x5A ∷ at 1010 ∷ heard 1030 0x99 0x2B 0x4D ∷ heard 1060 0xC3 0xD1 0xC6 ∷ at 1090 ∷ at 1101 ∷ at 1110 ∷ at 1120 ∷ []
 

@@ -1,4 +1,5 @@
--- The promises hold: what a compaction made is the kept records' bytes, and the laws of compaction/specs/Smaller.antt are about those.
+-- The promises hold: what a compaction made is the kept records' bytes, and the laws of
+-- compaction/specs/Smaller.antt are about those.
 -- Assumes nothing.
 use Prim.Native.Nat.{ℕ, _%_}
 use mathlib.Core.Path.{_≡_, refl, sym, ap, ap₂, subst, _∙_}

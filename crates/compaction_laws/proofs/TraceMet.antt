@@ -1,5 +1,6 @@
--- The hypotheses of the promises are met, computed: a trace under a store of two versions, from which positions are dropped; it has lines and a refused
--- record, which was the fifth and is the fourth.
+-- The hypotheses of the promises are met, computed: a trace under a store of two versions, from
+-- which positions are dropped; it has lines and a refused record, which was the fifth and is the
+-- fourth.
 -- Assumes nothing.
 use Prim.Native.Nat.{ℕ, _/_, _%_}
 use mathlib.Core.Path.{_≡_, refl}

@@ -1,5 +1,6 @@
--- A trace compacted block by block: what the blocks give, joined, and then the record that waits after the last, is the compaction of the
--- whole trace, wherever it is cut. What the program `compact` writes is this.
+-- A trace compacted block by block: what the blocks give, joined, and then the record that waits
+-- after the last, is the compaction of the whole trace, wherever it is cut. What the program
+-- `compact` writes is this.
 -- Assumes nothing.
 use Prim.Native.Nat.{ℕ}
 use mathlib.Core.Path.{_≡_}
@@ -28,8 +29,9 @@ bytesIn (Size.Bytes n) = n
 bytesIn (Size.Settings bad) = 0
 bytesIn Size.Length = 0
 
--- These are calls of `compact_block` over a trace, under one store: each is lent a block of whole records, long or short, from the front of what is
--- left, and goes on with what waits after the one before, until nothing is left.
+-- These are calls of `compact_block` over a trace, under one store: each is lent a block of whole
+-- records, long or short, from the front of what is left, and goes on with what waits after the one
+-- before, until nothing is left.
 abbrev pub ByBlocks : Store → Waiting → List ℕ → List Call → Type 0
 ByBlocks store w left [] = left ≡ []
 ByBlocks store w left (c ∷ cs) =
@@ -46,7 +48,8 @@ abbrev pub waitsLast : Waiting → List Call → Waiting
 waitsLast w [] = w
 waitsLast w (c ∷ cs) = waitsLast (c .answer .waiting) cs
 
--- Where none waits at first, and the whole trace compacts to n bytes, the blocks and the last record are those bytes.
+-- Where none waits at first, and the whole trace compacts to n bytes, the blocks and the last
+-- record are those bytes.
 pub record InBlocks : Type 0 where
   pub whole : (store : Store) (w : Waiting) (trace : List ℕ) (calls : List Call) (c : Compacted) (after : List ℕ) (n : ℕ) → w .waits ≡ false
       → ByBlocks store w trace calls → CompactIn (w .ride) store trace c after → c .size ≡ Size.Bytes n

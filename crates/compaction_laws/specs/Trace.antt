@@ -1,7 +1,9 @@
--- Smaller traces (document 02, M-107): "a kind 3 record is dropped exactly if, in the ride over the original trace, it was accepted, gave no line, isn't the last record,
--- and the next record is accepted. All others keep their order. The compacted trace has the same end state, any count of records apart, and gives the same group and missed
--- lines; the refused lines agree but for the record number. The result says the new length; bytes beyond it stay." Claimed over the contracts of `compact`, `run` and
--- `step`, from any state, with one fixed store on both sides (M-111).
+-- Smaller traces (document 02, M-107): "a kind 3 record is dropped exactly if, in the ride over the
+-- original trace, it was accepted, gave no line, isn't the last record, and the next record is
+-- accepted. All others keep their order. The compacted trace has the same end state, any count of
+-- records apart, and gives the same group and missed lines; the refused lines agree but for the
+-- record number. The result says the new length; bytes beyond it stay." Claimed over the contracts
+-- of `compact`, `run` and `step`, from any state, with one fixed store on both sides (M-111).
 -- Assumes nothing.
 use Prim.Native.Nat.{ℕ}
 use mathlib.Core.Path.{_≡_}
@@ -27,7 +29,8 @@ use Rattle.demands.specs.Contracts.{RunOver}
 use Rattle.demands.specs.Compacting.{CompactIn}
 use Rattle.demands.specs.Sections.{ByStep, linesFrom, afterSteps}
 
--- A compaction that was made: from a state and under a store `compact` answered so for the trace `before`, with n bytes, and left `after` in the lent buffer.
+-- A compaction that was made: from a state and under a store `compact` answered so for the trace
+-- `before`, with n bytes, and left `after` in the lent buffer.
 pub record Compacting : Type 0 where
   pub ride : Ride
   pub store : Store
@@ -49,8 +52,9 @@ abbrev pub isTaken : Outcome (List Line) → Bool
 isTaken (gives lines) = true
 isTaken (refuses n) = false
 
--- Whether a record is missing, by its step and the steps of the records after it: "a kind 3 record is dropped exactly if .. it was accepted, gave no line, isn't the last
--- record, and the next record is accepted".
+-- Whether a record is missing, by its step and the steps of the records after it: "a kind 3 record
+-- is dropped exactly if .. it was accepted, gave no line, isn't the last record, and the next
+-- record is accepted".
 abbrev pub isMissing : List ℕ → Stepped → List Stepped → Bool
 isMissing r s [] = false
 isMissing r s (next ∷ ss) = eqb (kindOf r) 3 && (isQuiet (saysStepped s .lines) && isTaken (saysStepped next .lines))
@@ -63,7 +67,8 @@ leftBy (r ∷ rs) (s ∷ ss) = pick (isMissing r s ss) (leftBy rs ss) (r ∷ lef
 
 -- ---- the lines
 
--- The lines that `step` gives for the records of a compacted trace and of the original one, whatever numbers their first records have.
+-- The lines that `step` gives for the records of a compacted trace and of the original one,
+-- whatever numbers their first records have.
 pub record SameLines (ride : Ride) (k m : ℕ) (small all : List Stepped) : Type 0 where
   -- line by line, "the refused lines agree but for the record number"
   pub lines : Agree (linesFrom k small) (linesFrom m all)
@@ -76,7 +81,8 @@ pub record SameLines (ride : Ride) (k m : ℕ) (small all : List Stepped) : Type
 
 -- What is promised of a compaction that was made.
 pub record SmallerTrace : Type 0 where
-  -- a run over the compacted trace answers as one over the original, and the state is that which the compaction answers
+  -- a run over the compacted trace answers as one over the original, and the state is that which
+  -- the compaction answers
   pub by-run : (c : Compacting) (p q : Ran) → RunOver (c .ride) (c .store) (c .before) p → RunOver (c .ride) (c .store) (smallOf c) q
       → (q ≡ p) × (c .answer .ride ≡ p .ride)
   pub by-step : (c : Compacting) (k m : ℕ) (all small : List Stepped) → ByStep (gapAt (c .store)) (c .ride) (records (c .before)) all

@@ -1,5 +1,5 @@
--- 48 bits of the line at once: the history after each of them is sixteen bits of one word, and where none of them opens or
--- closes, the detector stays where it stands.
+-- 48 bits of the line at once: the history after each of them is sixteen bits of one word, and
+-- where none of them opens or closes, the detector stays where it stands.
 -- Assumes nothing.
 use Prim.Native.Nat.{ℕ, zero, suc, _+_, _-_, _*_, _/_, _%_, _^_, _≤_, _<_}
 use mathlib.Core.Path.{_≡_, refl, sym, ap, ap₂, _∙_}
@@ -59,7 +59,8 @@ module _ (b : List ℕ) (h i : ℕ) (small : h < 65536) where
         ap (λ (x : ℕ). zeroesOf x 16) (sym (latest-is (suc j) (omega arith)))
         ∙ low-zeroes (w / 2 ^ (48 - suc j)) ∙ ap (λ (n : ℕ). zeroesOf (w / 2 ^ n) 16) down
 
-    -- The marks of a word: where bit 47 - j of m is not set, bit j of the 48 does not open, or does not close.
+    -- The marks of a word: where bit 47 - j of m is not set, bit j of the 48 does not open, or does
+    -- not close.
     pub few-before : (m n : ℕ) → ((k : ℕ) → k + 16 ≤ 64 → bit m k ≡ 0 → zeroesOf (w / 2 ^ k) 16 < 8)
         → n ≤ 48 → ((j : ℕ) → j < n → bit m (47 - j) ≡ 0) → (j : ℕ) → j < n → zeroes (on b h i (suc j)) < 8
     few-before m n marks low none j less = omega (arith, zeroes-at j (omega arith), marks (47 - j) (omega arith) (none j less))

@@ -1,5 +1,5 @@
--- The law of the detector for calls: whatever comes of `begin` and of calling `next_contact` on and on, where every answer
--- is one that the contract allows, is the contacts of the whole stretch.
+-- The law of the detector for calls: whatever comes of `begin` and of calling `next_contact` on and
+-- on, where every answer is one that the contract allows, is the contacts of the whole stretch.
 -- Assumes nothing.
 use Prim.Native.Nat.{ℕ}
 use mathlib.Core.Path.{_≡_, sym, ap, ap₂, subst, _∙_}
@@ -31,7 +31,8 @@ pub record Begins (b : List ℕ) (start len : ℕ) (r : SearchBegun) : Type 0 wh
   pub bits : given .1 .1 .0 ≡ len
   pub kept : begin-reads.Post κs given r left
 
--- A call of `next_contact` with the search s and the buffer b, which its contract allows to answer with o.
+-- A call of `next_contact` with the search s and the buffer b, which its contract allows to answer
+-- with o.
 pub record Called (b : List ℕ) (s : Search) (o : Outcome Handed) : Type 0 where
   pub κs : Lfts 1
   pub given : Dens κs next-kinds.ps

@@ -31,7 +31,8 @@ quiet-line : nextContact (0xff ∷ 0x80 ∷ 0xff ∷ 0xff ∷ []) (fromStart 0 3
 unfolding nextContact contactsFrom contacts fromStart inside after opens closes zeroes zeroesOf
 quiet-line = refl
 
--- Eight zeroes, bits 8 to 15: bit 15 opens a contact; bit 27, which brings the zeroes to 4, closes it. It has 12 bits.
+-- Eight zeroes, bits 8 to 15: bit 15 opens a contact; bit 27, which brings the zeroes to 4, closes
+-- it. It has 12 bits.
 one-contact : contactsFrom (0xff ∷ 0x00 ∷ 0xff ∷ 0xff ∷ []) (fromStart 0 32)
     ≡ contact 15 12 (record { next = 28; left = 4; history = 0x0fff }) quiet
 unfolding contactsFrom contacts fromStart inside after opens closes zeroes zeroesOf
@@ -54,7 +55,8 @@ beyond : nextContact (0xff ∷ []) (fromStart 3 6) ≡ refuses 5
 unfolding nextContact contactsFrom contacts fromStart inside after opens closes zeroes zeroesOf
 beyond = refl
 
--- A marker's edges: 63 zeroes are none and 64 are one; so are 64 bits that end with 11 ones, and with 12 they are none.
+-- A marker's edges: 63 zeroes are none and 64 are one; so are 64 bits that end with 11 ones, and
+-- with 12 they are none.
 sixty-three : isMarker (0 ∷ 0 ∷ 0 ∷ 0 ∷ 0 ∷ 0 ∷ 0 ∷ 0 ∷ []) 0 63 ≡ false
 unfolding isMarker onesAtEnd allZero
 sixty-three = refl

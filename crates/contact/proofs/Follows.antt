@@ -1,5 +1,6 @@
--- Of a search's contacts, those after the first are the contacts of the search that is handed out with the first; and the
--- first lies inside the search's stretch, with its closing bit right after it.
+-- Of a search's contacts, those after the first are the contacts of the search that is handed out
+-- with the first; and the first lies inside the search's stretch, with its closing bit right after
+-- it.
 -- Assumes nothing.
 use Prim.Native.Nat.{ℕ, zero, suc, _+_, _-_, _≤_, _<_}
 use mathlib.Core.Path.{_≡_, refl, sym, _∙_}
@@ -13,8 +14,8 @@ use Rattle.contact.specs.Contacts.{Mode, outside, since, Contacts, conta
 use Rattle.contact.specs.declared.Search.{Search}
 use Rattle.telegram.proofs.Taken.{part-taken}
 
--- Of the contacts of the bits from low up to end: the first lies there, the bit after it closes it, and the rest are those
--- of the bits after that one.
+-- Of the contacts of the bits from low up to end: the first lies there, the bit after it closes it,
+-- and the rest are those of the bits after that one.
 abbrev Walked : List ℕ → ℕ → ℕ → Contacts → Type 0
 Walked b low end (contact start length then rest) =
     (low ≤ start)
@@ -35,7 +36,8 @@ pub either-way : (P : Contacts → Type 0) (t : Bool) (x y : Contacts) → P x �
 either-way P true x y p q = p
 either-way P false x y p q = q
 
--- The first bit that a contact can have; inside a contact that is its opening bit, which has passed.
+-- The first bit that a contact can have; inside a contact that is its opening bit, which has
+-- passed.
 abbrev lowest : Mode → ℕ → ℕ
 lowest outside i = i
 lowest (since start) i = start
@@ -66,7 +68,8 @@ walked b (suc n) (since start) h i p =
     (omega arith, omega arith, omega arith, e, refl)
     (wider b start (i + 1 + n) start (i + suc n) (omega arith) e on (walked b n (since start) now (i + 1) (omega arith)))
 
--- Of the contacts of a search: what was said above, and the first is itself a stretch that is taken.
+-- Of the contacts of a search: what was said above, and the first is itself a stretch that is
+-- taken.
 abbrev pub Follows : List ℕ → Search → Contacts → Type 0
 Follows b s (contact start length then rest) =
     (s .next ≤ start)

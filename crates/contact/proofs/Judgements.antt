@@ -32,7 +32,8 @@ twelve-ones : judge (0 ∷ 0 ∷ 0 ∷ 0 ∷ 0 ∷ 0 ∷ 0x0f ∷ 0xff ∷ []) 0
 unfolding judge judgement isMarker onesAtEnd allZero allAs isGood differing inside places those from isPlace areSyncs wordsAt bitsAt
 twelve-ones = refl
 
--- Two telegrams that share a sync word are read if they are alike; one alone is not, and two that differ are refused with 7.
+-- Two telegrams that share a sync word are read if they are alike; one alone is not, and two that
+-- differ are refused with 7.
 two-alike : judge (0x72 ∷ 0x17 ∷ 0x8e ∷ 0x5a ∷ 0x0d ∷ 0x17 ∷ 0x8e ∷ 0x5a ∷ 0x72 ∷ []) 0 72 0x72 0x0d
     ≡ gives (read (gives (Telegram.Figures 1 8 5)) 0 2)
 unfolding judge judgement isMarker onesAtEnd allZero sameWords allAs isGood differing inside places those from isPlace areSyncs wordsAt bitsAt telegram shortWord longWord readWord isCode even count covers exchanged other word figure onwards isCheck
@@ -46,7 +47,8 @@ two-differ : judge (0x72 ∷ 0x17 ∷ 0x8e ∷ 0x5a ∷ 0x0d ∷ 0x99 ∷ 0x2b �
 unfolding judge judgement isMarker onesAtEnd allZero sameWords allAs isGood differing inside places those from isPlace areSyncs wordsAt bitsAt telegram shortWord longWord readWord isCode even count covers exchanged other word figure onwards isCheck
 two-differ = refl
 
--- A marker's bits can hold one place, between 00 and 7F hex: 57 zeroes and seven ones. The answer is marker.
+-- A marker's bits can hold one place, between 00 and 7F hex: 57 zeroes and seven ones. The answer
+-- is marker.
 marker-with-a-place : judge (0 ∷ 0 ∷ 0 ∷ 0 ∷ 0 ∷ 0 ∷ 0 ∷ 0x7f ∷ []) 0 64 0x00 0x7f ≡ gives marker
 unfolding judge judgement isMarker onesAtEnd allZero sameWords allAs isGood differing inside places those from isPlace areSyncs wordsAt bitsAt telegram shortWord longWord readWord isCode even count covers exchanged other word figure onwards isCheck
 marker-with-a-place = refl

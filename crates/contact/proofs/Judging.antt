@@ -1,4 +1,5 @@
--- The judgement of a contact follows from the survey of its places: alike and two or more, or differing, or else the marker's rule.
+-- The judgement of a contact follows from the survey of its places: alike and two or more, or
+-- differing, or else the marker's rule.
 -- Assumes nothing.
 use mathlib.Core.Path.{_≡_, refl, sym}
 use mathlib.Core.Bool.{Bool, true, false, _&&_, not}

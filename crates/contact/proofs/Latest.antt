@@ -1,4 +1,5 @@
--- The history is the latest sixteen bits of the line, newest lowest: a new bit comes in below, every other moves up by one.
+-- The history is the latest sixteen bits of the line, newest lowest: a new bit comes in below,
+-- every other moves up by one.
 -- Assumes nothing.
 use Prim.Native.Nat.{ℕ, zero, suc, _+_, _-_, _*_, _/_, _%_, _^_, _<_}
 use mathlib.Core.Path.{_≡_, sym, ap, _∙_}
@@ -53,7 +54,8 @@ unfoldable pub heard : List ℕ → ℕ → ℕ → ℕ
 heard b start zero = sixteenOnes
 heard b start (suc n) = after (heard b start n) (bitAt b (start + n))
 
--- Its bit k is the line's bit k before the newest, or one of the sixteen ones where the stretch had not begun.
+-- Its bit k is the line's bit k before the newest, or one of the sixteen ones where the stretch had
+-- not begun.
 pub latest : (b : List ℕ) (start n k : ℕ) → k < 16 → bit (heard b start n) k ≡ pick (ltb k n) (bitAt b (start + (n - (k + 1)))) 1
 unfolding heard
 latest b start zero k low = simp (le-ltb k 0 (omega arith)) (one k low)

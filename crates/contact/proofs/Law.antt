@@ -1,5 +1,5 @@
--- The law of the detector: asked on and on, each time with the search that came with the contact before, the answers are
--- exactly the contacts of the whole stretch, in order, and then their end.
+-- The law of the detector: asked on and on, each time with the search that came with the contact
+-- before, the answers are exactly the contacts of the whole stretch, in order, and then their end.
 -- Assumes nothing.
 use Prim.Native.Nat.{ℕ, zero, suc, _<_}
 use mathlib.Core.Path.{_≡_, refl, sym, ap, subst}
@@ -11,8 +11,9 @@ use Rattle.contact.specs.Contacts.{Contacts, contact, quiet, refused, co
 use Rattle.contact.specs.declared.Search.{Search}
 use Rattle.contact.proofs.Follows.{Follows, follows}
 
--- What comes of asking on and on from a search, where `Says s o` is that asking with the search s is answered by o: a
--- contact, and then what comes from the search after it; or that no further one opens; or a refusal.
+-- What comes of asking on and on from a search, where `Says s o` is that asking with the search s
+-- is answered by o: a contact, and then what comes from the search after it; or that no further one
+-- opens; or a refusal.
 pub data Comes (Says : Search → Outcome Handed → Type 0) : Search → Contacts → Type 0 where
   further : {s then : Search} {start length : ℕ} {rest : Contacts}
       → Says s (gives (handed start length then)) → Comes Says then rest → Comes Says s (contact start length then rest)

@@ -1,4 +1,5 @@
--- The marker's rule in the words of document 01: at least 64 bits long, and made of zeroes followed by at most 11 ones.
+-- The marker's rule in the words of document 01: at least 64 bits long, and made of zeroes followed
+-- by at most 11 ones.
 -- Assumes nothing.
 use mathlib.Core.Path.{_≡_, refl, sym, ap, _∙_}
 use mathlib.Core.Bool.{Bool, true, false, _&&_}

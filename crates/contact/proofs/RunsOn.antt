@@ -1,5 +1,5 @@
--- "The history runs on and holds the closing bit once": the search after a contact has heard every bit of the stretch up to
--- the closing one, each once.
+-- "The history runs on and holds the closing bit once": the search after a contact has heard every
+-- bit of the stretch up to the closing one, each once.
 -- Assumes nothing.
 use Prim.Native.Nat.{ℕ, zero, suc, _+_, _-_}
 use mathlib.Core.Path.{_≡_, refl, ap, ap₂, _∙_}
@@ -12,7 +12,8 @@ use Rattle.contact.specs.declared.Search.{Search}
 use Rattle.contact.proofs.Follows.{either-way}
 use Rattle.contact.proofs.Latest.{heard}
 
--- After each of the contacts the history is that of all the bits from the stretch's start up to the next.
+-- After each of the contacts the history is that of all the bits from the stretch's start up to the
+-- next.
 abbrev pub RunsOn : List ℕ → ℕ → Contacts → Type 0
 RunsOn b start (contact first length then rest) = (then .history ≡ heard b start (then .next - start)) × RunsOn b start rest
 RunsOn b start quiet = Unit

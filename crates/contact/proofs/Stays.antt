@@ -1,4 +1,5 @@
--- The zeroes among the latest bits as one comes in, and bits after which the detector stays where it stands.
+-- The zeroes among the latest bits as one comes in, and bits after which the detector stays where
+-- it stands.
 -- Assumes nothing.
 use Prim.Native.Nat.{ℕ, zero, suc, _+_, _-_, _≤_, _<_}
 use mathlib.Core.Path.{_≡_, sym, ap, _∙_}
@@ -12,7 +13,8 @@ use Rattle.contact.specs.History.{after, zeroesOf}
 use Rattle.contact.specs.Contacts.{Mode, contacts}
 use Rattle.contact.proofs.Latest.{newest, older}
 
--- The zeroes among the n + 1 latest bits are those among the n latest before, and the new bit if it is one.
+-- The zeroes among the n + 1 latest bits are those among the n latest before, and the new bit if it
+-- is one.
 pub zeroes-after : (h b n : ℕ) → b < 2 → n < 16 → zeroesOf (after h b) (suc n) ≡ (1 - b) + zeroesOf h n
 unfolding zeroesOf
 zeroes-after h b zero small low = omega (arith, newest h b small)

@@ -1,7 +1,8 @@
 -- The contacts of a record (document 01, "Contacts and readings").
--- "Outside a contact, the bit that brings the zeroes among the latest sixteen to 8 or more opens one and is its first bit.
--- Inside, the bit that brings them to 4 or fewer closes it and is not part of it. A contact is handed out as its start and
--- length, or the answer is that no further one opens." "A contact still open where the record ends is refusal 9."
+-- "Outside a contact, the bit that brings the zeroes among the latest sixteen to 8 or more opens
+-- one and is its first bit. Inside, the bit that brings them to 4 or fewer closes it and is not
+-- part of it. A contact is handed out as its start and length, or the answer is that no further one
+-- opens." "A contact still open where the record ends is refusal 9."
 -- Assumes nothing.
 use Prim.Native.Nat.{ℕ, zero, suc, _+_, _-_}
 use mathlib.Core.List.{List}
@@ -15,8 +16,8 @@ pub data Mode : Type 0 where
   outside : Mode
   since : ℕ → Mode
 
--- The contacts of a record in order, each by its start, its length and the search after its closing bit, up to the
--- record's end: quiet, with no further one, or refused with a number.
+-- The contacts of a record in order, each by its start, its length and the search after its closing
+-- bit, up to the record's end: quiet, with no further one, or refused with a number.
 pub data Contacts : Type 0 where
   contact : ℕ → ℕ → Search → Contacts → Contacts
   quiet : Contacts
@@ -38,14 +39,15 @@ contacts b (since start) history i (suc n) =
     let on = contacts b (since start) now (i + 1) n in
     pick (closes now) (contact start (i - start) then rest) on
 
--- The contacts that a search has before it: it stands outside a contact. "Stretch beyond the buffer, or above 16,777,216
--- bits" is refusal 5.
+-- The contacts that a search has before it: it stands outside a contact. "Stretch beyond the
+-- buffer, or above 16,777,216 bits" is refusal 5.
 unfoldable pub contactsFrom : List ℕ → Search → Contacts
 contactsFrom b s =
     let taken = contacts b outside (s .history) (s .next) (s .left) in
     pick (inside b (s .next) (s .left)) taken (refused 5)
 
--- What asking for the next contact hands out: a contact, with the search after its closing bit, or that no further opens.
+-- What asking for the next contact hands out: a contact, with the search after its closing bit, or
+-- that no further opens.
 pub data Handed : Type 0 where
   handed : ℕ → ℕ → Search → Handed
   noFurther : Handed
@@ -60,7 +62,8 @@ first (refused n) = refuses n
 unfoldable pub nextContact : List ℕ → Search → Outcome Handed
 nextContact b s = first (contactsFrom b s)
 
--- The search that begins a stretch: at its first bit, with all its bits left, and sixteen ones as history.
+-- The search that begins a stretch: at its first bit, with all its bits left, and sixteen ones as
+-- history.
 unfoldable pub fromStart : ℕ → ℕ → Search
 fromStart start len = record { next = start; left = len; history = sixteenOnes }
 

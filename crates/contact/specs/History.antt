@@ -1,5 +1,5 @@
--- The detector's history (document 01, "Contacts and readings"): the latest sixteen bits of the line, as a number whose
--- lowest bit is the newest.
+-- The detector's history (document 01, "Contacts and readings"): the latest sixteen bits of the
+-- line, as a number whose lowest bit is the newest.
 -- Assumes nothing.
 use Prim.Native.Nat.{ℕ, zero, suc, _+_, _-_, _*_, _%_}
 use mathlib.Core.Bool.{Bool}
@@ -23,7 +23,8 @@ zeroesOf w (suc n) = (1 - bit w n) + zeroesOf w n
 unfoldable pub zeroes : ℕ → ℕ
 zeroes history = zeroesOf history 16
 
--- Outside a contact: whether the newest bit opens one, by bringing the zeroes among the latest sixteen to 8 or more.
+-- Outside a contact: whether the newest bit opens one, by bringing the zeroes among the latest
+-- sixteen to 8 or more.
 unfoldable pub opens : ℕ → Bool
 opens history = leb 8 (zeroes history)
 

@@ -1,7 +1,8 @@
 -- The judging of one contact (document 01, "Contacts and readings").
--- "House, for one contact in this order: (a) two or more places, all with the same X, Y and Z: read, with the first place
--- and the number of places; (b) two places that differ: refusal 7; (c) at least 64 bits long and made of zeroes followed by
--- at most 11 ones: marker; (d) otherwise refusal 8. So one place alone never makes a reading."
+-- "House, for one contact in this order: (a) two or more places, all with the same X, Y and Z:
+-- read, with the first place and the number of places; (b) two places that differ: refusal 7; (c)
+-- at least 64 bits long and made of zeroes followed by at most 11 ones: marker; (d) otherwise
+-- refusal 8. So one place alone never makes a reading."
 -- Assumes nothing.
 use Prim.Native.Nat.{ℕ, zero, suc, _+_, _-_}
 use mathlib.Core.Bool.{Bool, true, _&&_, not}
@@ -34,12 +35,14 @@ unfoldable pub allZero : List ℕ → ℕ → ℕ → Bool
 allZero b start zero = true
 allZero b start (suc n) = eqb (bitAt b (start + n)) 0 && allZero b start n
 
--- Whether a contact is a marker's: at least 64 bits long, at most 11 ones at its end, and all before them zeroes.
+-- Whether a contact is a marker's: at least 64 bits long, at most 11 ones at its end, and all
+-- before them zeroes.
 unfoldable pub isMarker : List ℕ → ℕ → ℕ → Bool
 isMarker b start len =
     leb 64 len && leb (onesAtEnd b start len) 11 && allZero b start (len - onesAtEnd b start len)
 
--- What a contact is: read, with what its words read, the first place and the number of places; or a marker.
+-- What a contact is: read, with what its words read, the first place and the number of places; or a
+-- marker.
 pub data Contact : Type 0 where
   read : Received → ℕ → ℕ → Contact
   marker : Contact

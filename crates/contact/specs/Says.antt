@@ -15,16 +15,18 @@ abbrev pub saysSearchBegun : SearchBegun → Outcome Search
 saysSearchBegun (SearchBegun.Search s) = gives s
 saysSearchBegun SearchBegun.Beyond = refuses 5
 
--- A contact by its start, its length and the search after it, or that no further one opens; "contact cut by the end of the
--- record" is 9, "stretch beyond the buffer, or above 16,777,216 bits" is 5.
+-- A contact by its start, its length and the search after it, or that no further one opens;
+-- "contact cut by the end of the record" is 9, "stretch beyond the buffer, or above 16,777,216
+-- bits" is 5.
 abbrev pub saysNext : Next → Outcome Handed
 saysNext (Next.Contact start length then) = gives (handed start length then)
 saysNext Next.NoFurther = gives noFurther
 saysNext Next.Cut = refuses 9
 saysNext Next.Beyond = refuses 5
 
--- What was read, with the first place and the number of places, or a marker; "sync pair doesn't differ in seven bits" is 4,
--- "stretch beyond the buffer, or above 16,777,216 bits" is 5, "places differ" is 7, "contact neither telegram nor marker" is 8.
+-- What was read, with the first place and the number of places, or a marker; "sync pair doesn't
+-- differ in seven bits" is 4, "stretch beyond the buffer, or above 16,777,216 bits" is 5, "places
+-- differ" is 7, "contact neither telegram nor marker" is 8.
 abbrev pub saysJudged : Judged → Outcome Contact
 saysJudged (Judged.Read t first count) = gives (read (gives t) first count)
 saysJudged Judged.Marker = gives marker

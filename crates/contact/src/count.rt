@@ -1,12 +1,14 @@
-// The zeroes among sixteen bits, counted from every bit of a word upwards at once: a count is held as four words, and bit k of three of them is a
-// digit of the count of the bits from bit k on, that of the fourth whether it is eight or more: how many more is not asked. A bit without a mark
+// The zeroes among sixteen bits, counted from every bit of a word upwards at once: a count is held
+// as four words, and bit k of three of them is a digit of the count of the bits from bit k on, that
+// of the fourth whether it is eight or more: how many more is not asked. A bit without a mark
 // neither opens nor closes a contact; more is not asked of a mark.
 ghost use mathlib.Core.Path.{_≡_};
 ghost use Prim.Native.Nat.{ℕ, _+_, _-_, _*_, _/_, _%_, _<_, _≤_, _^_};
 ghost use Rattle.words.specs.Bits.{bit};
 ghost use Rattle.contact.specs.History.{zeroesOf};
 
-// A count: its three digits, lowest first, while it is below eight, and whether it is eight or more.
+// A count: its three digits, lowest first, while it is below eight, and whether it is eight or
+// more.
 struct Count {
     a: u64,
     b: u64,

@@ -1,5 +1,6 @@
-// The walk over the bits of a stretch: outside a contact to the bit that opens one, inside it to the bit that closes it. Up to 48 bits
-// are passed over at once where none of them can; the bit after those is judged by the zeroes among the latest sixteen.
+// The walk over the bits of a stretch: outside a contact to the bit that opens one, inside it to
+// the bit that closes it. Up to 48 bits are passed over at once where none of them can; the bit
+// after those is judged by the zeroes among the latest sixteen.
 ghost use mathlib.Core.Path.{_≡_};
 ghost use Prim.Native.Nat.{ℕ, _+_, _-_, _*_, _/_, _%_, _<_, _≤_, _^_};
 ghost use Rattle.words.specs.Bits.{bit};
@@ -43,7 +44,8 @@ pub fn outside(buf: &[u8], from: usize, end: usize, history: u32) -> Next
     Next::NoFurther
 }
 
-// Inside a contact that the bit `opened` opens: on to the bit that closes it, which is not part of it.
+// Inside a contact that the bit `opened` opens: on to the bit that closes it, which is not part of
+// it.
 fn within(buf: &[u8], opened: usize, end: usize, history: u32) -> Next
     requires { ⌜ (opened < end) × (history < 65536) ⌝ }
     ensures { λ r. ⌜ saysNext r ≡ first (contacts (now (buf .entry)) (since opened) history (opened + 1) (end - (opened + 1))) ⌝ }

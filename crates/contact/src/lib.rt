@@ -1,8 +1,11 @@
-// Contacts of document 01: the detector, which hands out those of a stretch one after the other, and the judging of one.
-// Promises: each contact comes once, in order, and nothing else moves the search; judged are all of its places at once.
-// Specification: specs/History.antt (the latest sixteen bits), specs/Contacts.antt, specs/Judge.antt, specs/Under.antt (under a store of
-// settings), specs/Says.antt (the answers).
-// Laws: calling next_contact on and on gives exactly the contacts of one definition over the whole stretch (proofs/Law.antt).
+// Contacts of document 01: the detector, which hands out those of a stretch one after the other,
+// and the judging of one.
+// Promises: each contact comes once, in order, and nothing else moves the search; judged are all of
+// its places at once.
+// Specification: specs/History.antt (the latest sixteen bits), specs/Contacts.antt,
+// specs/Judge.antt, specs/Under.antt (under a store of settings), specs/Says.antt (the answers).
+// Laws: calling next_contact on and on gives exactly the contacts of one definition over the whole
+// stretch (proofs/Law.antt).
 ghost use mathlib.Core.Path.{_≡_};
 ghost use Rattle.contact.specs.Contacts.{begin, nextContact};
 ghost use Rattle.contact.specs.Judge.{judge};
@@ -21,7 +24,8 @@ use telegram::Reach;
 use telegram::Surveyed;
 use telegram::Telegram;
 
-// A search for contacts: the next bit, the bits left, and the latest sixteen bits, of which the newest is the lowest.
+// A search for contacts: the next bit, the bits left, and the latest sixteen bits, of which the
+// newest is the lowest.
 pub struct Search {
     pub next: usize,
     pub left: usize,
@@ -34,8 +38,8 @@ pub enum SearchBegun {
     Beyond,
 }
 
-// What asking for the next contact answers: a contact, with the search after its closing bit; that no further one opens;
-// a contact cut by the end of the record; or a stretch beyond the buffer.
+// What asking for the next contact answers: a contact, with the search after its closing bit; that
+// no further one opens; a contact cut by the end of the record; or a stretch beyond the buffer.
 pub enum Next {
     Contact {
         start: usize,
@@ -47,7 +51,8 @@ pub enum Next {
     Beyond,
 }
 
-// What judging a contact answers: what was read, with the first place and the number of places; a marker; or why neither.
+// What judging a contact answers: what was read, with the first place and the number of places; a
+// marker; or why neither.
 pub enum Judged {
     Read {
         telegram: Telegram,
@@ -61,8 +66,8 @@ pub enum Judged {
     Neither,
 }
 
-// What judging a contact under a store answers: what was read, with the first place and the number of places; a marker; why the settings or the
-// place are refused; or why it is neither.
+// What judging a contact under a store answers: what was read, with the first place and the number
+// of places; a marker; why the settings or the place are refused; or why it is neither.
 pub enum JudgedUnder {
     Read {
         telegram: Telegram,
@@ -91,8 +96,8 @@ pub fn begin(buf: &[u8], start: usize, len: usize) -> SearchBegun
     }
 }
 
-// The next contact, with the search past its closing bit; or that no further one opens; or refusal 9 if it is cut, 5 if the search's stretch is not
-// taken. Only a contact moves the search.
+// The next contact, with the search past its closing bit; or that no further one opens; or refusal
+// 9 if it is cut, 5 if the search's stretch is not taken. Only a contact moves the search.
 pub fn next_contact(search: Search, buf: &[u8]) -> Next
     ensures { λ r. ⌜ saysNext r ≡ nextContact (now (buf .entry)) search ⌝ }
 {
@@ -106,7 +111,8 @@ pub fn next_contact(search: Search, buf: &[u8]) -> Next
     }
 }
 
-// The contact of `len` bits from bit `start` on, judged: after 4 and 5 (a) read, (b) refused with 7, (c) a marker, (d) refused with 8, in this order.
+// The contact of `len` bits from bit `start` on, judged: after 4 and 5 (a) read, (b) refused with
+// 7, (c) a marker, (d) refused with 8, in this order.
 pub fn judge(buf: &[u8], start: usize, len: usize, s: u8, t: u8) -> Judged
     ensures { λ r. ⌜ saysJudged r ≡ judge (now (buf .entry)) start len s t ⌝ }
 {
@@ -133,7 +139,8 @@ pub fn judge(buf: &[u8], start: usize, len: usize, s: u8, t: u8) -> Judged
     }
 }
 
-// The contact judged with the sync pair in force at the odometer given with it: the store's own refusal, then 18, then as `judge` has it.
+// The contact judged with the sync pair in force at the odometer given with it: the store's own
+// refusal, then 18, then as `judge` has it.
 pub fn judge_under(store: Store, odometer: u32, buf: &[u8], start: usize, len: usize) -> JudgedUnder
     ensures { λ r. ⌜ saysJudgedUnder r ≡ judgeUnder store odometer (now (buf .entry)) start len ⌝ }
 {

@@ -1,4 +1,5 @@
--- The zeroes among the latest sixteen bits of a pass are no more than those of the line there; before the balise there is none, and after twelve ones at most four.
+-- The zeroes among the latest sixteen bits of a pass are no more than those of the line there;
+-- before the balise there is none, and after twelve ones at most four.
 -- Assumes nothing.
 use Prim.Native.Nat.{ℕ, zero, suc, _+_, _-_, _*_, _%_, _≤_, _<_}
 use mathlib.Core.Path.{_≡_, refl, ap, ap₂, _∙_}
@@ -35,7 +36,8 @@ module _ (o : OneBalise) where
   front j zero = let e : j + 0 ≡ j = omega arith in omega (arith, ap (sentBit o) e)
   front j (suc n) = let e : j + suc n ≡ j + 1 + n = omega arith in omega (arith, front j n, ap (sentBit o) e)
 
-  -- Where each of the m lowest bits of a word is a one, or the bit sent, it has no more zeroes than the line.
+  -- Where each of the m lowest bits of a word is a one, or the bit sent, it has no more zeroes than
+  -- the line.
   no-more : (w y m : ℕ) → m ≤ y → ((k : ℕ) → k < m → 1 - bit w k ≤ 1 - sentBit o (y - suc k)) → zeroesOf w m ≤ zeroesSent o (y - m) m
   unfolding zeroesOf zeroesSent
   no-more w y zero low each = omega arith

@@ -50,7 +50,8 @@ module _ (o : OneBalise) (from to : ℕ) (pass : Pass o from to) (broken : Broke
           let low : Low (q + d) = omega arith in
           absurd (held (q + d) (omega arith) (omega arith) low)
 
-  -- What is known inside a contact since bit s, at the k-th bit: it is the q-th that opened it, inside the balise's bits, and the k-th is not far behind them.
+  -- What is known inside a contact since bit s, at the k-th bit: it is the q-th that opened it,
+  -- inside the balise's bits, and the k-th is not far behind them.
   record Since (s k : ℕ) : Type 0 where
     pub q : ℕ
     pub opened : s ≡ from + q

@@ -1,4 +1,5 @@
--- What can be computed of a pass: that a stretch is clean, that bits are ones or zeroes, and what comes of it.
+-- What can be computed of a pass: that a stretch is clean, that bits are ones or zeroes, and what
+-- comes of it.
 -- Assumes nothing.
 use Prim.Native.Nat.{ℕ, _+_, _-_, _≤_, _<_}
 use mathlib.Core.Path.{_≡_, refl, ap, _∙_}

@@ -1,4 +1,5 @@
--- The zeroes of the history are those of the bits that have come, and of what is left of the history before them.
+-- The zeroes of the history are those of the bits that have come, and of what is left of the
+-- history before them.
 -- Assumes nothing.
 use Prim.Native.Nat.{ℕ, zero, suc, _+_, _-_, _≤_, _<_}
 use mathlib.Core.Path.{_≡_, refl, ap}

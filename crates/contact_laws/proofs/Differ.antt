@@ -1,4 +1,5 @@
--- A false place: with the sync words 00 and 7F hex a balise can be refused with 7 though it is over the antenna for long enough.
+-- A false place: with the sync words 00 and 7F hex a balise can be refused with 7 though it is over
+-- the antenna for long enough.
 -- Assumes nothing.
 use mathlib.Core.Path.{_≡_, refl}
 use mathlib.Core.List.{List, [], _∷_}
@@ -24,7 +25,8 @@ use Rattle.contact_laws.specs.Limits.{Answered}
 use Rattle.contact_laws.proofs.Either.{audible-computed}
 use Rattle.contact_laws.proofs.Computed.{pass-computed, answered-so}
 
--- Figures 0 0 1 with the sync words 00 and 7F hex, 192 bits; seven of the ones after it end a false place.
+-- Figures 0 0 1 with the sync words 00 and 7F hex, 192 bits; seven of the ones after it end a false
+-- place.
 abbrev pub zeroes-ahead : OneBalise
 zeroes-ahead =
     record {

@@ -1,4 +1,5 @@
--- Every balise is audible or broken; and that one is audible, or has no false place, can be computed.
+-- Every balise is audible or broken; and that one is audible, or has no false place, can be
+-- computed.
 -- Assumes nothing.
 use Prim.Native.Nat.{ℕ, zero, suc, _+_, _-_, _%_, _≤_, _<_}
 use mathlib.Core.Path.{_≡_, refl, subst}

@@ -21,7 +21,8 @@ use Rattle.contact_laws.specs.Row.{Thing, balise, Long, Row}
 use Rattle.contact_laws.proofs.Either.{audible-computed, fairAt, no-false-computed}
 use Rattle.contact_laws.proofs.Computed.{ones-computed, clean-computed}
 
--- Figures 1 8 5 with the sync words 72 and 0D hex: 167 bits that end with five zeroes, eleven ones, and 167 bits that begin with five zeroes.
+-- Figures 1 8 5 with the sync words 72 and 0D hex: 167 bits that end with five zeroes, eleven ones,
+-- and 167 bits that begin with five zeroes.
 abbrev pub line : List ℕ
 line =
     255 ∷ 255 ∷ 78 ∷ 66 ∷ 241 ∷ 203 ∷ 65 ∷ 162 ∷ 241 ∷ 203 ∷ 78 ∷ 66 ∷ 241 ∷ 203 ∷ 65 ∷ 162 ∷ 241 ∷ 203 ∷ 78 ∷ 66 ∷ 241 ∷ 203 ∷ 65 ∷ 255 ∷ 193 ∷ 162 ∷ 241 ∷ 203 ∷ 78 ∷ 66 ∷ 241 ∷ 203 ∷ 65 ∷ 162 ∷ 241 ∷ 203 ∷ 78 ∷ 66 ∷ 241 ∷ 203 ∷ 65 ∷ 162 ∷ 241 ∷ 203 ∷ 78 ∷ 127 ∷ 255 ∷ 255 ∷ []

@@ -23,8 +23,8 @@ use Rattle.contact_laws.specs.Pass.{Ones, Pass}
 use Rattle.contact_laws.specs.Heard.{endsInFourOnes, NoFalse}
 use Rattle.contact_laws.proofs.Sound.{received}
 
--- A wrong offset r, with k ones at the end of the place: the bits before them can only be as they should if the sync words are equal in their bit e, and e - r too lies
--- among the ones.
+-- A wrong offset r, with k ones at the end of the place: the bits before them can only be as they
+-- should if the sync words are equal in their bit e, and e - r too lies among the ones.
 agree : ℕ → ℕ → ℕ → Bool
 agree e r k = upto (λ i. eqb (notAt e i) (apart e ((r + i) % 32))) (8 - k)
 

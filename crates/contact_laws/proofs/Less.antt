@@ -26,7 +26,8 @@ use Rattle.contact_laws.proofs.Computed.{pass-computed, answered-so}
 use Rattle.contact_laws.specs.Heard.{endsInFourOnes, NoFalse}
 use Rattle.contact_laws.proofs.Fair.{no-false}
 
--- Number 1958 with the sync words 17 and EA hex, heard from the second bit of a telegram on, for 166 bits.
+-- Number 1958 with the sync words 17 and EA hex, heard from the second bit of a telegram on, for
+-- 166 bits.
 abbrev pub short : OneBalise
 short =
     record {

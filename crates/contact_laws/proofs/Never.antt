@@ -1,4 +1,5 @@
--- Contacts shorter than 64 bits over one balise are not read: two places would begin 32 bits apart, or more.
+-- Contacts shorter than 64 bits over one balise are not read: two places would begin 32 bits apart,
+-- or more.
 -- Assumes nothing.
 use Prim.Native.Nat.{ℕ, _+_, _-_, _%_, _≤_, _<_}
 use mathlib.Core.Path.{_≡_, refl, sym, ap, _∙_}
@@ -34,7 +35,8 @@ not-read true m first count e = let z : _≡_ {A = ℕ} 0 1 = cc in omega arith
 not-read false m first count e = let z : _≡_ {A = ℕ} 0 1 = cc in omega arith
 
 module _ (o : OneBalise) (proper : Proper o) (from to : ℕ) (pass : Pass o from to) (fair : NoFalse o) where
-  -- Every place over the balise, or that ends in at most eleven of the ones after it, begins where a telegram does.
+  -- Every place over the balise, or that ends in at most eleven of the ones after it, begins where
+  -- a telegram does.
   straight : (c l p : ℕ) → o .start ≤ c → c + l ≤ o .start + o .len + 11 → c ≤ p → isPlace (o .buffer) c l (o .s) (o .t) p ≡ true → lineBit o p % 32 ≡ 0
   straight c l p low high here e = go (leb (p + 40) (o .start + o .len)) refl
     where

@@ -1,5 +1,5 @@
--- One pass: ones, then L bits with five zeroes or more in every sixteen and eight in some, then twelve ones or more. Exactly one contact
--- opens and closes, and the detector is then as before.
+-- One pass: ones, then L bits with five zeroes or more in every sixteen and eight in some, then
+-- twelve ones or more. Exactly one contact opens and closes, and the detector is then as before.
 -- Assumes nothing.
 use Prim.Native.Nat.{ℕ, suc, _+_, _-_, _≤_, _<_}
 use mathlib.Core.Path.{_≡_, refl, sym, ap, _∙_}
@@ -18,11 +18,13 @@ use Rattle.contact_laws.proofs.Counts.{in-grows, in-most, in-ones, zero
 use Rattle.contact_laws.proofs.Walk.{First, first, Still, still-fewer, still-more, z, ones, none-opens, none-closes, opens-at, closes-at}
 use Rattle.contact_laws.proofs.Quiet.{on-on, short, full}
 
--- What a pass leaves: the contact, and the search after it, outside a contact and with the latest twelve bits ones.
+-- What a pass leaves: the contact, and the search after it, outside a contact and with the latest
+-- twelve bits ones.
 pub record Passed (b : List ℕ) (h s len end top : ℕ) : Type 0 where
   -- the first bit with which there are eight zeroes, counted from the first bit of the pass
   pub opening : First (z b h s) 8 top
-  -- how many of the ones after the pass are in the contact: those up to the first with which there are twelve ones
+  -- how many of the ones after the pass are in the contact: those up to the first with which there
+  -- are twelve ones
   pub closing : First (ones b (on b h s len) (s + len)) 12 11
   pub then : Search
   pub next-is : then .next ≡ s + len + closing .at + 1

@@ -1,4 +1,5 @@
--- The zeroes among the latest sixteen bits, by those that have come; and ones, after which nothing opens.
+-- The zeroes among the latest sixteen bits, by those that have come; and ones, after which nothing
+-- opens.
 -- Assumes nothing.
 use Prim.Native.Nat.{ℕ, zero, suc, _+_, _-_, _≤_, _<_}
 use mathlib.Core.Path.{_≡_, refl, sym, ap, _∙_}

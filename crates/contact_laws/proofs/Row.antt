@@ -1,4 +1,5 @@
--- Balises and markers one after the other, with twelve ones or more after each, are heard one after the other.
+-- Balises and markers one after the other, with twelve ones or more after each, are heard one after
+-- the other.
 -- Assumes nothing.
 use Prim.Native.Nat.{ℕ, _+_, _-_, _≤_, _<_}
 use mathlib.Core.Path.{_≡_, refl, sym, ap, _∙_, subst}

@@ -1,5 +1,5 @@
--- The zeroes of a clean stretch are those sent; and every balise's line has sixteen bits in a row with eight zeroes: a sync word with four
--- or more, and X.
+-- The zeroes of a clean stretch are those sent; and every balise's line has sixteen bits in a row
+-- with eight zeroes: a sync word with four or more, and X.
 -- Assumes nothing.
 use Prim.Native.Nat.{ℕ, zero, suc, _+_, _-_, _%_, _≤_, _<_}
 use mathlib.Core.Path.{_≡_, refl, sym, ap, ap₂, _∙_, subst}
@@ -108,7 +108,8 @@ second-sync : (o : OneBalise) → zeroesIn (repeated o) 32 16 ≡ zeroesOf (o .t
 unfolding zeroesIn zeroesOf
 second-sync o = sums _ _ _ _ _ _ _ _ _ _ _ _ _ _ _ _
 
--- One of two telegrams one after the other begins with a sync word that has four zeroes or more, and so sixteen bits with eight.
+-- One of two telegrams one after the other begins with a sync word that has four zeroes or more,
+-- and so sixteen bits with eight.
 pub eight-in-one : (o : OneBalise) → Proper o → (j : ℕ) → j % 32 ≡ 0 → (8 ≤ zeroesSent o j 16) ⊎ (8 ≤ zeroesSent o (j + 32) 16)
 unfolding isGood
 eight-in-one o proper j straight = by (leb 8 (zeroesSent o j 16)) refl

@@ -1,4 +1,5 @@
--- Lines that meet the hypotheses: a broken balise that is passed clean, and a marker and a balise one after the other with twelve ones after each.
+-- Lines that meet the hypotheses: a broken balise that is passed clean, and a marker and a balise
+-- one after the other with twelve ones after each.
 -- Assumes nothing.
 use Prim.Native.Nat.{ℕ}
 use mathlib.Core.Path.{refl}

@@ -1,4 +1,5 @@
--- What the contracts of `contact::begin`, `next_contact` and `judge` allow: the theorems take these as their hypotheses.
+-- What the contracts of `contact::begin`, `next_contact` and `judge` allow: the theorems take these
+-- as their hypotheses.
 -- Assumes nothing.
 use Prim.Native.Nat.{ℕ, _-_}
 use mathlib.Core.Path.{_≡_}
@@ -16,8 +17,9 @@ use Rattle.contact.proofs.Calls.{Begins, Called}
 use Rattle.contact.proofs.judge.Kinds as judge-kinds
 use Rattle.contact.proofs.judge.Reads as judge-reads
 
--- The detector goes over the bits of the buffer b from bit `from` up to bit `to`: `begin` gives a search, and of calling `next_contact` on and on the
--- contacts w come, where every answer is one that its contract allows.
+-- The detector goes over the bits of the buffer b from bit `from` up to bit `to`: `begin` gives a
+-- search, and of calling `next_contact` on and on the contacts w come, where every answer is one
+-- that its contract allows.
 pub record Listened (b : List ℕ) (from to : ℕ) (w : Contacts) : Type 0 where
   pub search : Search
   pub begins : Begins b from (to - from) (SearchBegun.Search search)

@@ -32,5 +32,6 @@ pub record LessDoesNot : Type 0 where
   pub one-less-between : (b : List ℕ) × (apart : ℕ) × (from : ℕ) × (to : ℕ) × (o : OneBalise) × (p : OneBalise)
       × (suc apart ≡ between) × (inside b from (to - from) ≡ true) × Row apart b from to (balise o ∷ balise p ∷ [])
       × ((w : Contacts) → Listened b from to w → (start : ℕ) × (length : ℕ) × (then : Search) × (w ≡ contact start length then quiet))
-  -- With the sync words 00 and 7F hex a place can be false though the balise is long enough over the antenna: the places differ, refusal 7.
+  -- With the sync words 00 and 7F hex a place can be false though the balise is long enough over
+  -- the antenna: the places differ, refusal 7.
   pub false-place : (o : OneBalise) × (enough ≤ o .len) × Answered o Judged.Differ

@@ -16,7 +16,8 @@ Ones b i j = (k : ℕ) → i ≤ k → k < j → bitAt b k ≡ 1
 abbrev pub between : ℕ
 between = 12
 
--- Between bit `from` and bit `to` of the buffer: ones, the balise's bits as they were sent, and ones again, at least twelve.
+-- Between bit `from` and bit `to` of the buffer: ones, the balise's bits as they were sent, and
+-- ones again, at least twelve.
 pub record Pass (o : OneBalise) (from to : ℕ) : Type 0 where
   pub clean : Clean o
   pub from-low : from ≤ o .start

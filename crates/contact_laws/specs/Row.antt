@@ -30,7 +30,8 @@ abbrev pub firstAfter : Thing → ℕ
 firstAfter (balise o) = o .start + o .len
 firstAfter (marker start len) = start + len
 
--- What is passed in the buffer b is heard clean and for long enough: an audible balise for 167 bits, with no false place; a marker for sixty.
+-- What is passed in the buffer b is heard clean and for long enough: an audible balise for 167
+-- bits, with no false place; a marker for sixty.
 pub record Long (b : List ℕ) (o : OneBalise) : Type 0 where
   pub buffer-is : o .buffer ≡ b
   pub proper : Proper o
@@ -43,14 +44,16 @@ abbrev pub Passed : List ℕ → Thing → Type 0
 Passed b (balise o) = Long b o
 Passed b (marker start len) = (sixty ≤ len) × ((i : ℕ) → i < len → bitAt b (start + i) ≡ 0)
 
--- The things listed are passed one after the other, from bit i up to bit `to`, with `apart` ones after each, and at last there are ones.
+-- The things listed are passed one after the other, from bit i up to bit `to`, with `apart` ones
+-- after each, and at last there are ones.
 abbrev pub Row : ℕ → List ℕ → ℕ → ℕ → List Thing → Type 0
 Row apart b i to [] = (i ≤ to) × Ones b i to
 Row apart b i to (x ∷ xs) =
     Passed b x × (i ≤ firstBit x) × Ones b i (firstBit x) × (firstAfter x + apart ≤ to) × Ones b (firstAfter x) (firstAfter x + apart)
     × Row apart b (firstAfter x + apart) to xs
 
--- The first of the contacts is the thing's: the balise's is read, the marker's is judged a marker with any good pair.
+-- The first of the contacts is the thing's: the balise's is read, the marker's is judged a marker
+-- with any good pair.
 pub record MarkersOwn (b : List ℕ) (start len : ℕ) (w : Contacts) : Type 0 where
   pub then : Search
   pub rest : Contacts

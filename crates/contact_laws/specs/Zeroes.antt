@@ -1,4 +1,5 @@
--- Zeroes among bits in a row: of a buffer, and of the line that a balise sends. By them a balise is audible or broken.
+-- Zeroes among bits in a row: of a buffer, and of the line that a balise sends. By them a balise is
+-- audible or broken.
 -- Assumes nothing.
 use Prim.Native.Nat.{ℕ, zero, suc, _+_, _-_, _≤_, _<_}
 use mathlib.Core.List.{List}
@@ -19,8 +20,9 @@ zeroesSent o j (suc n) = zeroesSent o j n + (1 - sentBit o (j + n))
 abbrev pub fewest : ℕ
 fewest = 5
 
--- Audible: every sixteen bits in a row of the balise's line have five zeroes or more. (The line repeats itself after 64 bits, so this computes. Some sixteen have
--- eight, so that a contact opens: that is so of every balise.)
+-- Audible: every sixteen bits in a row of the balise's line have five zeroes or more. (The line
+-- repeats itself after 64 bits, so this computes. Some sixteen have eight, so that a contact opens:
+-- that is so of every balise.)
 abbrev pub Audible : OneBalise → Type 0
 Audible o = (j : ℕ) → fewest ≤ zeroesSent o j 16
 

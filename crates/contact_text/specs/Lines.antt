@@ -1,6 +1,8 @@
--- What was heard on a recorded line, as text: a line for each contact, with its start bit, its length in bits and what it is
--- (`120 352 telegram 1 8 5 places 9 from 136`, `3000 90 telegram 12 1612 places 2 from 3010`, `5000 80 marker`, `7000 60 refused 8: contact neither telegram nor marker`); and a
--- refusal that stands by itself (`refused 9: contact cut by the end of the record`).
+-- What was heard on a recorded line, as text: a line for each contact, with its start bit, its
+-- length in bits and what it is (`120 352 telegram 1 8 5 places 9 from 136`,
+-- `3000 90 telegram 12 1612 places 2 from 3010`, `5000 80 marker`,
+-- `7000 60 refused 8: contact neither telegram nor marker`); and a refusal that stands by itself
+-- (`refused 9: contact cut by the end of the record`).
 -- Assumes nothing.
 use Prim.Native.Nat.{ℕ}
 use mathlib.Core.List.{List, _++_}
@@ -14,7 +16,8 @@ unfoldable pub figures : Telegram → List ℕ
 figures (Telegram.Figures x y z) = codes " " ++ decimal x ++ codes " " ++ decimal y ++ codes " " ++ decimal z
 figures (Telegram.Number m) = codes " 12 " ++ decimal m
 
--- What a contact is: its telegram with the number of places and the first of them, a marker, or document 01's number and words.
+-- What a contact is: its telegram with the number of places and the first of them, a marker, or
+-- document 01's number and words.
 unfoldable pub what : Judged → List ℕ
 what (Judged.Read t first count) = codes " telegram" ++ figures t ++ codes " places " ++ decimal count ++ codes " from " ++ decimal first
 what Judged.Marker = codes " marker"

@@ -9,8 +9,8 @@ mod lines;
 
 use contact::Judged;
 
-// The line of a contact, to the letter, into buf from `at` on, all other bytes as they were, and the place after it; without room nothing is written,
-// and the answer is `at`.
+// The line of a contact, to the letter, into buf from `at` on, all other bytes as they were, and
+// the place after it; without room nothing is written, and the answer is `at`.
 pub fn put_contact(start: usize, bits: usize, judged: Judged, buf: &mut [u8], at: usize) -> usize
     ensures { λ r. ⌜ came r (now (buf .exit)) ≡ put (heard start bits judged) (now (buf .entry)) at ⌝ }
 {

@@ -1,4 +1,5 @@
--- Demand 1 holds: each contract hands over its specification, and each specification refuses as the table says.
+-- Demand 1 holds: each contract hands over its specification, and each specification refuses as the
+-- table says.
 -- Assumes nothing.
 pub mod Refusals
 pub mod Shifted

@@ -21,7 +21,8 @@ use Rattle.demands.proofs.Demand3.Together.{survey-sent}
 use Rattle.demands.proofs.Demand3.JudgedAlike.{judge-sent, under-sent}
 use Rattle.demands.proofs.Demand3.Clean.{comes-all-sent}
 
--- Where every place has the words sent, only the sent is handed out. This is all that is asked of a hypothesis on the flips.
+-- Where every place has the words sent, only the sent is handed out. This is all that is asked of a
+-- hypothesis on the flips.
 pub only-the-sent : (o : OneBalise) → Proper o → AllSent o → OnlyTheSent o
 only-the-sent o proper every-place =
     record {

@@ -1,6 +1,7 @@
 -- Document 01's table of M(8,4), and its table of proved cases, as a single table.
--- "0 is 00; 9 is 99; 14 is E8; 18 hex refused; 1152 is 88/06; 1216 is 99/00; 1612 is D1/C6 (000, table NR); 88/07 refused;
--- distances (BY,BZ) (0,1) 125, (13,14) 119000, (14,1) 7000, (14,14) 500, (0,0) refused without a 14."
+-- "0 is 00; 9 is 99; 14 is E8; 18 hex refused; 1152 is 88/06; 1216 is 99/00; 1612 is D1/C6 (000,
+-- table NR); 88/07 refused; distances (BY,BZ) (0,1) 125, (13,14) 119000, (14,1) 7000, (14,14) 500,
+-- (0,0) refused without a 14."
 -- Assumes nothing.
 use Prim.Native.Nat.{ℕ}
 use mathlib.Core.Path.{_≡_}
@@ -21,8 +22,9 @@ abbrev pub M8 : List ℕ
 M8 =
     0x00 ∷ 0x17 ∷ 0x2B ∷ 0x3C ∷ 0x4D ∷ 0x5A ∷ 0x66 ∷ 0x71 ∷ 0x8E ∷ 0x99 ∷ 0xA5 ∷ 0xB2 ∷ 0xC3 ∷ 0xD4 ∷ 0xE8 ∷ 0xFF ∷ []
 
--- A case: a figure and its short word, a short word that is none, a figure and its long word, a long word that is none, a column and a
--- figure with their distance, and a column and a figure that have none.
+-- A case: a figure and its short word, a short word that is none, a figure and its long word, a
+-- long word that is none, a column and a figure with their distance, and a column and a figure that
+-- have none.
 pub data Case : Type 0 where
   short : ℕ → ℕ → Case
   notShort : ℕ → Case
@@ -31,9 +33,10 @@ pub data Case : Type 0 where
   far : ℕ → ℕ → ℕ → Case
   notFar : ℕ → ℕ → Case
 
--- What a case claims of every answer that the contracts allow: a figure and its word belong together both ways, a word is
--- refused with 1, a distance in decimetres or, for a column and a figure without a 14, refused with 15. (With a 14 another figure is
--- used: the cases of specs/RowCases.antt.)
+-- What a case claims of every answer that the contracts allow: a figure and its word belong
+-- together both ways, a word is refused with 1, a distance in decimetres or, for a column and a
+-- figure without a 14, refused with 15. (With a 14 another figure is used: the cases of
+-- specs/RowCases.antt.)
 abbrev pub Holds : Case → Type 0
 Holds (short x w) =
     ((a : ShortWritten) → WriteShort x a → saysShortWritten a ≡ gives w) × ((r : ShortRead) → ReadShort w r → saysShortRead r ≡ gives x)

@@ -1,6 +1,7 @@
--- What the contracts of the public functions allow: the theorems take these as their hypotheses. `Post` of a function is its `ensures`
--- line, made into a statement by the kit: of what it was given, its answer r, and what is lent to it as it is at the end, e. A lent
--- buffer is a reference (`RefT`) whose bytes are `now` of it, and `Lfts` says how long it is lent.
+-- What the contracts of the public functions allow: the theorems take these as their hypotheses.
+-- `Post` of a function is its `ensures` line, made into a statement by the kit: of what it was
+-- given, its answer r, and what is lent to it as it is at the end, e. A lent buffer is a reference
+-- (`RefT`) whose bytes are `now` of it, and `Lfts` says how long it is lent.
 -- Assumes nothing.
 use Prim.Native.Nat.{ℕ}
 use mathlib.Core.Path.{_≡_}
@@ -71,7 +72,8 @@ WriteLong x r = (e : AtExit (endedOf 0 write-long-kinds.ps write-long-kinds.r) t
 abbrev pub GoodPair : ℕ → ℕ → Pair → Type 0
 GoodPair s t r = (e : AtExit (endedOf 0 good-pair-kinds.ps good-pair-kinds.r) tt) × good-pair-reads.Post tt (s, (t, tt)) r e
 
--- The contract of `inside` allows the answer r for this stretch of the lent buffer, which holds the bytes b.
+-- The contract of `inside` allows the answer r for this stretch of the lent buffer, which holds the
+-- bytes b.
 abbrev pub InsideBuffer : List ℕ → ℕ → ℕ → Reach → Type 0
 InsideBuffer b start len r =
     (κs : Lfts 1) × (buf : RefT (List ℕ)) × (e : AtExit (endedOf 1 inside-kinds.ps inside-kinds.r) κs)
@@ -81,7 +83,8 @@ InsideBuffer b start len r =
 abbrev pub ReadTelegram : ℕ → ℕ → ℕ → TelegramRead → Type 0
 ReadTelegram x y z r = (e : AtExit (endedOf 0 read-kinds.ps read-kinds.r) tt) × read-reads.Post tt (x, (y, (z, tt))) r e
 
--- The contract of `find` allows the answer r, where the lent buffer holds the bytes b, for this stretch and these sync words.
+-- The contract of `find` allows the answer r, where the lent buffer holds the bytes b, for this
+-- stretch and these sync words.
 abbrev pub Find : List ℕ → ℕ → ℕ → ℕ → ℕ → Found → Type 0
 Find b start len s t r =
     (κs : Lfts 1) × (buf : RefT (List ℕ)) × (e : AtExit (endedOf 1 find-kinds.ps find-kinds.r) κs)
@@ -93,12 +96,13 @@ Survey b start len s t r =
     (κs : Lfts 1) × (buf : RefT (List ℕ)) × (e : AtExit (endedOf 1 survey-kinds.ps survey-kinds.r) κs)
     × (now buf ≡ b) × survey-reads.Post κs (buf, (start, (len, (s, (t, tt))))) r e
 
--- What lies in the buffer that was lent to `write`, the last of its seven arguments, when the call has ended.
+-- What lies in the buffer that was lent to `write`, the last of its seven arguments, when the call
+-- has ended.
 abbrev pub written : {κs : Lfts 1} → AtExit (endedOf 1 write-kinds.ps write-kinds.r) κs → List ℕ
 written e = now (e .1 .1 .1 .1 .1 .1 .0)
 
--- The contract of `write` allows the answer r for these figures, sync words and this number, and that the lent buffer, which held `before`,
--- holds `after` then.
+-- The contract of `write` allows the answer r for these figures, sync words and this number, and
+-- that the lent buffer, which held `before`, holds `after` then.
 abbrev pub Write : ℕ → ℕ → ℕ → ℕ → ℕ → ℕ → List ℕ → Written → List ℕ → Type 0
 Write x y z s t n before r after =
     (κs : Lfts 1) × (out : RefT (List ℕ)) × (e : AtExit (endedOf 1 write-kinds.ps write-kinds.r) κs)
@@ -116,7 +120,8 @@ NextContact b search r =
     (κs : Lfts 1) × (buf : RefT (List ℕ)) × (e : AtExit (endedOf 1 next-kinds.ps next-kinds.r) κs)
     × (now buf ≡ b) × next-reads.Post κs (search, (buf, tt)) r e
 
--- The contract of `contact::judge` allows the answer r for this stretch of the buffer and these sync words.
+-- The contract of `contact::judge` allows the answer r for this stretch of the buffer and these
+-- sync words.
 abbrev pub JudgeContact : List ℕ → ℕ → ℕ → ℕ → ℕ → Judged → Type 0
 JudgeContact b start len s t r =
     (κs : Lfts 1) × (buf : RefT (List ℕ)) × (e : AtExit (endedOf 1 judge-kinds.ps judge-kinds.r) κs)

@@ -1,12 +1,16 @@
--- Demand 1: "Any bits, any trace, any settings: every call ends with a named reading or a numbered refusal from document 01,
--- given exactly under the condition written there. A refusal hands out no figure, and lent memory and the running state stay
--- untouched unless the table says otherwise."
--- The first sentence is the record `Demand1`, the second the record `Untouched` of specs/Untouched.antt. The conditions are specs/Table.antt, RecordTable.antt and Table02.antt, the
--- lists specs/Lists.antt and, for a store, Stores.antt; what the contracts allow is specs/Contracts.antt. That every call ends is the kit's own check of each
--- function, and no theorem here. Of the crates whose functions have one, those without a list give no number: `fresh`, `speed` and `end` always answer; `put_line`
--- says that a line has no room, for which document 01 has no number; `settings::allowed` says whether row 19's condition does not hold; what M-111 added
--- without a number is named in specs/Stores.antt; but `telegram::spell` gives the first two of `write`'s. Where
--- the other crates say when they refuse, the face for C among them (crates/abi_laws), is in docs/DEMANDS.md.
+-- Demand 1: "Any bits, any trace, any settings: every call ends with a named reading or a numbered
+-- refusal from document 01, given exactly under the condition written there. A refusal hands out no
+-- figure, and lent memory and the running state stay untouched unless the table says otherwise."
+-- The first sentence is the record `Demand1`, the second the record `Untouched` of
+-- specs/Untouched.antt. The conditions are specs/Table.antt, RecordTable.antt and Table02.antt, the
+-- lists specs/Lists.antt and, for a store, Stores.antt; what the contracts allow is
+-- specs/Contracts.antt. That every call ends is the kit's own check of each function, and no
+-- theorem here. Of the crates whose functions have one, those without a list give no number:
+-- `fresh`, `speed` and `end` always answer; `put_line` says that a line has no room, for which
+-- document 01 has no number; `settings::allowed` says whether row 19's condition does not hold;
+-- what M-111 added without a number is named in specs/Stores.antt; but `telegram::spell` gives the
+-- first two of `write`'s. Where the other crates say when they refuse, the face for C among them
+-- (crates/abi_laws), is in docs/DEMANDS.md.
 -- Assumes nothing.
 use Prim.Native.Nat.{ℕ, _+_, _*_}
 use mathlib.Core.List.{List, [], _∷_}
@@ -68,8 +72,9 @@ use Rattle.demands.specs.Viewing.{ViewersDecided}
 use Rattle.demands.specs.Plans.{PlansDecided}
 pub use Rattle.demands.specs.Untouched.{Bare, Untouched}
 
--- Each public function refuses with the first number of its list whose condition holds, and reads exactly if none does. What the others
--- (`Given`) read is demand 2's: `Groups` (specs/Demand2.antt), `Riding` (specs/Ride.antt), `Written` (specs/Output.antt).
+-- Each public function refuses with the first number of its list whose condition holds, and reads
+-- exactly if none does. What the others (`Given`) read is demand 2's: `Groups`
+-- (specs/Demand2.antt), `Riding` (specs/Ride.antt), `Written` (specs/Output.antt).
 pub record Demand1 : Type 0 where
   pub read-short : (w : ℕ) (r : ShortRead) → ReadShort w r → Decided (Is (figure 8 (exchanged 8 w))) (rowOf (notCodeWord 8 w) (notCode 8 w) ∷ []) (saysShortRead r)
   pub write-short : (x : ℕ) (r : ShortWritten) → WriteShort x r → Decided (Is (sent 8 x)) (row 2 (above 15 x) ∷ []) (saysShortWritten r)
@@ -97,7 +102,8 @@ pub record Demand1 : Type 0 where
       → Decided (Is (record { odometer = odometerOf bytes; passed = passedOf bytes })) (recordRules ride bytes) (saysChecked r)
   pub step : (ride : Ride) (gap : ℕ) (bytes : List ℕ) (r : Stepped) → StepOf ride gap bytes r
       → Decided Given (stepRules ride gap bytes) (saysStepped r .lines)
-  -- what stands at an index is no refusal of the call: no record, or one that is treated as by `step` (`treats` of specs/Ride.antt)
+  -- what stands at an index is no refusal of the call: no record, or one that is treated as by
+  -- `step` (`treats` of specs/Ride.antt)
   pub treat-at : (ride : Ride) (gap : ℕ) (trace : List ℕ) (i : ℕ) (r : Treated) → TreatAt ride gap trace i r
       → Decided Given (row 19 (badGap gap) ∷ []) (saysTreated r .reply)
   -- whoever goes over a trace under settings: their own refusals, then 16

@@ -1,11 +1,12 @@
--- Demand 3: "Noise alone decides what noise can do. For both codes, a received word is accepted exactly if its set of
--- flipped bits is itself a code word, whichever code word was sent, and then reads as the sent figure with the flips'
--- figure added bit by bit without carry. Over any stretch of bits, not refused with 4 or 5, from one balise repeating one valid
--- telegram with the set sync words, if no sync bit flips and no telegram, alone or together with the next, cut ones
--- included, has more than three flipped data bits, every telegram handed out is the one sent, at its true place, and every
--- unflipped telegram lying with both its sync words in the stretch is handed out."
--- What is sent, what flips and the hypothesis on the flips: specs/Line.antt of `balise_line`. What the contracts allow:
--- specs/Contracts.antt; calls of `find` one after the other: specs/Calls.antt.
+-- Demand 3: "Noise alone decides what noise can do. For both codes, a received word is accepted
+-- exactly if its set of flipped bits is itself a code word, whichever code word was sent, and then
+-- reads as the sent figure with the flips' figure added bit by bit without carry. Over any stretch
+-- of bits, not refused with 4 or 5, from one balise repeating one valid telegram with the set sync
+-- words, if no sync bit flips and no telegram, alone or together with the next, cut ones included,
+-- has more than three flipped data bits, every telegram handed out is the one sent, at its true
+-- place, and every unflipped telegram lying with both its sync words in the stretch is handed out."
+-- What is sent, what flips and the hypothesis on the flips: specs/Line.antt of `balise_line`. What
+-- the contracts allow: specs/Contracts.antt; calls of `find` one after the other: specs/Calls.antt.
 -- That all of this holds: proofs/Demand3.antt.
 -- Assumes nothing.
 use Prim.Native.Nat.{ℕ, _+_, _≤_}
@@ -43,14 +44,16 @@ use Rattle.demands.specs.Calls.{HandedOut, Comes}
 abbrev pub Accepted : Answer Why ℕ → Type 0
 Accepted a = (x : ℕ) × (a ≡ gives x)
 
--- What the flips alone decide, where a word of n bits that reads x was sent, and the bits f flipped: the received word is accepted
--- exactly if f is itself a code word, and then reads x with f's figure added bit by bit without carry.
+-- What the flips alone decide, where a word of n bits that reads x was sent, and the bits f
+-- flipped: the received word is accepted exactly if f is itself a code word, and then reads x with
+-- f's figure added bit by bit without carry.
 pub record ByFlipsAlone (n x f : ℕ) (received : Answer Why ℕ) : Type 0 where
   pub exactly-if : Accepted received ↔ (notCode n f ≡ false)
   pub added : notCode n f ≡ false → received ≡ gives (bitXor x (figure n (exchanged n f)))
 
--- The noise law of the code of n bits: `Reads w r` is that the contract of its reader allows the answer r for the word w, and r says
--- `says r`. Whichever code word c was sent, and whichever bits f flipped, so that bitXor c f is received, the flips alone decide.
+-- The noise law of the code of n bits: `Reads w r` is that the contract of its reader allows the
+-- answer r for the word w, and r says `says r`. Whichever code word c was sent, and whichever bits
+-- f flipped, so that bitXor c f is received, the flips alone decide.
 abbrev pub NoiseLaw : {A : Type 0} → ℕ → (A → Answer Why ℕ) → (ℕ → A → Type 0) → Type 0
 NoiseLaw {A} n says Reads =
     (c f x : ℕ) (sent received : A) → Reads c sent → Reads (bitXor c f) received → says sent ≡ gives x → ByFlipsAlone n x f (says received)
@@ -60,7 +63,8 @@ pub record TheSent (o : OneBalise) (p : ℕ) (m : Telegram) : Type 0 where
   pub true-place : sentAt o p ≡ true
   pub as-sent : m ≡ o .telegram
 
--- The list is all that comes of calling `find` with the stretch, and from the bit after each place, until it answers 6.
+-- The list is all that comes of calling `find` with the stretch, and from the bit after each place,
+-- until it answers 6.
 abbrev pub ComesOf : OneBalise → List Found → Type 0
 ComesOf o w = Comes (o .buffer) (o .s) (o .t) (o .start) (o .len) w
 
@@ -86,9 +90,10 @@ pub record SurveyedTheSent (o : OneBalise) (said : Outcome Alike) : Type 0 where
   -- where there is one, it is read
   pub enough : 1 ≤ length (placesOf o) → (m : Telegram) × (first : ℕ) × (count : ℕ) × (said ≡ gives (alike (gives m) first count))
 
--- "Every telegram handed out is the one sent, at its true place, and every unflipped telegram lying with both its sync words in
--- the stretch is handed out": by `find`, asked as often as one likes (`every`) and until 6 (`unflipped`), and by those that take
--- all places together, under a store of settings too. All places are true and have the words sent, and the unflipped ones are among them.
+-- "Every telegram handed out is the one sent, at its true place, and every unflipped telegram lying
+-- with both its sync words in the stretch is handed out": by `find`, asked as often as one likes
+-- (`every`) and until 6 (`unflipped`), and by those that take all places together, under a store of
+-- settings too. All places are true and have the words sent, and the unflipped ones are among them.
 pub record OnlyTheSent (o : OneBalise) : Type 0 where
   pub every : (p : ℕ) (m : Telegram) → HandedOut (o .buffer) (o .s) (o .t) (o .start) (o .len) p m → TheSent o p m
   pub unflipped : (w : List Found) → ComesOf o w → (p : ℕ) → sentAt o p ≡ true → flipsAt o p ≡ 0
@@ -105,13 +110,16 @@ pub record OnlyTheSent (o : OneBalise) : Type 0 where
 abbrev pub allSent : OneBalise → List Found
 allSent o = map (λ p. Found.At p (o .telegram)) (those (sentAt o) (from (o .start) (o .len)))
 
--- Demand 3. Of a telegram that has flips, up to three, it says that it is handed out as it was sent or not at all. It says nothing
--- of a stretch from two balises, or of where the detector cuts a stretch.
+-- Demand 3. Of a telegram that has flips, up to three, it says that it is handed out as it was sent
+-- or not at all. It says nothing of a stretch from two balises, or of where the detector cuts a
+-- stretch.
 pub record Demand3 : Type 0 where
-  -- "For both codes, a received word is accepted exactly if its set of flipped bits is itself a code word ..": one law, twice
+  -- "For both codes, a received word is accepted exactly if its set of flipped bits is itself a
+  -- code word ..": one law, twice
   pub short-code : NoiseLaw 8 saysShortRead ReadShort
   pub long-code : NoiseLaw 16 saysLongRead ReadLong
-  -- "Over any stretch of bits, not refused with 4 or 5, .. if no sync bit flips and no telegram .. has more than three flipped data bits .."
+  -- "Over any stretch of bits, not refused with 4 or 5, .. if no sync bit flips and no telegram ..
+  -- has more than three flipped data bits .."
   pub stretch : (o : OneBalise) → Proper o → FewFlips o → OnlyTheSent o
   -- asking ends: one who is answered at every call of `find` inside the stretch comes to 6
   pub ends : (o : OneBalise) → Proper o

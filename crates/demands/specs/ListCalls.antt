@@ -1,4 +1,5 @@
--- Calls of `list` over a trace, one after the other: each is lent a block and a buffer, and goes on where the one before ended.
+-- Calls of `list` over a trace, one after the other: each is lent a block and a buffer, and goes on
+-- where the one before ended.
 -- Assumes nothing.
 use Prim.Native.Nat.{ℕ, _*_}
 use mathlib.Core.Path.{_≡_}
@@ -17,7 +18,8 @@ use Rattle.demands.specs.Contracts.{ListInto}
 abbrev pub Whole : List ℕ → Type 0
 Whole card = badLength card ≡ false
 
--- One call of `list`: the block that it is lent, the lent buffer before it, what it answers, and the buffer after it.
+-- One call of `list`: the block that it is lent, the lent buffer before it, what it answers, and
+-- the buffer after it.
 pub record Call : Type 0 where
   pub block : List ℕ
   pub before : List ℕ
@@ -35,14 +37,16 @@ bytesOf (Done.Took records bytes) = bytes
 bytesOf (Done.Settings bad) = 0
 bytesOf Done.Length = 0
 
--- A call is lent a block of whole records from the front of what is left, long or short, and a buffer of any length.
+-- A call is lent a block of whole records from the front of what is left, long or short, and a
+-- buffer of any length.
 pub record Lent (left : List ℕ) (c : Call) : Type 0 where
   pub rest : List ℕ
   pub front : left ≡ c .block ++ rest
   pub whole : Whole (c .block)
 
--- These are calls over a trace of a function that lists, from a state and the first record's number: each goes on where the one before
--- ended, with what that one did not take, until nothing is left. `Lists` is what the function's contract allows.
+-- These are calls over a trace of a function that lists, from a state and the first record's
+-- number: each goes on where the one before ended, with what that one did not take, until nothing
+-- is left. `Lists` is what the function's contract allows.
 abbrev pub ByCalls : (Ride → ℕ → List ℕ → List ℕ → Listed → List ℕ → Type 0) → Ride → ℕ → List ℕ → List Call → Type 0
 ByCalls Lists ride number left [] = left ≡ []
 ByCalls Lists ride number left (c ∷ cs) =

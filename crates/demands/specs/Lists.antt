@@ -1,4 +1,5 @@
--- For each function its refusals in the order of judging, and, where it is short to say, what is read where none of them holds.
+-- For each function its refusals in the order of judging, and, where it is short to say, what is
+-- read where none of them holds.
 -- Assumes nothing.
 use Prim.Native.Nat.{ℕ, suc, _+_, _-_, _*_, _<_}
 use mathlib.Core.Bool.{Bool, true, false}
@@ -21,7 +22,8 @@ use Rattle.demands.specs.Table.{notCode, fifteen, notSeven, beyond, noPl
 use Rattle.demands.specs.Table02.{someAbove, someFifteen, badCount, shortBuffer, nothingKept, atEnd}
 use Rattle.demands.specs.Rules.{Rule, rowOf, row}
 
--- A word of a telegram, of n bits, is not a code word: 1, and the refusal passes on the word's letter and its parity.
+-- A word of a telegram, of n bits, is not a code word: 1, and the refusal passes on the word's
+-- letter and its parity.
 abbrev pub noCode : Word → ℕ → ℕ → Rule Received
 noCode word n w = rowOf (badWord word (notCodeWord n w)) (notCode n w)
 
@@ -81,7 +83,8 @@ stepRules ride gap bytes = row 19 (badGap gap) ∷ recordRules ride bytes
 abbrev pub runRules : {A : Type 0} → ℕ → List ℕ → List (Rule (Outcome A))
 runRules gap trace = row 19 (badGap gap) ∷ row 16 (badLength trace) ∷ []
 
--- The viewer's `forward`: 23, and `back`: 22. (What comes after 23, for a viewer that no call made: specs/Viewing.antt.)
+-- The viewer's `forward`: 23, and `back`: 22. (What comes after 23, for a viewer that no call made:
+-- specs/Viewing.antt.)
 abbrev pub forwardRules : {A : Type 0} → List ℕ → ℕ → List (Rule (Outcome A)) → List (Rule (Outcome A))
 forwardRules trace number rules = row 23 (atEnd trace number) ∷ rules
 
@@ -96,15 +99,17 @@ findReads b start len s t = let p : ℕ = firstPlace (places b start len s t) in
 abbrev pub surveyReads : List ℕ → ℕ → ℕ → ℕ → ℕ → Alike
 surveyReads b start len s t = let ps : List ℕ = places b start len s t in alike (wordsAt b (firstPlace ps)) (firstPlace ps) (length ps)
 
--- `contact::judge` reads the same of two or more places that are alike; what is then left is a marker.
+-- `contact::judge` reads the same of two or more places that are alike; what is then left is a
+-- marker.
 abbrev pub JudgeReads : List ℕ → ℕ → ℕ → ℕ → ℕ → Outcome Contact → Type 0
 JudgeReads b start len s t o =
     let ps : List ℕ = places b start len s t in
     (isRead b start len s t ≡ true → o ≡ gives (read (wordsAt b (firstPlace ps)) (firstPlace ps) (length ps)))
     × (isRead b start len s t ≡ false → o ≡ gives marker)
 
--- Bit k of a search, counted from its next, opens the next contact: it brings the zeroes to 8 or more, and none before it does.
--- Bit j closes it: it is the first after k that brings them to 4 or fewer.
+-- Bit k of a search, counted from its next, opens the next contact: it brings the zeroes to 8 or
+-- more, and none before it does. Bit j closes it: it is the first after k that brings them to 4 or
+-- fewer.
 pub record NextAt (b : List ℕ) (search : Search) (k j : ℕ) : Type 0 where
   pub opens : toEight b search k ≡ true
   pub none-before : some (toEight b search) k ≡ false
@@ -113,8 +118,9 @@ pub record NextAt (b : List ℕ) (search : Search) (k j : ℕ) : Type 0 where
   pub closes : leb (zeroesWith b search j) 4 ≡ true
   pub none-between : some (laterToFour b search k) j ≡ false
 
--- `next_contact` answers that no further one opens exactly if no bit does. A contact begins with the bit that opens it and ends before
--- the one that closes it; the search goes on with the bit after that one, and the history holds it once.
+-- `next_contact` answers that no further one opens exactly if no bit does. A contact begins with
+-- the bit that opens it and ends before the one that closes it; the search goes on with the bit
+-- after that one, and the history holds it once.
 abbrev pub NextReads : List ℕ → Search → Outcome Handed → Type 0
 NextReads b search o =
     (some (toEight b search) (search .left) ≡ false → o ≡ gives noFurther)

@@ -1,5 +1,6 @@
 -- What the program writes for a trace (document 01, "One ride in full"), and that ride.
--- "The program writes, one line each and nothing else"; "trace refused 16 as the only line for a bad trace length".
+-- "The program writes, one line each and nothing else"; "trace refused 16 as the only line for a
+-- bad trace length".
 -- Assumes nothing.
 use Prim.Native.Nat.{ℕ, _+_, _*_, _/_, _≤_, _<_}
 use mathlib.Core.Path.{_≡_}
@@ -47,7 +48,8 @@ pub record Forty (store : Store) : Type 0 where
 abbrev pub ridden : List ℕ → Ridden
 ridden trace = rideOver (λ odometer. 40) freshRide 1 (records trace)
 
--- What the program writes: the lines of the records and then those of the end, as text; or that the trace is refused.
+-- What the program writes: the lines of the records and then those of the end, as text; or that the
+-- trace is refused.
 unfoldable pub output : List ℕ → List ℕ
 output trace = pick (badLength trace) (textOf (Line.Trace 16 ∷ [])) (textOf (ridden trace .lines ++ end (ridden trace .ride) .lines))
 
@@ -84,8 +86,10 @@ abbrev pub AllQuoted : List Quoted → Type 0
 AllQuoted [] = Unit {0}
 AllQuoted (q ∷ qs) = (text (q .line) ≡ q .reads) × AllQuoted qs
 
--- What `list` without reasons comes to, from any ride, number and room, with the gap that a rule gives for each record's odometer: so many records are taken, one at least where there is one and room for
--- 128 bytes, and all where there is room for 128 bytes each; the bytes that it says it wrote are the text of their lines; the ride and the number are those after them; the buffer's
+-- What `list` without reasons comes to, from any ride, number and room, with the gap that a rule
+-- gives for each record's odometer: so many records are taken, one at least where there is one and
+-- room for 128 bytes, and all where there is room for 128 bytes each; the bytes that it says it
+-- wrote are the text of their lines; the ride and the number are those after them; the buffer's
 -- other bytes stay.
 pub record Takes (gaps : ℕ → ℕ) (ride : Ride) (number : ℕ) (trace before : List ℕ) (l : Listed) (after : List ℕ) : Type 0 where
   pub n : ℕ
@@ -99,10 +103,12 @@ pub record Takes (gaps : ℕ → ℕ) (ride : Ride) (number : ℕ) (trace before
   pub ridden-so : l .ride ≡ rideOver gaps ride number (take n (records trace)) .ride
   pub counted-on : l .number ≡ number + n
 
--- The library's functions come to what the program is to write. (The program lists card after card and block after block: that these join
--- to one listing is specs/Sections.antt. Its reads and writes are not proved: docs/EXCEPTIONS.md.)
+-- The library's functions come to what the program is to write. (The program lists card after card
+-- and block after block: that these join to one listing is specs/Sections.antt. Its reads and
+-- writes are not proved: docs/EXCEPTIONS.md.)
 pub record Written : Type 0 where
-  -- `put_line` puts a line's text where it has room, and says where it ends; else it leaves the buffer
+  -- `put_line` puts a line's text where it has room, and says where it ends; else it leaves the
+  -- buffer
   pub puts : (line : Line) (before : List ℕ) (at : ℕ) (r : ℕ) (after : List ℕ) → PutLine line before at r after
       → at + length (text line) ≤ length before → (r ≡ at + length (text line)) × (after ≡ placed (text line) before at)
   pub no-room : (line : Line) (before : List ℕ) (at : ℕ) (r : ℕ) (after : List ℕ) → PutLine line before at r after
@@ -112,7 +118,8 @@ pub record Written : Type 0 where
   -- `list` takes records and writes their lines
   pub takes : (ride : Ride) (store : Store) (number : ℕ) (trace before : List ℕ) (l : Listed) (after : List ℕ) → Good store → badLength trace ≡ false
       → ListInto plain ride store number trace before l after → Takes (gapAt store) ride number trace before l after
-  -- with room for 128 bytes a record it takes them all, and with the lines of `end` its bytes are the output, under a store of the program's gap
+  -- with room for 128 bytes a record it takes them all, and with the lines of `end` its bytes are
+  -- the output, under a store of the program's gap
   pub whole : (store : Store) (f : Ride) (l : Listed) (e : Ended) (trace before after : List ℕ) → Forty store → badLength trace ≡ false → recordsIn trace < largest64
       → 128 * recordsIn trace ≤ length before → Fresh f → ListInto plain f store 1 trace before l after → EndOf (l .ride) e
       → (bytes : ℕ) × (l .done ≡ Done.Took (recordsIn trace) bytes) × (take bytes after ++ textOf (saysLines (e .lines)) ≡ output trace)
@@ -131,8 +138,8 @@ oneRide =
 abbrev pub itsLines : List ℕ
 itsLines = codes "1000 present signal first\n5800 missed\n"
 
--- What document 01 says of its ride: the lines, "Main speed 130, target 80", and that linking has ended with the missed signal. Its
--- signal has no number balise, so the number is none.
+-- What document 01 says of its ride: the lines, "Main speed 130, target 80", and that linking has
+-- ended with the missed signal. Its signal has no number balise, so the number is none.
 pub record OneRide : Type 0 where
   pub writes : output oneRide ≡ itsLines
   pub known : (store : Store) (f : Ride) (r : Ran) → Forty store → Fresh f → RunOver f store oneRide r

@@ -1,5 +1,6 @@
--- A plain gap: a store of one version, opened with it and any good pair (document 02, M-111). So "19, then 16" of M-107 and M-108 is what `begin` and then the call
--- come to, and a ride under that store is the ride with its gap.
+-- A plain gap: a store of one version, opened with it and any good pair (document 02, M-111). So
+-- "19, then 16" of M-107 and M-108 is what `begin` and then the call come to, and a ride under that
+-- store is the ride with its gap.
 -- Assumes nothing.
 use Prim.Native.Nat.{ℕ}
 use mathlib.Core.Path.{_≡_}
@@ -37,7 +38,8 @@ pub record Opened (gap : ℕ) (b : Begun) : Type 0 where
   pub begun : BeginStore gap s t b
 
 pub record PlainGap : Type 1 where
-  -- whoever judges the settings first refuses a gap outside 1 to 200 with 19, and then goes by his own rules
+  -- whoever judges the settings first refuses a gap outside 1 to 200 with 19, and then goes by his
+  -- own rules
   pub nineteen : {A : Type 0} (Reading : Outcome A → Type 0) (rules : List (Rule (Outcome A))) (o : Outcome A) (gap : ℕ) (b : Begun) → Opened gap b
       → Decided Reading (storeRules (b .store) rules) o → Decided Reading (row 19 (badGap gap) ∷ rules) o
   -- "19, then 16": of a run, a listing, a compaction (M-107) and a viewer that opens (M-108)

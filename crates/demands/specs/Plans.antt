@@ -1,5 +1,7 @@
--- Demand 1 for the depot's library (document 02, M-113): "Refusals: 26 for a bad plan record, length or count above 64; 27 for entries out of order or too near;
--- 28 for the tolerance; judged 28, 26, 27, with no report." Each condition stands alone, with its figures a second time. `take`, `report` and `sum_up` refuse nothing.
+-- Demand 1 for the depot's library (document 02, M-113): "Refusals: 26 for a bad plan record,
+-- length or count above 64; 27 for entries out of order or too near; 28 for the tolerance; judged
+-- 28, 26, 27, with no report." Each condition stands alone, with its figures a second time. `take`,
+-- `report` and `sum_up` refuse nothing.
 -- Assumes nothing.
 use Prim.Native.Nat.{ℕ, _+_, _*_, _/_, _%_}
 use mathlib.Core.Path.{_≡_}

@@ -1,5 +1,7 @@
--- Reasons (document 02, M-103): "What it names is proved true, it names the first such balise, and it never gives a reason for a group that was accepted", over the
--- contracts of `explain` and of `judge`; and that the number of balises which 10 and 11 name is that of the balises that joined the group.
+-- Reasons (document 02, M-103): "What it names is proved true, it names the first such balise, and
+-- it never gives a reason for a group that was accepted", over the contracts of `explain` and of
+-- `judge`; and that the number of balises which 10 and 11 name is that of the balises that joined
+-- the group.
 -- Assumes nothing.
 use Prim.Native.Nat.{ℕ, suc, _<_}
 use mathlib.Core.Path.{_≡_}
@@ -27,8 +29,9 @@ use Rattle.demands.specs.Steps.{OneStep, LeavesBehind, StaysOpen, NoneOp
 abbrev pub ExplainGroup : Group → Reason → Type 0
 ExplainGroup g r = (e : AtExit (endedOf 0 explain-kinds.ps explain-kinds.r) tt) × explain-reads.Post tt (g, tt) r e
 
--- After these calls of `step` so many balises have joined the group that is open: one opened it, where none was open or another was left behind; each
--- further one came while it stayed open, and positions between them join nothing.
+-- After these calls of `step` so many balises have joined the group that is open: one opened it,
+-- where none was open or another was left behind; each further one came while it stayed open, and
+-- positions between them join nothing.
 pub data Joined : ℕ → Ride → Type 0 where
   opened : (o : OneStep) (heard : Heard) → NoneOpen o → o .passed ≡ Passed.Balise heard → Joined 1 (o .answer .ride)
   after-another : (o : OneStep) (heard : Heard) → LeavesBehind o → o .passed ≡ Passed.Balise heard → Joined 1 (o .answer .ride)
@@ -40,7 +43,8 @@ abbrev pub upTo255 : ℕ → ℕ
 upTo255 k = pick (ltb k 255) k 255
 
 pub record Reasons : Type 0 where
-  -- No reason for an accepted group; for a refused one a reason, for its number, that is true of it.
+  -- No reason for an accepted group; for a refused one a reason, for its number, that is true of
+  -- it.
   pub right : (g : Group) (r : Reason) (j : GroupJudged) → ExplainGroup g r → JudgeGroup g j → Right g (saysGroupJudged j) (saysReason r)
   -- Only an accepted group has no reason.
   pub none-if : (g : Group) (r : Reason) (j : GroupJudged) → ExplainGroup g r → JudgeGroup g j → r ≡ Reason.None → (m : Message) × (saysGroupJudged j ≡ gives m)

@@ -1,4 +1,5 @@
--- Document 01's table of refusal numbers, from the trace and its records on (16 to 19), as Table.antt has the rows before them.
+-- Document 01's table of refusal numbers, from the trace and its records on (16 to 19), as
+-- Table.antt has the rows before them.
 -- Assumes nothing.
 use Prim.Native.Nat.{ℕ, _%_}
 use mathlib.Core.Bool.{Bool, not, _&&_, _||_}
@@ -15,7 +16,8 @@ badLength trace = not (eqb (length trace % 8) 0)
 abbrev pub someNotZero : List ℕ → Bool
 someNotZero r = ltb 0 (getD r 5 0) || ltb 0 (getD r 6 0) || ltb 0 (getD r 7 0)
 
--- 16: "kind above 3, or bytes 5 to 7 not zero where they must be": "all zero for kinds 1 to 3". Byte 4 is the kind.
+-- 16: "kind above 3, or bytes 5 to 7 not zero where they must be": "all zero for kinds 1 to 3".
+-- Byte 4 is the kind.
 unfoldable pub badRecord : List ℕ → Bool
 badRecord r = ltb 3 (getD r 4 0) || (leb 1 (getD r 4 0) && someNotZero r)
 

@@ -1,5 +1,6 @@
--- A ride (document 01, "A ride"): what steps 2 to 4 of an accepted record and the end of the ride do, for every state that a caller
--- may lend. (Step 1 is the record `Demand1`, and what a refused group leaves is `Untouched`, both of specs/Demand1.antt.)
+-- A ride (document 01, "A ride"): what steps 2 to 4 of an accepted record and the end of the ride
+-- do, for every state that a caller may lend. (Step 1 is the record `Demand1`, and what a refused
+-- group leaves is `Untouched`, both of specs/Demand1.antt.)
 -- Assumes nothing.
 use Prim.Native.Nat.{ℕ, _+_, _-_, _*_, _/_, _≤_, _<_}
 use mathlib.Core.Path.{_≡_}
@@ -39,9 +40,10 @@ use Rattle.demands.specs.Steps.{OneStep, Accepts, LeavesBehind, StaysOpe
 abbrev pub IsSignal : Message → Type 0
 IsSignal m = (m .direction ≡ Direction.Present) × (m .kind ≡ Kind.Signal)
 
--- The mark of an accepted group, from the linking before it. "A present signal at travelled distance t (A balise to A balise) is
--- marked first if linking wasn't set, early if 5t < 4D, good if 4D <= 5t <= 6D, late if 5t > 6D." So at 5t = 4D and at 5t = 6D it is
--- good, below the one it is early, above the other late. For a place before a, which no ride makes, t is 0.
+-- The mark of an accepted group, from the linking before it. "A present signal at travelled
+-- distance t (A balise to A balise) is marked first if linking wasn't set, early if 5t < 4D, good
+-- if 4D <= 5t <= 6D, late if 5t > 6D." So at 5t = 4D and at 5t = 6D it is good, below the one it is
+-- early, above the other late. For a place before a, which no ride makes, t is 0.
 pub data IsMarked (linking : Linking) (m : Message) : Mark → Type 0 where
   first : IsSignal m → linking ≡ Linking.Unset → IsMarked linking m Mark.First
   early : (D a : ℕ) → IsSignal m → linking ≡ Linking.Set D a → 5 * (m .place - a) < 4 * D → IsMarked linking m Mark.Early
@@ -51,7 +53,8 @@ pub data IsMarked (linking : Linking) (m : Message) : Mark → Type 0 where
   -- "a mark stands on present signals alone"
   unmarked : (IsSignal m → ⊥) → IsMarked linking m Mark.Unmarked
 
--- The number on the line of an accepted group: a signal of either direction shows its own, or none; all other lines have none.
+-- The number on the line of an accepted group: a signal of either direction shows its own, or none;
+-- all other lines have none.
 pub data IsNumbered (m : Message) : Number → Type 0 where
   of-signal : m .kind ≡ Kind.Signal → IsNumbered m (m .number)
   of-other : (m .kind ≡ Kind.Signal → ⊥) → IsNumbered m Number.None
@@ -75,9 +78,10 @@ pub record Becomes (k : Known) (m : Message) (k′ : Known) : Type 0 where
   -- "All other groups leave these as they were."
   pub others : (IsSignal m → ⊥) → k′ ≡ k
 
--- Step 3, where no group is open, k is known, and these lines were given before: "linking is set with distance D from place a, and
--- 5 x (odometer - a) > 6 x D: report missed at a + 6D/5, and end linking." Only then; the speeds and the number stay. (Every D of table DF is a
--- multiple of 5; of another that a caller lends, 6D/5 is rounded down.)
+-- Step 3, where no group is open, k is known, and these lines were given before: "linking is set
+-- with distance D from place a, and 5 x (odometer - a) > 6 x D: report missed at a + 6D/5, and end
+-- linking." Only then; the speeds and the number stay. (Every D of table DF is a multiple of 5; of
+-- another that a caller lends, 6D/5 is rounded down.)
 pub record Step3 (o : OneStep) (lines : List Line) (k : Known) : Type 0 where
   pub missed : (D a : ℕ) → k .linking ≡ Linking.Set D a → 6 * D < 5 * (o .odometer - a)
       → Gives o (lines ++ Line.Missed (a + 6 * D / 5) ∷ []) × (after o ≡ record { linking = Linking.Unset; main = k .main; target = k .target; number = k .number })
@@ -86,8 +90,8 @@ pub record Step3 (o : OneStep) (lines : List Line) (k : Known) : Type 0 where
 
 -- What every step, the end and a run do.
 pub record Riding : Type 0 where
-  -- 2 and 3: a group that is left behind closes; if it is accepted, its line with its mark and its number is given, and step 3 is done
-  -- with what is known then
+  -- 2 and 3: a group that is left behind closes; if it is accepted, its line with its mark and its
+  -- number is given, and step 3 is done with what is known then
   pub closes : (o : OneStep) (m : Message) (mark : Mark) (number : Number) → LeavesBehind o → JudgeGroup (o .ride .group) (GroupJudged.Accepted m)
       → IsMarked (before o .linking) m mark → IsNumbered m number → (k : Known) × Becomes (before o) m k × Step3 o (lineOf m mark number ∷ []) k
   -- 3: no group is open
@@ -115,12 +119,14 @@ pub record Riding : Type 0 where
   pub fresh : (f : Ride) → Fresh f
       → (f .known ≡ record { linking = Linking.Unset; main = Told.Unknown; target = Told.Unknown; number = Number.None })
       × (isOpen (f .group) ≡ false) × (f .odometer ≡ 0)
-  -- the record at an index of a trace is treated as by its step, refused or not; after the last there is none, and the state stays
+  -- the record at an index of a trace is treated as by its step, refused or not; after the last
+  -- there is none, and the state stays
   pub treats : (ride : Ride) (gap : ℕ) (trace : List ℕ) (i : ℕ) (s : Stepped) (t : Treated) → badGap gap ≡ false → i < length trace / 8
       → StepOf ride gap (recordAt trace i) s → TreatAt ride gap trace i t → saysTreated t ≡ byStep (saysStepped s)
   pub treats-none : (ride : Ride) (gap : ℕ) (trace : List ℕ) (i : ℕ) (t : Treated) → badGap gap ≡ false → length trace / 8 ≤ i
       → TreatAt ride gap trace i t → saysTreated t ≡ stays ride (gives noRecord)
-  -- a run is step after step, from any state: that of the first record, with the gap in force at its odometer, and the run over the rest
+  -- a run is step after step, from any state: that of the first record, with the gap in force at
+  -- its odometer, and the run over the rest
   pub runs : (ride : Ride) (store : Store) (bytes rest : List ℕ) (s : Stepped) (q q′ : Ran) → length bytes ≡ 8 → badLength rest ≡ false → Good store
       → StepOf ride (gapAt store (odometerOf bytes)) bytes s → RunOver ride store (bytes ++ rest) q → RunOver (s .ride) store rest q′ → saysRan q ≡ saysRan q′
   pub runs-none : (ride : Ride) (store : Store) (q : Ran) → RunOver ride store [] q → q .ride ≡ ride

@@ -1,5 +1,6 @@
--- What the contracts of the public functions of `group_rows`, `group`, `ride` and `ride_text` allow, as Contracts.antt says it. In `put_line`, `put_end` and `list` the
--- bytes of the second, third and sixth parameter at the end are taken out of e.
+-- What the contracts of the public functions of `group_rows`, `group`, `ride` and `ride_text`
+-- allow, as Contracts.antt says it. In `put_line`, `put_end` and `list` the bytes of the second,
+-- third and sixth parameter at the end are taken out of e.
 -- Assumes nothing.
 use Prim.Native.Nat.{ℕ}
 use mathlib.Core.Path.{_≡_}
@@ -82,7 +83,8 @@ abbrev pub StepOf : Ride → ℕ → List ℕ → Stepped → Type 0
 StepOf ride gap bytes r =
     (e : AtExit (endedOf 0 step-kinds.ps step-kinds.r) tt) × step-reads.Post tt (ride, (gap, (bytes, tt))) r e
 
--- The contract of `treat_at` allows the answer r for the record at this index of the trace after this ride, with this gap.
+-- The contract of `treat_at` allows the answer r for the record at this index of the trace after
+-- this ride, with this gap.
 abbrev pub TreatAt : Ride → ℕ → List ℕ → ℕ → Treated → Type 0
 TreatAt ride gap trace i r =
     (κs : Lfts 1) × (lent : RefT (List ℕ)) × (e : AtExit (endedOf 1 treat-at-kinds.ps treat-at-kinds.r) κs)
@@ -98,20 +100,22 @@ RunOver ride store trace r =
     (κs : Lfts 1) × (lent : RefT (List ℕ)) × (e : AtExit (endedOf 1 run-kinds.ps run-kinds.r) κs)
     × (now lent ≡ trace) × run-reads.Post κs (ride, (store, (lent, tt))) r e
 
--- The contract of `put_line` allows the place r for this line at this place, and that the lent buffer, which held `before`,
--- holds `after` then.
+-- The contract of `put_line` allows the place r for this line at this place, and that the lent
+-- buffer, which held `before`, holds `after` then.
 abbrev pub PutLine : Line → List ℕ → ℕ → ℕ → List ℕ → Type 0
 PutLine line before at r after =
     (κs : Lfts 1) × (lent : RefT (List ℕ)) × (e : AtExit (endedOf 1 put-line-kinds.ps put-line-kinds.r) κs)
     × (now lent ≡ before) × (now (e .1 .0) ≡ after) × put-line-reads.Post κs (line, (lent, (at, tt))) r e
 
--- The contract of `put_end` in this style allows the place r for the end of this ride at this place, likewise.
+-- The contract of `put_end` in this style allows the place r for the end of this ride at this
+-- place, likewise.
 abbrev pub PutEnd : Style → Ride → List ℕ → ℕ → ℕ → List ℕ → Type 0
 PutEnd style ride before at r after =
     (κs : Lfts 1) × (lent : RefT (List ℕ)) × (e : AtExit (endedOf 1 put-end-kinds.ps put-end-kinds.r) κs)
     × (now lent ≡ before) × (now (e .1 .1 .0) ≡ after) × put-end-reads.Post κs (style, (ride, (lent, (at, tt)))) r e
 
--- The contract of `list` in this style allows the answer r for this trace, and that the lent buffer, which held `before`, holds `after` then.
+-- The contract of `list` in this style allows the answer r for this trace, and that the lent
+-- buffer, which held `before`, holds `after` then.
 abbrev pub ListInto : Style → Ride → Store → ℕ → List ℕ → List ℕ → Listed → List ℕ → Type 0
 ListInto style ride store number trace before r after =
     (κs : Lfts 2) × (lent : RefT (List ℕ)) × (out : RefT (List ℕ)) × (e : AtExit (endedOf 2 list-kinds.ps list-kinds.r) κs)

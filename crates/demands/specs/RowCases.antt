@@ -1,5 +1,6 @@
--- The rows of document 01's groups, each in its shortest form and with all its optional members, and just outside: what is
--- judged of each. The balises lie 30 dm apart, the first at 1000 dm, and are given as they are received.
+-- The rows of document 01's groups, each in its shortest form and with all its optional members,
+-- and just outside: what is judged of each. The balises lie 30 dm apart, the first at 1000 dm, and
+-- are given as they are received.
 -- Assumes nothing.
 use Prim.Native.Nat.{ℕ, _+_, _*_}
 use mathlib.Core.Path.{_≡_}
@@ -52,7 +53,8 @@ pub record RowCase : Type 0 where
   pub balises : List Heard
   pub judged : Outcome Message
 
--- A group in this direction: its kind, the place of its A, AY and AZ, its number, and what more it says.
+-- A group in this direction: its kind, the place of its A, AY and AZ, its number, and what more it
+-- says.
 abbrev pub is : Direction → List Heard → Kind → ℕ → ℕ → ℕ → Number → Content → RowCase
 is direction hs kind place ay az number content =
     record {
@@ -82,7 +84,8 @@ refusedAs n hs = record { balises = hs; judged = refuses n }
 -- "Present direction, in the order passed"
 abbrev pub presentCases : List RowCase
 presentCases =
-    -- signal: [12] [8] 1 9 [14] [12]; the prefix makes target figure 1 read 0; AY 14 and AZ 14 give no information; BY 14 is preset
+    -- signal: [12] [8] 1 9 [14] [12]; the prefix makes target figure 1 read 0; AY 14 and AZ 14 give
+    -- no information; BY 14 is preset
     present (f 1 8 5 ∷ f 9 2 4 ∷ []) Kind.Signal 1000 8 5 noN (Content.Signal 4000 false (Told.Kmh 130) (Told.Kmh 80))
     ∷ present (N ∷ f 8 7 1 ∷ f 1 8 1 ∷ f 9 2 0 ∷ f 14 4 0 ∷ []) Kind.Signal 1060 8 1 n1612 (Content.Signal 4000 false (Told.Kmh 130) (Told.Kmh 0))
     ∷ present (f 8 7 0 ∷ f 1 8 1 ∷ f 9 2 0 ∷ f 14 4 0 ∷ N ∷ []) Kind.Signal 1030 8 1 n1612 (Content.Signal 4000 false (Told.Kmh 130) (Told.Kmh 40))
@@ -110,7 +113,8 @@ presentCases =
     ∷ present (f 3 8 13 ∷ f 5 14 14 ∷ []) Kind.Line 1000 8 13 noN Content.Nothing
     ∷ present (f 3 9 0 ∷ M ∷ []) Kind.Line 1000 9 0 noN Content.Nothing
     ∷ present (f 3 14 13 ∷ M ∷ []) Kind.Line 1000 14 13 noN Content.Nothing
-    -- route board: 5 followed by 3, 5 or 7, with AY 2 and AZ 0 to 13 (10 x AZ km/h), or AY 4 and AZ 10 (140 km/h)
+    -- route board: 5 followed by 3, 5 or 7, with AY 2 and AZ 0 to 13 (10 x AZ km/h), or AY 4 and AZ
+    -- 10 (140 km/h)
     ∷ present (f 5 2 0 ∷ f 3 0 0 ∷ []) Kind.Route 1000 2 0 noN (Content.Route 0)
     ∷ present (f 5 2 13 ∷ f 5 2 12 ∷ []) Kind.Route 1000 2 13 noN (Content.Route 130)
     ∷ present (f 5 2 9 ∷ f 7 0 0 ∷ []) Kind.Route 1000 2 9 noN (Content.Route 90)
@@ -175,7 +179,8 @@ outsideCases =
     ∷ refusedAs 15 (f 1 8 5 ∷ f 9 2 5 ∷ f 14 4 0 ∷ [])
     ∷ refusedAs 15 (f 1 8 5 ∷ f 9 2 0 ∷ f 14 0 0 ∷ [])
     ∷ refusedAs 15 (f 2 0 0 ∷ f 9 2 0 ∷ [])
-    -- a preset point with AZ 0, 1 or 13, without a 14 and with one; a prefix does not come before it
+    -- a preset point with AZ 0, 1 or 13, without a 14 and with one; a prefix does not come before
+    -- it
     ∷ refusedAs 15 (f 1 8 0 ∷ f 9 14 1 ∷ [])
     ∷ refusedAs 15 (f 1 8 1 ∷ f 9 14 1 ∷ [])
     ∷ refusedAs 15 (f 4 8 13 ∷ f 9 14 14 ∷ [])

@@ -6,7 +6,8 @@ use mathlib.Core.List.{List, [], _∷_}
 use Prim.Native.Nat.{ℕ}
 use Rattle.words.specs.Answer.{Answer, Outcome, gives, refuses}
 
--- A row of document 01's table at one question: whether its condition holds there, and the answer that it asks for.
+-- A row of document 01's table at one question: whether its condition holds there, and the answer
+-- that it asks for.
 pub record Rule (A : Type 0) : Type 0 where
   pub holds : Bool
   pub answer : A

@@ -1,8 +1,10 @@
--- Rides in sections (document 02, M-109): "Long rides come as several cards. Riding the first card and then the second from where the
--- first ended must equal riding the two joined, lines included, with record numbers counted on. Joining three cards either way is the
--- same, and an empty card changes nothing. This holds for whole 8-byte records and without the call that ends a ride."
--- A card is its bytes. `run` rides it and answers the state after it; `step`, record after record, gives its lines as data; `list`,
--- block after block, writes them as text. Each law is claimed of all three, from any state and with one fixed store on both sides (M-111).
+-- Rides in sections (document 02, M-109): "Long rides come as several cards. Riding the first card
+-- and then the second from where the first ended must equal riding the two joined, lines included,
+-- with record numbers counted on. Joining three cards either way is the same, and an empty card
+-- changes nothing. This holds for whole 8-byte records and without the call that ends a ride." A
+-- card is its bytes. `run` rides it and answers the state after it; `step`, record after record,
+-- gives its lines as data; `list`, block after block, writes them as text. Each law is claimed of
+-- all three, from any state and with one fixed store on both sides (M-111).
 -- Assumes nothing.
 use Prim.Native.Nat.{ℕ, suc, _+_, _*_, _≤_, _<_}
 use mathlib.Core.Path.{_≡_}
@@ -32,8 +34,8 @@ pub use Rattle.demands.specs.ListCalls.{Whole, Call, taken, bytesOf, Len
 
 -- ---- by `step`
 
--- These are the answers of `step` to some records in turn, each in the state that the one before left, with the gap that a rule gives
--- for its odometer.
+-- These are the answers of `step` to some records in turn, each in the state that the one before
+-- left, with the gap that a rule gives for its odometer.
 abbrev pub ByStep : (ℕ → ℕ) → Ride → List (List ℕ) → List Stepped → Type 0
 ByStep gaps ride [] [] = Unit {0}
 ByStep gaps ride [] (s ∷ ss) = ⊥
@@ -52,8 +54,8 @@ afterSteps ride (s ∷ ss) = afterSteps (s .ride) ss
 
 -- ---- 1. the laws of two cards
 
--- "Riding the first card and then the second from where the first ended must equal riding the two joined, lines included, with record
--- numbers counted on."
+-- "Riding the first card and then the second from where the first ended must equal riding the two
+-- joined, lines included, with record numbers counted on."
 pub record TwoCards : Type 0 where
   pub by-run : (ride : Ride) (store : Store) (a b : List ℕ) (p q both : Ran) → Whole a → Whole b
       → RunOver ride store a p → RunOver (p .ride) store b q → RunOver ride store (a ++ b) both → both ≡ q
@@ -67,7 +69,8 @@ pub record TwoCards : Type 0 where
 
 -- ---- 2. three cards
 
--- "Joining three cards either way is the same": two joined and then the third, or the first and then the other two joined.
+-- "Joining three cards either way is the same": two joined and then the third, or the first and
+-- then the other two joined.
 pub record ThreeCards : Type 0 where
   pub by-run : (ride : Ride) (store : Store) (a b c : List ℕ) (ab last a′ bc : Ran) → Whole a → Whole b → Whole c
       → RunOver ride store (a ++ b) ab → RunOver (ab .ride) store c last → RunOver ride store a a′ → RunOver (a′ .ride) store (b ++ c) bc → last ≡ bc
@@ -103,8 +106,8 @@ abbrev pub anyBad : List (List ℕ) → Bool
 anyBad [] = false
 anyBad (card ∷ cards) = badLength card || anyBad cards
 
--- What the program writes for some cards, with a rule of the gap: the lines of the records of all of them as one ride, and then those of
--- the end; if one has a bad length, that alone.
+-- What the program writes for some cards, with a rule of the gap: the lines of the records of all
+-- of them as one ride, and then those of the end; if one has a bad length, that alone.
 unfoldable pub outputBy : (ℕ → ℕ) → List (List ℕ) → List ℕ
 outputBy gaps cards =
     let all : Ridden = rideOver gaps freshRide 1 (records (joined cards)) in
@@ -118,7 +121,8 @@ outputUnder store cards = outputBy (gapAt store) cards
 abbrev pub outputOf : List (List ℕ) → List ℕ
 outputOf cards = outputBy (λ odometer. 40) cards
 
--- Whatever blocks `list` is called with, and whatever room it has, the texts put one after the other are the text of the whole.
+-- Whatever blocks `list` is called with, and whatever room it has, the texts put one after the
+-- other are the text of the whole.
 pub record Blocks : Type 0 where
   pub whole : (ride : Ride) (store : Store) (number : ℕ) (trace : List ℕ) (calls : List Call) → Good store → ByList store ride number trace calls
       → (textFrom calls ≡ textOf (rideOver (gapAt store) ride number (records trace) .lines))
@@ -132,7 +136,8 @@ pub record Blocks : Type 0 where
   pub all-at-once : (ride : Ride) (store : Store) (number : ℕ) (c : Call) → Good store → Whole (c .block)
       → 128 * recordsIn (c .block) ≤ length (c .before) → number + recordsIn (c .block) ≤ largest64
       → ListInto plain ride store number (c .block) (c .before) (c .answer) (c .after) → taken (c .answer .done) ≡ recordsIn (c .block)
-  -- the cards from a fresh ride, the first record with the number 1, and then the end by `put_end`: what the program writes
+  -- the cards from a fresh ride, the first record with the number 1, and then the end by `put_end`:
+  -- what the program writes
   pub program : (store : Store) (f : Ride) (cards : List (List ℕ)) (calls : List Call) (before : List ℕ) (n : ℕ) (after : List ℕ) → Good store → anyBad cards ≡ false
       → Fresh f → ByList store f 1 (joined cards) calls → 128 ≤ length before → PutEnd plain (afterCalls f calls) before 0 n after
       → textFrom calls ++ take n after ≡ outputUnder store cards

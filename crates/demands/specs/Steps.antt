@@ -1,4 +1,5 @@
--- What the theorems on steps take as given: a record that is accepted, and whether a group is open, stays open or is left behind.
+-- What the theorems on steps take as given: a record that is accepted, and whether a group is open,
+-- stays open or is left behind.
 -- Assumes nothing.
 use Prim.Native.Nat.{ℕ, _+_, _≤_, _<_}
 use mathlib.Core.Path.{_≡_}
@@ -16,7 +17,8 @@ use Rattle.ride.specs.declared.Stepped.{Stepped}
 use Rattle.demands.specs.Table.{badGap}
 use Rattle.demands.specs.Contracts.{CheckRecord, StepOf}
 
--- One call of `step`: the ride and the gap before it, the record's bytes, what the record says, and what is answered.
+-- One call of `step`: the ride and the gap before it, the record's bytes, what the record says, and
+-- what is answered.
 pub record OneStep : Type 0 where
   pub ride : Ride
   pub gap : ℕ
@@ -25,13 +27,15 @@ pub record OneStep : Type 0 where
   pub passed : Passed
   pub answer : Stepped
 
--- The contract of `step` allows the answer, the gap is good (19), and the record is accepted (16, 18, 17).
+-- The contract of `step` allows the answer, the gap is good (19), and the record is accepted (16,
+-- 18, 17).
 pub record Accepts (o : OneStep) : Type 0 where
   pub called : StepOf (o .ride) (o .gap) (o .bytes) (o .answer)
   pub good-gap : badGap (o .gap) ≡ false
   pub accepted : CheckRecord (o .ride) (o .bytes) (Checked.Accepted (o .odometer) (o .passed))
 
--- "a group is open and the odometer exceeds its last balise by more than the gap": the step closes and judges it.
+-- "a group is open and the odometer exceeds its last balise by more than the gap": the step closes
+-- and judges it.
 pub record LeavesBehind (o : OneStep) : Type 0 where
   pub accepts : Accepts o
   pub is-open : isOpen (o .ride .group) ≡ true

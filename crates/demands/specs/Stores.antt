@@ -1,6 +1,7 @@
--- Demand 1 for the functions of document 02's M-111 that make a store of settings or take one: each refuses with the first number of its
--- list whose condition holds, and a refusal leaves what it was given as it was. (`allowed`, `leaves`, `hold` and `ride::odometer_at` give no number: they
--- always answer.)
+-- Demand 1 for the functions of document 02's M-111 that make a store of settings or take one: each
+-- refuses with the first number of its list whose condition holds, and a refusal leaves what it was
+-- given as it was. (`allowed`, `leaves`, `hold` and `ride::odometer_at` give no number: they always
+-- answer.)
 -- Assumes nothing.
 use Prim.Native.Nat.{ℕ}
 use mathlib.Core.Path.{_≡_}
@@ -50,7 +51,8 @@ AddVersion store v r = (e : AtExit (endedOf 0 add-kinds.ps add-kinds.r) tt) × a
 abbrev pub AskAt : Store → ℕ → Asked → Type 0
 AskAt store place r = (e : AtExit (endedOf 0 at-kinds.ps at-kinds.r) tt) × at-reads.Post tt (store, (place, tt)) r e
 
--- The contract of `judge_under` allows the answer r for this stretch of the buffer at this odometer.
+-- The contract of `judge_under` allows the answer r for this stretch of the buffer at this
+-- odometer.
 abbrev pub JudgeUnder : Store → ℕ → List ℕ → ℕ → ℕ → JudgedUnder → Type 0
 JudgeUnder store odometer b start len r =
     (κs : Lfts 1) × (buf : RefT (List ℕ)) × (e : AtExit (endedOf 1 judge-kinds.ps judge-kinds.r) κs)
@@ -75,12 +77,14 @@ abbrev pub laterRules : {A : Type 0} → ℕ → List Version → List (Rule (Ou
 laterRules last [] rules = rules
 laterRules last (v ∷ vs) rules = versionRules last v (laterRules (v .place) vs rules)
 
--- The versions of a lent store: 19 where there is none, 24 for the first place, then each in its turn.
+-- The versions of a lent store: 19 where there is none, 24 for the first place, then each in its
+-- turn.
 abbrev pub orderRules : {A : Type 0} → List Version → List (Rule (Outcome A)) → List (Rule (Outcome A))
 orderRules [] rules = row 19 true ∷ []
 orderRules (v ∷ vs) rules = row 24 (startsLate (v .place)) ∷ settingsRules v (laterRules 0 vs rules)
 
--- A lent store, judged first: 25 for a count above 32, then its versions in turn; then the function's own rules.
+-- A lent store, judged first: 25 for a count above 32, then its versions in turn; then the
+-- function's own rules.
 abbrev pub storeRules : {A : Type 0} → Store → List (Rule (Outcome A)) → List (Rule (Outcome A))
 storeRules store rules = row 25 (overfull (store .count)) ∷ orderRules (take (store .count) (store .versions)) rules
 
@@ -103,7 +107,8 @@ pub record StoresDecided : Type 0 where
       (storeRules store (row 18 (tooHigh odometer) ∷ judgeRules b start len (heldAt store odometer .s) (heldAt store odometer .t)))
       (saysJudgedUnder r)
 
--- "the store is unchanged"; where none is opened there is none: `noStore`, whose count is 0, whatever was asked.
+-- "the store is unchanged"; where none is opened there is none: `noStore`, whose count is 0,
+-- whatever was asked.
 pub record StoresUntouched : Type 0 where
   pub begin : (gap s t : ℕ) (r : Begun) (n : ℕ) → BeginStore gap s t r → saysVerdict (r .verdict) ≡ refuses n → r .store ≡ noStore
   pub add : (store : Store) (v : Version) (r : Added) (n : ℕ) → AddVersion store v r → saysVerdict (r .verdict) ≡ refuses n → r .store ≡ store

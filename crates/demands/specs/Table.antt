@@ -1,6 +1,8 @@
--- Document 01's table of refusal numbers, row by row. Each condition stands alone, and names no number. Its figures (7, 15,
--- 16,777,216, 64 and 11, 8 and 4, 1 to 14; those of 16 to 19 in RecordTable.antt) stand here a second time, so that a wrong one in a crate shows as a failing proof. What a place is,
--- when places are alike (`allAlike`), how a row fits (`fitIn`) and the ones and zeroes of a contact are cited from the crates.
+-- Document 01's table of refusal numbers, row by row. Each condition stands alone, and names no
+-- number. Its figures (7, 15, 16,777,216, 64 and 11, 8 and 4, 1 to 14; those of 16 to 19 in
+-- RecordTable.antt) stand here a second time, so that a wrong one in a crate shows as a failing
+-- proof. What a place is, when places are alike (`allAlike`), how a row fits (`fitIn`) and the ones
+-- and zeroes of a contact are cited from the crates.
 -- Assumes nothing.
 use Prim.Native.Nat.{ℕ, zero, suc, _+_, _-_, _*_, _^_}
 use mathlib.Core.Bool.{Bool, true, false, not, _&&_, _||_}
@@ -44,7 +46,8 @@ fifteen w = isCode 8 (exchanged 8 w) && eqb (figure 8 (exchanged 8 w)) 15
 unfoldable pub notSeven : ℕ → ℕ → Bool
 notSeven s t = not (eqb (differing s t 8) 7)
 
--- 5: "stretch beyond the buffer, or above 16,777,216 bits"; an end at bit 2^64 or past it counts as beyond: no machine has such a buffer
+-- 5: "stretch beyond the buffer, or above 16,777,216 bits"; an end at bit 2^64 or past it counts as
+-- beyond: no machine has such a buffer
 unfoldable pub beyond : List ℕ → ℕ → ℕ → Bool
 beyond b start len = ltb (8 * length b) (start + len) || leb (2 ^ 64) (start + len) || ltb 16777216 len
 
@@ -65,7 +68,8 @@ placesDiffer b start len s t = not (allAlike b (places b start len s t))
 unfoldable pub isRead : List ℕ → ℕ → ℕ → ℕ → ℕ → Bool
 isRead b start len s t = leb 2 (length (places b start len s t)) && allAlike b (places b start len s t)
 
--- Whether a contact is a marker's: "at least 64 bits long and made of zeroes followed by at most 11 ones".
+-- Whether a contact is a marker's: "at least 64 bits long and made of zeroes followed by at most 11
+-- ones".
 unfoldable pub isMarked : List ℕ → ℕ → ℕ → Bool
 isMarked b start len = leb 64 len && leb (onesAtEnd b start len) 11 && allZero b start (len - onesAtEnd b start len)
 
@@ -95,8 +99,8 @@ toEight b search k = leb 8 (zeroesWith b search k)
 abbrev pub laterToFour : List ℕ → Search → ℕ → ℕ → Bool
 laterToFour b search k j = ltb k j && leb (zeroesWith b search j) 4
 
--- 9: "contact cut by the end of the record": of the bits left, one brings the zeroes to 8 or more, none before it does, and
--- none after it brings them to 4 or fewer
+-- 9: "contact cut by the end of the record": of the bits left, one brings the zeroes to 8 or more,
+-- none before it does, and none after it brings them to 4 or fewer
 unfoldable pub cut : List ℕ → Search → Bool
 cut b search =
     some (λ k. toEight b search k && not (some (toEight b search) k) && not (some (laterToFour b search k) (search .left))) (search .left)
@@ -117,7 +121,8 @@ isNumber x = eqb (figure 8 (exchanged 8 x)) 12
 abbrev pub isBad : ℕ → Bool
 isBad w = notCode 8 w || fifteen w
 
--- Whether the words of a telegram are refused: X is, or, if it reads 12, Y and Z together are, or else Y or Z is.
+-- Whether the words of a telegram are refused: X is, or, if it reads 12, Y and Z together are, or
+-- else Y or Z is.
 unfoldable pub wordsRefused : ℕ → ℕ → ℕ → Bool
 wordsRefused x y z = isBad x || pick (isNumber x) (notCode 16 (y * 256 + z)) (isBad y || isBad z)
 
@@ -154,8 +159,8 @@ isMisfit (fit kind a) = false
 unfoldable pub noRow : List Placed → Bool
 noRow bs = isMisfit (fitIn present bs) && isMisfit (fitIn opposite bs)
 
--- 14 is not used, and never will be again: no group fits a row of each direction (`OneWay`, of group_rows/specs/OneWay.antt, which demand 2
--- cites).
+-- 14 is not used, and never will be again: no group fits a row of each direction (`OneWay`, of
+-- group_rows/specs/OneWay.antt, which demand 2 cites).
 
 -- Whether a distance is judged: "for present signals and present warning boards only".
 abbrev pub judgedKind : Kind → Bool
@@ -174,14 +179,14 @@ isJudged (fit kind a) = judgedKind kind
 unfoldable pub noDistance : ℕ → ℕ → Bool
 noDistance by figure = ltb 14 by || not (leb 1 figure && leb figure 14)
 
--- Whether BY, BZ and the 14, if there is one, give no distance. "Without a 14, BZ must be 1 to 14. With a 14 (C), BZ must be
--- 0 and CY 1 to 14, and CY is used for BZ."
+-- Whether BY, BZ and the 14, if there is one, give no distance. "Without a 14, BZ must be 1 to 14.
+-- With a 14 (C), BZ must be 0 and CY 1 to 14, and CY is used for BZ."
 abbrev pub noLink : ℕ → ℕ → Found → Bool
 noLink by bz none = noDistance by bz
 noLink by bz (found c) = not (eqb bz 0) || noDistance by (Y (c .part))
 
--- Whether a group that so fits the present rows is a preset point at an aspect that cannot have it: "a present signal with BY = 14 and
--- AZ of 0, 1 or 13". AZ is the figure as read.
+-- Whether a group that so fits the present rows is a preset point at an aspect that cannot have it:
+-- "a present signal with BY = 14 and AZ of 0, 1 or 13". AZ is the figure as read.
 abbrev pub presetBarred : Fit → ℕ → Bool
 presetBarred misfit by = false
 presetBarred (fit Kind.Signal a) by = eqb by 14 && (eqb (Z (a .part)) 0 || eqb (Z (a .part)) 1 || eqb (Z (a .part)) 13)

@@ -1,5 +1,5 @@
--- The rows that document 02 adds to the table of refusal numbers, and what 2 and 3 are where several figures are written at once. Each
--- condition stands alone, and names no number.
+-- The rows that document 02 adds to the table of refusal numbers, and what 2 and 3 are where
+-- several figures are written at once. Each condition stands alone, and names no number.
 -- Assumes nothing.
 use Prim.Native.Nat.{ℕ, _+_, _*_, _/_}
 use mathlib.Core.Bool.{Bool, false, not, _||_}
@@ -9,7 +9,8 @@ use lib.ListN.{length}
 use Rattle.words.specs.Answer.{pick}
 use Rattle.demands.specs.Table.{above}
 
--- 2, of X, Y and Z "as figures (for X = 12 one figure to 2,047)": "figure to write above 15 or above 2,047"
+-- 2, of X, Y and Z "as figures (for X = 12 one figure to 2,047)": "figure to write above 15 or
+-- above 2,047"
 unfoldable pub someAbove : ℕ → ℕ → ℕ → Bool
 someAbove x y z = pick (eqb x 12) (above 2047 y) (above 15 x || above 15 y || above 15 z)
 
@@ -33,7 +34,8 @@ tooHigh place = ltb 4000000000 place
 unfoldable pub nothingKept : ℕ → Bool
 nothingKept kept = eqb kept 0
 
--- 23: "for forward exactly at the end": as many records lie before the viewer as the trace has, of 8 bytes each
+-- 23: "for forward exactly at the end": as many records lie before the viewer as the trace has, of
+-- 8 bytes each
 unfoldable pub atEnd : List ℕ → ℕ → Bool
 atEnd trace number = leb (length trace / 8) number
 

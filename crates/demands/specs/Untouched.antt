@@ -42,15 +42,19 @@ use Rattle.demands.specs.Stores.{StoresUntouched}
 use Rattle.demands.specs.Viewing.{ViewersUntouched}
 use Rattle.demands.specs.Plans.{PlansUntouched}
 
--- A refusal carries no figure: two answers with the same refusal are the same answer, whatever was asked. A refusal is a number; that of a
--- word is its number and its parity, that of a telegram these and the letter of its first bad word.
+-- A refusal carries no figure: two answers with the same refusal are the same answer, whatever was
+-- asked. A refusal is a number; that of a word is its number and its parity, that of a telegram
+-- these and the letter of its first bad word.
 abbrev pub Bare : {R A B : Type 0} → (A → Answer R B) → Type 0
 Bare {R} {A} says = (refusal : R) (r r′ : A) → says r ≡ refuses refusal → says r′ ≡ refuses refusal → r ≡ r′
 
--- "A refusal hands out no figure, and lent memory and the running state stay untouched unless the table says otherwise."
--- Of the functions with a list only those of `ride_text`, `balise_writer` and `compaction` are lent memory that they may write; a search is given by value,
--- and a refusal of `next_contact` gives none back. Those that put a text into a lent buffer (of `text`, `contact_text`, `group_reason`, `ride_text`, `settings_text`, `acceptance_text`,
--- `viewer_text`, `audibility`) refuse with no number: what they leave without room is in their contracts. (The face for C: `left` of crates/abi/specs/Face.antt.)
+-- "A refusal hands out no figure, and lent memory and the running state stay untouched unless the
+-- table says otherwise." Of the functions with a list only those of `ride_text`, `balise_writer`
+-- and `compaction` are lent memory that they may write; a search is given by value, and a refusal
+-- of `next_contact` gives none back. Those that put a text into a lent buffer (of `text`,
+-- `contact_text`, `group_reason`, `ride_text`, `settings_text`, `acceptance_text`, `viewer_text`,
+-- `audibility`) refuse with no number: what they leave without room is in their contracts. (The
+-- face for C: `left` of crates/abi/specs/Face.antt.)
 pub record Untouched : Type 0 where
   -- a refused step closes no group, and it and a refused run leave the ride as it was
   pub step : (ride : Ride) (gap : ℕ) (bytes : List ℕ) (r : Stepped) (n : ℕ) → StepOf ride gap bytes r
@@ -69,8 +73,9 @@ pub record Untouched : Type 0 where
       → saysSize (r .size) ≡ refuses n → (r .ride ≡ ride) × (after ≡ before)
   pub block : (w : Waiting) (store : Store) (before : List ℕ) (r : Block) (after : List ℕ) (n : ℕ) → BlockIn w store before r after
       → saysSize (r .size) ≡ refuses n → (r .waiting ≡ w) × (after ≡ before)
-  -- "but for the group refusals": a group that is left behind and refused with n, 10 to 13 or 15, gives the fault line, is handed out as
-  -- the one that closed, and leaves nothing known and no group but what the record itself takes up
+  -- "but for the group refusals": a group that is left behind and refused with n, 10 to 13 or 15,
+  -- gives the fault line, is handed out as the one that closed, and leaves nothing known and no
+  -- group but what the record itself takes up
   pub group : (o : OneStep) (j : GroupJudged) (n : ℕ) → LeavesBehind o → JudgeGroup (o .ride .group) j → saysGroup j ≡ refuses n
       → saysStepped (o .answer)
       ≡ record {

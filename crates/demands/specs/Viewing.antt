@@ -1,7 +1,9 @@
--- Demand 1 for the viewer of document 02's M-108: "19, then 16 refuse it"; "22 for back exactly if the kept count is 0; 23 for forward exactly at
--- the end; both leave the viewer unchanged." `start`, `forward` and `back` stand here twice: over a viewer, with what the contract allows as
+-- Demand 1 for the viewer of document 02's M-108: "19, then 16 refuse it"; "22 for back exactly if
+-- the kept count is 0; 23 for forward exactly at the end; both leave the viewer unchanged."
+-- `start`, `forward` and `back` stand here twice: over a viewer, with what the contract allows as
 -- viewer/specs/Laws.antt says it, and over a plain slice (`.._at`). Many at once (`forwards_at`,
--- `backs_at`) refuse nothing: they say how many calls were made (`Going` of viewer_laws/specs/Session.antt).
+-- `backs_at`) refuse nothing: they say how many calls were made (`Going` of
+-- viewer_laws/specs/Session.antt).
 -- Assumes nothing.
 use Prim.Native.Nat.{ℕ}
 use mathlib.Core.Path.{_≡_}
@@ -56,8 +58,9 @@ BackAt s r = (e : AtExit (endedOf 0 back-kinds.ps back-kinds.r) tt) × back-read
 
 -- ---- demand 1
 
--- Opening: the settings' own refusals (of a gap, 19), then 16. Back: 22. Forward: 23; a viewer that no call made may hold settings that are refused,
--- and then forward at a record is refused with their number.
+-- Opening: the settings' own refusals (of a gap, 19), then 16. Back: 22. Forward: 23; a viewer that
+-- no call made may hold settings that are refused, and then forward at a record is refused with
+-- their number.
 pub record ViewersDecided : Type 0 where
   pub start : (store : Store) (trace : RefT (List ℕ)) (r : Started) → Starts store trace r
       → Decided (Is done) (traceRules store (now trace)) (saysBegun (r .begun))
@@ -70,9 +73,11 @@ pub record ViewersDecided : Type 0 where
       → Decided (Is done) (forwardRules trace (s .number) (storeRules (s .settings) [])) (saysHow (r .how))
   pub back-at : (s : Stand) (r : Came) → BackAt s r → Decided (Is done) (backRules (s .kept)) (saysHow (r .how))
 
--- What a refusal leaves: "both leave the viewer unchanged", and a refused forward gives no line and closes no group. A refused opening answers a viewer over an
--- empty slice that stands as any viewer opens (`opened`): number 0, nothing kept, a fresh ride, a history of fresh rides, and the settings that were given. So it hands out
--- neither a ride nor a history; forward is 23 there, and back 22.
+-- What a refusal leaves: "both leave the viewer unchanged", and a refused forward gives no line and
+-- closes no group. A refused opening answers a viewer over an empty slice that stands as any viewer
+-- opens (`opened`): number 0, nothing kept, a fresh ride, a history of fresh rides, and the
+-- settings that were given. So it hands out neither a ride nor a history; forward is 23 there, and
+-- back 22.
 pub record ViewersUntouched : Type 0 where
   pub start : (store : Store) (trace : RefT (List ℕ)) (r : Started) (n : ℕ) → Starts store trace r → saysBegun (r .begun) ≡ refuses n
       → (now (r .viewer .trace) ≡ []) × (r .viewer .stand ≡ opened store)

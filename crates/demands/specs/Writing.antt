@@ -1,5 +1,6 @@
--- Document 02, M-100: "Reading these bits as one contact gives exactly n places, the first at 0, and the same figures." The bits are those
--- that `write` wrote, whatever stands in the buffer after them. That it is so: proofs/Beside/Writing.antt.
+-- Document 02, M-100: "Reading these bits as one contact gives exactly n places, the first at 0,
+-- and the same figures." The bits are those that `write` wrote, whatever stands in the buffer after
+-- them. That it is so: proofs/Beside/Writing.antt.
 -- Assumes nothing.
 use Prim.Native.Nat.{ℕ, _+_, _*_, _<_}
 use mathlib.Core.Path.{_≡_}
@@ -13,7 +14,8 @@ use Rattle.balise_writer.specs.declared.Written.{Written}
 use Rattle.demands.specs.Contracts.{Write, JudgeContact}
 use Rattle.demands.specs.Calls.{Comes}
 
--- A call of `write` that its contract allows, and that was not refused: n telegrams of the figures x, y, z with the sync words s and t.
+-- A call of `write` that its contract allows, and that was not refused: n telegrams of the figures
+-- x, y, z with the sync words s and t.
 pub record OneWriting : Type 0 where
   pub x : ℕ
   pub y : ℕ

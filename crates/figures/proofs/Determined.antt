@@ -1,5 +1,5 @@
--- Each contract fixes its function's whole answer: any two answers that it allows are equal; of a field, where it lies and what it holds, which is all of it that a
--- program can tell.
+-- Each contract fixes its function's whole answer: any two answers that it allows are equal; of a
+-- field, where it lies and what it holds, which is all of it that a program can tell.
 -- Assumes nothing.
 use Prim.Native.Nat.{ℕ}
 use mathlib.Core.Path.{_≡_, sym, _∙_}

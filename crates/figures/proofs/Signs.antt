@@ -105,7 +105,8 @@ pub place-first : (sign : ℕ) (text : List ℕ) → placeOf text 0 sign ≡ bef
 unfolding placeOf
 place-first sign text = omega arith
 
--- What an answer of `place_of` comes to for a caller: it lies at or after the start, and within what is left of the text from there on.
+-- What an answer of `place_of` comes to for a caller: it lies at or after the start, and within
+-- what is left of the text from there on.
 pub found-within : (sign : ℕ) (text : List ℕ) (from r : ℕ) → r ≡ placeOf text from sign → (from ≤ r) × (r ≤ from + (length text - from))
 unfolding placeOf
 found-within sign text from r e =

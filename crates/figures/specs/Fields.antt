@@ -1,4 +1,5 @@
--- A text cut into fields by a sign that stands between two of them, and counting. A text is the list of its bytes.
+-- A text cut into fields by a sign that stands between two of them, and counting. A text is the
+-- list of its bytes.
 -- Assumes nothing.
 use Prim.Native.Nat.{ℕ, zero, suc, _+_}
 use mathlib.Core.Bool.{Bool, _&&_}
@@ -25,7 +26,8 @@ after sign text = drop (suc (before sign text)) text
 unfoldable pub has : List ℕ → ℕ → Bool
 has text sign = ltb (before sign text) (length text)
 
--- Where field k starts, counted from 0: field 0 at the beginning, the next after the first sign, and so on; at the text's end, if there is none.
+-- Where field k starts, counted from 0: field 0 at the beginning, the next after the first sign,
+-- and so on; at the text's end, if there is none.
 unfoldable pub startOf : List ℕ → ℕ → ℕ → ℕ
 startOf text sign zero = 0
 startOf text sign (suc k) = pick (has text sign) (suc (before sign text) + startOf (after sign text) sign k) (length text)

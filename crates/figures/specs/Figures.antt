@@ -1,5 +1,5 @@
--- Figures as they stand on a command line: numbers in decimal, words as two hex digits of either case. A text is the codes of its
--- characters (ASCII).
+-- Figures as they stand on a command line: numbers in decimal, words as two hex digits of either
+-- case. A text is the codes of its characters (ASCII).
 -- Assumes nothing.
 use Prim.Native.Nat.{ℕ, _+_, _-_, _*_}
 use mathlib.Core.Bool.{Bool, true, _&&_}
@@ -24,8 +24,9 @@ unfoldable pub continued : ℕ → List ℕ → ℕ
 continued n [] = n
 continued n (c ∷ cs) = continued (n * 10 + (c - 48)) cs
 
--- What a text is as a number, of which `most` is the largest asked for: that number (`Number n`); above it, however long the text is (`Above`); or
--- no number (`Odd`). A text of digits, at least one, is a number.
+-- What a text is as a number, of which `most` is the largest asked for: that number (`Number n`);
+-- above it, however long the text is (`Above`); or no number (`Odd`). A text of digits, at least
+-- one, is a number.
 unfoldable pub decimal : List ℕ → ℕ → Figure
 decimal text most =
     pick (ltb 0 (length text) && allDigits text)
@@ -36,7 +37,8 @@ decimal text most =
 unfoldable pub hexDigit : ℕ → ℕ
 hexDigit c = pick (between 48 57 c) (c - 48) (pick (between 97 102 c) (c - 87) (pick (between 65 70 c) (c - 55) 16))
 
--- What a text is as a word: a byte (`Is b`), or no word (`Odd`). A text of two hex digits is a word, the first its high half.
+-- What a text is as a word: a byte (`Is b`), or no word (`Odd`). A text of two hex digits is a
+-- word, the first its high half.
 unfoldable pub hex : List ℕ → Byte
 hex text =
     let high : ℕ = hexDigit (getD text 0 0) in

@@ -1,8 +1,10 @@
-// The fields of a line of text, between which one sign stands, and counting: what the programs that compare tables share.
+// The fields of a line of text, between which one sign stands, and counting: what the programs that
+// compare tables share.
 ghost use mathlib.Core.Path.{_≡_};
 ghost use Rattle.figures.specs.Fields.{placeOf, startOf, field, lies, part, has, more};
 
-// The place of the first such sign at or after the place `from`, or the text's end if there is none; a place beyond the text is answered as it is.
+// The place of the first such sign at or after the place `from`, or the text's end if there is
+// none; a place beyond the text is answered as it is.
 pub fn place_of(text: &[u8], from: usize, sign: u8) -> usize
     ensures { λ r. ⌜ r ≡ placeOf (now (text .entry)) from sign ⌝ }
 {
@@ -33,7 +35,8 @@ fn start_of(text: &[u8], sign: u8, k: usize) -> usize
     at
 }
 
-// Field k of a text, counted from 0, where the sign stands between two fields: the very part of the text; empty, and at the text's end, if there is none.
+// Field k of a text, counted from 0, where the sign stands between two fields: the very part of the
+// text; empty, and at the text's end, if there is none.
 pub fn field(text: &[u8], sign: u8, k: usize) -> &[u8]
     ensures { λ r. ⌜ lies r ≡ part (text .entry) (startOf (now (text .entry)) sign k) (field (now (text .entry)) sign k) ⌝ }
 {

@@ -1,5 +1,7 @@
-// Figures from a command line: numbers in decimal, words as two hex digits; and the fields of a line, for the programs that compare tables.
-// Promises: every text is answered; an odd one or one that is too large is told apart, and nothing is wrapped round; a field that a text has not is empty.
+// Figures from a command line: numbers in decimal, words as two hex digits; and the fields of a
+// line, for the programs that compare tables.
+// Promises: every text is answered; an odd one or one that is too large is told apart, and nothing
+// is wrapped round; a field that a text has not is empty.
 // Specification: specs/Figures.antt, specs/Fields.antt.
 ghost use mathlib.Core.Path.{_≡_};
 ghost use Rattle.figures.specs.Figures.{decimal, hex};
@@ -25,8 +27,8 @@ pub enum Byte {
     Odd,
 }
 
-// The number that a text of decimal digits is, at least one of them, or that it is above `most`, the largest asked for, however long it is; any other
-// text is none.
+// The number that a text of decimal digits is, at least one of them, or that it is above `most`,
+// the largest asked for, however long it is; any other text is none.
 pub fn decimal(text: &[u8], most: u64) -> Figure
     ensures { λ r. ⌜ r ≡ decimal (now (text .entry)) most ⌝ }
 {
@@ -39,7 +41,8 @@ pub fn decimal(text: &[u8], most: u64) -> Figure
     digits::up_to(text, most)
 }
 
-// The byte that a text of two hex digits of either case is, the first its high half; any other text is none.
+// The byte that a text of two hex digits of either case is, the first its high half; any other text
+// is none.
 pub fn hex(text: &[u8]) -> Byte
     ensures { λ r. ⌜ r ≡ hex (now (text .entry)) ⌝ }
 {

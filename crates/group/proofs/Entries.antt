@@ -1,5 +1,5 @@
--- Table DF and the signal speeds: each entry of the constant tables gives what document 01's tables give, by one
--- computation over all entries.
+-- Table DF and the signal speeds: each entry of the constant tables gives what document 01's tables
+-- give, by one computation over all entries.
 -- Assumes nothing.
 use Prim.Native.Nat.{ℕ, zero, suc, _^_, _<_, _≤_}
 use mathlib.Core.Path.{_≡_, refl, ap, subst}

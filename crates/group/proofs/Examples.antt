@@ -30,7 +30,8 @@ use Rattle.group.specs.Speed.{signalSpeed, targetFigure}
 use Rattle.group.specs.Numbers.{numberOf}
 use Rattle.group.specs.Judge.{distanceOf, signalDistance, judgeRead, judge}
 
--- "distances (BY,BZ) (0,1) 125, (13,14) 119000, (14,1) 7000, (14,14) 500, (0,0) refused without a 14"
+-- "distances (BY,BZ) (0,1) 125, (13,14) 119000, (14,1) 7000, (14,14) 500, (0,0) refused without a
+-- 14"
 distances : List (Outcome ℕ)
 distances = distance 0 1 ∷ distance 13 14 ∷ distance 14 1 ∷ distance 14 14 ∷ distance 0 0 ∷ []
 
@@ -69,7 +70,8 @@ judged-of-the-ride = refl
 at : ℕ → Part → Placed
 at place part = record { place = place; part = part }
 
--- 12 8 1 9 14: a signal with its number and a prefix. The prefix (7, 1) makes target figure 1 read 0; BZ is 0 and CY gives the distance.
+-- 12 8 1 9 14: a signal with its number and a prefix. The prefix (7, 1) makes target figure 1 read
+-- 0; BZ is 0 and CY gives the distance.
 judged-long : judgeRead
     (at 10 (Part.Number 1612) ∷ at 20 (Part.Figures 8 7 1) ∷ at 30 (Part.Figures 1 3 1) ∷ at 40 (Part.Figures 9 6 0)
     ∷ at 50 (Part.Figures 14 2 9) ∷ [])

@@ -1,4 +1,5 @@
--- Every distance of table DF is small: it is at most the largest of its column, and those are small all together.
+-- Every distance of table DF is small: it is at most the largest of its column, and those are small
+-- all together.
 -- Assumes nothing.
 use Prim.Native.Nat.{ℕ, zero, suc, _+_, _*_, _^_, _<_, _≤_}
 use mathlib.Core.Path.{_≡_, refl}

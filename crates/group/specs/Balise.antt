@@ -1,6 +1,7 @@
--- Balises and groups (document 01, "Groups"). A balise is kept as received: its place, and what was heard there, which
--- is three words (`Words x y z`), a marker (`Marker`) or nothing readable (`Unreadable`). A group keeps its first five
--- balises, counts them all (255 stands for 255 or more) and holds the last one's place.
+-- Balises and groups (document 01, "Groups"). A balise is kept as received: its place, and what was
+-- heard there, which is three words (`Words x y z`), a marker (`Marker`) or nothing readable
+-- (`Unreadable`). A group keeps its first five balises, counts them all (255 stands for 255 or
+-- more) and holds the last one's place.
 -- Assumes nothing.
 use mathlib.Core.List.{List, [], _∷_}
 use lib.ListN.{take}
@@ -18,7 +19,8 @@ use Rattle.group_rows.specs.declared.Placed.{Placed}
 unfoldable pub balises : Group → List Balise
 balises g = take (g .count) (g .kept)
 
--- A telegram as a part of a group: the figures of X, Y and Z, or the number of a number balise (12).
+-- A telegram as a part of a group: the figures of X, Y and Z, or the number of a number balise
+-- (12).
 abbrev pub partSaid : Telegram → Part
 partSaid (Telegram.Figures x y z) = Part.Figures x y z
 partSaid (Telegram.Number m) = Part.Number m

@@ -46,12 +46,14 @@ inTable [] by figure = refuses 15
 inTable (c ∷ cs) zero figure = gives (inColumn c figure)
 inTable (c ∷ cs) (suc by) figure = inTable cs by figure
 
--- The distance of the figure (BZ, or CY in its place) in column BY. The figure "must be 1 to 14", else 15.
+-- The distance of the figure (BZ, or CY in its place) in column BY. The figure "must be 1 to 14",
+-- else 15.
 unfoldable pub distance : ℕ → ℕ → Outcome ℕ
 distance by figure = pick (leb 1 figure && leb figure 14) (inTable columns by figure) (refuses 15)
 
--- The distance of a present signal or a present warning board, from BY, BZ and the 14 (C), if there is one.
--- "Without a 14, BZ must be 1 to 14. With a 14 (C), BZ must be 0 and CY 1 to 14, and CY is used for BZ."
+-- The distance of a present signal or a present warning board, from BY, BZ and the 14 (C), if there
+-- is one. "Without a 14, BZ must be 1 to 14. With a 14 (C), BZ must be 0 and CY 1 to 14, and CY is
+-- used for BZ."
 abbrev pub linkDistance : ℕ → ℕ → Found → Outcome ℕ
 linkDistance by bz none = distance by bz
 linkDistance by bz (found c) = pick (eqb bz 0) (distance by (Y (c .part))) (refuses 15)
@@ -60,7 +62,7 @@ linkDistance by bz (found c) = pick (eqb bz 0) (distance by (Y (c .part))) (refu
 abbrev pub isPreset : ℕ → Bool
 isPreset by = eqb by 14
 
--- A target figure that a preset point cannot have: 0, 1 or 13. "A preset increase needs a target above the main speed, and the main
--- speed is at least 40", and these figures mean 0 or 40.
+-- A target figure that a preset point cannot have: 0, 1 or 13. "A preset increase needs a target
+-- above the main speed, and the main speed is at least 40", and these figures mean 0 or 40.
 abbrev pub noIncrease : ℕ → Bool
 noIncrease az = eqb az 0 || eqb az 1 || eqb az 13

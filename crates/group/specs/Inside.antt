@@ -1,4 +1,5 @@
--- What each case of the answers inside the crate says. No promise to a caller cites these; the functions that the code is cut into do.
+-- What each case of the answers inside the crate says. No promise to a caller cites these; the
+-- functions that the code is cut into do.
 -- Assumes nothing.
 use Prim.Native.Nat.{ℕ}
 use mathlib.Core.List.{List}

@@ -1,8 +1,11 @@
--- The judgement of a closed group (document 01, "Groups" and "Refusal numbers"): 10, 11, 12, 13, 15 in this order, or the
--- group's message. 14 is not used: no group fits a row of each direction (group_rows/specs/OneWay.antt).
--- A message (`Message`) has the group's direction and kind, the place of its A balise, AY and AZ, the figure of its number balise or none, and
--- its content (`Content`), what it says beyond its kind. That of a present signal: its distance (a preset point's is table DF's figure, and links nothing), whether it is a preset point, its main speed and its
--- target; of a present warning board: its distance; of a route board: its speed; of any other group: nothing.
+-- The judgement of a closed group (document 01, "Groups" and "Refusal numbers"): 10, 11, 12, 13, 15
+-- in this order, or the group's message. 14 is not used: no group fits a row of each direction
+-- (group_rows/specs/OneWay.antt). A message (`Message`) has the group's direction and kind, the
+-- place of its A balise, AY and AZ, the figure of its number balise or none, and its content
+-- (`Content`), what it says beyond its kind. That of a present signal: its distance (a preset
+-- point's is table DF's figure, and links nothing), whether it is a preset point, its main speed
+-- and its target; of a present warning board: its distance; of a route board: its speed; of any
+-- other group: nothing.
 -- Assumes nothing.
 use Prim.Native.Nat.{ℕ}
 use mathlib.Core.Bool.{_&&_}
@@ -50,13 +53,13 @@ C bs = first (any 14) bs
 unfoldable pub distanceOf : List Placed → Outcome ℕ
 distanceOf bs = linkDistance (yOf (B bs)) (zOf (B bs)) (C bs)
 
--- The distance of a present signal. "A present signal with BY = 14 and AZ of 0, 1 or 13 is refused with 15, judged with the distance";
--- AZ is the figure as read, before a prefix changes it.
+-- The distance of a present signal. "A present signal with BY = 14 and AZ of 0, 1 or 13 is refused
+-- with 15, judged with the distance"; AZ is the figure as read, before a prefix changes it.
 unfoldable pub signalDistance : ℕ → List Placed → Outcome ℕ
 signalDistance az bs = pick (isPreset (yOf (B bs)) && noIncrease az) (refuses 15) (distanceOf bs)
 
--- What a group of the present direction says beyond its kind, from the speed that its row gives, AY, AZ and its balises.
--- "Distance, judged for present signals and present warning boards only."
+-- What a group of the present direction says beyond its kind, from the speed that its row gives,
+-- AY, AZ and its balises. "Distance, judged for present signals and present warning boards only."
 abbrev pub contentOf : Kind → ℕ → ℕ → ℕ → List Placed → Outcome Content
 contentOf Kind.Signal v ay az bs =
     then (signalDistance az bs) λ d.
@@ -90,7 +93,8 @@ judgeAs Direction.Opposite row bs = gives (messageOf row (numberOf bs) Content.N
 unfoldable pub judgeRead : List Placed → Outcome Message
 judgeRead bs = then (fitting bs) λ row. judgeAs (row .direction) row bs
 
--- The judgement of a group: "group of one balise" is 10, "group of more than five" is 11, then its balises are read (12).
+-- The judgement of a group: "group of one balise" is 10, "group of more than five" is 11, then its
+-- balises are read (12).
 unfoldable pub judge : Group → Outcome Message
 judge g =
     pick (eqb (g .count) 1) (refuses 10)

@@ -141,7 +141,8 @@ fn of_warning(ay: u8, az: u8, p: [Placed; 5], n: usize) -> Contained
     }
 }
 
-// What a present group says beyond its kind, or that its distance is not allowed; speed is the route board's.
+// What a present group says beyond its kind, or that its distance is not allowed; speed is the
+// route board's.
 pub fn of_present(kind: Kind, speed: u16, ay: u8, az: u8, p: [Placed; 5], n: usize) -> Contained
     requires { ⌜ n ≤ 5 ⌝ }
     ensures { λ r. ⌜ saysContained r ≡ contentOf kind speed ay az (take n p) ⌝ }

@@ -1,7 +1,9 @@
 // Balises as received, and the judgement of a closed group: rows, distances, speeds.
-// Promises: a group is its message, or refused with 10, 11, 12, 13 or 15, exactly as document 01's rows and tables say.
-// Specification: specs/Rows.antt of group_rows (the rows), specs/Judge.antt (the judgement), specs/Distance.antt, specs/Speed.antt, specs/Says.antt.
-// 14 is not used: no group fits a row of each direction (specs/OneWay.antt of `group_rows`).
+// Promises: a group is its message, or refused with 10, 11, 12, 13 or 15, exactly as document 01's
+// rows and tables say.
+// Specification: specs/Rows.antt of group_rows (the rows), specs/Judge.antt (the judgement),
+// specs/Distance.antt, specs/Speed.antt, specs/Says.antt. 14 is not used: no group fits a row of
+// each direction (specs/OneWay.antt of `group_rows`).
 ghost use mathlib.Core.Path.{_≡_};
 ghost use Rattle.group.specs.Distance.{distance};
 ghost use Rattle.group.specs.Speed.{signalSpeed};
@@ -31,7 +33,8 @@ pub struct Balise {
     pub heard: Heard,
 }
 
-// A group: its first five balises, how many there were (255 stands for 255 or more), and the last one's place.
+// A group: its first five balises, how many there were (255 stands for 255 or more), and the last
+// one's place.
 pub struct Group {
     pub kept: [Balise; 5],
     pub count: u8,
@@ -56,7 +59,8 @@ pub enum Measured {
     NoDistance,
 }
 
-// What a group says beyond its kind. The distance of a preset point is table DF's figure (BY 14): it announces no signal, and a ride links nothing by it.
+// What a group says beyond its kind. The distance of a preset point is table DF's figure (BY 14):
+// it announces no signal, and a ride links nothing by it.
 pub enum Content {
     Signal {
         distance: u32,
@@ -82,7 +86,8 @@ pub struct Message {
     pub content: Content,
 }
 
-// What judging a group answers: its message, or the refusals 10, 11, 12, 13 and 15 in this order. 14 is not used.
+// What judging a group answers: its message, or the refusals 10, 11, 12, 13 and 15 in this order.
+// 14 is not used.
 pub enum GroupJudged {
     Accepted(Message),
     One,
@@ -92,7 +97,8 @@ pub enum GroupJudged {
     NoDistance,
 }
 
-// The distance of a figure in column BY of table DF: base plus step times figure for columns 0 to 14 and figures 1 to 14, else refusal 15.
+// The distance of a figure in column BY of table DF: base plus step times figure for columns 0 to
+// 14 and figures 1 to 14, else refusal 15.
 pub fn distance(by: u8, figure: u8) -> Measured
     ensures { λ r. ⌜ saysMeasured r ≡ distance by figure ⌝ }
 {
@@ -120,7 +126,8 @@ pub fn speed(figure: u8) -> Told
     }
 }
 
-// The message of a closed group by the rows, with the figure of its number balise or none; or refusal 10, 11, 12, 13, 15 in this order.
+// The message of a closed group by the rows, with the figure of its number balise or none; or
+// refusal 10, 11, 12, 13, 15 in this order.
 pub fn judge(group: Group) -> GroupJudged
     ensures { λ r. ⌜ saysGroupJudged r ≡ judge group ⌝ }
 {

@@ -54,7 +54,8 @@ pub fn part_heard(heard: Heard) -> PartRead
     }
 }
 
-// Five places for balises as read, before any is. A constant is copied whole, where a literal is written field by field.
+// Five places for balises as read, before any is. A constant is copied whole, where a literal is
+// written field by field.
 const NO_PARTS: [Placed; 5] = [Placed {
     place: 0,
     part: Part::Marker,

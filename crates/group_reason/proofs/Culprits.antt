@@ -1,4 +1,5 @@
--- Of a present signal or warning board: a figure of B or C breaks the rule and is named, or the distance is allowed and nothing is.
+-- Of a present signal or warning board: a figure of B or C breaks the rule and is named, or the
+-- distance is allowed and nothing is.
 -- Assumes nothing.
 use Prim.Native.Nat.{ℕ}
 use mathlib.Core.Path.{_≡_, refl, sym, ap, _∙_}

@@ -1,4 +1,5 @@
--- The balise named for 15 breaks the rule of distances, and where none is named the distance is allowed.
+-- The balise named for 15 breaks the rule of distances, and where none is named the distance is
+-- allowed.
 -- Assumes nothing.
 use Prim.Native.Nat.{ℕ, zero, suc, _≤_, _<_}
 use mathlib.Core.Path.{_≡_, refl, sym, ap, _∙_}

@@ -1,4 +1,5 @@
--- Balises that open a row, as the matcher stopped early says, are made a group of it by some more: an actual list of them.
+-- Balises that open a row, as the matcher stopped early says, are made a group of it by some more:
+-- an actual list of them.
 -- Assumes nothing.
 use Prim.Native.Nat.{ℕ}
 use mathlib.Core.Path.{_≡_, refl, sym, subst}

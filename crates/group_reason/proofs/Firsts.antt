@@ -1,4 +1,5 @@
--- The balise named for 12 is the first bad one, and reading with its name says what reading without it says.
+-- The balise named for 12 is the first bad one, and reading with its name says what reading without
+-- it says.
 -- Assumes nothing.
 use Prim.Native.Nat.{ℕ, suc, _+_}
 use mathlib.Core.Path.{_≡_, refl, sym, ap, _∙_}

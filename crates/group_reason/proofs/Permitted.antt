@@ -1,4 +1,5 @@
--- Balises that open a permitted group, as the matcher stopped early says, do so: some more make a group that fits a row.
+-- Balises that open a permitted group, as the matcher stopped early says, do so: some more make a
+-- group that fits a row.
 -- Assumes nothing.
 use mathlib.Core.Path.{_≡_, refl, _∙_}
 use mathlib.Core.Bool.{Bool, true, _&&_, _||_}

@@ -1,4 +1,5 @@
--- The opening run is the longest: as far as it the balises open a permitted group, and one balise further they do not.
+-- The opening run is the longest: as far as it the balises open a permitted group, and one balise
+-- further they do not.
 -- Assumes nothing.
 use Prim.Native.Nat.{ℕ, zero, suc, _+_, _≤_, _<_}
 use mathlib.Core.Path.{_≡_, refl, sym, ap, _∙_}
@@ -56,7 +57,8 @@ module _ (bs : List Placed) where
           let last : k ≡ suc n = omega (arith, ltb-false k (suc n) q) in
           ap (λ (m : ℕ). isOpening (take m bs)) last ∙ e
 
-  -- As far as the opening run the balises open a permitted group, and one balise further they do not.
+  -- As far as the opening run the balises open a permitted group, and one balise further they do
+  -- not.
   pub run-is-longest : Longest bs (openingRun bs)
   run-is-longest =
       record {

@@ -1,6 +1,8 @@
--- Why a closed group was refused (request M-103): "for 10 and 11 the number of balises (255 stands for 255 or more); for 12 the first bad
--- balise in passing order and which word (X, Y, Z or YZ) is bad, none if it was unreadable; for 15 the balise whose figure breaks the rule,
--- B before C (B also for M-101's rule); for 13 the length of the longest opening run that also opens some permitted group".
+-- Why a closed group was refused (request M-103): "for 10 and 11 the number of balises (255 stands
+-- for 255 or more); for 12 the first bad balise in passing order and which word (X, Y, Z or YZ) is
+-- bad, none if it was unreadable; for 15 the balise whose figure breaks the rule, B before C (B
+-- also for M-101's rule); for 13 the length of the longest opening run that also opens some
+-- permitted group".
 -- Assumes nothing.
 use Prim.Native.Nat.{ℕ, suc}
 use mathlib.Core.Bool.{Bool, true, false, not, _&&_, _||_}
@@ -43,7 +45,8 @@ abbrev pub named : ℕ → ℕ → Answer Amiss Part → Answer Cause Part
 named i place (gives p) = gives p
 named i place (refuses w) = refuses (bad i place w)
 
--- The balises read, the first of which has the index i; "the first bad balise in passing order" refuses them all.
+-- The balises read, the first of which has the index i; "the first bad balise in passing order"
+-- refuses them all.
 unfoldable pub readFrom : ℕ → List Balise → Answer Cause (List Placed)
 readFrom i [] = gives []
 readFrom i (b ∷ bs) =
@@ -72,7 +75,8 @@ isFound (found b) = true
 abbrev pub oneToFourteen : ℕ → Bool
 oneToFourteen f = leb 1 f && leb f 14
 
--- Whether B's figures break the rule: "Without a 14, BZ must be 1 to 14. With a 14 (C), BZ must be 0"; table DF has no column above 14.
+-- Whether B's figures break the rule: "Without a 14, BZ must be 1 to 14. With a 14 (C), BZ must be
+-- 0"; table DF has no column above 14.
 abbrev pub bBreaks : ℕ → ℕ → Bool → Bool
 bBreaks by bz with14 = ltb 14 by || pick with14 (not (eqb bz 0)) (not (oneToFourteen bz))
 
@@ -80,7 +84,8 @@ bBreaks by bz with14 = ltb 14 by || pick with14 (not (eqb bz 0)) (not (oneToFour
 abbrev pub cBreaks : ℕ → Bool → Bool
 cBreaks cy with14 = with14 && not (oneToFourteen cy)
 
--- The balise whose figure breaks the rule of distances, "B before C"; `barred` says that B breaks M-101's rule.
+-- The balise whose figure breaks the rule of distances, "B before C"; `barred` says that B breaks
+-- M-101's rule.
 unfoldable pub whyDistance : Bool → List Placed → Explained
 whyDistance barred bs =
     pick (barred || bBreaks (yOf (B bs)) (zOf (B bs)) (isFound (C bs)))

@@ -1,4 +1,5 @@
--- What each case of the answers inside the crate says. No promise to a caller cites these; the functions that the code is cut into do.
+-- What each case of the answers inside the crate says. No promise to a caller cites these; the
+-- functions that the code is cut into do.
 -- Assumes nothing.
 use Prim.Native.Nat.{ℕ, suc}
 use mathlib.Core.Bool.{Bool, true, false, _||_}
@@ -24,7 +25,8 @@ saysPartRead (PartRead.Refused b) = refuses (saysBadBalise b)
 abbrev pub saysAllRead : ℕ → AllRead → Answer Cause (List Placed)
 saysAllRead n r = pick (r .good) (gives (take n (r .parts))) (refuses (bad (r .balise) (r .place) (saysBadBalise (r .bad))))
 
--- The first balise of category c, with its index and its figures, the first of all having the index i.
+-- The first balise of category c, with its index and its figures, the first of all having the index
+-- i.
 unfoldable pub soughtFrom : ℕ → ℕ → List Placed → Sought
 soughtFrom c i [] = record { is = false; balise = i; place = 0; y = 0; z = 0 }
 soughtFrom c i (b ∷ bs) =

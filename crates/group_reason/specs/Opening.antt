@@ -1,6 +1,7 @@
--- How far the balises of a group go along with document 01's rows: "the length of the longest opening run that also opens some permitted
--- group of either direction, with all figure conditions of the rows". The rows are gone through as in group_rows/specs/Row.antt, and stopped
--- early; specs/Truths.antt says what this comes to.
+-- How far the balises of a group go along with document 01's rows: "the length of the longest
+-- opening run that also opens some permitted group of either direction, with all figure conditions
+-- of the rows". The rows are gone through as in group_rows/specs/Row.antt, and stopped early;
+-- specs/Truths.antt says what this comes to.
 -- Assumes nothing.
 use Prim.Native.Nat.{ℕ, zero, suc}
 use mathlib.Core.Bool.{Bool, true, false, _&&_, _||_}
@@ -12,8 +13,8 @@ use Rattle.group_rows.specs.declared.Placed.{Placed}
 use Rattle.group_rows.specs.Row.{Member, A, must, may, Row, row, meets}
 use Rattle.group_rows.specs.Rows.{present, opposite, howMany}
 
--- Whether the balises open the members: each takes the next balise, an optional one is taken or left out; at the end of the balises
--- members may be left.
+-- Whether the balises open the members: each takes the next balise, an optional one is taken or
+-- left out; at the end of the balises members may be left.
 unfoldable pub opensMembers : List Member → List Placed → Bool
 opensMembers ms [] = true
 opensMembers [] (b ∷ bs) = false

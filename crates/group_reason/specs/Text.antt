@@ -1,5 +1,6 @@
--- A reason as text, as it stands in a line after the fault and a colon (request M-103): `1 balise`, `7 balises`, `255 or more balises`,
--- `balise 2 at 1030 unreadable`, `balise 2 at 1030 word Y refused 1 odd`, `balise 1 at 1000 word X refused 3`,
+-- A reason as text, as it stands in a line after the fault and a colon (request M-103): `1 balise`,
+-- `7 balises`, `255 or more balises`, `balise 2 at 1030 unreadable`,
+-- `balise 2 at 1030 word Y refused 1 odd`, `balise 1 at 1000 word X refused 3`,
 -- `2 of 4 balises open a permitted group`, `balise 2 at 1030`. Balises are counted from 1 here.
 -- Assumes nothing.
 use Prim.Native.Nat.{ℕ, _+_}
@@ -20,7 +21,8 @@ letter Word.Y = codes " word Y"
 letter Word.Z = codes " word Z"
 letter Word.YZ = codes " word YZ"
 
--- That it is refused, with which number, and whether its ones are odd or even in number where that is said.
+-- That it is refused, with which number, and whether its ones are odd or even in number where that
+-- is said.
 unfoldable pub refusedAs : Why → List ℕ
 refusedAs (why n (are Parity.Odd)) = codes " refused " ++ decimal n ++ codes " odd"
 refusedAs (why n (are Parity.Even)) = codes " refused " ++ decimal n ++ codes " even"

@@ -1,5 +1,5 @@
--- "What it names is proved true, it names the first such balise, and it never gives a reason for a group that was accepted" (request
--- M-103), over the contracts of `explain` and of `group::judge`.
+-- "What it names is proved true, it names the first such balise, and it never gives a reason for a
+-- group that was accepted" (request M-103), over the contracts of `explain` and of `group::judge`.
 -- Assumes nothing.
 use Prim.Native.Nat.{ℕ, _≤_, _<_}
 use mathlib.Core.Path.{_≡_}
@@ -63,8 +63,9 @@ pub record FirstBad (bs : List Balise) (i place : ℕ) (what : Amiss) : Type 0 w
 
 -- ---- 13: "no row fits"
 
--- The balises were read, no row fits them, and the first `run` of the `many` open a permitted group: some balises more (given in
--- `Longest`, and such as can be) make them fit a row of either direction. If they are not all, no balises more make the first `run` + 1 fit one.
+-- The balises were read, no row fits them, and the first `run` of the `many` open a permitted
+-- group: some balises more (given in `Longest`, and such as can be) make them fit a row of either
+-- direction. If they are not all, no balises more make the first `run` + 1 fit one.
 pub record OpensSoFar (g : Group) (run many : ℕ) : Type 0 where
   pub parts : List Placed
   pub read : received.readAll (received.balises g) ≡ gives parts
@@ -74,8 +75,9 @@ pub record OpensSoFar (g : Group) (run many : ℕ) : Type 0 where
 
 -- ---- 15: "distance not allowed"
 
--- A figure of B breaks the rule: BY = 14 with AZ of 0, 1 or 13 in a signal (M-101); "Without a 14, BZ must be 1 to 14"; "With a 14 (C), BZ
--- must be 0"; or table DF has no such column (no telegram carries such a figure).
+-- A figure of B breaks the rule: BY = 14 with AZ of 0, 1 or 13 in a signal (M-101); "Without a 14,
+-- BZ must be 1 to 14"; "With a 14 (C), BZ must be 0"; or table DF has no such column (no telegram
+-- carries such a figure).
 pub data BBreaks (row : Picked) (b : Placed) (c : Found) : Type 0 where
   preset-barred : row .kind ≡ Kind.Signal → Y (b .part) ≡ 14 → noIncrease (Z (row .a .part)) ≡ true → BBreaks row b c
   without-14 : c ≡ none → (1 ≤ Z (b .part) → Z (b .part) ≤ 14 → ⊥) → BBreaks row b c
@@ -86,12 +88,14 @@ pub data BBreaks (row : Picked) (b : Placed) (c : Found) : Type 0 where
 abbrev pub CBreaks : Placed → Type 0
 CBreaks c = 1 ≤ Y (c .part) → Y (c .part) ≤ 14 → ⊥
 
--- "the balise whose figure breaks the rule, B before C": B; or C, and then no figure of B breaks it.
+-- "the balise whose figure breaks the rule, B before C": B; or C, and then no figure of B breaks
+-- it.
 pub data Culprit (parts : List Placed) (row : Picked) (b : Placed) (i place : ℕ) : Type 0 where
   its-B : At parts i b → b .place ≡ place → BBreaks row b (C parts) → Culprit parts row b i place
   its-C : (c : Placed) → C parts ≡ found c → At parts i c → c .place ≡ place → CBreaks c → (BBreaks row b (C parts) → ⊥) → Culprit parts row b i place
 
--- The balises were read and fit a row of the present direction, a signal's or a warning board's; one of them breaks the rule.
+-- The balises were read and fit a row of the present direction, a signal's or a warning board's;
+-- one of them breaks the rule.
 pub record BreaksRule (g : Group) (i place : ℕ) : Type 0 where
   pub parts : List Placed
   pub read : received.readAll (received.balises g) ≡ gives parts

@@ -13,7 +13,8 @@ use group_rows::Kind;
 use group_rows::Part;
 use group_rows::Placed;
 
-// A balise that was looked for: whether it is there, and then its index from 0, its place and its figures.
+// A balise that was looked for: whether it is there, and then its index from 0, its place and its
+// figures.
 pub struct Sought {
     pub is: bool,
     pub balise: u8,

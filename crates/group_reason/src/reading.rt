@@ -19,7 +19,8 @@ pub enum PartRead {
     Refused(BadBalise),
 }
 
-// What reading the balises of a group answers: the balises and good, or the first bad one, its place and what is bad.
+// What reading the balises of a group answers: the balises and good, or the first bad one, its
+// place and what is bad.
 pub struct AllRead {
     pub good: bool,
     pub parts: [Placed; 5],

@@ -1,4 +1,5 @@
--- The balises that are still ahead: with each step the first is taken off, and the last stands twice, so that they are five again.
+-- The balises that are still ahead: with each step the first is taken off, and the last stands
+-- twice, so that they are five again.
 -- Assumes nothing.
 use Prim.Native.Nat.{ℕ, suc, _+_, _-_, _≤_, _<_}
 use mathlib.Core.Path.{_≡_, sym, ap, _∙_}

@@ -1,4 +1,5 @@
--- One balise more: how balises fit what is left of rows is how those after the first fit what the first leaves.
+-- One balise more: how balises fit what is left of rows is how those after the first fit what the
+-- first leaves.
 -- Assumes nothing.
 use Prim.Native.Nat.{ℕ, suc, _+_}
 use mathlib.Core.Path.{_≡_, refl, sym, ap, _∙_}

@@ -1,5 +1,5 @@
--- What a row can begin with after an optional 12 tells its direction: a test on the row as data, and one law that turns
--- the test into the claim.
+-- What a row can begin with after an optional 12 tells its direction: a test on the row as data,
+-- and one law that turns the test into the claim.
 -- Assumes nothing.
 use Prim.Native.Nat.{ℕ}
 use mathlib.Core.Path.{_≡_, refl, sym, ap, subst, _∙_}

@@ -1,4 +1,5 @@
--- What the walk's run says of the first n balises: the row that they fit, and how many of them open a group.
+-- What the walk's run says of the first n balises: the row that they fit, and how many of them open
+-- a group.
 -- Assumes nothing.
 use Prim.Native.Nat.{ℕ, _+_, _≤_, _<_}
 use mathlib.Core.Path.{_≡_, refl, sym, ap, subst, _∙_}

@@ -1,5 +1,5 @@
--- The row that fits is unique within a direction: no balises fit two rows. Two rows are walked side by side, each
--- optional member taken or left out, until two members ask what no balise is.
+-- The row that fits is unique within a direction: no balises fit two rows. Two rows are walked side
+-- by side, each optional member taken or left out, until two members ask what no balise is.
 -- Assumes nothing.
 use Prim.Native.Nat.{ℕ, zero, suc, _≤_}
 use mathlib.Core.Path.{_≡_, refl}

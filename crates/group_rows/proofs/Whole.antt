@@ -54,7 +54,8 @@ skipped w (A v ∷ ms) b bs t e = rw (apart-false w v (b .part) t e)
 skipped w (must v ∷ ms) b bs t e = skipped w ms b bs t e
 skipped w (may v ∷ ms) b bs t e = skipped w ms b bs t e
 
--- A member that takes the balise if it is what is asked, and an optional one, over how the rest fits.
+-- A member that takes the balise if it is what is asked, and an optional one, over how the rest
+-- fits.
 must-if : (so f : Bool) (g h : Fit) → (so ≡ true → g ≡ pick f h misfit) → pick so g misfit ≡ pick (so && f) h misfit
 must-if true f g h e = e refl
 must-if false f g h e = refl

@@ -16,7 +16,8 @@ use Rattle.group_rows.specs.Rows.{present, opposite, fitIn}
 unfoldable pub routeSpeed : ℕ → ℕ → ℕ
 routeSpeed ay az = pick (eqb ay 4) 140 (10 * az)
 
--- The speed that a row of this kind gives, with this balise as A: a route board's; any other row gives none, 0.
+-- The speed that a row of this kind gives, with this balise as A: a route board's; any other row
+-- gives none, 0.
 abbrev pub speedOf : Kind → Placed → ℕ
 speedOf Kind.Signal a = 0
 speedOf Kind.Warning a = 0
@@ -34,7 +35,8 @@ abbrev pub asOr : Direction → Fit → Outcome Picked → Outcome Picked
 asOr direction misfit other = other
 asOr direction (fit kind a) other = gives (record { direction = direction; kind = kind; speed = speedOf kind a; a = a })
 
--- What the row says that the balises fit: a present one, or else an opposite one; "no row fits" is 13.
+-- What the row says that the balises fit: a present one, or else an opposite one; "no row fits" is
+-- 13.
 unfoldable pub fitting : List Placed → Outcome Picked
 fitting bs = asOr Direction.Present (fitIn present bs) (asOr Direction.Opposite (fitIn opposite bs) (refuses 13))
 

@@ -1,5 +1,6 @@
--- "The present rows have 8 or an A category after an optional 12; the opposite rows have 14, 9 or a marker there." So the
--- first balise that is no 12 tells the direction, and no group fits a row of each.
+-- "The present rows have 8 or an A category after an optional 12; the opposite rows have 14, 9 or a
+-- marker there." So the first balise that is no 12 tells the direction, and no group fits a row of
+-- each.
 -- Assumes nothing.
 use mathlib.Core.Path.{_≡_}
 use mathlib.Core.Bool.{Bool, true, false, _&&_, _||_}
@@ -18,7 +19,8 @@ unfoldable pub firstOther : List Placed → Found
 firstOther [] = none
 firstOther (b ∷ bs) = pick (isCategory 12 (b .part)) (firstOther bs) (found b)
 
--- What tells a direction: "8 or an A category" the present one, "14, 9 or a marker" the opposite one.
+-- What tells a direction: "8 or an A category" the present one, "14, 9 or a marker" the opposite
+-- one.
 abbrev pub tells : Direction → Part → Bool
 tells Direction.Present p = isOneOf (8 ∷ 1 ∷ 2 ∷ 3 ∷ 4 ∷ 5 ∷ 10 ∷ []) p
 tells Direction.Opposite p = isOneOf (14 ∷ 9 ∷ []) p || isMarker p
@@ -28,7 +30,8 @@ abbrev pub foundTells : Direction → Found → Bool
 foundTells way none = false
 foundTells way (found b) = tells way (b .part)
 
--- Balises that fit a row of this direction: a group that shows that the claims below speak of something.
+-- Balises that fit a row of this direction: a group that shows that the claims below speak of
+-- something.
 pub record Fits (way : Direction) : Type 0 where
   pub balises : List Placed
   pub kind : Kind

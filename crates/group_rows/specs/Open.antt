@@ -1,5 +1,5 @@
--- What is left of the rows after some balises (document 01, "Groups"), and what one balise more leaves. No promise to a
--- caller cites this; the functions that the walk is cut into do.
+-- What is left of the rows after some balises (document 01, "Groups"), and what one balise more
+-- leaves. No promise to a caller cites this; the functions that the walk is cut into do.
 -- Assumes nothing.
 use Prim.Native.Nat.{ℕ}
 use mathlib.Core.List.{List, [], _∷_, _++_}
@@ -12,8 +12,8 @@ use Rattle.group_rows.specs.Row.{Member, A, must, may, Row, row, meets, 
 use Rattle.group_rows.specs.Rows.{howMany}
 use Rattle.group_rows.specs.Fitting.{speedOf}
 
--- What is left of a row: its direction and kind, the speed that it gives and the balise that stood at its A, if that has
--- passed, and the members to come.
+-- What is left of a row: its direction and kind, the speed that it gives and the balise that stood
+-- at its A, if that has passed, and the members to come.
 pub data Rest : Type 0 where
   rest : Direction → Kind → ℕ → Found → List Member → Rest
 

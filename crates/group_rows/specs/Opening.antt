@@ -25,7 +25,8 @@ pub record Opens (bs : List Placed) : Type 0 where
   pub a : Placed
   pub fits : fitIn (rowsFor way) (bs ++ more) ≡ fit kind a
 
--- Whether a balise can be so: three figures of 0 to 14, of which the first is not 12; a number to 2,047; or a marker.
+-- Whether a balise can be so: three figures of 0 to 14, of which the first is not 12; a number to
+-- 2,047; or a marker.
 abbrev pub isSendable : Part → Bool
 isSendable (Part.Figures x y z) = leb x 14 && not (eqb x 12) && leb y 14 && leb z 14
 isSendable (Part.Number m) = leb m 2047
@@ -36,7 +37,8 @@ abbrev pub areSendable : List Placed → Bool
 areSendable [] = true
 areSendable (b ∷ bs) = isSendable (b .part) && areSendable bs
 
--- The first r of the balises open one, with balises that can be, and one balise more does not, whatever follows.
+-- The first r of the balises open one, with balises that can be, and one balise more does not,
+-- whatever follows.
 pub record Longest (bs : List Placed) (r : ℕ) : Type 0 where
   pub within : r ≤ length bs
   pub opens : Opens (take r bs)
@@ -45,7 +47,8 @@ pub record Longest (bs : List Placed) (r : ℕ) : Type 0 where
 
 -- ---- for the walk alone
 
--- The balises lead to what is left of the rows, and to so many times 12: whatever follows fits as it fits these.
+-- The balises lead to what is left of the rows, and to so many times 12: whatever follows fits as
+-- it fits these.
 abbrev pub Leads : List Placed → ℕ → List Rest → Type 0
 Leads bs left rs = (way : Direction) (more : List Placed) → fitIn (rowsFor way) (bs ++ more) ≡ fitMost way left rs more
 

@@ -16,8 +16,8 @@ pub data Figures : Type 0 where
   _to_ : ℕ → ℕ → Figures
 
 infix 60 _to_
--- What a row asks of a balise: its category (what X reads) with the figures Y and Z that are allowed, one of some
--- categories, or that it is a marker.
+-- What a row asks of a balise: its category (what X reads) with the figures Y and Z that are
+-- allowed, one of some categories, or that it is a marker.
 pub data Asked : Type 0 where
   category : ℕ → Figures → Figures → Asked
   oneOf : List ℕ → Asked
@@ -27,7 +27,8 @@ pub data Asked : Type 0 where
 abbrev pub any : ℕ → Asked
 any n = category n all all
 
--- A member of a row: the balise that the row calls A, another that must be there, or an optional one.
+-- A member of a row: the balise that the row calls A, another that must be there, or an optional
+-- one.
 pub data Member : Type 0 where
   A must may : Asked → Member
 
@@ -75,8 +76,8 @@ meets (category n y z) p = isCategory n p && within y (Y p) && within z (Z p)
 meets (oneOf ns) p = isOneOf ns p
 meets M p = isMarker p
 
--- Whether the balises fit the members: each takes the next balise, an optional one is taken or left out, and at the
--- end none is left over.
+-- Whether the balises fit the members: each takes the next balise, an optional one is taken or left
+-- out, and at the end none is left over.
 unfoldable pub fits : List Member → List Placed → Bool
 fits [] [] = true
 fits [] (b ∷ bs) = false

@@ -1,6 +1,7 @@
--- The rows of document 01, in its order and words. A member stands as document 01 writes it: `must (any 9)` for 9,
--- `may (any 12)` for [12], `M` for a marker; `A` is the balise that the row calls A. A figure condition stands at the
--- member that carries the figure: `category 3 (0 to 8) (0 to 13)` is a 3 with Y 0 to 8 and Z 0 to 13.
+-- The rows of document 01, in its order and words. A member stands as document 01 writes it:
+-- `must (any 9)` for 9, `may (any 12)` for [12], `M` for a marker; `A` is the balise that the row
+-- calls A. A figure condition stands at the member that carries the figure:
+-- `category 3 (0 to 8) (0 to 13)` is a 3 with Y 0 to 8 and Z 0 to 13.
 -- Assumes nothing.
 use Prim.Native.Nat.{ℕ, suc}
 use mathlib.Core.List.{List, [], _∷_}

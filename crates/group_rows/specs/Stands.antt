@@ -1,5 +1,5 @@
--- Where a walk over the balises of a group stands: for each case what it leaves of the rows. No promise to a caller
--- cites this; the functions that the walk is cut into do.
+-- Where a walk over the balises of a group stands: for each case what it leaves of the rows. No
+-- promise to a caller cites this; the functions that the walk is cut into do.
 -- Assumes nothing.
 use mathlib.Core.List.{List, [], _∷_, _++_}
 use Rattle.group_rows.specs.declared.Direction.{Direction}

@@ -1,8 +1,11 @@
-// The balises of a group as read, and the rows that they fit: one walk over them tells the row, or how far they lead.
-// Promises: balises fit a row with its direction, kind, speed and A, or are refused with 13, exactly as document 01's rows say.
-// Specification: specs/Rows.antt (the rows), specs/Row.antt (when balises fit one), specs/Fitting.antt, specs/Opening.antt.
-// Laws: no group fits a row of each direction, for the first balise that is no 12 tells it (specs/OneWay.antt); at most one row of a direction fits
-// (proofs/Unique.antt).
+// The balises of a group as read, and the rows that they fit: one walk over them tells the row, or
+// how far they lead.
+// Promises: balises fit a row with its direction, kind, speed and A, or are refused with 13,
+// exactly as document 01's rows say.
+// Specification: specs/Rows.antt (the rows), specs/Row.antt (when balises fit one),
+// specs/Fitting.antt, specs/Opening.antt.
+// Laws: no group fits a row of each direction, for the first balise that is no 12 tells it
+// (specs/OneWay.antt); at most one row of a direction fits (proofs/Unique.antt).
 ghost use mathlib.Core.Path.{_≡_};
 ghost use lib.Dec.{ltb};
 ghost use mathlib.Core.List.{_++_};
@@ -46,8 +49,8 @@ pub enum Direction {
     Opposite,
 }
 
-// What a row says of the balises that fit it: direction and kind, the speed of a route board (0 for any other), and
-// the balise that the row calls A.
+// What a row says of the balises that fit it: direction and kind, the speed of a route board (0 for
+// any other), and the balise that the row calls A.
 pub struct Picked {
     pub direction: Direction,
     pub kind: Kind,
@@ -86,7 +89,8 @@ fn at_most_five(n: usize) -> usize
     if n < 5 { n } else { 5 }
 }
 
-// What the row says that the first n balises fit: direction, kind, the speed of a route board, and A; or refusal 13.
+// What the row says that the first n balises fit: direction, kind, the speed of a route board, and
+// A; or refusal 13.
 pub fn fit(p: [Placed; 5], n: usize) -> Fitted
     ensures { λ r. ⌜ saysFitted r ≡ fitting (take n p) ⌝ }
 {
@@ -99,8 +103,8 @@ pub fn fit(p: [Placed; 5], n: usize) -> Fitted
     running::end_at(at)
 }
 
-// How many of the first n balises, from the first on, open a permitted group of either direction: some group begins with so many, and none with one
-// more.
+// How many of the first n balises, from the first on, open a permitted group of either direction:
+// some group begins with so many, and none with one more.
 pub fn opening(p: [Placed; 5], n: usize) -> usize
     ensures { λ r. ⌜ Longest (take n p) r ⌝ }
 {

@@ -47,7 +47,8 @@ pub struct Run {
     pub count: usize,
 }
 
-// The walk over the first n balises, up to the first that no row allows; a second 12 is never allowed.
+// The walk over the first n balises, up to the first that no row allows; a second 12 is never
+// allowed.
 pub fn follow(p: [Placed; 5], n: usize) -> Run
     requires { ⌜ n ≤ 5 ⌝ }
     ensures { λ r. ⌜ Ran p n r ⌝ }

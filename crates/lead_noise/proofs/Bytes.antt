@@ -72,7 +72,8 @@ one-more x chance b n made here now heard so-far at becomes is =
       then,
     )
 
--- x after m bits and n more; so which bits flip from bit j on are those that flip from bit 0 on with the x of bit j.
+-- x after m bits and n more; so which bits flip from bit j on are those that flip from bit 0 on
+-- with the x of bit j.
 pub drawn-on : (x m n : ℕ) → drawn x (m + n) ≡ drawn (drawn x m) n
 unfolding drawn
 drawn-on x m zero = let e : m + 0 ≡ m = omega arith in ap (drawn x) e

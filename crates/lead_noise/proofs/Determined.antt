@@ -1,4 +1,5 @@
--- The contract fixes the whole answer and every byte of the lead: any two answers that it allows are equal, and so are the leads then.
+-- The contract fixes the whole answer and every byte of the lead: any two answers that it allows
+-- are equal, and so are the leads then.
 -- Assumes nothing.
 use mathlib.Core.Path.{_≡_, sym, ap, _∙_}
 use Prim.Native.Nat.{ℕ}

@@ -1,4 +1,5 @@
--- The generator from 1 on, and one frame and a byte after it with every bit flipped, with none, and with half a million in a million; computed.
+-- The generator from 1 on, and one frame and a byte after it with every bit flipped, with none, and
+-- with half a million in a million; computed.
 -- Assumes nothing.
 use mathlib.Core.Path.{_≡_, refl}
 use mathlib.Core.List.{[], _∷_}

@@ -1,5 +1,6 @@
--- The generator that decides which bits flip (docs/LEAD.md): "x begins as SEED ..; for each bit of the line in order x becomes 48,271 x modulo
--- 2,147,483,647, and the bit flips exactly if x modulo 1,000,000 is below N."
+-- The generator that decides which bits flip (docs/LEAD.md): "x begins as SEED ..; for each bit of
+-- the line in order x becomes 48,271 x modulo 2,147,483,647, and the bit flips exactly if x modulo
+-- 1,000,000 is below N."
 -- Assumes nothing.
 use Prim.Native.Nat.{ℕ, zero, suc, _*_, _%_}
 use mathlib.Core.Bool.{Bool}

@@ -1,5 +1,5 @@
--- A lead with noise on its line (docs/LEAD.md): "each bit of the line flips with a chance of N in a million ..., odometers stay, and so do bytes after
--- the last whole frame."
+-- A lead with noise on its line (docs/LEAD.md): "each bit of the line flips with a chance of N in a
+-- million ..., odometers stay, and so do bytes after the last whole frame."
 -- Assumes nothing.
 use Prim.Native.Nat.{ℕ, zero, suc, _+_, _-_, _*_, _/_, _%_}
 use mathlib.Core.Bool.{Bool, _&&_}
@@ -22,7 +22,8 @@ noisyByte x chance j b = word (λ i. noisyBit (flips x chance (j + (7 - i))) (bi
 abbrev pub framesOf : List ℕ → ℕ
 framesOf lead = length lead / 16
 
--- How many bits of the line lie before byte i of a lead: twelve bytes of line in each frame, after the four of its odometer.
+-- How many bits of the line lie before byte i of a lead: twelve bytes of line in each frame, after
+-- the four of its odometer.
 abbrev pub bitsBefore : ℕ → ℕ
 bitsBefore i = 96 * (i / 16) + 8 * (i % 16 - 4)
 

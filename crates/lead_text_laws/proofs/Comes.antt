@@ -1,4 +1,5 @@
--- What is to come after some records is what is left of them; and what comes of pieces, one after the other, is what comes of the lead.
+-- What is to come after some records is what is left of them; and what comes of pieces, one after
+-- the other, is what comes of the lead.
 -- Assumes nothing.
 use Prim.Native.Nat.{ℕ, zero, suc, _+_, _-_, _*_, _/_, _%_, _≤_, _<_}
 use native.Mathlib.Omega.{arith}

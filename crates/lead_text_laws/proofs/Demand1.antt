@@ -1,4 +1,5 @@
--- The listing of a lead judges the store first; where that refuses, nothing is taken and nothing is written.
+-- The listing of a lead judges the store first; where that refuses, nothing is taken and nothing is
+-- written.
 -- Assumes nothing.
 use Prim.Native.Nat.{ℕ}
 use mathlib.Core.Path.{_≡_, refl, sym, ap, subst, _∙_}

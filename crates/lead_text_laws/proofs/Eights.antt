@@ -1,4 +1,5 @@
--- Every record of a recorded trace has eight bytes, so that its bytes, one record after the other, are its records.
+-- Every record of a recorded trace has eight bytes, so that its bytes, one record after the other,
+-- are its records.
 -- Assumes nothing.
 use Prim.Native.Nat.{ℕ, zero, suc, _+_, _-_, _%_}
 use native.Mathlib.Omega.{arith}

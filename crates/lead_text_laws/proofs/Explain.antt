@@ -1,4 +1,5 @@
--- `explain`: each call's text is that of the records that it took, and what is left of the trace are the records after them.
+-- `explain`: each call's text is that of the records that it took, and what is left of the trace
+-- are the records after them.
 -- Assumes nothing.
 use Prim.Native.Nat.{ℕ, _+_, _*_, _/_, _%_, _≤_}
 use native.Mathlib.Omega.{arith}

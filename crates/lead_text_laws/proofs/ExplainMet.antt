@@ -1,4 +1,5 @@
--- The hypotheses on `explain` are met: any trace of whole records is listed by one call with room for all of it.
+-- The hypotheses on `explain` are met: any trace of whole records is listed by one call with room
+-- for all of it.
 -- Assumes nothing.
 use Prim.Native.Nat.{ℕ, _+_, _*_, _/_, _%_, _≤_}
 use native.Mathlib.Omega.{arith}

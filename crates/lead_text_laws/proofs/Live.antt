@@ -1,4 +1,5 @@
--- The lines of `live`: each call's text is that of the records that it took, and those records are the lead's, one after the other.
+-- The lines of `live`: each call's text is that of the records that it took, and those records are
+-- the lead's, one after the other.
 -- Assumes nothing.
 use Prim.Native.Nat.{ℕ, _+_, _≤_, _<_}
 use native.Mathlib.Omega.{arith}

@@ -1,4 +1,5 @@
--- The hypotheses of the law are met: for any good store and any pieces there are calls in full, each with room for all that comes.
+-- The hypotheses of the law are met: for any good store and any pieces there are calls in full,
+-- each with room for all that comes.
 -- Assumes nothing.
 use Prim.Native.Nat.{ℕ, suc, _+_, _-_, _≤_, _<_}
 use native.Mathlib.Omega.{arith}

@@ -1,5 +1,6 @@
--- What the contracts of `lead_text` and `ride_text` allow: the theorems take these as their hypotheses. `Post` of a function is its `ensures` line, made
--- into a statement by the kit. A lent buffer is a reference whose bytes are `now` of it.
+-- What the contracts of `lead_text` and `ride_text` allow: the theorems take these as their
+-- hypotheses. `Post` of a function is its `ensures` line, made into a statement by the kit. A lent
+-- buffer is a reference whose bytes are `now` of it.
 -- Assumes nothing.
 use Prim.Native.Nat.{ℕ}
 use mathlib.Core.Path.{_≡_}
@@ -29,7 +30,8 @@ use Rattle.ride_text.proofs.put_end.Reads as put-reads
 abbrev pub Fresh : Underway → Type 0
 Fresh r = (e : AtExit (endedOf 0 fresh-kinds.ps fresh-kinds.r) tt) × fresh-reads.Post tt tt r e
 
--- The contract of `list_frames` allows the answer r for this ride, store and lent frames, and that the lent buffer, which held `before`, holds `after` then.
+-- The contract of `list_frames` allows the answer r for this ride, store and lent frames, and that
+-- the lent buffer, which held `before`, holds `after` then.
 abbrev pub ListFrames : Underway → Store → List ℕ → List ℕ → Written → List ℕ → Type 0
 ListFrames u store frames before r after =
     (κs : Lfts 2) × (lent : RefT (List ℕ)) × (out : RefT (List ℕ)) × (e : AtExit (endedOf 2 frames-kinds.ps frames-kinds.r) κs)
@@ -43,14 +45,16 @@ ListEnd u store before r after =
     × (now out ≡ before) × (now (e .1 .1 .0) ≡ after)
     × end-reads.Post κs (u, (store, (out, tt))) r e
 
--- The contract of `put_end` of `ride_text`, with reasons, allows the place n for this ride and this place of the lent buffer, and that it holds `after` then.
+-- The contract of `put_end` of `ride_text`, with reasons, allows the place n for this ride and this
+-- place of the lent buffer, and that it holds `after` then.
 abbrev pub PutEnd : Ride → List ℕ → ℕ → ℕ → List ℕ → Type 0
 PutEnd ride before at n after =
     (κs : Lfts 1) × (buf : RefT (List ℕ)) × (e : AtExit (endedOf 1 put-kinds.ps put-kinds.r) κs)
     × (now buf ≡ before) × (now (e .1 .1 .0) ≡ after)
     × put-reads.Post κs (withReasons, (ride, (buf, (at, tt)))) n e
 
--- The contract of `list` of `ride_text`, with reasons, allows the answer r for this ride, store, number and lent trace, and that the lent buffer holds `after` then.
+-- The contract of `list` of `ride_text`, with reasons, allows the answer r for this ride, store,
+-- number and lent trace, and that the lent buffer holds `after` then.
 abbrev pub ExplainInto : Ride → Store → ℕ → List ℕ → List ℕ → Listed → List ℕ → Type 0
 ExplainInto ride store number trace before r after =
     (κs : Lfts 2) × (lent : RefT (List ℕ)) × (out : RefT (List ℕ)) × (e : AtExit (endedOf 2 list-kinds.ps list-kinds.r) κs)

@@ -1,5 +1,6 @@
--- Demand 1 for the lines of a lead: "given exactly under the condition written there"; "lent memory and the running state stay untouched".
--- `list_frames` and `list_end` refuse the settings that they are lent, with the store's own refusals, and nothing else; then ride and buffer stay.
+-- Demand 1 for the lines of a lead: "given exactly under the condition written there"; "lent memory
+-- and the running state stay untouched". `list_frames` and `list_end` refuse the settings that they
+-- are lent, with the store's own refusals, and nothing else; then ride and buffer stay.
 -- Assumes nothing.
 use Prim.Native.Nat.{ℕ}
 use mathlib.Core.Path.{_≡_}

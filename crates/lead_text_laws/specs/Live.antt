@@ -1,5 +1,6 @@
--- "Its lines are those of `explain` over what `record` writes": whatever pieces of whole frames a lead comes in, and whatever room there is for the lines, the
--- texts written one after the other are the text with reasons of the ride over the records of the lead, and of its end.
+-- "Its lines are those of `explain` over what `record` writes": whatever pieces of whole frames a
+-- lead comes in, and whatever room there is for the lines, the texts written one after the other
+-- are the text with reasons of the ride over the records of the lead, and of its end.
 -- Assumes nothing.
 use Prim.Native.Nat.{ℕ, _%_, _≤_, _<_}
 use mathlib.Core.Path.{_≡_}
@@ -27,8 +28,10 @@ Good store = judged store ≡ gives kept
 
 -- ---- calls
 
--- `list_frames` is called over the pieces of a lead, each time with the ride that the answer before left: again with the same piece where the room was
--- used, with the next one where the piece was; every answer is one that the contract allows. From a ride: the text written, and the ride at the end.
+-- `list_frames` is called over the pieces of a lead, each time with the ride that the answer before
+-- left: again with the same piece where the room was used, with the next one where the piece was;
+-- every answer is one that the contract allows. From a ride: the text written, and the ride at the
+-- end.
 pub data Heard (store : Store) : Underway → List (List ℕ) → List ℕ → Underway → Type 0 where
   none : {u : Underway} → Heard store u [] [] u
   again : {u last : Underway} {piece text : List ℕ} {pieces : List (List ℕ)} (before after : List ℕ) (r : Written) (n : ℕ)
@@ -68,7 +71,8 @@ pub record InPieces (lead : List ℕ) (pieces : List (List ℕ)) : Type 0 where
   pub all : lead ≡ joined pieces ++ rest
   pub few : length rest < 16
 
--- What `explain` writes of some records under a store: the text of a fresh ride over them, the first with the number 1, and that of the ride's end.
+-- What `explain` writes of some records under a store: the text of a fresh ride over them, the
+-- first with the number 1, and that of the ride's end.
 unfoldable pub explains : Store → List (List ℕ) → List ℕ
 explains store records =
     let told : Told = tellOver withReasons (gapAt store) freshRide 1 records in
@@ -81,6 +85,7 @@ pub record Live : Type 0 where
   pub lines : (store : Store) (lead : List ℕ) (pieces : List (List ℕ)) (f u v : Underway) (heard closed ended : List ℕ) → Good store → InPieces lead pieces
       → Fresh f → Heard store f pieces heard u → Closed store u closed v → Ended (v .ride) ended
       → heard ++ closed ++ ended ≡ explains store (recorded store lead)
-  -- So long as there is room for the lines of one record, a call that uses up its room has taken one, so that the calls come to an end.
+  -- So long as there is room for the lines of one record, a call that uses up its room has taken
+  -- one, so that the calls come to an end.
   pub goes-on : (store : Store) (u : Underway) (frames before after : List ℕ) (r : Written) (n : ℕ) → Good store → 320 ≤ length before → u .number < largest64
       → ListFrames u store frames before r after → r .how ≡ How.Full n → u .number < r .underway .number

@@ -9,8 +9,9 @@ use console::not_begun;
 use console::wipe;
 use libc::STDIN_FILENO;
 
-// Where the reading of the leads stands: the argument of the first, how many were begun, the open file (below 0: none), the bytes of a frame that is not whole
-// yet: where they stand in the block, and how many they are; and how far it is.
+// Where the reading of the leads stands: the argument of the first, how many were begun, the open
+// file (below 0: none), the bytes of a frame that is not whole yet: where they stand in the block,
+// and how many they are; and how far it is.
 pub struct Leads {
     first: usize,
     begun: usize,
@@ -20,8 +21,8 @@ pub struct Leads {
     far: Far,
 }
 
-// How the reading goes on: more may come; all leads were read; the lead of this argument cannot be opened, or a read of it failed; or the
-// lent block has no room for a frame.
+// How the reading goes on: more may come; all leads were read; the lead of this argument cannot be
+// opened, or a read of it failed; or the lent block has no room for a frame.
 pub enum ReadingGoes {
     More,
     End,
@@ -30,7 +31,8 @@ pub enum ReadingGoes {
     NoRoom,
 }
 
-// What a call leaves: the reading, how many bytes of whole frames stand at the start of the block, and how it goes on.
+// What a call leaves: the reading, how many bytes of whole frames stand at the start of the block,
+// and how it goes on.
 pub struct Piece {
     pub leads: Leads,
     pub length: usize,
@@ -54,7 +56,8 @@ pub fn kept(leads: Leads) -> usize {
     leads.count
 }
 
-// No frame, with this file open, so many leads begun, and so many bytes of a frame at the front of the block.
+// No frame, with this file open, so many leads begun, and so many bytes of a frame at the front of
+// the block.
 fn none(leads: Leads, begun: usize, fd: i32, how: ReadingGoes) -> Piece
     ensures { λ r. ⌜ r .length ≡ 0 ⌝ }
 {
@@ -165,7 +168,8 @@ fn read_on(leads: Leads, block: &mut [u8]) -> Piece
     frames(leads, kept + more)
 }
 
-// The next frames of the leads, as far as they have come, at the start of the block; or the next lead is opened.
+// The next frames of the leads, as far as they have come, at the start of the block; or the next
+// lead is opened.
 pub fn next_piece(leads: Leads, block: &mut [u8]) -> Piece
     ensures { λ r. ⌜ (r .length ≤ length (now (block .entry))) × (r .length % 16 ≡ 0) ⌝ }
 {

@@ -36,7 +36,8 @@ numberOn number c = pick (between 48 57 c) (numbered number c) Number.Odd
 abbrev pub noName : ℕ
 noName = 36028797018963968
 
--- Letters with one character more, as a number with a digit for each, 1 to 26, of which there are at most eleven.
+-- Letters with one character more, as a number with a digit for each, 1 to 26, of which there are
+-- at most eleven.
 unfoldable pub lettersOn : ℕ → ℕ → ℕ
 lettersOn letters c = pick (between 97 122 c && ltb letters 1125899906842624) (letters * 32 + (c - 96)) noName
 
@@ -91,7 +92,8 @@ closed line w = pick (eqb (w .count) 0) line (kept line (done w))
 unfoldable pub fresh : Reader
 fresh = record { line = noWords; word = noLetters; comment = false }
 
--- One character more: in a comment none counts; a blank or `#` ends a word, and `#` begins the comment.
+-- One character more: in a comment none counts; a blank or `#` ends a word, and `#` begins the
+-- comment.
 unfoldable pub character : Reader → ℕ → Reader
 character r c =
     pick (r .comment) r

@@ -1,5 +1,6 @@
--- A text (house): "One line for each thing, in order; words between blanks; `#` begins a comment; blank lines are free; line ends LF or CRLF, a byte
--- order mark is passed over." A text is the codes of its characters.
+-- A text (house): "One line for each thing, in order; words between blanks; `#` begins a comment;
+-- blank lines are free; line ends LF or CRLF, a byte order mark is passed over." A text is the
+-- codes of its characters.
 -- Assumes nothing.
 use Prim.Native.Nat.{ℕ}
 use mathlib.Core.Bool.{Bool, true, false, _&&_, _||_}
@@ -35,7 +36,8 @@ unfoldable pub cut : (ℕ → Bool) → List ℕ → List (List ℕ)
 cut is [] = [] ∷ []
 cut is (c ∷ cs) = pick (is c) ([] ∷ cut is cs) (onto c (cut is cs))
 
--- The lines of a text, each without its newline. After the last newline, or without one, comes a line that may be empty.
+-- The lines of a text, each without its newline. After the last newline, or without one, comes a
+-- line that may be empty.
 abbrev pub linesOf : List ℕ → List (List ℕ)
 linesOf = cut newline
 

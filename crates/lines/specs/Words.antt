@@ -61,7 +61,8 @@ noWord = record { number = Number.Odd; byte = Byte.Is 0; name = Name.Other }
 unfoldable pub noWords : TextLine
 noWords = record { words = replicate 6 noWord; count = 0 }
 
--- A line with one word more: the first six are kept; of a seventh, and of all after it, only that there is one.
+-- A line with one word more: the first six are kept; of a seventh, and of all after it, only that
+-- there is one.
 unfoldable pub kept : TextLine → Word → TextLine
 kept line word =
     pick (ltb (line .count) 6)

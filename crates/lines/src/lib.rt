@@ -1,9 +1,11 @@
-// A text line by line (house): words between blanks, `#` begins a comment, line ends LF or CRLF, a byte order mark at the beginning is passed over.
-// A text comes in blocks of any size, and its lines may be of any length: what is kept of a line are its first six words, and of a word what it can be: a
-// number, two hex digits, a name.
-// Promises: every text is read, block by block as at once; what is kept of a line is what its words are.
-// Specification: specs/Text.antt (lines and words), specs/Words.antt (what a word is, what is kept of a line), specs/Reading.antt (character by
-// character); laws: the crate lines_laws.
+// A text line by line (house): words between blanks, `#` begins a comment, line ends LF or CRLF, a
+// byte order mark at the beginning is passed over. A text comes in blocks of any size, and its
+// lines may be of any length: what is kept of a line are its first six words, and of a word what it
+// can be: a number, two hex digits, a name.
+// Promises: every text is read, block by block as at once; what is kept of a line is what its words
+// are.
+// Specification: specs/Text.antt (lines and words), specs/Words.antt (what a word is, what is kept
+// of a line), specs/Reading.antt (character by character); laws: the crate lines_laws.
 ghost use mathlib.Core.Path.{_≡_};
 ghost use Rattle.lines.specs.Text.{beginning};
 ghost use Rattle.lines.specs.Reading.{fresh, nextLine};
@@ -50,7 +52,8 @@ pub struct TextLine {
     pub count: usize,
 }
 
-// A word so far: as a number, its first two characters, how many it has (3 for all above 2), and its letters as one number.
+// A word so far: as a number, its first two characters, how many it has (3 for all above 2), and
+// its letters as one number.
 pub struct Letters {
     pub number: Number,
     pub first: u8,
@@ -66,7 +69,8 @@ pub struct Reader {
     pub comment: bool,
 }
 
-// What a block gives of a line: the line as far as it goes, whether it ends there, where the next one begins, and where reading goes on from.
+// What a block gives of a line: the line as far as it goes, whether it ends there, where the next
+// one begins, and where reading goes on from.
 pub struct Got {
     pub line: TextLine,
     pub ends: bool,
@@ -85,7 +89,8 @@ pub fn fresh() -> Reader
     }
 }
 
-// Where a text begins: after a byte order mark, if it has one. Asked with the first block, of three bytes at least or the whole text.
+// Where a text begins: after a byte order mark, if it has one. Asked with the first block, of three
+// bytes at least or the whole text.
 pub fn begin(text: &[u8]) -> usize
     ensures { λ r. ⌜ r ≡ beginning (now (text .entry)) ⌝ }
 {

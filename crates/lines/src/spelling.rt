@@ -47,7 +47,8 @@ fn number_on(number: Number, c: u8) -> Number
     }
 }
 
-// The letters so far with one character more, as a number of which each letter is a digit, 1 to 26; 32^11 for what no name has.
+// The letters so far with one character more, as a number of which each letter is a digit, 1 to 26;
+// 32^11 for what no name has.
 fn letters_on(letters: u64, c: u8) -> u64
     ensures { λ r. ⌜ r ≡ lettersOn letters c ⌝ }
 {

@@ -1,4 +1,5 @@
--- A line of words with single blanks and a comment is cut at its blanks, up to the comment, into those words.
+-- A line of words with single blanks and a comment is cut at its blanks, up to the comment, into
+-- those words.
 -- Assumes nothing.
 use mathlib.Core.Path.{_≡_, refl, sym, ap, ap₂, _∙_}
 use mathlib.Core.Bool.{Bool, true, false, not, _&&_, _||_}

@@ -1,4 +1,5 @@
--- Reading on over block after block is reading on over the text, and each line that ends is what its words are.
+-- Reading on over block after block is reading on over the text, and each line that ends is what
+-- its words are.
 -- Assumes nothing.
 use mathlib.Core.Path.{_≡_, refl, sym, ap, ap₂, subst, _∙_}
 use mathlib.Core.Bool.{Bool, true, false, _&&_}

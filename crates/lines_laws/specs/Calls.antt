@@ -1,5 +1,6 @@
--- What the contracts of `lines` allow: the theorems take these as their hypotheses. `Post` of a function is its `ensures` line, made into a statement by
--- the kit. A lent block is a reference whose bytes are `now` of it.
+-- What the contracts of `lines` allow: the theorems take these as their hypotheses. `Post` of a
+-- function is its `ensures` line, made into a statement by the kit. A lent block is a reference
+-- whose bytes are `now` of it.
 -- Assumes nothing.
 use Prim.Native.Nat.{ℕ}
 use mathlib.Core.Path.{_≡_}

@@ -1,5 +1,6 @@
--- A printed line reads back: words with single blanks between them and a comment after them are those words, and a number in decimal is that number. Shown
--- in proofs/Printed.antt and proofs/Numbers.antt.
+-- A printed line reads back: words with single blanks between them and a comment after them are
+-- those words, and a number in decimal is that number. Shown in proofs/Printed.antt and
+-- proofs/Numbers.antt.
 -- Assumes nothing.
 use Prim.Native.Nat.{ℕ, _≤_, _<_}
 use mathlib.Core.Path.{_≡_}
@@ -30,7 +31,8 @@ abbrev pub spaced : List (List ℕ) → List ℕ → List ℕ
 spaced [] end = end
 spaced (w ∷ ws) end = 32 ∷ (w ++ spaced ws end)
 
--- A line of words with a comment, ` #` and what follows: it has no end of a line in it, and its words are those that were printed.
+-- A line of words with a comment, ` #` and what follows: it has no end of a line in it, and its
+-- words are those that were printed.
 abbrev pub WordsBack : Type 0
 WordsBack =
     (w : List ℕ) (ws : List (List ℕ)) (comment : List ℕ) → AWord w → Words ws → OneLine comment

@@ -1,7 +1,9 @@
-// What a line holds, recorded or as it comes: a line of text for each contact as soon as it has closed, in the order heard.
-// Promises: it is safe and it ends; contacts are those of the crate antenna, lines those of antenna_text and contact_text, piece by piece.
-// Specification: none of its own; what the pieces come to is crates/antenna_text/specs/Laws.antt, what cannot be said of a program's reads and writes stands in
-// docs/EXCEPTIONS.md.
+// What a line holds, recorded or as it comes: a line of text for each contact as soon as it has
+// closed, in the order heard.
+// Promises: it is safe and it ends; contacts are those of the crate antenna, lines those of
+// antenna_text and contact_text, piece by piece.
+// Specification: none of its own; what the pieces come to is crates/antenna_text/specs/Laws.antt,
+// what cannot be said of a program's reads and writes stands in docs/EXCEPTIONS.md.
 mod out;
 mod pieces;
 

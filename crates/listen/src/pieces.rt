@@ -10,7 +10,8 @@ use console::go_on_somehow;
 use console::not_begun;
 use console::wipe;
 
-// Where the listening stands: the ear, how many bits were heard before, how far that is, and whether all writes so far succeeded.
+// Where the listening stands: the ear, how many bits were heard before, how far that is, and
+// whether all writes so far succeeded.
 struct Heard {
     ear: Ear,
     bits: u64,
@@ -94,8 +95,8 @@ fn fresh() -> Heard {
     }
 }
 
-// All that the open file gives, as it comes; false where a read failed. A proved loop has to end, and nothing says that a line does: so it counts its turns down
-// from a number that no run uses up.
+// All that the open file gives, as it comes; false where a read failed. A proved loop has to end,
+// and nothing says that a line does: so it counts its turns down from a number that no run uses up.
 pub fn all(fd: i32, s: u8, t: u8) -> bool {
     let mut block = io::large_buffer();
     let mut buf = io::large_buffer();

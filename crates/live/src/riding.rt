@@ -18,7 +18,8 @@ fn write(out: &[u8], count: usize) -> bool {
     console::put(b"live", out, count)
 }
 
-// The lines of the first `count` bytes of the block, whole frames: as far as the room goes, and again, until they are used.
+// The lines of the first `count` bytes of the block, whole frames: as far as the room goes, and
+// again, until they are used.
 fn piece(from: Underway, store: Store, block: &[u8], count: usize, out: &mut [u8]) -> Stand
     requires { ⌜ count ≤ length (now block) ⌝ }
 {
@@ -82,8 +83,8 @@ fn finish(how: leads::ReadingGoes, underway: Underway, store: Store, out: &mut [
     }
 }
 
-// All leads from this argument on. A proved loop has to end, and nothing says that a lead does: so it counts its turns down from a number that no
-// run uses up.
+// All leads from this argument on. A proved loop has to end, and nothing says that a lead does: so
+// it counts its turns down from a number that no run uses up.
 pub fn all(store: Store, first: usize) {
     let mut block = io::large_buffer();
     let mut out = io::large_buffer();

@@ -1,7 +1,8 @@
 // What the arguments ask for.
 use figures::Figure;
 
-// A seed, 1 to 2,147,483,646, and how many bits in a million flip; that the arguments are no call; or that one of them is no number, which was said.
+// A seed, 1 to 2,147,483,646, and how many bits in a million flip; that the arguments are no call;
+// or that one of them is no number, which was said.
 pub enum Called {
     For { seed: u32, chance: u32 },
     Usage,

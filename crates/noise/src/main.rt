@@ -1,7 +1,9 @@
-// A lead with noise on its line: each bit flips with a chance of N in a million. For showing what noise does: it is refused, never mended.
-// Promises: it is safe and it ends; the bytes are lead_noise::add_noise's, piece by piece, and those after the last whole frame as they came.
-// Specification: none of its own; that the pieces join is crates/lead_noise/specs/Laws.antt, what cannot be said of a program's reads and
-// writes stands in docs/EXCEPTIONS.md.
+// A lead with noise on its line: each bit flips with a chance of N in a million. For showing what
+// noise does: it is refused, never mended.
+// Promises: it is safe and it ends; the bytes are lead_noise::add_noise's, piece by piece, and
+// those after the last whole frame as they came.
+// Specification: none of its own; that the pieces join is crates/lead_noise/specs/Laws.antt, what
+// cannot be said of a program's reads and writes stands in docs/EXCEPTIONS.md.
 mod call;
 mod pieces;
 

@@ -35,7 +35,8 @@ fn send(x: u32, chance: u32, block: &mut [u8], count: usize) -> Sent
     }
 }
 
-// What comes after the last piece: the bytes of a frame that is not whole, as they came; or what failed.
+// What comes after the last piece: the bytes of a frame that is not whole, as they came; or what
+// failed.
 fn finish(how: ReadingGoes, leads: Leads, block: &[u8]) {
     match how {
         ReadingGoes::End => {
@@ -50,8 +51,8 @@ fn finish(how: ReadingGoes, leads: Leads, block: &[u8]) {
     }
 }
 
-// All that the lead gives, as it comes. A proved loop has to end, and nothing says that a lead does: so it counts its turns down from a number
-// that no run uses up.
+// All that the lead gives, as it comes. A proved loop has to end, and nothing says that a lead
+// does: so it counts its turns down from a number that no run uses up.
 pub fn all(seed: u32, chance: u32, block: &mut [u8]) {
     let mut x = seed;
     let mut leads = leads::begin(3);

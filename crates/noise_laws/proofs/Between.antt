@@ -1,4 +1,5 @@
--- Where the line is quiet before what is passed and after it, up to three flips in forty bits open no contact before it, and none stays open for fifteen bits after it.
+-- Where the line is quiet before what is passed and after it, up to three flips in forty bits open
+-- no contact before it, and none stays open for fifteen bits after it.
 -- Assumes nothing.
 use Prim.Native.Nat.{ℕ, suc, _+_, _-_, _≤_, _<_}
 use mathlib.Core.Path.{_≡_, refl, ap}

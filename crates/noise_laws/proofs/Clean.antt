@@ -1,4 +1,5 @@
--- A pass without noise has no flip: over the balise its bits are received as sent, before and after it ones.
+-- A pass without noise has no flip: over the balise its bits are received as sent, before and after
+-- it ones.
 -- Assumes nothing.
 use Prim.Native.Nat.{ℕ, _+_, _-_, _≤_, _<_}
 use mathlib.Core.Path.{_≡_, refl, sym, ap, _∙_}

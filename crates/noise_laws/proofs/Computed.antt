@@ -1,4 +1,5 @@
--- What can be computed of a noisy pass: that no forty bits have too many flips, and what comes of it.
+-- What can be computed of a noisy pass: that no forty bits have too many flips, and what comes of
+-- it.
 -- Assumes nothing.
 use Prim.Native.Nat.{ℕ, _+_, _-_, _≤_, _<_}
 use mathlib.Core.Path.{_≡_, _∙_, subst}

@@ -1,4 +1,5 @@
--- Two places alike, eight bits apart, with the sync words swapped and three flips all at their end: every word of both is the one sync word, and what the balise sent is the same words.
+-- Two places alike, eight bits apart, with the sync words swapped and three flips all at their end:
+-- every word of both is the one sync word, and what the balise sent is the same words.
 -- Assumes nothing.
 use Prim.Native.Nat.{ℕ, suc, _+_, _-_, _*_, _%_, _≤_, _<_}
 use mathlib.Core.Path.{_≡_, refl, sym, ap, ap₂, _∙_, subst}
@@ -26,12 +27,14 @@ otherBit e w i = pick (eqb i e) (w i) (1 - w i)
 abbrev syncBit : ℕ → (ℕ → ℕ) → ℕ → ℕ
 syncBit e w j = pick (ltb j 8) (otherBit e w j) (w (j - 32))
 
--- Whether bit i of the first place, received as it was sent, can be a sync bit of the line: the place begins with line bit n.
+-- Whether bit i of the first place, received as it was sent, can be a sync bit of the line: the
+-- place begins with line bit n.
 abbrev canBe : ℕ → (ℕ → ℕ) → ℕ → ℕ → Bool
 canBe e w n i = pick (ltb ((n + i) % 32) 8) (eqb (syncBit e w ((n + i) % 64)) (w (i % 8))) true
 
--- k bits of the first place lie in the quiet line, and the rest is received as it was sent. Then k is at most three, and the line repeats w with every byte that it sends.
--- Only where three flips are allowed, and three zeroes are at the end.
+-- k bits of the first place lie in the quiet line, and the rest is received as it was sent. Then k
+-- is at most three, and the line repeats w with every byte that it sends. Only where three flips
+-- are allowed, and three zeroes are at the end.
 roundTest : ℕ → (ℕ → ℕ) → ℕ → ℕ → Bool
 roundTest e w k n =
     pick (upto (λ i. canBe e w n (8 + i)) (32 - k)) (both (leb k 3) (upto (λ i. eqb (w ((8 + i + 7 * (n % 8)) % 8)) (w i)) 8)) true

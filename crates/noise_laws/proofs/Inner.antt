@@ -1,5 +1,6 @@
--- A place inside the balise's bits reads the telegram sent. At a telegram's beginning its words are those sent; one bit before or after it all allowed flips are spent on the
--- sync words, so the words stand as they were sent, one bit apart; anywhere else it costs more flips than are allowed.
+-- A place inside the balise's bits reads the telegram sent. At a telegram's beginning its words are
+-- those sent; one bit before or after it all allowed flips are spent on the sync words, so the
+-- words stand as they were sent, one bit apart; anywhere else it costs more flips than are allowed.
 -- Assumes nothing.
 use Prim.Native.Nat.{ℕ, zero, suc, _+_, _-_, _*_, _/_, _%_, _≤_, _<_}
 use mathlib.Core.Path.{_≡_, refl, sym, ap, ap₂, _∙_, subst}
@@ -41,7 +42,8 @@ use Rattle.noise_laws.proofs.Near.{near-sent}
 abbrev isNext : ℕ → Bool
 isNext r = eqb r 1 || eqb r 31
 
--- By the equal bit e, counted from 0: each wrong offset costs more flips than are allowed, and those next to a telegram's beginning as many.
+-- By the equal bit e, counted from 0: each wrong offset costs more flips than are allowed, and
+-- those next to a telegram's beginning as many.
 offsetTest : ℕ → Bool
 offsetTest e = upto (λ r. leb (getD allowed e 0 + pick (isNext (suc r)) 0 1) (sum (cost 1 e (suc r)) 8)) 31
 

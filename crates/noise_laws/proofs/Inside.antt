@@ -1,4 +1,5 @@
--- A pass and the stretch that the balise's own bits are: the line carries what the balise sends there, and the flips are the stretch's.
+-- A pass and the stretch that the balise's own bits are: the line carries what the balise sends
+-- there, and the flips are the stretch's.
 -- Assumes nothing.
 use Prim.Native.Nat.{ℕ, _+_, _-_, _≤_, _<_}
 use mathlib.Core.Path.{_≡_, refl, sym, ap, ap₂, _∙_}

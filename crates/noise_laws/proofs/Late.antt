@@ -1,4 +1,6 @@
--- Two places alike, eight bits apart, that end in the quiet line with three zeroes there, where three flips are allowed: all flips are spent at their end, so what the balise sent stands before it.
+-- Two places alike, eight bits apart, that end in the quiet line with three zeroes there, where
+-- three flips are allowed: all flips are spent at their end, so what the balise sent stands before
+-- it.
 -- Assumes nothing.
 use Prim.Native.Nat.{ℕ, _+_, _-_, _*_, _%_, _≤_, _<_}
 use mathlib.Core.Path.{_≡_, sym, ap, _∙_}

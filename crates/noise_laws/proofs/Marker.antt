@@ -1,5 +1,6 @@
--- A marker with at most two flips in forty bits is never read. A place's outer bytes differ in seven bits, and over the marker every one is a flip; so a place has to end in the quiet line. Of two
--- alike the bits would repeat, where zeroes are followed by ones.
+-- A marker with at most two flips in forty bits is never read. A place's outer bytes differ in
+-- seven bits, and over the marker every one is a flip; so a place has to end in the quiet line. Of
+-- two alike the bits would repeat, where zeroes are followed by ones.
 -- Assumes nothing.
 use Prim.Native.Nat.{ℕ, _+_, _-_, _≤_, _<_}
 use mathlib.Core.Path.{_≡_, refl, sym, ap, _∙_, subst}
@@ -89,7 +90,8 @@ module _ (b : List ℕ) (start len from to : ℕ) (noisy : NoisyMarker 2 b start
     not-swapped same =
         too-few (λ i. bitAt b (q + i)) (λ i l. let e : p + (32 + i) ≡ p + 32 + i = omega arith in ap (bitAt b) e ∙ same-bits b b (p + 32) q 8 same i l) (two-ones q (omega (arith, begins, ahead)) (omega (arith, lies)))
 
-    -- In the same order all bits repeat: where zeroes are followed by ones, each costs a flip; so they are one or two bits apart, and the sync words are equal.
+    -- In the same order all bits repeat: where zeroes are followed by ones, each costs a flip; so
+    -- they are one or two bits apart, and the sync words are equal.
     not-same : start + len < p + 40 → bitsAt b p 8 ≡ bitsAt b q 8 → bitsAt b (p + 32) 8 ≡ bitsAt b (q + 32) 8 → ⊥
     not-same past same-first same-last = none-differ (at-most-two)
       where

@@ -1,4 +1,5 @@
--- Words that are accepted, and differ from the words sent in at most three bits, read the telegram sent: as if one had begun there.
+-- Words that are accepted, and differ from the words sent in at most three bits, read the telegram
+-- sent: as if one had begun there.
 -- Assumes nothing.
 use Prim.Native.Nat.{ℕ, _+_, _-_, _%_, _≤_}
 use mathlib.Core.Path.{_≡_, sym, ap, _∙_, subst}

@@ -1,4 +1,5 @@
--- Two places alike that overlap, d bits apart, up to fourteen: too many of the last d + 1 bits are zeroes, or all between the outer sync words is zeroes.
+-- Two places alike that overlap, d bits apart, up to fourteen: too many of the last d + 1 bits are
+-- zeroes, or all between the outer sync words is zeroes.
 -- Assumes nothing.
 use Prim.Native.Nat.{ℕ, zero, suc, _+_, _-_, _%_, _≤_, _<_}
 use mathlib.Core.Path.{_≡_, refl, sym, ap, ap₂, _∙_, subst}

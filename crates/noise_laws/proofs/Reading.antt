@@ -1,5 +1,6 @@
--- No false reading. A reading needs two places alike. The first of them lies inside the balise's bits, and reads what was sent; or both end in the quiet line, and
--- then there are too few flips for them, unless they read what was sent.
+-- No false reading. A reading needs two places alike. The first of them lies inside the balise's
+-- bits, and reads what was sent; or both end in the quiet line, and then there are too few flips
+-- for them, unless they read what was sent.
 -- Assumes nothing.
 use Prim.Native.Nat.{ℕ, _+_, _-_, _≤_, _<_}
 use mathlib.Core.Path.{_≡_, refl, sym, ap, _∙_, subst}

@@ -1,4 +1,5 @@
--- Bits that repeat themselves every d bits: the first d give them all, and any d in a row have the same sum.
+-- Bits that repeat themselves every d bits: the first d give them all, and any d in a row have the
+-- same sum.
 -- Assumes nothing.
 use Prim.Native.Nat.{ℕ, zero, suc, _+_, _-_, _*_, _%_, _≤_, _<_}
 use mathlib.Core.Path.{_≡_, refl, sym, ap, ap₂, _∙_}

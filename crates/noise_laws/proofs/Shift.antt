@@ -1,4 +1,5 @@
--- Short words that overlap but for one bit are both 00: so two telegrams one bit apart are both 0 0 0.
+-- Short words that overlap but for one bit are both 00: so two telegrams one bit apart are both 0 0
+-- 0.
 -- Assumes nothing.
 use Prim.Native.Nat.{ℕ, _+_, _-_, _<_}
 use mathlib.Core.Path.{_≡_, refl, sym, ap, ap₂, _∙_, subst}

@@ -1,4 +1,5 @@
--- Any 32 line bits in a row hold every data bit once: what the data bits differ in from a line that repeats itself every 32 bits, the 32 bits differ in too.
+-- Any 32 line bits in a row hold every data bit once: what the data bits differ in from a line that
+-- repeats itself every 32 bits, the 32 bits differ in too.
 -- Assumes nothing.
 use Prim.Native.Nat.{ℕ, zero, suc, _+_, _*_, _%_, _≤_, _<_}
 use mathlib.Core.Path.{_≡_, refl, ap, ap₂, _∙_}

@@ -1,4 +1,5 @@
--- Two places alike that end in the quiet line after the balise: they overlap, and the zeroes at their end are flips.
+-- Two places alike that end in the quiet line after the balise: they overlap, and the zeroes at
+-- their end are flips.
 -- Assumes nothing.
 use Prim.Native.Nat.{ℕ, _+_, _-_, _≤_, _<_}
 use mathlib.Core.Path.{_≡_, sym, ap, _∙_}

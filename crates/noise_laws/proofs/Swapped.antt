@@ -1,4 +1,5 @@
--- Two places alike that overlap, with the sync words swapped, eight bits apart or more: too many of the last d + 1 bits are zeroes, or all between the outer sync words is.
+-- Two places alike that overlap, with the sync words swapped, eight bits apart or more: too many of
+-- the last d + 1 bits are zeroes, or all between the outer sync words is.
 -- Assumes nothing.
 use Prim.Native.Nat.{ℕ, zero, suc, _+_, _-_, _%_, _≤_, _<_}
 use mathlib.Core.Path.{_≡_, refl, sym, ap, _∙_, subst}
@@ -21,7 +22,8 @@ use Rattle.noise_laws.proofs.SwappedShort.{swapped-short}
 
 module _ (r : ℕ → ℕ) (bits : (i : ℕ) → r i < 2) (d : ℕ) (pos : 0 < d) (x-short : isShort (spelt r 8 8) ≡ true)
     (e : ℕ) (e-low : e < 8) (differ : (i : ℕ) → i < 8 → unequal (r i) (r (32 + i)) ≡ notAt e i) (seven : outer r ≡ 7) where
-  -- The sync words swapped: the bits from bit 8 on repeat, the word d bits on from the first is the second, and the last is the first.
+  -- The sync words swapped: the bits from bit 8 on repeat, the word d bits on from the first is the
+  -- second, and the last is the first.
   module _ (per : (i : ℕ) → i < 24 → r (8 + (i + d)) ≡ r (8 + i)) (next : (i : ℕ) → i < 8 → r (d + i) ≡ r (32 + i)) (last : (i : ℕ) → i < 8 → r (32 + d + i) ≡ r i) where
     module _ (high : 8 ≤ d) (top : d ≤ 14) where
       abbrev x : List ℕ

@@ -1,4 +1,5 @@
--- Two places alike less than eight bits apart, with the sync words swapped, cannot be: the second sync word would differ from itself.
+-- Two places alike less than eight bits apart, with the sync words swapped, cannot be: the second
+-- sync word would differ from itself.
 -- Assumes nothing.
 use Prim.Native.Nat.{ℕ, zero, suc, _+_, _-_, _%_, _≤_, _<_}
 use mathlib.Core.Path.{_≡_, refl, sym, ap, ap₂, _∙_, subst}
@@ -17,7 +18,8 @@ use Rattle.noise_laws.proofs.Tests.{round, second, swappedTest, bitsOf,
 use Rattle.noise_laws.proofs.Overlap.{all-upto, nothing}
 
 module _ (r : ℕ → ℕ) (bits : (i : ℕ) → r i < 2) (d : ℕ) (pos : 0 < d) (e : ℕ) (differ : (i : ℕ) → i < 8 → unequal (r i) (r (32 + i)) ≡ notAt e i) where
-  -- The bits from bit 8 on repeat, the word d bits on from the first is the second, and the last is the first.
+  -- The bits from bit 8 on repeat, the word d bits on from the first is the second, and the last is
+  -- the first.
   module _ (per : (i : ℕ) → i < 24 → r (8 + (i + d)) ≡ r (8 + i)) (next : (i : ℕ) → i < 8 → r (d + i) ≡ r (32 + i)) (last : (i : ℕ) → i < 8 → r (32 + d + i) ≡ r i) where
     -- Two bits of the second word, d apart, differ.
     apart : (i : ℕ) → i + d < 8 → unequal (r (32 + i)) (r (32 + (i + d))) ≡ 1

@@ -1,4 +1,5 @@
--- Two places that overlap have the same words d bits apart, so a few of the bits give all of them. What the sync words and X then can be, computed for every shift up to fourteen.
+-- Two places that overlap have the same words d bits apart, so a few of the bits give all of them.
+-- What the sync words and X then can be, computed for every shift up to fourteen.
 -- Assumes nothing.
 use Prim.Native.Nat.{ℕ, zero, suc, _+_, _-_, _*_, _%_, _<_}
 use mathlib.Core.Bool.{Bool, true, not}
@@ -32,12 +33,14 @@ zs r a n = sum (λ i. 1 - r (a + i)) n
 unfoldable pub outer : (ℕ → ℕ) → ℕ
 outer r = sum (λ i. unequal (r i) (r (32 + i))) 8
 
--- Sync words in the same order, shift below eight, all bits repeating: X is no short word, or the last d + 1 bits have three zeroes and the seventh bits of the sync words are equal.
+-- Sync words in the same order, shift below eight, all bits repeating: X is no short word, or the
+-- last d + 1 bits have three zeroes and the seventh bits of the sync words are equal.
 unfoldable pub sameTest : ℕ → (ℕ → ℕ) → Bool
 sameTest d w =
     pick (eqb (outer (round w d)) 7) (pick (isShort (spelt (round w d) 8 8)) (both (leb 3 (zs (round w d) 39 (d + 1))) (eqb (round w d 6) (round w d 38))) true) true
 
--- Sync words swapped, shift below eight: the bits from bit 8 on repeat; w has d of them and then the last of the second sync word. It cannot be.
+-- Sync words swapped, shift below eight: the bits from bit 8 on repeat; w has d of them and then
+-- the last of the second sync word. It cannot be.
 unfoldable pub second : ℕ → (ℕ → ℕ) → ℕ → ℕ
 second d w i = pick (ltb i d) (round w d (24 + i)) (w i)
 
@@ -45,8 +48,9 @@ unfoldable pub swappedTest : ℕ → (ℕ → ℕ) → Bool
 swappedTest d w =
     not (both (upto (λ i. eqb (w i) (second d w (8 - d + i))) d) (upto (λ i. eqb (unequal (second d w i) (second d w (i + d))) 1) (8 - d)))
 
--- Sync words swapped, shift eight or more: the bits from bit 8 on repeat, and the second sync word is the one d bits after the first. All are zeroes, or there are too many zeroes at the end:
--- four at least, or three where the shift is eight.
+-- Sync words swapped, shift eight or more: the bits from bit 8 on repeat, and the second sync word
+-- is the one d bits after the first. All are zeroes, or there are too many zeroes at the end: four
+-- at least, or three where the shift is eight.
 unfoldable pub longTest : ℕ → (ℕ → ℕ) → Bool
 longTest d w =
     pick (upto (λ i. eqb (round w d (d - 8 + i)) (round w d (24 + i))) 8)

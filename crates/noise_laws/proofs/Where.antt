@@ -1,4 +1,5 @@
--- Where the contacts of a line lie: between two bits, before the first of which nothing can open one, and from the second of which on nothing can stay open.
+-- Where the contacts of a line lie: between two bits, before the first of which nothing can open
+-- one, and from the second of which on nothing can stay open.
 -- Assumes nothing.
 use Prim.Native.Nat.{ℕ, zero, suc, _+_, _-_, _≤_, _<_}
 use mathlib.Core.Path.{_≡_, refl, ap, ap₂}

@@ -1,4 +1,5 @@
--- The words of a telegram as bits: X is a short word and not that of 15, and after an X of 0 so are Y and Z.
+-- The words of a telegram as bits: X is a short word and not that of 15, and after an X of 0 so are
+-- Y and Z.
 -- Assumes nothing.
 use Prim.Native.Nat.{ℕ, zero, suc, _+_, _*_, _^_, _<_}
 use mathlib.Core.Path.{_≡_, refl, sym, ap, ap₂, _∙_, subst}

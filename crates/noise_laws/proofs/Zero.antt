@@ -1,4 +1,5 @@
--- Two places whose words are zeroes, and whose ends lie in the quiet line: the balise's own words have too few ones to be anything else.
+-- Two places whose words are zeroes, and whose ends lie in the quiet line: the balise's own words
+-- have too few ones to be anything else.
 -- Assumes nothing.
 use Prim.Native.Nat.{ℕ, zero, suc, _+_, _-_, _≤_, _<_}
 use mathlib.Core.Path.{_≡_, refl, sym, ap, ap₂, _∙_}

@@ -1,4 +1,5 @@
--- The limits: with one flip more in forty bits than the pair's equal bit allows, a contact can be read as another telegram; and what may come of a pass within the bound, or without any noise.
+-- The limits: with one flip more in forty bits than the pair's equal bit allows, a contact can be
+-- read as another telegram; and what may come of a pass within the bound, or without any noise.
 -- Assumes nothing.
 use Prim.Native.Nat.{ℕ, suc, _-_}
 use mathlib.Core.Path.{_≡_}
@@ -23,7 +24,8 @@ pub record FirstIs (o : OneBalise) (r : Judged) (w : Contacts) : Type 0 where
   pub is : w ≡ contact start length then rest
   pub answered : (a : Judged) → JudgeContact (o .buffer) start length (o .s) (o .t) a → a ≡ r
 
--- A balise whose sync words are equal in the bit that is sent as the k-th is passed with at most so many flips in forty bits, and its first contact is answered with r.
+-- A balise whose sync words are equal in the bit that is sent as the k-th is passed with at most so
+-- many flips in forty bits, and its first contact is answered with r.
 pub record Passed (k most : ℕ) (o : OneBalise) (r : Judged) : Type 0 where
   pub from : ℕ
   pub to : ℕ
@@ -47,7 +49,8 @@ pub record OneMoreDoesNot : Type 0 where
   pub seventh-sent : OneMore 7 seventhLine (Telegram.Figures 9 9 9)
   pub eighth-sent : OneMore 8 eighthLine (Telegram.Figures 0 0 2)
 
--- Within what is allowed a balise can be taken for a marker, or be refused; and one that is read reads what was sent.
+-- Within what is allowed a balise can be taken for a marker, or be refused; and one that is read
+-- reads what was sent.
 pub record WithinIt : Type 0 where
   -- 0 0 0 with a sync word 00, without any noise
   pub marker-of-zeroes : Passed 4 0 zeroesLine Judged.Marker

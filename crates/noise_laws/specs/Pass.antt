@@ -1,5 +1,6 @@
--- The antenna passes over one balise, and noise falls on the line: on the balise's bits, and on the quiet line before and after them.
--- "With no balise the line carries ones." (document 01, "Contacts and readings")
+-- The antenna passes over one balise, and noise falls on the line: on the balise's bits, and on the
+-- quiet line before and after them. "With no balise the line carries ones." (document 01, "Contacts
+-- and readings")
 -- Assumes nothing.
 use Prim.Native.Nat.{ℕ, _+_, _-_, _≤_}
 use mathlib.Core.Path.{_≡_}
@@ -15,7 +16,8 @@ use Rattle.contact_laws.specs.Pass.{Pass}
 unfoldable pub isOver : ℕ → ℕ → ℕ → Bool
 isOver start n i = leb start i && ltb i (start + n)
 
--- The bit that the line carries at bit i of the buffer, before any noise: over the balise the bit that it sends, elsewhere a one.
+-- The bit that the line carries at bit i of the buffer, before any noise: over the balise the bit
+-- that it sends, elsewhere a one.
 unfoldable pub lineAt : OneBalise → ℕ → ℕ
 lineAt o i = pick (isOver (o .start) (o .len) i) (sentBit o (lineBit o i)) 1
 
@@ -31,8 +33,8 @@ flipsIn line b p n = sum (λ i. flipped line b (p + i)) n
 abbrev pub InForty : ℕ → (ℕ → ℕ) → List ℕ → ℕ → ℕ → Type 0
 InForty most line b from to = (p : ℕ) → from ≤ p → p + 40 ≤ to → flipsIn line b p 40 ≤ most
 
--- Between bit `from` and bit `to` of the buffer: quiet line, any bits of one balise's line, quiet line; and no forty bits of it in a row, quiet parts
--- included, hold more than so many flips.
+-- Between bit `from` and bit `to` of the buffer: quiet line, any bits of one balise's line, quiet
+-- line; and no forty bits of it in a row, quiet parts included, hold more than so many flips.
 pub record NoisyPass (most : ℕ) (o : OneBalise) (from to : ℕ) : Type 0 where
   pub from-low : from ≤ o .start
   pub to-high : o .start + o .len ≤ to

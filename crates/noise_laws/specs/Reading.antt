@@ -1,4 +1,5 @@
--- No false reading: what a contact over one balise is read as, whatever noise falls on the line, up to so many flips in forty bits.
+-- No false reading: what a contact over one balise is read as, whatever noise falls on the line, up
+-- to so many flips in forty bits.
 -- Assumes nothing.
 use Prim.Native.Nat.{ℕ, _-_, _≤_}
 use mathlib.Core.Path.{_≡_}
@@ -16,7 +17,8 @@ use Rattle.contact.specs.declared.Judged.{Judged}
 use Rattle.contact_laws.specs.Calls.{Listened, JudgeContact}
 use Rattle.noise_laws.specs.Pass.{NoisyPass}
 
--- The fewest places that make a reading, if all are alike: "one place alone never makes a reading" (document 01).
+-- The fewest places that make a reading, if all are alike: "one place alone never makes a reading"
+-- (document 01).
 abbrev pub fewest : ℕ
 fewest = 2
 
@@ -26,7 +28,8 @@ AlikeTheSent o start len =
     (m : Telegram) → fewest ≤ length (places (o .buffer) start len (o .s) (o .t)) → allAlike (o .buffer) (places (o .buffer) start len (o .s) (o .t)) ≡ true
     → wordsAt (o .buffer) (firstPlace (places (o .buffer) start len (o .s) (o .t))) ≡ gives m → m ≡ o .telegram
 
--- and so, whatever the contract of `judge` allows, a contact that is read as a telegram reads the one sent. (Of refusals nothing is said.)
+-- and so, whatever the contract of `judge` allows, a contact that is read as a telegram reads the
+-- one sent. (Of refusals nothing is said.)
 abbrev pub JudgedTheSent : OneBalise → ℕ → ℕ → Type 0
 JudgedTheSent o start len =
     (a : Judged) → JudgeContact (o .buffer) start len (o .s) (o .t) a → (m : Telegram) (first count : ℕ) → a ≡ Judged.Read m first count → m ≡ o .telegram
@@ -37,12 +40,14 @@ ReadsTheSent o (contact start len then rest) = AlikeTheSent o start len × Judge
 ReadsTheSent o quiet = Unit
 ReadsTheSent o (refused n) = Unit
 
--- How many flips in forty bits in a row are allowed, by the equal bit of the sync pair, from the first sent to the eighth.
+-- How many flips in forty bits in a row are allowed, by the equal bit of the sync pair, from the
+-- first sent to the eighth.
 abbrev pub allowed : List ℕ
 allowed = 1 ∷ 1 ∷ 2 ∷ 3 ∷ 3 ∷ 2 ∷ 1 ∷ 1 ∷ []
 
--- One balise is passed, at any phase, for any length. If no forty bits of the line in a row, quiet parts included, hold more flips than the pair's equal bit allows,
--- every contact that is read as a telegram reads the one sent.
+-- One balise is passed, at any phase, for any length. If no forty bits of the line in a row, quiet
+-- parts included, hold more flips than the pair's equal bit allows, every contact that is read as a
+-- telegram reads the one sent.
 abbrev pub NoFalseReading : Type 0
 NoFalseReading =
     (o : OneBalise) → Proper o → (k : ℕ) → EqualBit o k → (from to : ℕ) → NoisyPass (getD allowed (k - 1) 0) o from to

@@ -1,4 +1,5 @@
--- The second reader answers as the reader by checks; what can be heard is told after the figures and the pair were judged.
+-- The second reader answers as the reader by checks; what can be heard is told after the figures
+-- and the pair were judged.
 -- Assumes nothing.
 use Prim.Native.Nat.{ℕ}
 use mathlib.Core.Path.{_≡_, refl, subst, _∙_}

@@ -1,5 +1,6 @@
--- Demand 1 for two functions of crates that `demands` does not rest on: the second reader of the long code, by the printed list, and what tells
--- whether a balise can be heard. Each refuses with the first number of its list whose condition holds, and reads exactly if none does.
+-- Demand 1 for two functions of crates that `demands` does not rest on: the second reader of the
+-- long code, by the printed list, and what tells whether a balise can be heard. Each refuses with
+-- the first number of its list whose condition holds, and reads exactly if none does.
 -- Assumes nothing.
 use Prim.Native.Nat.{ℕ}
 use mathlib.Core.List.{[], _∷_}

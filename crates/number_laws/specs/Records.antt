@@ -1,5 +1,7 @@
--- Demand 1 for what records a lead: `recorder::record_of`, which makes a record of a judged contact, and `recording_text::count_frames`, which counts the frames.
--- Each refuses with the first number of its list whose condition holds, and a refusal hands out no figure; nor does one of `antenna::hear_piece`, whose list is in recording_laws.
+-- Demand 1 for what records a lead: `recorder::record_of`, which makes a record of a judged
+-- contact, and `recording_text::count_frames`, which counts the frames. Each refuses with the first
+-- number of its list whose condition holds, and a refusal hands out no figure; nor does one of
+-- `antenna::hear_piece`, whose list is in recording_laws.
 -- Assumes nothing.
 use Prim.Native.Nat.{ℕ, _*_, _<_}
 use mathlib.Core.Path.{_≡_}
@@ -36,7 +38,8 @@ use Rattle.demands.specs.Untouched.{Bare}
 abbrev pub RecordOf : ℕ → Judged → Recorded → Type 0
 RecordOf odometer j r = (e : AtExit (endedOf 0 record-kinds.ps record-kinds.r) tt) × record-reads.Post tt (odometer, (j, tt)) r e
 
--- 2: the figures that were judged are some that no telegram has. (`judge` never answers such; a caller may.)
+-- 2: the figures that were judged are some that no telegram has. (`judge` never answers such; a
+-- caller may.)
 abbrev pub figureAbove : Judged → Bool
 figureAbove (Judged.Read (Telegram.Figures x y z) first count) = someAbove x y z
 figureAbove (Judged.Read (Telegram.Number m) first count) = above 2047 m
@@ -73,7 +76,8 @@ wasBeyond Judged.Beyond = true
 wasBeyond Judged.Differ = false
 wasBeyond Judged.Neither = false
 
--- `record_of`: 2, 3, 4, 5, then 18 for the odometer. (Contacts refused with 7 and 8 are recorded, as unreadable.)
+-- `record_of`: 2, 3, 4, 5, then 18 for the odometer. (Contacts refused with 7 and 8 are recorded,
+-- as unreadable.)
 abbrev pub makingRules : ℕ → Judged → List (Rule (Outcome Made))
 makingRules odometer j =
     row 2 (figureAbove j) ∷ row 3 (figureFifteen j) ∷ row 4 (wasNotSeven j) ∷ row 5 (wasBeyond j) ∷ row 18 (tooHigh odometer) ∷ []
@@ -101,8 +105,10 @@ fallsBelow last given = ltb given last
 abbrev pub frameRules : ℕ → ℕ → List (Rule (Outcome ℕ))
 frameRules last given = row 18 (tooHigh given) ∷ row 17 (fallsBelow last given) ∷ []
 
--- A whole frame is accepted with its odometer or refused by its rules, and counted so (`withFrame`: a refused one keeps the last accepted odometer); what is less than a frame
--- counts nothing; a piece of whole frames and what follows it are counted as both together. So every frame of a lead, whatever its pieces.
+-- A whole frame is accepted with its odometer or refused by its rules, and counted so (`withFrame`:
+-- a refused one keeps the last accepted odometer); what is less than a frame counts nothing; a
+-- piece of whole frames and what follows it are counted as both together. So every frame of a lead,
+-- whatever its pieces.
 pub record FramesDecided : Type 0 where
   pub one : (f : Frames) (piece : List ℕ) (r : Frames) → CountFrames f piece r → length piece ≡ 16
       → (o : Outcome ℕ) × Decided (Is (odometerOf piece 0)) (frameRules (f .odometer) (odometerOf piece 0)) o × (r ≡ withFrame f o)

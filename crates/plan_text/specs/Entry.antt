@@ -1,5 +1,7 @@
--- What a line of a plan's text says (house): "For a plan `PLACE KIND`, with KIND one of signal, warning, annulled, line, route." "Plan records are of one
--- fixed size, no header: 8 bytes, place in 0 to 3 high byte first, kind in 4 (0 signal, 1 warning, 2 annulled, 3 line, 4 route), 5 to 7 zero."
+-- What a line of a plan's text says (house): "For a plan `PLACE KIND`, with KIND one of signal,
+-- warning, annulled, line, route." "Plan records are of one fixed size, no header: 8 bytes, place
+-- in 0 to 3 high byte first, kind in 4 (0 signal, 1 warning, 2 annulled, 3 line, 4 route), 5 to 7
+-- zero."
 -- Assumes nothing.
 use Prim.Native.Nat.{ℕ}
 use lib.Dec.{eqb}

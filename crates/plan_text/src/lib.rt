@@ -1,4 +1,5 @@
-// The entries of a plan as lines of text (house): `1000 signal`, `4000 warning`, `annulled`, `line` or `route`.
+// The entries of a plan as lines of text (house): `1000 signal`, `4000 warning`, `annulled`, `line`
+// or `route`.
 // Promises: every line is answered: an entry, nothing, or unreadable; an entry is its eight bytes.
 // Specification: specs/Entry.antt.
 ghost use mathlib.Core.Path.{_≡_};

@@ -1,8 +1,11 @@
-// From the bench's lead to a trace: the records of the leads that are named, joined byte after byte, on standard output as they come; on standard error the
-// first refused frame, and at the end what was counted.
-// Promises: it is safe and it ends; what it writes are the records of the crate recording, what it says the lines of recording_text, piece by piece.
-// Specification: none of its own; what the pieces come to is crates/recording/specs/Laws.antt and crates/recording_text/specs/Laws.antt, what cannot be said of a
-// program's reads and writes stands in docs/EXCEPTIONS.md.
+// From the bench's lead to a trace: the records of the leads that are named, joined byte after
+// byte, on standard output as they come; on standard error the first refused frame, and at the end
+// what was counted.
+// Promises: it is safe and it ends; what it writes are the records of the crate recording, what it
+// says the lines of recording_text, piece by piece.
+// Specification: none of its own; what the pieces come to is crates/recording/specs/Laws.antt and
+// crates/recording_text/specs/Laws.antt, what cannot be said of a program's reads and writes stands
+// in docs/EXCEPTIONS.md.
 mod out;
 mod pieces;
 

@@ -122,7 +122,8 @@ fn end(from: Stand) -> Stand {
     }
 }
 
-// The end of the leads: its records, and what was counted, with so many bytes after the last whole frame.
+// The end of the leads: its records, and what was counted, with so many bytes after the last whole
+// frame.
 fn at_end(from: Stand, bytes: usize) {
     let stand = end(from);
     if !stand.is_good {
@@ -155,8 +156,8 @@ fn fresh() -> Stand {
     }
 }
 
-// All leads from this argument on. A proved loop has to end, and nothing says that a lead does: so it counts its turns down from a number that no run uses
-// up.
+// All leads from this argument on. A proved loop has to end, and nothing says that a lead does: so
+// it counts its turns down from a number that no run uses up.
 pub fn all(store: Store, first: usize) {
     let mut block = io::large_buffer();
     let mut buf = io::large_buffer();

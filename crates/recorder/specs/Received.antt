@@ -10,7 +10,8 @@ use Rattle.contact.specs.Judge.{read, judge}
 use Rattle.contact.specs.declared.Judged.{Judged}
 use Rattle.recorder.specs.Record.{bytesOf, recordOf}
 
--- Where a contact is read as the telegram m, from a first place on, its record has the three words that stand in the buffer there.
+-- Where a contact is read as the telegram m, from a first place on, its record has the three words
+-- that stand in the buffer there.
 abbrev pub AsReceived : Type 0
 AsReceived =
     (b : List ℕ) (start len s t : ℕ) (m : Telegram) (first count odometer : ℕ)

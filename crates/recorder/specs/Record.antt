@@ -1,5 +1,6 @@
--- From a judged contact to a record of a trace (document 01, "A ride"): "8 bytes. Bytes 0 to 3 odometer in dm, high byte first; byte 4 kind
--- (0 information, 1 marker, 2 unreadable, 3 position only); bytes 5 to 7 the received X, Y, Z, all zero for kinds 1 to 3."
+-- From a judged contact to a record of a trace (document 01, "A ride"): "8 bytes. Bytes 0 to 3
+-- odometer in dm, high byte first; byte 4 kind (0 information, 1 marker, 2 unreadable, 3 position
+-- only); bytes 5 to 7 the received X, Y, Z, all zero for kinds 1 to 3."
 -- Assumes nothing.
 use Prim.Native.Nat.{ℕ, _/_, _%_}
 use mathlib.Core.List.{List, [], _∷_}
@@ -16,12 +17,14 @@ pub record Content : Type 0 where
   pub y : ℕ
   pub z : ℕ
 
--- The telegram whose words are kept: the one read. (Three figures of which the first is 12 are never read: they are taken for the number that they would be written as.)
+-- The telegram whose words are kept: the one read. (Three figures of which the first is 12 are
+-- never read: they are taken for the number that they would be written as.)
 abbrev pub telegramOf : Telegram → Telegram
 telegramOf (Telegram.Figures x y z) = asked x y z
 telegramOf (Telegram.Number m) = Telegram.Number m
 
--- "0 information": with the words received, which are the words sent for what was read. (Figures that no telegram has are refused with 2 and 3, as in writing.)
+-- "0 information": with the words received, which are the words sent for what was read. (Figures
+-- that no telegram has are refused with 2 and 3, as in writing.)
 abbrev pub informed : Outcome Words → Outcome Content
 informed (gives w) = gives (record { kind = 0; x = w .x; y = w .y; z = w .z })
 informed (refuses n) = refuses n
@@ -30,7 +33,8 @@ informed (refuses n) = refuses n
 abbrev pub blank : ℕ → Content
 blank kind = record { kind = kind; x = 0; y = 0; z = 0 }
 
--- What a judged contact is kept as: a reading as information, a marker as one, refusals 7 and 8 as unreadable; 4 and 5 are handed on.
+-- What a judged contact is kept as: a reading as information, a marker as one, refusals 7 and 8 as
+-- unreadable; 4 and 5 are handed on.
 unfoldable pub contentOf : Judged → Outcome Content
 contentOf (Judged.Read t first count) = informed (spell (telegramOf t))
 contentOf Judged.Marker = gives (blank 1)
@@ -52,7 +56,8 @@ atOdometer odometer c = pick (ltb 4000000000 odometer) (refuses 18) (gives (byte
 unfoldable pub recordOf : ℕ → Judged → Outcome (List ℕ)
 recordOf odometer j = then (contentOf j) (atOdometer odometer)
 
--- What making a record answers: that it is made, or the number of its refusal; and its bytes, all zero if it is not.
+-- What making a record answers: that it is made, or the number of its refusal; and its bytes, all
+-- zero if it is not.
 pub data Made : Type 0 where
   made : Made
 

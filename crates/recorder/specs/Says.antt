@@ -6,8 +6,9 @@ use Rattle.recorder.specs.declared.Went.{Went}
 use Rattle.recorder.specs.declared.Recorded.{Recorded}
 use Rattle.recorder.specs.declared.keeping.Kept.{Kept}
 
--- That it is made; "figure to write above 15 or above 2,047" is 2, "a short word of a telegram reads 15" is 3, "sync pair doesn't differ in seven bits" is 4, "stretch beyond
--- the buffer, or above 16,777,216 bits" is 5, "odometer above 4,000,000,000" is 18.
+-- That it is made; "figure to write above 15 or above 2,047" is 2, "a short word of a telegram
+-- reads 15" is 3, "sync pair doesn't differ in seven bits" is 4, "stretch beyond the buffer, or
+-- above 16,777,216 bits" is 5, "odometer above 4,000,000,000" is 18.
 abbrev pub saysWent : Went → Outcome Made
 saysWent Went.Made = gives made
 saysWent Went.TooLarge = refuses 2

@@ -1,7 +1,9 @@
 // From a contact, judged, to a record of a trace: the eight bytes of document 01's "A ride".
-// Promises: a reading is kept with its received words, a marker as one, what could not be read as unreadable; what is refused leaves eight zero bytes.
+// Promises: a reading is kept with its received words, a marker as one, what could not be read as
+// unreadable; what is refused leaves eight zero bytes.
 // Specification: specs/Record.antt (the bytes and the refusals), specs/Says.antt (the answer).
-// Laws: the words of a reading are those received at its first place (`AsReceived` of specs/Received.antt).
+// Laws: the words of a reading are those received at its first place (`AsReceived` of
+// specs/Received.antt).
 ghost use mathlib.Core.Path.{_≡_};
 ghost use Rattle.recorder.specs.Record.{recordOf, recording};
 ghost use Rattle.recorder.specs.Says.{saysRecorded};
@@ -27,8 +29,9 @@ pub struct Recorded {
     pub went: Went,
 }
 
-// The eight bytes of a judged contact at this odometer: a reading as kind 0 with its words, a marker as kind 1, refusals 7 and 8 as kind 2; 4 and 5 are
-// handed on (for figures that no telegram has 2 and 3), then 18, with eight zero bytes.
+// The eight bytes of a judged contact at this odometer: a reading as kind 0 with its words, a
+// marker as kind 1, refusals 7 and 8 as kind 2; 4 and 5 are handed on (for figures that no telegram
+// has 2 and 3), then 18, with eight zero bytes.
 pub fn record_of(odometer: u32, judged: Judged) -> Recorded
     ensures { λ r. ⌜ saysRecorded r ≡ recording (recordOf odometer judged) ⌝ }
 {

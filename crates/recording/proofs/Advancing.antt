@@ -1,4 +1,5 @@
--- Each record is handed out from further on: what is left falls, so that whoever asks on and on comes to the end.
+-- Each record is handed out from further on: what is left falls, so that whoever asks on and on
+-- comes to the end.
 -- Assumes nothing.
 use Prim.Native.Nat.{ℕ, zero, suc, _+_, _-_, _*_, _≤_, _<_}
 use mathlib.Core.Path.{_≡_, refl, sym, ap, _∙_, subst}

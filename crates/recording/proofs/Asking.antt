@@ -1,4 +1,5 @@
--- Asked on and on, each time from where the answer stood, frames give the records that come of them.
+-- Asked on and on, each time from where the answer stood, frames give the records that come of
+-- them.
 -- Assumes nothing.
 use Prim.Native.Nat.{ℕ, zero, suc, _+_, _-_, _≤_, _<_}
 use mathlib.Core.Path.{_≡_, refl, sym, ap, _∙_}

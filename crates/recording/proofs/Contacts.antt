@@ -1,4 +1,5 @@
--- The records of a trace that are not positions are one for each contact of the line: bit by bit, frame by frame, and at the end.
+-- The records of a trace that are not positions are one for each contact of the line: bit by bit,
+-- frame by frame, and at the end.
 -- Assumes nothing.
 use Prim.Native.Nat.{ℕ, zero, suc, _+_, _-_, _*_, _/_, _%_, _^_, _≤_, _<_}
 use mathlib.Core.Path.{_≡_, refl, sym, ap, _∙_, subst, subst⁻¹}

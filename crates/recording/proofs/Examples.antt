@@ -1,4 +1,5 @@
--- Short leads, computed: quiet frames, with an odometer that falls; and a marker of 64 bits, heard over two frames.
+-- Short leads, computed: quiet frames, with an odometer that falls; and a marker of 64 bits, heard
+-- over two frames.
 -- Assumes nothing.
 use Prim.Native.Nat.{ℕ}
 use mathlib.Core.Path.{_≡_, refl}
@@ -28,13 +29,15 @@ store = begin 40 0x72 0x0d .store
 abbrev frame : ℕ → ℕ → ℕ → List ℕ
 frame odometer a b = 0 ∷ 0 ∷ 0 ∷ odometer ∷ a ∷ a ∷ a ∷ a ∷ a ∷ a ∷ b ∷ b ∷ b ∷ b ∷ b ∷ b ∷ []
 
--- At 5 the first, at 15 the second, 10 above it; 12 is refused with 17 and stands for 15; 24 is too near, and so the last position at the end.
+-- At 5 the first, at 15 the second, 10 above it; 12 is refused with 17 and stands for 15; 24 is too
+-- near, and so the last position at the end.
 quiet : recorded store (frame 5 255 255 ++ (frame 15 255 255 ++ (frame 12 255 255 ++ frame 24 255 255)))
     ≡ (0 ∷ 0 ∷ 0 ∷ 5 ∷ 3 ∷ 0 ∷ 0 ∷ 0 ∷ []) ∷ (0 ∷ 0 ∷ 0 ∷ 15 ∷ 3 ∷ 0 ∷ 0 ∷ 0 ∷ []) ∷ (0 ∷ 0 ∷ 0 ∷ 24 ∷ 3 ∷ 0 ∷ 0 ∷ 0 ∷ []) ∷ []
 unfolding recorded theEnd lastPosition overFrames itsBits overBits afterFrame heldAt hold asked stores.judged inOrder allFollow versionsOf opened begin noStore settingsOf follows goodPair isGood differing heldFrom at.heldAt fresh hearing.fresh hear history.after zeroesOf zeroes opens closes lineOf odometerOf acceptedAfter
 quiet = refl
 
--- 96 zeroes at 5, then ones at 30: the marker is recorded at 5 when it has closed, and after its frame the position.
+-- 96 zeroes at 5, then ones at 30: the marker is recorded at 5 when it has closed, and after its
+-- frame the position.
 a-marker : recorded store (frame 5 0 0 ++ frame 30 255 255) ≡ (0 ∷ 0 ∷ 0 ∷ 5 ∷ 1 ∷ 0 ∷ 0 ∷ 0 ∷ []) ∷ (0 ∷ 0 ∷ 0 ∷ 30 ∷ 3 ∷ 0 ∷ 0 ∷ 0 ∷ []) ∷ []
 unfolding recorded theEnd lastPosition overFrames itsBits overBits afterFrame heldAt hold asked stores.judged inOrder allFollow versionsOf opened begin noStore settingsOf follows goodPair isGood differing heldFrom at.heldAt fresh hearing.fresh hear history.after zeroesOf zeroes opens closes lineOf odometerOf acceptedAfter begun withBit more placesAfter markerOr judged areSyncs
 a-marker = refl

@@ -1,4 +1,5 @@
--- Settings that are held are those in force at every place between theirs, so that the store need not be asked again there.
+-- Settings that are held are those in force at every place between theirs, so that the store need
+-- not be asked again there.
 -- Assumes nothing.
 use Prim.Native.Nat.{ℕ, _≤_, _<_}
 use mathlib.Core.Path.{_≡_, refl, sym, ap, _∙_, subst⁻¹}
@@ -44,7 +45,8 @@ by-leaving store held place false e h =
     let w = within (ltb place (held .from)) (leb (held .until) place) held place refl refl e in
     (sym (h .there place (w .0) (w .1)), h)
 
--- The settings held after asking, where they had to be asked for, are those in force, and are held on.
+-- The settings held after asking, where they had to be asked for, are those in force, and are held
+-- on.
 pub held-on : (store : Store) (held next : Held) (place : ℕ) → InForce store held → next ≡ pick (leaves held place) (heldAt store place) held
     → (next ≡ heldAt store place) × InForce store next
 held-on store held next place h e =

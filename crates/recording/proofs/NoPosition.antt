@@ -1,4 +1,5 @@
--- The records of a trace that are not positions: they join as the trace does, and a contact's record is one of them.
+-- The records of a trace that are not positions: they join as the trace does, and a contact's
+-- record is one of them.
 -- Assumes nothing.
 use Prim.Native.Nat.{ℕ, _+_, _-_}
 use mathlib.Core.Path.{_≡_, refl, ap}

@@ -1,4 +1,5 @@
--- One bit of the line: what it hands out is what the tape records, and an open contact opened in the frame of its first bit.
+-- One bit of the line: what it hands out is what the tape records, and an open contact opened in
+-- the frame of its first bit.
 -- Assumes nothing.
 use Prim.Native.Nat.{ℕ, _+_, _-_, _/_, _≤_, _<_}
 use mathlib.Core.Path.{_≡_, refl, sym, ap, _∙_}

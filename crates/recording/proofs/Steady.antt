@@ -1,4 +1,5 @@
--- A tape whose last record is not above the odometer at which its open contact opened, and that not above the odometer in force: what comes of it rises.
+-- A tape whose last record is not above the odometer at which its open contact opened, and that not
+-- above the odometer in force: what comes of it rises.
 -- Assumes nothing.
 use Prim.Native.Nat.{ℕ, _+_, _-_, _≤_}
 use mathlib.Core.Path.{_≡_, refl, sym, ap, _∙_, subst⁻¹}
@@ -32,7 +33,8 @@ abbrev pub final : ℕ → List (List ℕ) → ℕ
 final last [] = last
 final last (r ∷ rs) = final (odometerOf r) rs
 
--- What comes of a steady tape: accepted records, of which the last is the tape's, and a steady tape.
+-- What comes of a steady tape: accepted records, of which the last is the tape's, and a steady
+-- tape.
 pub record Rises (from : Tape) (x : Taped) : Type 0 where
   pub steady : Steady (x .tape)
   pub all : AllAccepted (lastOf (from .last)) (x .records)

@@ -1,6 +1,7 @@
--- "Each gives one record, when it closes, at the odometer of the frame in which its first bit lies; that is 'the odometer given with it', whose sync
--- pair judges it (M-111)" (recording, house): the records of a trace that are not positions are, in order, one for each contact of the line, and one more
--- where the lead ends inside a contact.
+-- "Each gives one record, when it closes, at the odometer of the frame in which its first bit lies;
+-- that is 'the odometer given with it', whose sync pair judges it (M-111)" (recording, house): the
+-- records of a trace that are not positions are, in order, one for each contact of the line, and
+-- one more where the lead ends inside a contact.
 -- Assumes nothing.
 use Prim.Native.Nat.{ℕ, zero, suc, _+_, _-_, _*_, _/_, _%_, _^_, _<_}
 use mathlib.Core.Path.{_≡_}

@@ -1,5 +1,6 @@
--- The contacts that are recorded are document 01's: those of the whole line in one buffer, each judged there with the pair in force at its first
--- bit; and a reading's record has the words received.
+-- The contacts that are recorded are document 01's: those of the whole line in one buffer, each
+-- judged there with the pair in force at its first bit; and a reading's record has the words
+-- received.
 -- Assumes nothing.
 use Prim.Native.Nat.{ℕ, zero, suc, _+_, _/_, _^_, _<_}
 use mathlib.Core.Path.{_≡_}

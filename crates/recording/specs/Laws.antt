@@ -21,7 +21,8 @@ thenTaped store lead (usedUp tape k i) = silent tape
 abbrev pub AskedOn : Type 0
 AskedOn = (store : Store) (lead : List ℕ) (tape : Tape) (k i : ℕ) → overFrames store lead tape k i (framesOf lead - k) ≡ thenTaped store lead (goOn store lead tape k i)
 
--- Answers of `go_on`, each asked from where the one before stood, until the frames are used: the records that they gave, and the tape after them.
+-- Answers of `go_on`, each asked from where the one before stood, until the frames are used: the
+-- records that they gave, and the tape after them.
 pub data Asked (store : Store) (lead : List ℕ) : Tape → ℕ → ℕ → List (List ℕ) → Tape → Type 0 where
   over : {tape last : Tape} {k i m j : ℕ} → goOn store lead tape k i ≡ usedUp last m j → Asked store lead tape k i [] last
   more : {tape next last : Tape} {k i m j : ℕ} {bytes : List ℕ} {rest : List (List ℕ)}

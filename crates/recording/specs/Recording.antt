@@ -1,5 +1,6 @@
--- The records of a lead (recording, house): "The contacts of the line are document 01's, from sixteen ones on. Each gives one record, when it
--- closes, at the odometer of the frame in which its first bit lies; that is 'the odometer given with it', whose sync pair judges it (M-111)."
+-- The records of a lead (recording, house): "The contacts of the line are document 01's, from
+-- sixteen ones on. Each gives one record, when it closes, at the odometer of the frame in which its
+-- first bit lies; that is 'the odometer given with it', whose sync pair judges it (M-111)."
 -- Assumes nothing.
 use Prim.Native.Nat.{ℕ, zero, suc, _+_, _-_, _/_}
 use mathlib.Core.Bool.{Bool, true, false}
@@ -37,7 +38,8 @@ hearsOn tape ear = record { ear = ear; odometer = tape .odometer; opened = tape 
 abbrev pub opens : Tape → Ear → Tape
 opens tape ear = record { ear = ear; odometer = tape .odometer; opened = tape .odometer; last = tape .last }
 
--- After the bit that closes one, and its record; after a position record; after the record of a contact that the lead's end cuts.
+-- After the bit that closes one, and its record; after a position record; after the record of a
+-- contact that the lead's end cuts.
 abbrev pub closes : Tape → Ear → Tape
 closes tape ear = record { ear = ear; odometer = tape .odometer; opened = tape .opened; last = Last.At (tape .opened) }
 
@@ -74,8 +76,8 @@ unfoldable pub overBits : List ℕ → ℕ → ℕ → Tape → ℕ → ℕ → 
 overBits b s t tape i zero = silent tape
 overBits b s t tape i (suc n) = andThen (afterStep tape (hear (tape .ear) (bitAt b i) s t)) λ next. overBits b s t next (i + 1) n
 
--- "After each frame, if no contact is open and (no record was written yet, or the odometer is at least 10 above the last record's): a position
--- record."
+-- "After each frame, if no contact is open and (no record was written yet, or the odometer is at
+-- least 10 above the last record's): a position record."
 abbrev pub tenAbove : Last → ℕ → Bool
 tenAbove Last.Never odometer = true
 tenAbove (Last.At place) odometer = leb (place + 10) odometer
@@ -97,7 +99,8 @@ afterFrame tape = pick (isDue tape) (position tape) (silent tape)
 abbrev pub noneHeld : Held
 noneHeld = record { gap = 0; s = 0; t = 0; from = 0; until = 0 }
 
--- The settings in force at an odometer: those that the store answers with. (A store that is refused answers none.)
+-- The settings in force at an odometer: those that the store answers with. (A store that is refused
+-- answers none.)
 unfoldable pub heldAt : Store → ℕ → Held
 heldAt store odometer = hold store noneHeld odometer
 

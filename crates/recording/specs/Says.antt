@@ -1,4 +1,5 @@
--- What this crate's answers say: what came, and the eight bytes beside it, which are zero where no record did.
+-- What this crate's answers say: what came, and the eight bytes beside it, which are zero where no
+-- record did.
 -- Assumes nothing.
 use Prim.Native.Nat.{ℕ}
 use mathlib.Core.List.{List}

@@ -1,8 +1,12 @@
-// A tape at the two leads of the bench (docs/LEAD.md, "The lead" and "Recording", house): frames of odometer and line in, records of a trace out, in
-// constant memory. A tape goes by value; frames are lent in pieces of any length, and each call goes on until the next record is due.
-// Promises: one record for each contact of the line, at its odometer, with position records between; no record is ever refused.
-// Specification: specs/Frame.antt (a frame), specs/Kept.antt (a contact's record), specs/Recording.antt (the records of a lead),
-// specs/Asking.antt (one record at a time), specs/Says.antt (the answers); what is promised: specs/Laws.antt, Rising.antt, Contacts.antt, Document.antt.
+// A tape at the two leads of the bench (docs/LEAD.md, "The lead" and "Recording", house): frames of
+// odometer and line in, records of a trace out, in constant memory. A tape goes by value; frames
+// are lent in pieces of any length, and each call goes on until the next record is due.
+// Promises: one record for each contact of the line, at its odometer, with position records
+// between; no record is ever refused.
+// Specification: specs/Frame.antt (a frame), specs/Kept.antt (a contact's record),
+// specs/Recording.antt (the records of a lead), specs/Asking.antt (one record at a time),
+// specs/Says.antt (the answers); what is promised: specs/Laws.antt, Rising.antt, Contacts.antt,
+// Document.antt.
 ghost use mathlib.Core.Path.{_≡_};
 ghost use Rattle.recording.specs.Recording.{fresh};
 ghost use Rattle.recording.specs.Asking.{goOn, finish};
@@ -23,7 +27,8 @@ pub enum Last {
     At(u32),
 }
 
-// A tape: the ear at the line, the odometer in force, that of the frame in which the open contact opened, and the last record's.
+// A tape: the ear at the line, the odometer in force, that of the frame in which the open contact
+// opened, and the last record's.
 pub struct Tape {
     pub ear: Ear,
     pub odometer: u32,
@@ -37,8 +42,8 @@ pub enum Came {
     Nothing,
 }
 
-// What going on answers: the tape after it, the frame and the bit of its line to go on from, and the record, if one came; if none did, all frames
-// are used and the eight bytes are zero.
+// What going on answers: the tape after it, the frame and the bit of its line to go on from, and
+// the record, if one came; if none did, all frames are used and the eight bytes are zero.
 pub struct Taken {
     pub tape: Tape,
     pub frame: usize,
@@ -47,7 +52,8 @@ pub struct Taken {
     pub bytes: [u8; 8],
 }
 
-// What the end answers: the tape after it, and the record, if one came; if none did, there is no further one.
+// What the end answers: the tape after it, and the record, if one came; if none did, there is no
+// further one.
 pub struct Ended {
     pub tape: Tape,
     pub came: Came,

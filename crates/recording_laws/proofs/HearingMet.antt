@@ -1,4 +1,5 @@
--- A marker of sixty zeroes and the ones after it, heard in two pieces, with every call in full: the hypotheses are met.
+-- A marker of sixty zeroes and the ones after it, heard in two pieces, with every call in full: the
+-- hypotheses are met.
 -- Assumes nothing.
 use Prim.Native.Nat.{ℕ, _+_, _-_, _≤_, _<_}
 use mathlib.Core.Path.{_≡_, refl, sym, ap, _∙_}

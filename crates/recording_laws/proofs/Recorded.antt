@@ -1,4 +1,5 @@
--- What comes of asking on and on over a piece is what comes of its frames, and pieces of whole frames join.
+-- What comes of asking on and on over a piece is what comes of its frames, and pieces of whole
+-- frames join.
 -- Assumes nothing.
 use Prim.Native.Nat.{ℕ, _+_, _*_, _/_, _%_, _<_}
 use mathlib.Core.Path.{_≡_, refl, sym, ap, ap₂, subst, _∙_}

@@ -1,4 +1,5 @@
--- A lead of two frames, a marker and then ones, recorded in two pieces with every call in full: the hypotheses are met.
+-- A lead of two frames, a marker and then ones, recorded in two pieces with every call in full: the
+-- hypotheses are met.
 -- Assumes nothing.
 use Prim.Native.Nat.{ℕ}
 use mathlib.Core.Path.{_≡_, refl}

@@ -1,4 +1,5 @@
--- What is heard of each of them is read, or judged a marker, and its record has the words that it sends.
+-- What is heard of each of them is read, or judged a marker, and its record has the words that it
+-- sends.
 -- Assumes nothing.
 use Prim.Native.Nat.{ℕ, _+_, _-_, _/_, _%_, _≤_, _<_}
 use mathlib.Core.Path.{_≡_, refl, sym, ap, ap₂, subst, _∙_}

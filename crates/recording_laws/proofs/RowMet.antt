@@ -1,4 +1,5 @@
--- A lead of three frames whose line is a marker and a balise, with twelve ones after each: the hypotheses of a row are met.
+-- A lead of three frames whose line is a marker and a balise, with twelve ones after each: the
+-- hypotheses of a row are met.
 -- Assumes nothing.
 use Prim.Native.Nat.{ℕ, _+_, _/_, _≤_, _<_}
 use mathlib.Core.Path.{_≡_, refl, sym, ap, ap₂, subst, _∙_}

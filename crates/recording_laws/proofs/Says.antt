@@ -1,4 +1,5 @@
--- Each contact's record is the one that `record_of` makes of what was judged, or an unreadable one, and so it says the same balise.
+-- Each contact's record is the one that `record_of` makes of what was judged, or an unreadable one,
+-- and so it says the same balise.
 -- Assumes nothing.
 use Prim.Native.Nat.{ℕ, _+_, _-_, _/_, _≤_, _<_, _^_}
 use mathlib.Core.Path.{_≡_, refl, sym, ap, ap₂, subst, _∙_}

@@ -1,5 +1,6 @@
--- What the contracts of `antenna` and `recording` allow: the theorems take these as their hypotheses. `Post` of a function is its `ensures` line, made
--- into a statement by the kit. A lent buffer is a reference whose bytes are `now` of it.
+-- What the contracts of `antenna` and `recording` allow: the theorems take these as their
+-- hypotheses. `Post` of a function is its `ensures` line, made into a statement by the kit. A lent
+-- buffer is a reference whose bytes are `now` of it.
 -- Assumes nothing.
 use Prim.Native.Nat.{ℕ}
 use mathlib.Core.Path.{_≡_}
@@ -32,7 +33,8 @@ use Rattle.recording.proofs.end.Reads as end-reads
 abbrev pub FreshEar : Ear → Type 0
 FreshEar r = (e : AtExit (endedOf 0 ear-kinds.ps ear-kinds.r) tt) × ear-reads.Post tt tt r e
 
--- The contract of `hear_piece` allows the answer r for this ear, stretch of the lent buffer and sync pair.
+-- The contract of `hear_piece` allows the answer r for this ear, stretch of the lent buffer and
+-- sync pair.
 abbrev pub HearPiece : Ear → List ℕ → ℕ → ℕ → ℕ → ℕ → Until → Type 0
 HearPiece ear b start len s t r =
     (κs : Lfts 1) × (buf : RefT (List ℕ)) × (e : AtExit (endedOf 1 piece-kinds.ps piece-kinds.r) κs)
@@ -48,7 +50,8 @@ JudgeUnder store odometer b start len r =
 abbrev pub FreshTape : Tape → Type 0
 FreshTape r = (e : AtExit (endedOf 0 tape-kinds.ps tape-kinds.r) tt) × tape-reads.Post tt tt r e
 
--- The contract of `go_on` allows the answer r for this tape, store and lent frames, from this bit of this frame on.
+-- The contract of `go_on` allows the answer r for this tape, store and lent frames, from this bit
+-- of this frame on.
 abbrev pub GoOn : Tape → Store → List ℕ → ℕ → ℕ → Taken → Type 0
 GoOn tape store frames frame bit r =
     (κs : Lfts 1) × (buf : RefT (List ℕ)) × (e : AtExit (endedOf 1 go-kinds.ps go-kinds.r) κs)

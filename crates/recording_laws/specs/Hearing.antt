@@ -1,5 +1,6 @@
--- A line heard piece by piece (document 01, "Contacts and readings"): the contacts of a line and their judgements are those of the whole line in one
--- buffer, and how it is cut into pieces makes no difference.
+-- A line heard piece by piece (document 01, "Contacts and readings"): the contacts of a line and
+-- their judgements are those of the whole line in one buffer, and how it is cut into pieces makes
+-- no difference.
 -- Assumes nothing.
 use Prim.Native.Nat.{ℕ, _+_, _-_, _*_, _^_, _≤_, _<_}
 use mathlib.Core.Path.{_≡_}
@@ -21,7 +22,8 @@ use Rattle.recording_laws.specs.Calls.{FreshEar, HearPiece}
 
 -- ---- the pieces of a line
 
--- A piece of the line: a stretch of a lent buffer, with the sync pair for a contact that opens in it.
+-- A piece of the line: a stretch of a lent buffer, with the sync pair for a contact that opens in
+-- it.
 pub record Piece : Type 0 where
   pub buffer : List ℕ
   pub start : ℕ
@@ -51,8 +53,9 @@ lineT = standing (λ p k. p .t)
 
 -- ---- calls
 
--- `hear_piece` is asked on and on over a piece, whose first bit is bit o of the line, each time with the ear and from the bit after what came before; every
--- answer is one that its contract allows. From an ear and a bit: what is handed out, and the ear at the piece's end.
+-- `hear_piece` is asked on and on over a piece, whose first bit is bit o of the line, each time
+-- with the ear and from the bit after what came before; every answer is one that its contract
+-- allows. From an ear and a bit: what is handed out, and the ear at the piece's end.
 pub data Through (p : Piece) (o : ℕ) : Ear → ℕ → List Told → Ear → Type 0 where
   opens : {ear next last : Ear} {i at : ℕ} {l : List Told}
       → HearPiece ear (p .buffer) i (p .start + p .len - i) (p .s) (p .t) (Until.Opened next at) → Through p o next (at + 1) l last → Through p o ear i l last
@@ -67,7 +70,8 @@ pub data Heard : Ear → ℕ → List Piece → List Told → Ear → Type 0 whe
   piece : {ear next last : Ear} {o : ℕ} {p : Piece} {ps : List Piece} {l m : List Told}
       → Through p o ear (p .start) l next → Heard next (o + p .len) ps m last → Heard ear o (p ∷ ps) (l ++ m) last
 
--- Each contact judged by `judge`, with the sync pair given at its first bit; every answer is one that its contract allows.
+-- Each contact judged by `judge`, with the sync pair given at its first bit; every answer is one
+-- that its contract allows.
 pub data Judges (b : List ℕ) (s t : ℕ → ℕ) : Contacts → List Told → Type 0 where
   each : {start len : ℕ} {then : Search} {rest : Contacts} {l : List Told} (judged : Judged)
       → JudgeContact b start len (s start) (t start) judged → Judges b s t rest l
@@ -83,19 +87,22 @@ pub record InOne (b : List ℕ) (ps : List Piece) : Type 0 where
 -- ---- what is promised
 
 pub record AsInOneBuffer : Type 0 where
-  -- Heard in any pieces, a line hands out the contacts that `begin` and `next_contact` hand out for the whole line in one buffer, each as `judge` judges it there;
-  -- and the ear is inside a contact at the end exactly if refusal 9 cuts one.
+  -- Heard in any pieces, a line hands out the contacts that `begin` and `next_contact` hand out for
+  -- the whole line in one buffer, each as `judge` judges it there; and the ear is inside a contact
+  -- at the end exactly if refusal 9 cuts one.
   pub by-calls : (fresh last : Ear) (ps : List Piece) (l judged : List Told) (b : List ℕ) (w : Contacts) → FreshEar fresh → Heard fresh 0 ps l last
       → InOne b ps → Listened b 0 (bitsIn ps) w → Judges b (lineS ps) (lineT ps) w judged
       → (l ≡ judged) × (isInside (last .stand) ≡ cut w)
-  -- Beyond 16,777,216 bits no buffer is taken (5): there it is the contacts and judgements of document 01, by their definitions.
+  -- Beyond 16,777,216 bits no buffer is taken (5): there it is the contacts and judgements of
+  -- document 01, by their definitions.
   pub by-definition : (fresh last : Ear) (ps : List Piece) (l : List Told) (b : List ℕ) → FreshEar fresh → Heard fresh 0 ps l last
       → InOne b ps → bitsIn ps < 2 ^ 64
       → (l ≡ judgedAll b (lineS ps) (lineT ps) (contacts b outside sixteenOnes 0 (bitsIn ps)))
       × (isInside (last .stand) ≡ cut (contacts b outside sixteenOnes 0 (bitsIn ps)))
 
 pub record AnyPieces : Type 0 where
-  -- Two ways to cut the same bits, with the same pairs, hand out the same and leave the same ear, whatever ear they begin with.
+  -- Two ways to cut the same bits, with the same pairs, hand out the same and leave the same ear,
+  -- whatever ear they begin with.
   pub alike : (ear last last′ : Ear) (o : ℕ) (ps qs : List Piece) (l m : List Told) → Heard ear o ps l last → Heard ear o qs m last′ → bitsIn ps ≡ bitsIn qs
       → ((k : ℕ) → k < bitsIn ps → (lineBit ps k ≡ lineBit qs k) × (lineS ps k ≡ lineS qs k) × (lineT ps k ≡ lineT qs k))
       → (l ≡ m) × (last ≡ last′)

@@ -1,4 +1,5 @@
--- From a lead to its records (docs/LEAD.md): what is recorded of a lead that comes in pieces is what is recorded of the whole.
+-- From a lead to its records (docs/LEAD.md): what is recorded of a lead that comes in pieces is
+-- what is recorded of the whole.
 -- Assumes nothing.
 use Prim.Native.Nat.{ℕ, _%_, _<_}
 use mathlib.Core.Path.{_≡_}
@@ -12,8 +13,9 @@ use Rattle.recording.specs.declared.Ended.{Ended}
 use Rattle.recording.specs.Recording.{recorded}
 use Rattle.recording_laws.specs.Calls.{FreshTape, GoOn, EndOf}
 
--- `go_on` is asked on and on over a piece of a lead, each time from where the answer before stood, until its frames are used; every answer is one that the
--- contract allows. From a tape, a frame and a bit: the records that came, and the tape at the end.
+-- `go_on` is asked on and on over a piece of a lead, each time from where the answer before stood,
+-- until its frames are used; every answer is one that the contract allows. From a tape, a frame and
+-- a bit: the records that came, and the tape at the end.
 pub data Through (store : Store) (frames : List ℕ) : Tape → ℕ → ℕ → List (List ℕ) → Tape → Type 0 where
   came : {tape last : Tape} {k i : ℕ} {rest : List (List ℕ)} (r : Taken)
       → GoOn tape store frames k i r → r .came ≡ Came.Record → Through store frames (r .tape) (r .frame) (r .bit) rest last → Through store frames tape k i (r .bytes ∷ rest) last
@@ -52,7 +54,8 @@ pub record Recorded (store : Store) (pieces : List (List ℕ)) (records : List (
   pub all : records ≡ before-the-end ++ at-the-end
 
 pub record AsAWhole : Type 0 where
-  -- They are the records of the whole lead, by the house's rule (`recorded` of crates/recording/specs/Recording.antt).
+  -- They are the records of the whole lead, by the house's rule (`recorded` of
+  -- crates/recording/specs/Recording.antt).
   pub of-the-lead : (store : Store) (pieces records : List (List ℕ)) → WholeFrames pieces → Recorded store pieces records → records ≡ recorded store (joined pieces)
   -- So it makes no difference into which pieces of whole frames a lead is cut.
   pub any-pieces : (store : Store) (pieces others records those : List (List ℕ)) → WholeFrames pieces → WholeFrames others → joined pieces ≡ joined others

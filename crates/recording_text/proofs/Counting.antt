@@ -1,4 +1,5 @@
--- Counting frame by frame: the odometer of a frame is that of every other record of eight bytes, and one turn of the loop takes one frame.
+-- Counting frame by frame: the odometer of a frame is that of every other record of eight bytes,
+-- and one turn of the loop takes one frame.
 -- Assumes nothing.
 use Prim.Native.Nat.{ℕ, zero, suc, _+_, _-_, _*_, _/_, _≤_, _<_}
 use mathlib.Core.Path.{_≡_, refl, sym, ap, _∙_}

@@ -30,7 +30,8 @@ nothing-more = refl
 abbrev frame : ℕ → ℕ → ℕ → ℕ → List ℕ
 frame a b c d = a ∷ b ∷ c ∷ d ∷ 255 ∷ 255 ∷ 255 ∷ 255 ∷ 255 ∷ 255 ∷ 255 ∷ 255 ∷ 255 ∷ 255 ∷ 255 ∷ 255 ∷ []
 
--- At 1,000, then above 4,000,000,000, then below 1,000: the first is refused with 18, and the last accepted odometer stays.
+-- At 1,000, then above 4,000,000,000, then below 1,000: the first is refused with 18, and the last
+-- accepted odometer stays.
 pub two-refused : countFrames noFrames (frame 0 0 3 232 ++ frame 255 0 0 0 ++ frame 0 0 3 231) ≡ record { frames = 3; refused = 2; first = First.Frame 2 18; odometer = 1000 }
 unfolding countFrames overFrames noFrames judgeFrame odometerOf more
 two-refused = refl

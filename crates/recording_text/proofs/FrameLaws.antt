@@ -1,5 +1,5 @@
--- Why the laws of the frames hold: a frame adds one whatever its odometer, the odometer kept is the recording's, and frames of a piece are those of
--- the whole.
+-- Why the laws of the frames hold: a frame adds one whatever its odometer, the odometer kept is the
+-- recording's, and frames of a piece are those of the whole.
 -- Assumes nothing.
 use Prim.Native.Nat.{ℕ, zero, suc, _+_, _-_, _*_, _/_, _≤_, _<_}
 use mathlib.Core.Path.{_≡_, refl, sym, ap, _∙_, subst}

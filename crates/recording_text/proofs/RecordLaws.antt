@@ -1,4 +1,5 @@
--- Why the law of the records holds: each record of a lead has a kind up to 3, since none of them is refused, and adds one where its kind says so.
+-- Why the law of the records holds: each record of a lead has a kind up to 3, since none of them is
+-- refused, and adds one where its kind says so.
 -- Assumes nothing.
 use Prim.Native.Nat.{ℕ, zero, suc, _+_, _≤_, _<_}
 use mathlib.Core.Path.{_≡_, refl, sym, ap, _∙_}

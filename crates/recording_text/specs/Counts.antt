@@ -1,4 +1,5 @@
--- What is counted of a lead while it is recorded: its whole frames, those whose odometer was refused, and the records by what they say.
+-- What is counted of a lead while it is recorded: its whole frames, those whose odometer was
+-- refused, and the records by what they say.
 -- Assumes nothing.
 use Prim.Native.Nat.{ℕ, zero, suc, _+_}
 use mathlib.Core.List.{List, [], _∷_}
@@ -18,7 +19,8 @@ more n = pick (ltb n largest64) (n + 1) n
 
 -- ---- frames
 
--- "A frame whose odometer is above 4,000,000,000 (18) or below the last accepted one (17)": 18 before 17, as in document 01's step 1.
+-- "A frame whose odometer is above 4,000,000,000 (18) or below the last accepted one (17)": 18
+-- before 17, as in document 01's step 1.
 unfoldable pub judgeFrame : ℕ → ℕ → Outcome ℕ
 judgeFrame last given = pick (ltb 4000000000 given) (refuses 18) (pick (ltb given last) (refuses 17) (gives given))
 
@@ -52,7 +54,8 @@ countFrames f lead = overFrames lead f 0 (framesOf lead)
 unfoldable pub noRecords : Records
 noRecords = record { contacts = 0; read = 0; markers = 0; unreadable = 0; records = 0 }
 
--- One record more, by its kind: 0 a balise that was read, 1 a marker, 2 an unreadable one, and any other is no contact.
+-- One record more, by its kind: 0 a balise that was read, 1 a marker, 2 an unreadable one, and any
+-- other is no contact.
 unfoldable pub countRecord : Records → List ℕ → Records
 countRecord c r =
     let kind = kindOf r in

@@ -1,6 +1,8 @@
--- What `record` says on standard error: `record: frame 12 refused 17: odometer below the last accepted one` "when the first such frame comes", and at the end "where it applies
--- `record: frames refused 3` and `record: bytes after the last frame 5`, then always `record: frames 5200, contacts 12, read 10, markers 1,
--- unreadable 1, records 530`".
+-- What `record` says on standard error:
+-- `record: frame 12 refused 17: odometer below the last accepted one` "when the first such frame
+-- comes", and at the end "where it applies `record: frames refused 3` and
+-- `record: bytes after the last frame 5`, then always
+-- `record: frames 5200, contacts 12, read 10, markers 1, unreadable 1, records 530`".
 -- Assumes nothing.
 use Prim.Native.Nat.{ℕ}
 use Prim.Native.String.{String}
@@ -17,7 +19,8 @@ use Rattle.recording_text.specs.declared.Records.{Records}
 unfoldable pub refusedLine : ℕ → ℕ → List ℕ
 refusedLine frame number = codes "record: frame " ++ decimal frame ++ codes " " ++ refused number
 
--- What is said of the first refused frame after some frames: its line if it came among them, and nothing else.
+-- What is said of the first refused frame after some frames: its line if it came among them, and
+-- nothing else.
 unfoldable pub firstLine : First → First → List ℕ
 firstLine First.NotYet (First.Frame frame number) = refusedLine frame number
 firstLine First.NotYet First.NotYet = []

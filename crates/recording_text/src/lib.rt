@@ -1,7 +1,9 @@
-// What `record` counts and says while it records a lead: whole frames and refused ones, records by what they say, and the lines of standard error.
-// Promises: a frame is refused exactly where the recording keeps the last accepted odometer; lines are written to the letter and whole, or not at all.
-// Specification: specs/Counts.antt (what is counted), specs/Lines.antt (the words), specs/Laws.antt (what is promised); a text in a buffer is `text`'s
-// specs/Put.antt.
+// What `record` counts and says while it records a lead: whole frames and refused ones, records by
+// what they say, and the lines of standard error.
+// Promises: a frame is refused exactly where the recording keeps the last accepted odometer; lines
+// are written to the letter and whole, or not at all.
+// Specification: specs/Counts.antt (what is counted), specs/Lines.antt (the words), specs/Laws.antt
+// (what is promised); a text in a buffer is `text`'s specs/Put.antt.
 ghost use mathlib.Core.Path.{_≡_};
 ghost use Rattle.text.specs.Put.{put, came};
 ghost use Rattle.recording_text.specs.Counts.{noFrames, countFrames, noRecords, countRecord};
@@ -10,13 +12,15 @@ ghost use Rattle.recording_text.specs.Lines.{firstLine, endLines};
 mod counts;
 mod lines;
 
-// The first frame whose odometer was refused: none yet, or its number, counted from 1, with 17 or 18.
+// The first frame whose odometer was refused: none yet, or its number, counted from 1, with 17 or
+// 18.
 pub enum First {
     NotYet,
     Frame(u64, u8),
 }
 
-// Whole frames so far, those refused among them, the first of these, and the last accepted odometer.
+// Whole frames so far, those refused among them, the first of these, and the last accepted
+// odometer.
 pub struct Frames {
     pub frames: u64,
     pub refused: u64,
@@ -79,8 +83,8 @@ pub fn count_record(records: Records, bytes: [u8; 8]) -> Records
     }
 }
 
-// What is said of the first refused frame after some frames, into buf from `at` on, and the place after it; without room buf stays as it is, and the
-// answer is `at`.
+// What is said of the first refused frame after some frames, into buf from `at` on, and the place
+// after it; without room buf stays as it is, and the answer is `at`.
 pub fn put_first(before: First, after: First, buf: &mut [u8], at: usize) -> usize
     ensures { λ r. ⌜ came r (now (buf .exit)) ≡ put (firstLine before after) (now (buf .entry)) at ⌝ }
 {

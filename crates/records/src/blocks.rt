@@ -96,8 +96,8 @@ fn finish(how: Goes) {
     }
 }
 
-// The lines of all records of the cards, whose lengths were kept. A proved loop has to end, and nothing says that a file does: so it counts its turns down
-// from a number that no run uses up.
+// The lines of all records of the cards, whose lengths were kept. A proved loop has to end, and
+// nothing says that a file does: so it counts its turns down from a number that no run uses up.
 pub fn write_cards(lengths: &[u64], block: &mut [u8]) {
     let mut stand = Stand {
         count: 0,

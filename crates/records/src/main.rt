@@ -1,7 +1,8 @@
-// The records of the cards as lines of text, each with its number, to standard output: what `trace` reads. It rides over nothing.
+// The records of the cards as lines of text, each with its number, to standard output: what `trace`
+// reads. It rides over nothing.
 // Promises: it is safe and it ends; the lines are those of trace_text.
-// Specification: none of its own; the laws are those of the crates lines_laws and trace_text_laws, what cannot be said of a program's reads and writes
-// stands in docs/EXCEPTIONS.md.
+// Specification: none of its own; the laws are those of the crates lines_laws and trace_text_laws,
+// what cannot be said of a program's reads and writes stands in docs/EXCEPTIONS.md.
 mod blocks;
 
 use console::CardsFound;

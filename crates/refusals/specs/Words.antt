@@ -1,4 +1,5 @@
--- A refusal as it stands in a line of our own: its number, and the documents' words for it (`refused 22: no state is kept to go back to`).
+-- A refusal as it stands in a line of our own: its number, and the documents' words for it
+-- (`refused 22: no state is kept to go back to`).
 -- Assumes nothing.
 use Prim.Native.Nat.{ℕ}
 use Prim.Native.String.{String}

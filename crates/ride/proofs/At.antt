@@ -1,4 +1,5 @@
--- The record at an index of a trace: what the reply tells of it. Whoever goes over a trace has these for each of its turns.
+-- The record at an index of a trace: what the reply tells of it. Whoever goes over a trace has
+-- these for each of its turns.
 -- Assumes nothing.
 use Prim.Native.Nat.{ℕ, _/_, _≤_, _<_}
 use native.Mathlib.Omega.{arith}

@@ -1,4 +1,5 @@
--- A balise joins the five that a group keeps: at each place stands the new one if so many were counted before it, or else the old one.
+-- A balise joins the five that a group keeps: at each place stands the new one if so many were
+-- counted before it, or else the old one.
 -- Assumes nothing.
 use Prim.Native.Nat.{ℕ, zero, suc, _≤_}
 use native.Mathlib.Omega.{arith}

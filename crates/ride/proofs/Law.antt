@@ -1,5 +1,5 @@
--- Laws of the ride that hold for every state: what a refusal leaves, how the odometer goes, where a line
--- comes from.
+-- Laws of the ride that hold for every state: what a refusal leaves, how the odometer goes, where a
+-- line comes from.
 -- Assumes nothing.
 use Prim.Native.Nat.{ℕ, zero, suc, _+_, _*_, _≤_}
 use native.Mathlib.Omega.{arith}
@@ -96,8 +96,8 @@ over-one gap ride number r e = rw (e, append-nil)
 
 -- ---- every line comes from one step or from the end
 
--- The line is one of those that the record r gives: it stands after the records `earlier`, and is treated in the state that
--- they leave, under its own number.
+-- The line is one of those that the record r gives: it stands after the records `earlier`, and is
+-- treated in the state that they leave, under its own number.
 pub record OfStep (gaps : ℕ → ℕ) (ride : Ride) (number : ℕ) (rs : List (List ℕ)) (line : Line) : Type 0 where
   pub earlier : List (List ℕ)
   pub r : List ℕ

@@ -1,5 +1,6 @@
--- Riding on: the records of one card, then those of the next, with the numbers counted on. One induction, over any state, any rule
--- of the gap and any first number; what is said of cards, blocks and runs rests on it.
+-- Riding on: the records of one card, then those of the next, with the numbers counted on. One
+-- induction, over any state, any rule of the gap and any first number; what is said of cards,
+-- blocks and runs rests on it.
 -- Assumes nothing.
 use Prim.Native.Nat.{ℕ, suc, _+_, _/_, _%_}
 use native.Mathlib.Omega.{arith}

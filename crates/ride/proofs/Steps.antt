@@ -117,8 +117,9 @@ neither true b e = cannot-be cc
 neither false true e = cannot-be cc
 neither false false e = (refl, refl)
 
--- Where no group is left behind and no signal is missed, steps 2 and 3 do nothing: the odometer is set, a balise is taken up,
--- and nothing else changes. A position record then sets the odometer alone.
+-- Where no group is left behind and no signal is missed, steps 2 and 3 do nothing: the odometer is
+-- set, a balise is taken up, and nothing else changes. A position record then sets the odometer
+-- alone.
 pub quiet : (ride : Ride) (gap : ℕ) (e : Entry) → isBehind gap (e .odometer) (ride .group) ≡ false → isMissed (e .odometer) (ride .group) (ride .known) ≡ false
     → _≡_ {A = Step}
     (record {

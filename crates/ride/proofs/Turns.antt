@@ -38,7 +38,8 @@ eight-bytes l at h =
 
 -- ---- one record more
 
--- the state after the records of a trace from the one that i others stand before, in the state `ride`, by any rule of the gap
+-- the state after the records of a trace from the one that i others stand before, in the state
+-- `ride`, by any rule of the gap
 abbrev pub fromHere : (ℕ → ℕ) → List ℕ → ℕ → Ride → ℕ → Ride
 fromHere gaps trace count ride i = rideOver gaps ride (i + 1) (firstRecords (count - i) (drop (i * 8) trace)) .ride
 

@@ -1,4 +1,5 @@
--- Rides under settings: what is held treats each record as the gap in force at its own odometer does.
+-- Rides under settings: what is held treats each record as the gap in force at its own odometer
+-- does.
 -- Assumes nothing.
 use Prim.Native.Nat.{ℕ, suc, _/_, _%_, _≤_, _<_}
 use mathlib.Core.Path.{_≡_, refl, ap, sym, _∙_}
@@ -88,7 +89,8 @@ module _ (store : Store) (held next : Held) (ride : Ride) (trace : List ℕ) (i 
   abbrev now-held : Holding store next
   now-held = held-next store held next trace i (turn .good) (turn .holding) (turn .next-is)
 
-  -- With a record: it stands in the trace, and its step is that with the gap in force at its own odometer.
+  -- With a record: it stands in the trace, and its step is that with the gap in force at its own
+  -- odometer.
   pub record Turned (g : Given) : Type 0 where
     pub there : i < length trace / 8
     pub holding : Holding store next

@@ -1,4 +1,5 @@
--- One record of a trace by its index, the first at 0. Whoever goes over a trace treats its records so, one after the other.
+-- One record of a trace by its index, the first at 0. Whoever goes over a trace treats its records
+-- so, one after the other.
 -- Assumes nothing.
 use Prim.Native.Nat.{ℕ, _*_, _/_}
 use mathlib.Core.List.{List}
@@ -21,13 +22,14 @@ recordAt trace i = take 8 (drop (i * 8) trace)
 unfoldable pub odometerAt : List ℕ → ℕ → ℕ
 odometerAt trace i = pick (ltb i (length trace / 8)) (odometerOf (recordAt trace i)) 0
 
--- What stands at an index: no record (document 01 has no number for that), or one, with its lines or the number of its refusal.
+-- What stands at an index: no record (document 01 has no number for that), or one, with its lines
+-- or the number of its refusal.
 pub data Standing : Type 0 where
   noRecord : Standing
   treated : Outcome (List Line) → Standing
 
--- What treating the record at an index answers: what stands there, or the number of a refusal; the group that closed; the
--- state after it.
+-- What treating the record at an index answers: what stands there, or the number of a refusal; the
+-- group that closed; the state after it.
 pub record Treatment : Type 0 where
   pub reply : Outcome Standing
   pub closed : Group
@@ -41,7 +43,8 @@ byStep s = record { reply = gives (treated (s .lines)); closed = s .closed; ride
 abbrev pub stays : Ride → Outcome Standing → Treatment
 stays ride reply = record { reply = reply; closed = noGroup; ride = ride }
 
--- The record at an index: "gap outside 1 to 200" is 19; then there may be no such record; else steps 1 to 4.
+-- The record at an index: "gap outside 1 to 200" is 19; then there may be no such record; else
+-- steps 1 to 4.
 unfoldable pub treatAt : Ride → ℕ → List ℕ → ℕ → Treatment
 treatAt ride gap trace i =
     pick (allowed gap)

@@ -1,4 +1,5 @@
--- Closing and judging a group (document 01, "A ride"): what its judgement does to what is known, and its line.
+-- Closing and judging a group (document 01, "A ride"): what its judgement does to what is known,
+-- and its line.
 -- Assumes nothing.
 use Prim.Native.Nat.{ℕ}
 use mathlib.Core.Bool.{Bool}
@@ -29,8 +30,9 @@ abbrev pub mainFrom : Told → Told → Told
 mainFrom (Told.Kmh v) before = Told.Kmh v
 mainFrom Told.Unknown before = before
 
--- What is known after an accepted group that says this, with its A balise at place a and this number or none. A present
--- signal sets it: "the target becomes AZ's, or none", the number "to none if it has no 12"; "all other groups leave these as they were."
+-- What is known after an accepted group that says this, with its A balise at place a and this
+-- number or none. A present signal sets it: "the target becomes AZ's, or none", the number "to none
+-- if it has no 12"; "all other groups leave these as they were."
 abbrev pub knownFrom : Content → ℕ → Number → Known → Known
 knownFrom (Content.Signal D preset main target) a number known =
     record { linking = linkingFrom D preset a; main = mainFrom main (known .main); target = target; number = number }
@@ -38,7 +40,8 @@ knownFrom (Content.Warning D) a number known = known
 knownFrom (Content.Route v) a number known = known
 knownFrom Content.Nothing a number known = known
 
--- What is known after a judgement. "A refused group ends linking and clears main speed and target", and the number.
+-- What is known after a judgement. "A refused group ends linking and clears main speed and target",
+-- and the number.
 abbrev pub knownAfter : Outcome Message → Known → Known
 knownAfter (gives m) known = knownFrom (m .content) (m .place) (m .number) known
 knownAfter (refuses n) known = nothingKnown
@@ -58,7 +61,8 @@ numberOn Kind.Annulled number = Number.None
 numberOn Kind.Line number = Number.None
 numberOn Kind.Route number = Number.None
 
--- An accepted group as its line shows it, from the linking before it: "A group's line begins with the place of its A balise".
+-- An accepted group as its line shows it, from the linking before it: "A group's line begins with
+-- the place of its A balise".
 abbrev pub seenFrom : Message → Linking → Seen
 seenFrom m linking =
     record {
@@ -73,12 +77,14 @@ seenFrom m linking =
 abbrev pub firstPlace : Group → ℕ
 firstPlace g = getD (g .kept) 0 noBalise .place
 
--- The line of a group after its judgement, from the linking before it; a fault is shown "with the first balise's place".
+-- The line of a group after its judgement, from the linking before it; a fault is shown "with the
+-- first balise's place".
 abbrev pub lineOf : Group → Linking → Outcome Message → Line
 lineOf g linking (gives m) = Line.Group (seenFrom m linking)
 lineOf g linking (refuses n) = Line.Fault (firstPlace g) n
 
--- What closing leaves: the lines it gives, the group that closed, the group that is there then, and what is known then.
+-- What closing leaves: the lines it gives, the group that closed, the group that is there then, and
+-- what is known then.
 pub record Closing : Type 0 where
   pub lines : List Line
   pub closed : Group

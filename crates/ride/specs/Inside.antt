@@ -1,4 +1,5 @@
--- What an answer inside this crate says, since its contract can cite nothing else. No caller needs it.
+-- What an answer inside this crate says, since its contract can cite nothing else. No caller needs
+-- it.
 -- Assumes nothing.
 use lib.Dec.{eqb}
 use Rattle.words.specs.Answer.{pick}

@@ -1,6 +1,6 @@
--- Balises that belong together (document 01, "Groups" and "A ride"): "balises belong together while each lies at most
--- the gap beyond the one before." A group keeps its first five balises, counts them all (255 stands for 255 or more), and
--- holds the place of its last.
+-- Balises that belong together (document 01, "Groups" and "A ride"): "balises belong together while
+-- each lies at most the gap beyond the one before." A group keeps its first five balises, counts
+-- them all (255 stands for 255 or more), and holds the place of its last.
 -- Assumes nothing.
 use Prim.Native.Nat.{ℕ, _+_}
 use mathlib.Core.Bool.{Bool, _&&_}
@@ -13,7 +13,8 @@ use Rattle.group.specs.declared.Group.{Group}
 use Rattle.ride.specs.declared.Passed.{Passed}
 use Rattle.ride.specs.State.{noGroup, isOpen}
 
--- "If a group is open and the odometer exceeds its last balise by more than the gap": the group is left behind.
+-- "If a group is open and the odometer exceeds its last balise by more than the gap": the group is
+-- left behind.
 abbrev pub isBehind : ℕ → ℕ → Group → Bool
 isBehind gap odometer g = isOpen g && ltb (g .last + gap) odometer
 

@@ -14,8 +14,9 @@ markAt D t =
     (pick (leb (5 * t) (6 * D)) Mark.Good
     Mark.Late)
 
--- The mark of a present signal whose A balise lies at this place: "at travelled distance t (A balise to A balise) is marked
--- first if linking wasn't set", else by D and t. For a place before a, t is 0.
+-- The mark of a present signal whose A balise lies at this place: "at travelled distance t (A
+-- balise to A balise) is marked first if linking wasn't set", else by D and t. For a place before
+-- a, t is 0.
 abbrev pub markOf : Linking → ℕ → Mark
 markOf Linking.Unset place = Mark.First
 markOf (Linking.Set D a) place = markAt D (place - a)

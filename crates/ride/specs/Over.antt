@@ -37,8 +37,9 @@ pub record Ridden : Type 0 where
 abbrev pub before : List Line → Ridden → Ridden
 before lines rest = record { lines = lines ++ rest .lines; ride = rest .ride }
 
--- The ride over some records, the first of which has this number: each record is treated in the state that the one before left, with
--- the gap that a rule gives for its odometer: one gap for all, or the gap that a store of settings has in force there.
+-- The ride over some records, the first of which has this number: each record is treated in the
+-- state that the one before left, with the gap that a rule gives for its odometer: one gap for all,
+-- or the gap that a store of settings has in force there.
 unfoldable pub rideOver : (ℕ → ℕ) → Ride → ℕ → List (List ℕ) → Ridden
 rideOver gaps ride number [] = record { lines = []; ride = ride }
 rideOver gaps ride number (r ∷ rs) =
@@ -59,8 +60,9 @@ abbrev pub judgedFirst : Ride → Outcome Kept → Run → Run
 judgedFirst ride (gives k) run = run
 judgedFirst ride (refuses n) run = record { answer = refuses n; ride = ride }
 
--- The run over a whole trace: the settings' own refusal, then "trace length not a multiple of 8" is 16, each "before any record"; else the
--- state after all records, each treated "with the gap in force at its own odometer" (document 02, M-111).
+-- The run over a whole trace: the settings' own refusal, then "trace length not a multiple of 8" is
+-- 16, each "before any record"; else the state after all records, each treated "with the gap in
+-- force at its own odometer" (document 02, M-111).
 unfoldable pub run : Ride → Store → List ℕ → Run
 run ride store trace =
     judgedFirst ride (judged store)

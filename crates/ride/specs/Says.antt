@@ -24,8 +24,8 @@ use Rattle.ride.specs.Step.{Step, End}
 use Rattle.ride.specs.At.{Standing, noRecord, treated, Treatment}
 use Rattle.ride.specs.Over.{Through, through, Run}
 
--- "kind above 3, or bytes 5 to 7 not zero where they must be" is 16, "odometer above 4,000,000,000" is 18, "odometer
--- below the last accepted one" is 17.
+-- "kind above 3, or bytes 5 to 7 not zero where they must be" is 16, "odometer above 4,000,000,000"
+-- is 18, "odometer below the last accepted one" is 17.
 abbrev pub saysWrong : Wrong → ℕ
 saysWrong Wrong.Malformed = 16
 saysWrong Wrong.TooHigh = 18
@@ -79,7 +79,8 @@ saysTreated t = record { reply = saysReply (t .reply); closed = t .closed; ride 
 abbrev pub saysEnded : Ended → End
 saysEnded e = record { lines = saysLines (e .lines); closed = e .closed; ride = e .ride }
 
--- Settings that are refused have their own number ("gap outside 1 to 200" is 19); "trace length not a multiple of 8" is 16.
+-- Settings that are refused have their own number ("gap outside 1 to 200" is 19); "trace length not
+-- a multiple of 8" is 16.
 abbrev pub saysWay : Way → Outcome Through
 saysWay Way.Through = gives through
 saysWay (Way.Settings bad) = refuses (saysBad bad)

@@ -1,5 +1,5 @@
--- The state of a ride (document 01, "A ride"): the last accepted odometer, the group, and what is known. "A fresh ride
--- has none of them."
+-- The state of a ride (document 01, "A ride"): the last accepted odometer, the group, and what is
+-- known. "A fresh ride has none of them."
 -- Assumes nothing.
 use mathlib.Core.Bool.{Bool}
 use lib.Dec.{ltb}
@@ -25,8 +25,8 @@ noGroup = record { kept = replicate 5 noBalise; count = 0; last = 0 }
 abbrev pub isOpen : Group → Bool
 isOpen g = ltb 0 (g .count)
 
--- Nothing is known: linking is not set; main speed, target and number are none. "A refused group ends linking and clears
--- main speed and target", and the number.
+-- Nothing is known: linking is not set; main speed, target and number are none. "A refused group
+-- ends linking and clears main speed and target", and the number.
 unfoldable pub nothingKnown : Known
 nothingKnown = record { linking = Linking.Unset; main = Told.Unknown; target = Told.Unknown; number = Number.None }
 

@@ -1,7 +1,8 @@
--- A record's step and the end of a ride (document 01, "A ride"). "For each record, in this order: 1. Refuse it (16, 18, 17
--- in this order), or go on. 2. If a group is open and the odometer exceeds its last balise by more than the gap, close and
--- judge it. 3. If no group is open, linking is set with distance D from place a, and 5 x (odometer - a) > 6 x D: report
--- missed at a + 6D/5, and end linking. 4. A balise joins the open group or opens one."
+-- A record's step and the end of a ride (document 01, "A ride"). "For each record, in this order:
+-- 1. Refuse it (16, 18, 17 in this order), or go on. 2. If a group is open and the odometer exceeds
+-- its last balise by more than the gap, close and judge it. 3. If no group is open, linking is set
+-- with distance D from place a, and 5 x (odometer - a) > 6 x D: report missed at a + 6D/5, and end
+-- linking. 4. A balise joins the open group or opens one."
 -- Assumes nothing.
 use Prim.Native.Nat.{ℕ}
 use mathlib.Core.Bool.{Bool, not, _&&_}
@@ -38,7 +39,8 @@ unlinked known = record { linking = Linking.Unset; main = known .main; target = 
 unfoldable pub afterMissed : ℕ → Group → Known → Known
 afterMissed odometer g known = pick (isMissed odometer g known) (unlinked known) known
 
--- What a step answers: its lines in order, or the number of its refusal; the group that closed; the state after it.
+-- What a step answers: its lines in order, or the number of its refusal; the group that closed; the
+-- state after it.
 pub record Step : Type 0 where
   pub lines : Outcome (List Line)
   pub closed : Group

@@ -1,4 +1,5 @@
-// The state of a ride, and what a line shows, written field by field. A copy of the whole would carry the bytes between its fields too, from record to record.
+// The state of a ride, and what a line shows, written field by field. A copy of the whole would
+// carry the bytes between its fields too, from record to record.
 ghost use mathlib.Core.Path.{_≡_};
 use crate::Known;
 use crate::Linking;

@@ -28,7 +28,8 @@ use group::Number;
 use group_rows::Direction;
 use group_rows::Kind;
 
-// What closing leaves: its lines, the group that closed, the group that is there then, and what is known then.
+// What closing leaves: its lines, the group that closed, the group that is there then, and what is
+// known then.
 pub struct Closed {
     pub lines: Lines,
     pub closed: Group,
@@ -36,8 +37,9 @@ pub struct Closed {
     pub known: Known,
 }
 
-// What judging a group says: the number of its refusal, or 0; what its line shows (of a refused group its first place, and nothing else);
-// and what is known then. Its line is made of it where it is written, field by field.
+// What judging a group says: the number of its refusal, or 0; what its line shows (of a refused
+// group its first place, and nothing else); and what is known then. Its line is made of it where it
+// is written, field by field.
 pub struct Verdict {
     pub fault: u8,
     pub seen: Seen,

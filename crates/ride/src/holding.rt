@@ -7,7 +7,8 @@ use settings::Asked;
 use settings::Held;
 use settings::Store;
 
-// The settings to hold at a place that is asked for: those in force there; where asking is refused, those held before.
+// The settings to hold at a place that is asked for: those in force there; where asking is refused,
+// those held before.
 fn hold(store: Store, held: Held, place: u32) -> Held
     ensures { λ r. ⌜ r ≡ hold store held place ⌝ }
 {
@@ -18,8 +19,9 @@ fn hold(store: Store, held: Held, place: u32) -> Held
     }
 }
 
-// The settings to hold for the record at an index of the trace: the store is asked only where its odometer leaves the places of those that are held. Where
-// asking is refused they stay: 18 is then said of the record itself, and a store's own refusal was said when its place 0 was asked for.
+// The settings to hold for the record at an index of the trace: the store is asked only where its
+// odometer leaves the places of those that are held. Where asking is refused they stay: 18 is then
+// said of the record itself, and a store's own refusal was said when its place 0 was asked for.
 pub fn held_at(store: Store, held: Held, trace: &[u8], i: usize) -> Held
     ensures { λ r. ⌜ r ≡ heldFor store held (odometerAt (now (trace .entry)) i) ⌝ }
 {

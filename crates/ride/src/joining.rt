@@ -62,8 +62,8 @@ fn either(so: bool, new: Balise, old: Balise) -> Balise
     if so { new } else { old }
 }
 
-// The five with a balise more, where so many were counted before it. Each of them is asked for: at an index that changes, all five would be
-// written to memory and read back for each balise.
+// The five with a balise more, where so many were counted before it. Each of them is asked for: at
+// an index that changes, all five would be written to memory and read back for each balise.
 fn with_one(old: [Balise; 5], count: u8, balise: Balise) -> [Balise; 5]
     ensures { λ r. ⌜ r ≡ pick (ltb count 5) (set old count balise) old ⌝ }
 {

@@ -1,7 +1,9 @@
-// A ride over the records of a trace: the check of a record, what is known on the way, the lines that it gives.
-// Promises: every record is treated by document 01's steps 1 to 4 in order, from whatever state is lent; a refused one changes nothing.
-// Specification: specs/Record.antt, State.antt, Joining.antt, Linking.antt, Closing.antt, Step.antt, At.antt (one record of a trace),
-// Over.antt (a whole trace), Says.antt (the answers), Inside.antt (an answer that no caller sees).
+// A ride over a trace: the check of a record, what is known on the way, the lines that it gives.
+// Promises: every record is treated by document 01's steps 1 to 4 in order, from whatever state is
+// lent; a refused one changes nothing.
+// Specification: specs/Record.antt, State.antt, Joining.antt, Linking.antt, Closing.antt,
+// Step.antt, At.antt (one record of a trace), Over.antt (a whole trace), Says.antt (the answers),
+// Inside.antt (an answer that no caller sees).
 ghost use mathlib.Core.Path.{_≡_};
 ghost use Rattle.ride.specs.State.{freshRide};
 ghost use Rattle.ride.specs.Step.{step, end};
@@ -44,7 +46,7 @@ pub enum Linking {
     Set { distance: u32, from: u32 },
 }
 
-// What is known on the way; number is that of the last present signal. A refused group takes it back to that of a fresh ride.
+// What is known on the way; number: the last present signal's, none after a refused group.
 pub struct Known {
     pub linking: Linking,
     pub main: Told,
@@ -52,7 +54,7 @@ pub struct Known {
     pub number: Number,
 }
 
-// The state of a ride: the last accepted odometer, the group (open if its count is above 0), and what is known.
+// A ride's state: the last accepted odometer, the group (open above count 0), what is known.
 pub struct Ride {
     pub odometer: u32,
     pub group: Group,
@@ -96,8 +98,8 @@ pub struct Seen {
     pub number: Number,
 }
 
-// A line: an accepted group; a refused group's first place and number; a missed signal's place; a refused record's number in
-// the trace and its refusal; the refusal of a whole trace.
+// A line: an accepted group; a refused group's first place and number; a missed signal's place; a
+// refused record's number in the trace and its refusal; the refusal of a whole trace.
 pub enum Line {
     Group(Seen),
     Fault(u64, u8),
@@ -120,7 +122,7 @@ pub enum Report {
     Lines(Lines),
 }
 
-// What a step answers: the state after it, the group that closed (none: one with count 0), and the report.
+// What a step answers: the state after it, the group that closed (count 0: none), the report.
 pub struct Stepped {
     pub ride: Ride,
     pub closed: Group,
@@ -134,7 +136,7 @@ pub struct Ended {
     pub lines: Lines,
 }
 
-// How a run over a trace went: through all records, or refused for the settings (their number) or the trace's length (16).
+// How a run went: through all records, or refused for the settings or the trace's length (16).
 pub enum Way {
     Through,
     Settings(Bad),
@@ -158,8 +160,8 @@ pub fn fresh() -> Ride
     }
 }
 
-// One record's step: 19 for the gap; else steps 1 to 4 of document 01, with the lines in order, the group that closed, and the state after. A refusal
-// leaves the state.
+// One record's step: 19 for the gap; else steps 1 to 4 of document 01, with the lines in order, the
+// group that closed, and the state after. A refusal leaves the state.
 pub fn step(ride: Ride, gap: u32, bytes: [u8; 8]) -> Stepped
     ensures { λ r. ⌜ saysStepped r ≡ step ride gap bytes ⌝ }
 {
@@ -174,7 +176,7 @@ pub fn step(ride: Ride, gap: u32, bytes: [u8; 8]) -> Stepped
     treating::reported(stepping::treat(ride, gap, bytes))
 }
 
-// The end of a ride: an open group closes and gives its line; there is no step 3, and the odometer stays.
+// The end of a ride: an open group closes and gives its line; no step 3, the odometer stays.
 pub fn end(ride: Ride) -> Ended
     ensures { λ r. ⌜ saysEnded r ≡ end ride ⌝ }
 {
@@ -187,8 +189,8 @@ pub fn end(ride: Ride) -> Ended
     closing::at_end(ride.odometer, closing::leave(group, known))
 }
 
-// The ride over a whole trace: the settings' own refusal, then 16 for a length that is no multiple of 8; else the state after all records, each treated
-// with the gap in force at its own odometer.
+// The ride over a whole trace: the settings' own refusal, then 16 for a length that is no multiple
+// of 8; else the state after all records, each treated with the gap in force at its own odometer.
 pub fn run(ride: Ride, store: Store, trace: &[u8]) -> Ran
     ensures { λ r. ⌜ saysRan r ≡ run ride store (now (trace .entry)) ⌝ }
 {

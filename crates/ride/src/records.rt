@@ -51,8 +51,8 @@ fn what_passed(bytes: [u8; 8]) -> Passed
     }
 }
 
-// The check of a record's eight bytes: 16, 18, 17 in this order, or what the record says. That is read first, since its kind is looked at then once
-// and not again after the odometer.
+// The check of a record's eight bytes: 16, 18, 17 in this order, or what the record says. That is
+// read first, since its kind is looked at then once and not again after the odometer.
 pub fn check_record(ride: Ride, bytes: [u8; 8]) -> Checked
     ensures { λ r. ⌜ saysChecked r ≡ checkRecord (ride .odometer) bytes ⌝ }
 {

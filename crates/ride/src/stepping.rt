@@ -31,7 +31,8 @@ use crate::treating::Treating;
 use crate::treating::nothing_closed;
 use group::Group;
 
-// Whether the group is left behind: it is open, and the odometer exceeds its last balise by more than the gap.
+// Whether the group is left behind: it is open, and the odometer exceeds its last balise by more
+// than the gap.
 fn is_behind(ride: Ride, gap: u32, odometer: u32) -> bool
     ensures { λ r. ⌜ r ≡ isBehind gap odometer (ride .group) ⌝ }
 {
@@ -121,7 +122,8 @@ fn all_steps(ride: Ride, gap: u32, odometer: u32, passed: Passed) -> Treating
     }
 }
 
-// Whether steps 2 and 3 do nothing: an open group is not left behind; where none is open, no signal is overdue.
+// Whether steps 2 and 3 do nothing: an open group is not left behind; where none is open, no signal
+// is overdue.
 fn is_quiet(ride: Ride, gap: u32, odometer: u32) -> bool
     ensures { λ r. ⌜ r ≡ (not (isBehind gap odometer (ride .group)) && not (isMissed odometer (ride .group) (ride .known))) ⌝ }
 {
@@ -134,7 +136,8 @@ fn is_quiet(ride: Ride, gap: u32, odometer: u32) -> bool
     !is_overdue(linking, odometer)
 }
 
-// Steps 2 to 4 for an accepted record. Most are quiet: then the state is spared the way through steps 2 and 3.
+// Steps 2 to 4 for an accepted record. Most are quiet: then the state is spared the way through
+// steps 2 and 3.
 fn go_on(ride: Ride, gap: u32, odometer: u32, passed: Passed) -> Treating
     ensures { λ r. ⌜ saysTreating r ≡ goOn ride gap (record { odometer = odometer; passed = passed }) ⌝ }
 {

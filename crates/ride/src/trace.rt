@@ -31,14 +31,16 @@ pub enum Given {
     Lines(Lines),
 }
 
-// What treating the record at an index replies: that the gap is refused (19), that the trace has no such record, or what it gives.
+// What treating the record at an index replies: that the gap is refused (19), that the trace has no
+// such record, or what it gives.
 pub enum Reply {
     Gap,
     NoRecord,
     Record(Given),
 }
 
-// What treating the record at an index answers: the state after it, the group that closed (none: one with count 0), and the reply.
+// What treating the record at an index answers: the state after it, the group that closed (none:
+// one with count 0), and the reply.
 pub struct Treated {
     pub ride: Ride,
     pub closed: Group,
@@ -62,7 +64,8 @@ fn eight(trace: &[u8], at: usize) -> [u8; 8]
     ]
 }
 
-// The odometer of the record at an index of the trace, as its four bytes say; 0 where there is no such record.
+// The odometer of the record at an index of the trace, as its four bytes say; 0 where there is no
+// such record.
 pub fn odometer_at(trace: &[u8], i: usize) -> u32
     ensures { λ r. ⌜ r ≡ odometerAt (now (trace .entry)) i ⌝ }
 {
@@ -85,7 +88,8 @@ fn untreated(ride: Ride, reply: Reply) -> Treated
     }
 }
 
-// The record at an index of the trace, the first at 0: 19 for the gap, then that there is no such record; else steps 1 to 4, as `step` has them.
+// The record at an index of the trace, the first at 0: 19 for the gap, then that there is no such
+// record; else steps 1 to 4, as `step` has them.
 pub fn treat_at(ride: Ride, gap: u32, trace: &[u8], i: usize) -> Treated
     ensures { λ r. ⌜ saysTreated r ≡ treatAt ride gap (now (trace .entry)) i ⌝ }
 {
@@ -113,7 +117,8 @@ pub fn went(ride: Ride, way: Way) -> Ran
     Ran { ride, way }
 }
 
-// The state after all records of the trace, each treated with the gap in force at its own odometer; what is held at first is what is in force at place 0.
+// The state after all records of the trace, each treated with the gap in force at its own odometer;
+// what is held at first is what is in force at place 0.
 pub fn over(ride: Ride, store: Store, first: Held, trace: &[u8]) -> Ride
     requires { ⌜ (judged store ≡ gives kept) × (first ≡ heldAt store 0) ⌝ }
     ensures { λ r. ⌜ r ≡ rideOver (gapAt store) ride 1 (records (now (trace .entry))) .ride ⌝ }

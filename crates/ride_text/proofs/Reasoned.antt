@@ -1,4 +1,5 @@
--- Every fault line is given by a group that closed and was refused with its number, and the reason is the explainer's of that group.
+-- Every fault line is given by a group that closed and was refused with its number, and the reason
+-- is the explainer's of that group.
 -- Assumes nothing.
 use Prim.Native.Nat.{ℕ, suc, _+_, _≤_}
 use native.Mathlib.Omega.{arith}

@@ -1,4 +1,5 @@
--- How many records a listing takes: no more than there are, one where there is room for it, and all where there is room for each; and the room of the end.
+-- How many records a listing takes: no more than there are, one where there is room for it, and all
+-- where there is room for each; and the room of the end.
 -- Assumes nothing.
 use Prim.Native.Nat.{ℕ, suc, _+_, _-_, _*_, _≤_, _<_}
 use native.Mathlib.Omega.{arith}

@@ -1,4 +1,5 @@
--- The listing of a trace, plain or with reasons: the lines of its records as text at the start of a lent buffer.
+-- The listing of a trace, plain or with reasons: the lines of its records as text at the start of a
+-- lent buffer.
 -- Assumes nothing.
 use Prim.Native.Nat.{ℕ, suc, _+_, _-_, _%_}
 use mathlib.Core.Bool.{Bool, _&&_, true, false}
@@ -19,17 +20,19 @@ use Rattle.ride.specs.Over.{records}
 use Rattle.ride_text.specs.Style.{Style}
 use Rattle.ride_text.specs.Told.{stepText, Told, tellOver}
 
--- The room that the lines of a record may need: at most two, of at most 64 bytes, or with reasons 160.
+-- The room that the lines of a record may need: at most two, of at most 64 bytes, or with reasons
+-- 160.
 abbrev pub roomFor : Style → ℕ
 roomFor false = 128
 roomFor true = 320
 
--- Whether the record with this number is taken: its lines have room, and the next record's number is still below 2^64.
+-- Whether the record with this number is taken: its lines have room, and the next record's number
+-- is still below 2^64.
 abbrev pub isTaken : Style → ℕ → ℕ → Bool
 isTaken style number room = leb (roomFor style) room && ltb number largest64
 
--- How many of some records are taken, one after the other, with the gap that the rule gives for each record's odometer, from a
--- state and the first one's number, into so much room.
+-- How many of some records are taken, one after the other, with the gap that the rule gives for
+-- each record's odometer, from a state and the first one's number, into so much room.
 unfoldable pub taken : Style → (ℕ → ℕ) → Ride → ℕ → ℕ → List (List ℕ) → ℕ
 taken style gaps ride number room [] = 0
 taken style gaps ride number room (r ∷ rs) =
@@ -42,8 +45,8 @@ pub record Taken : Type 0 where
   pub records : ℕ
   pub bytes : ℕ
 
--- What listing answers: what was taken, or the number of its refusal; the state and the next record's number then; and the
--- buffer then.
+-- What listing answers: what was taken, or the number of its refusal; the state and the next
+-- record's number then; and the buffer then.
 pub record Listing : Type 0 where
   pub answer : Outcome Taken
   pub ride : Ride
@@ -69,13 +72,16 @@ listTaken style gaps ride number rs out = listOf style gaps ride number (taken s
 abbrev pub unlisted : Ride → ℕ → List ℕ → ℕ → Listing
 unlisted ride number out n = record { answer = refuses n; ride = ride; number = number; out = out }
 
--- The settings are judged first: their refusal (of a gap, 19) decides, takes nothing and leaves the buffer.
+-- The settings are judged first: their refusal (of a gap, 19) decides, takes nothing and leaves the
+-- buffer.
 abbrev pub judgedFirst : Ride → ℕ → List ℕ → Outcome Kept → Listing → Listing
 judgedFirst ride number out (gives k) listing = listing
 judgedFirst ride number out (refuses n) listing = unlisted ride number out n
 
--- The listing of a trace in a style, from the record with this number on: the settings' own refusal, then "trace length not a multiple of 8" is 16, each
--- "before any record"; else as many records as are taken into the buffer, each treated "with the gap in force at its own odometer" (M-111).
+-- The listing of a trace in a style, from the record with this number on: the settings' own
+-- refusal, then "trace length not a multiple of 8" is 16, each "before any record"; else as many
+-- records as are taken into the buffer, each treated "with the gap in force at its own odometer"
+-- (M-111).
 unfoldable pub list : Style → Ride → Store → ℕ → List ℕ → List ℕ → Listing
 list style ride store number trace out =
     judgedFirst ride number out (judged store)

@@ -1,5 +1,6 @@
--- What a line with its reason promises (request M-103): each line `fault n` names the first place of the group that closed, and carries a reason for that n which is
--- true of that group. So something always stands behind the colon.
+-- What a line with its reason promises (request M-103): each line `fault n` names the first place
+-- of the group that closed, and carries a reason for that n which is true of that group. So
+-- something always stands behind the colon.
 -- Assumes nothing.
 use Prim.Native.Nat.{ℕ}
 use mathlib.Core.Path.{_≡_}

@@ -1,5 +1,6 @@
--- "The checker's lines" (request M-103): in either style a ride has the checker's lines and its state, and its text is that of those lines, each with
--- the group that closed then; without reasons it is document 01's text of the lines alone.
+-- "The checker's lines" (request M-103): in either style a ride has the checker's lines and its
+-- state, and its text is that of those lines, each with the group that closed then; without reasons
+-- it is document 01's text of the lines alone.
 -- Assumes nothing.
 use Prim.Native.Nat.{ℕ, suc}
 use mathlib.Core.Path.{_≡_}

@@ -8,8 +8,8 @@ use Rattle.ride_text.specs.declared.Done.{Done}
 use Rattle.ride_text.specs.declared.Listed.{Listed}
 use Rattle.ride_text.specs.List.{Taken, Listing}
 
--- What was taken; settings that are refused have their own number ("gap outside 1 to 200" is 19); "trace length not a multiple
--- of 8" is 16.
+-- What was taken; settings that are refused have their own number ("gap outside 1 to 200" is 19);
+-- "trace length not a multiple of 8" is 16.
 abbrev pub saysDone : Done → Outcome Taken
 saysDone (Done.Took records bytes) = gives (record { records = records; bytes = bytes })
 saysDone (Done.Settings bad) = refuses (saysBad bad)

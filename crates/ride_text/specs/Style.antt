@@ -1,4 +1,5 @@
--- How lines are written: as document 01 has them, or each fault line with its reason after a colon (request M-103).
+-- How lines are written: as document 01 has them, or each fault line with its reason after a colon
+-- (request M-103).
 -- Assumes nothing.
 use mathlib.Core.Bool.{Bool, true, false}
 

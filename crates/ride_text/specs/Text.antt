@@ -1,5 +1,6 @@
--- The lines of a listing as text (document 01, "One ride in full"): ASCII codes, with a newline at the end of each line; and with reasons (request
--- M-103): each fault line with its reason after a colon, `1000 fault 12: balise 2 at 1030 word Y refused 1 odd`.
+-- The lines of a listing as text (document 01, "One ride in full"): ASCII codes, with a newline at
+-- the end of each line; and with reasons (request M-103): each fault line with its reason after a
+-- colon, `1000 fault 12: balise 2 at 1030 word Y refused 1 odd`.
 -- Assumes nothing.
 use mathlib.Core.Bool.{true, false}
 use Prim.Native.Nat.{ℕ}
@@ -42,7 +43,8 @@ mark Mark.Early = codes " early"
 mark Mark.Good = codes " good"
 mark Mark.Late = codes " late"
 
--- A number after its space and its `n`; a group without one ends before it. It is below 2^16 and has at most 5 digits.
+-- A number after its space and its `n`; a group without one ends before it. It is below 2^16 and
+-- has at most 5 digits.
 abbrev pub number : Number → List ℕ
 number Number.None = []
 number (Number.Figure m) = codes " n" ++ digits 5 m
@@ -51,8 +53,8 @@ number (Number.Figure m) = codes " n" ++ digits 5 m
 unfoldable pub seen : Seen → List ℕ
 seen s = decimal (s .place) ++ between (s .direction) ++ kind (s .kind) ++ mark (s .mark) ++ number (s .number) ++ codes "\n"
 
--- The text of a line, with so much behind the number of a fault: an accepted group; `1000 fault 13`; `5800 missed`; `record 3 refused 17`;
--- `trace refused 16`.
+-- The text of a line, with so much behind the number of a fault: an accepted group;
+-- `1000 fault 13`; `5800 missed`; `record 3 refused 17`; `trace refused 16`.
 unfoldable pub textWith : List ℕ → Line → List ℕ
 textWith why (Line.Group s) = seen s
 textWith why (Line.Fault place n) = decimal place ++ codes " fault " ++ decimal n ++ why ++ codes "\n"

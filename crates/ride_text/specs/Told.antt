@@ -1,4 +1,5 @@
--- A ride told: its text in a style, and the state after it. The records are treated as everywhere (ride's specs/Over.antt).
+-- A ride told: its text in a style, and the state after it. The records are treated as everywhere
+-- (ride's specs/Over.antt).
 -- Assumes nothing.
 use Prim.Native.Nat.{ℕ, suc}
 use mathlib.Core.List.{List, [], _∷_, _++_}
@@ -18,7 +19,8 @@ pub record Told : Type 0 where
   pub text : List ℕ
   pub ride : Ride
 
--- The ride over some records, the first of which has this number, with the gap that the rule gives for each record's odometer.
+-- The ride over some records, the first of which has this number, with the gap that the rule gives
+-- for each record's odometer.
 unfoldable pub tellOver : Style → (ℕ → ℕ) → Ride → ℕ → List (List ℕ) → Told
 tellOver style gaps ride number [] = record { text = []; ride = ride }
 tellOver style gaps ride number (r ∷ rs) =

@@ -1,8 +1,10 @@
 // Lines as text in a lent buffer, and the listing of a trace, plain or with reasons.
-// Promises: a line is written with document 01's words to the letter; a listing is the text of the ride's lines; with reasons each fault line has after a
-// colon why the group that closed was refused, and nothing else is different; bytes around the text stay.
-// Specification: specs/Text.antt (the words), Told.antt (a ride told), List.antt (the listing), Says.antt (the answers), SameLines.antt (the checker's
-// lines in either style); a text in a buffer is `text`'s specs/Put.antt.
+// Promises: a line is written with document 01's words to the letter; a listing is the text of the
+// ride's lines; with reasons each fault line has after a colon why the group that closed was
+// refused, and nothing else is different; bytes around the text stay.
+// Specification: specs/Text.antt (the words), Told.antt (a ride told), List.antt (the listing),
+// Says.antt (the answers), SameLines.antt (the checker's lines in either style); a text in a buffer
+// is `text`'s specs/Put.antt.
 ghost use mathlib.Core.Path.{_≡_};
 ghost use Rattle.text.specs.Put.{put, came};
 ghost use Rattle.ride_text.specs.Text.{text, lineText};
@@ -41,8 +43,8 @@ pub struct Listed {
     pub done: Done,
 }
 
-// The line's text, to the letter, and a newline into buf from `at` on, all other bytes as they were, and the place after it; without room nothing is
-// written, and the answer is `at`.
+// The line's text, to the letter, and a newline into buf from `at` on, all other bytes as they
+// were, and the place after it; without room nothing is written, and the answer is `at`.
 pub fn put_line(line: Line, buf: &mut [u8], at: usize) -> usize
     ensures { λ r. ⌜ came r (now (buf .exit)) ≡ put (text line) (now (buf .entry)) at ⌝ }
 {
@@ -51,7 +53,8 @@ pub fn put_line(line: Line, buf: &mut [u8], at: usize) -> usize
     put_styled(PLAIN, none, line, buf, at)
 }
 
-// The text of a line in a style, where this group closed, likewise: with reasons a fault line has after a colon why the group was refused.
+// The text of a line in a style, where this group closed, likewise: with reasons a fault line has
+// after a colon why the group was refused.
 pub fn put_styled(reasons: bool, closed: Group, line: Line, buf: &mut [u8], at: usize) -> usize
     ensures { λ r. ⌜ came r (now (buf .exit)) ≡ put (lineText reasons closed line) (now (buf .entry)) at ⌝ }
 {
@@ -60,8 +63,8 @@ pub fn put_styled(reasons: bool, closed: Group, line: Line, buf: &mut [u8], at: 
     text::put(&space[..n], buf, at)
 }
 
-// The line of a group that the end of the ride closes, in a style, into buf from `at` on, and the place after it; without room nothing is written, and the
-// answer is `at`.
+// The line of a group that the end of the ride closes, in a style, into buf from `at` on, and the
+// place after it; without room nothing is written, and the answer is `at`.
 pub fn put_end(reasons: bool, ride: Ride, buf: &mut [u8], at: usize) -> usize
     ensures { λ r. ⌜ came r (now (buf .exit)) ≡ put (endText reasons ride) (now (buf .entry)) at ⌝ }
 {
@@ -73,8 +76,10 @@ pub fn put_end(reasons: bool, ride: Ride, buf: &mut [u8], at: usize) -> usize
     text::put(&lines[..n], buf, at)
 }
 
-// The lines of the trace's records from `number` on, in a style, as text at the start of out, of as many records as surely have room, each treated with the gap in
-// force at its own odometer; the state, the next number, how many records and bytes; or the settings' own refusal, then 16, with nothing taken.
+// The lines of the trace's records from `number` on, in a style, as text at the start of out, of as
+// many records as surely have room, each treated with the gap in force at its own odometer; the
+// state, the next number, how many records and bytes; or the settings' own refusal, then 16, with
+// nothing taken.
 pub fn list(
     reasons: bool,
     ride: Ride,

@@ -89,7 +89,8 @@ fn put_numbered(words: &[u8], n: u64, buf: &mut [u8], at: usize) -> usize
     put(b"\n", buf, a)
 }
 
-// What stands behind the number of a fault: nothing, or after a colon why the group that closed was refused.
+// What stands behind the number of a fault: nothing, or after a colon why the group that closed was
+// refused.
 fn put_why(reasons: bool, closed: Group, buf: &mut [u8], at: usize) -> usize
     requires { ⌜ at + length (behind reasons closed) ≤ length (now buf) ⌝ }
     ensures { λ r. ⌜ came r (now (buf .exit)) ≡ put (behind reasons closed) (now (buf .entry)) at ⌝ }

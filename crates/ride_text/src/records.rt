@@ -61,7 +61,8 @@ pub fn put_lines(reasons: bool, closed: Group, lines: Lines, out: &mut [u8], at:
     }
 }
 
-// The lines of the record with this number, by which this group closed: those that it gives, or that it was refused.
+// The lines of the record with this number, by which this group closed: those that it gives, or
+// that it was refused.
 fn put_given(
     reasons: bool,
     number: u64,
@@ -87,8 +88,9 @@ fn put_given(
     }
 }
 
-// The records in turn, up to the last, while there is room for the lines of one more and the next number fits. What is held at first is what is in force at
-// place 0. A group that a record closes is the one that was open before it.
+// The records in turn, up to the last, while there is room for the lines of one more and the next
+// number fits. What is held at first is what is in force at place 0. A group that a record closes
+// is the one that was open before it.
 pub fn over(
     reasons: bool,
     ride: Ride,

@@ -1,4 +1,5 @@
--- One version more at the end of a store: it stays in order, answers below the added place stay, and from it on the added version is in force.
+-- One version more at the end of a store: it stays in order, answers below the added place stay,
+-- and from it on the added version is in force.
 -- Assumes nothing.
 use Prim.Native.Nat.{ℕ, zero, suc, _+_, _-_, _<_, _≤_}
 use mathlib.Core.Path.{_≡_, refl, sym, ap, _∙_}

@@ -1,4 +1,5 @@
--- How many versions a store has that is judged good, or that takes one more; and the judgement, from what its tests say.
+-- How many versions a store has that is judged good, or that takes one more; and the judgement,
+-- from what its tests say.
 -- Assumes nothing.
 use Prim.Native.Nat.{ℕ, zero, suc, _<_, _≤_}
 use mathlib.Core.Path.{_≡_, refl, sym, ap, _∙_}

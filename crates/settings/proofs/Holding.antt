@@ -1,5 +1,6 @@
--- The places from which and until which a version is in force are true: within them asking again gives the same.
--- Whoever goes over many places holds a version so (`Holding`), and asks only where a place lies outside.
+-- The places from which and until which a version is in force are true: within them asking again
+-- gives the same. Whoever goes over many places holds a version so (`Holding`), and asks only where
+-- a place lies outside.
 -- Assumes nothing.
 use Prim.Native.Nat.{ℕ, _<_, _≤_}
 use mathlib.Core.Path.{_≡_, refl, sym, ap, _∙_}

@@ -1,4 +1,5 @@
--- A plain gap as a store: it is judged good exactly if the gap is allowed, and has that gap everywhere.
+-- A plain gap as a store: it is judged good exactly if the gap is allowed, and has that gap
+-- everywhere.
 -- Assumes nothing.
 use Prim.Native.Nat.{ℕ}
 use mathlib.Core.Path.{_≡_, refl, sym, ap, _∙_}

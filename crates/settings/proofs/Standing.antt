@@ -1,4 +1,5 @@
--- The version in force among some in order: it is one of them, not above the asked place, and the highest such; its force ends after that place.
+-- The version in force among some in order: it is one of them, not above the asked place, and the
+-- highest such; its force ends after that place.
 -- Assumes nothing.
 use Prim.Native.Nat.{ℕ, zero, suc, _<_, _≤_}
 use mathlib.Core.Path.{_≡_, refl}

@@ -1,5 +1,6 @@
--- The version in force at a place (document 02, M-111): "Any place up to 4,000,000,000 can be asked and answers with the
--- version in force there." That it is the one with the highest place not above the asked one is a law of Laws.antt.
+-- The version in force at a place (document 02, M-111): "Any place up to 4,000,000,000 can be asked
+-- and answers with the version in force there." That it is the one with the highest place not above
+-- the asked one is a law of Laws.antt.
 -- Assumes nothing.
 use Prim.Native.Nat.{ℕ, _+_}
 use mathlib.Core.Bool.{Bool, _||_}
@@ -20,13 +21,14 @@ ending = highest + 1
 abbrev pub holds : Version → ℕ → Held
 holds v until = record { gap = v .gap; s = v .s; t = v .t; from = v .place; until = until }
 
--- The version in force at a place, among one and those that follow it: "each in force from a stated odometer place until
--- the next one's".
+-- The version in force at a place, among one and those that follow it: "each in force from a stated
+-- odometer place until the next one's".
 unfoldable pub heldFrom : Version → List Version → ℕ → Held
 heldFrom v [] place = holds v ending
 heldFrom v (next ∷ vs) place = pick (leb (next .place) place) (heldFrom next vs place) (holds v (next .place))
 
--- The version in force at a place, among some. Where there is none, no gap and no pair: a store is never empty.
+-- The version in force at a place, among some. Where there is none, no gap and no pair: a store is
+-- never empty.
 abbrev pub heldAmong : List Version → ℕ → Held
 heldAmong [] place = holds noVersion ending
 heldAmong (v ∷ vs) place = heldFrom v vs place
@@ -39,7 +41,8 @@ heldAt store place = heldAmong (versionsOf store) place
 unfoldable pub gapAt : Store → ℕ → ℕ
 gapAt store place = heldAt store place .gap
 
--- Asking for a place: the store's own refusal, then "18 for a place above 4,000,000,000", else the version in force there.
+-- Asking for a place: the store's own refusal, then "18 for a place above 4,000,000,000", else the
+-- version in force there.
 unfoldable pub asked : Store → ℕ → Outcome Held
 asked store place =
     then (judged store) λ k.
@@ -60,6 +63,7 @@ heldOr held (refuses n) = held
 unfoldable pub hold : Store → Held → ℕ → Held
 hold store held place = heldOr held (asked store place)
 
--- Going over many places, the settings to hold at the next one: the store is asked only where it lies outside those of the held ones.
+-- Going over many places, the settings to hold at the next one: the store is asked only where it
+-- lies outside those of the held ones.
 unfoldable pub heldFor : Store → Held → ℕ → Held
 heldFor store held place = pick (leaves held place) (hold store held place) held

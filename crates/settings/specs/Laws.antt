@@ -1,4 +1,5 @@
--- What is promised of a store (document 02, M-111), of any store that is judged good, and so of every one that `begin` and `add` made.
+-- What is promised of a store (document 02, M-111), of any store that is judged good, and so of
+-- every one that `begin` and `add` made.
 -- Assumes nothing.
 use Prim.Native.Nat.{ℕ, _<_, _≤_}
 use mathlib.Core.Path.{_≡_}
@@ -23,7 +24,8 @@ versionIn held = record { place = held .from; gap = held .gap; s = held .s; t = 
 abbrev pub answer : Outcome Held → Outcome Version
 answer o = then o λ held. gives (versionIn held)
 
--- The version in force at a place is one of the store's, its place is not above the asked one, and it is the highest such.
+-- The version in force at a place is one of the store's, its place is not above the asked one, and
+-- it is the highest such.
 pub record InForce (store : Store) (place : ℕ) (held : Held) : Type 0 where
   pub number : ℕ
   pub of-these : number < store .count
@@ -39,12 +41,15 @@ pub record Settings : Type 0 where
   pub added-good : (store : Store) (v : Version) → length (store .versions) ≡ 32 → add store v .answer ≡ gives kept → judged (add store v .store) ≡ gives kept
   -- "Any place up to 4,000,000,000 can be asked"
   pub any-place : (store : Store) (place : ℕ) → judged store ≡ gives kept → place ≤ highest → (held : Held) × (asked store place ≡ gives held)
-  -- "and answers with the version in force there": the one with the highest place not above the asked one.
+  -- "and answers with the version in force there": the one with the highest place not above the
+  -- asked one.
   pub in-force : (store : Store) (place : ℕ) (held : Held) → length (store .versions) ≡ 32 → asked store place ≡ gives held → InForce store place held
-  -- "each in force from a stated odometer place until the next one's": the asked place lies there, and every other place there is answered alike.
+  -- "each in force from a stated odometer place until the next one's": the asked place lies there,
+  -- and every other place there is answered alike.
   pub from-there : (store : Store) (place : ℕ) (held : Held) → asked store place ≡ gives held → (held .from ≤ place) × (place < held .until)
   pub until-there : (store : Store) (place other : ℕ) (held : Held) → asked store place ≡ gives held → held .from ≤ other → other < held .until → asked store other ≡ gives held
-  -- "never altered": adding changes no answer below the added place, and from it on the added version is in force.
+  -- "never altered": adding changes no answer below the added place, and from it on the added
+  -- version is in force.
   pub same-below : (store : Store) (v : Version) (place : ℕ) → length (store .versions) ≡ 32 → add store v .answer ≡ gives kept → place < v .place
       → answer (asked (add store v .store) place) ≡ answer (asked store place)
   pub new-from : (store : Store) (v : Version) (place : ℕ) → length (store .versions) ≡ 32 → add store v .answer ≡ gives kept → v .place ≤ place → place ≤ highest

@@ -11,8 +11,8 @@ use Rattle.settings.specs.declared.Asked.{Asked}
 use Rattle.settings.specs.Versions.{Kept, kept}
 use Rattle.settings.specs.Store.{Change}
 
--- "sync pair doesn't differ in seven bits" is 4, "gap outside 1 to 200" is 19, "a place above 4,000,000,000" is 18, "an
--- added place not above the last" is 24, "a 33rd version" is 25.
+-- "sync pair doesn't differ in seven bits" is 4, "gap outside 1 to 200" is 19, "a place above
+-- 4,000,000,000" is 18, "an added place not above the last" is 24, "a 33rd version" is 25.
 abbrev pub saysBad : Bad → ℕ
 saysBad Bad.Pair = 4
 saysBad Bad.Gap = 19

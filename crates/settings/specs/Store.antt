@@ -1,5 +1,5 @@
--- The store of the settings (document 02, M-111): "A store is opened with its first version, at place 0, so it is never
--- empty. Versions are added in rising place order and never altered."
+-- The store of the settings (document 02, M-111): "A store is opened with its first version, at
+-- place 0, so it is never empty. Versions are added in rising place order and never altered."
 -- Assumes nothing.
 use Prim.Native.Nat.{ℕ, _+_, _-_}
 use mathlib.Core.Bool.{Bool}
@@ -23,7 +23,8 @@ noStore = record { versions = replicate 32 noVersion; count = 0 }
 unfoldable pub versionsOf : Store → List Version
 versionsOf store = take (store .count) (store .versions)
 
--- What opening a store, or adding to one, answers: that it is done, or the number of a refusal; and the store after it.
+-- What opening a store, or adding to one, answers: that it is done, or the number of a refusal; and
+-- the store after it.
 pub record Change : Type 0 where
   pub answer : Outcome Kept
   pub store : Store
@@ -53,15 +54,16 @@ plain gap = begin gap 0x00 0x7F .store
 
 -- ---- a lent store: 25, 19, 24 for the store as a whole, then as adding version by version would
 
--- The versions after one that is in force from `last` on, each added after the one before: the first bad one refuses.
+-- The versions after one that is in force from `last` on, each added after the one before: the
+-- first bad one refuses.
 unfoldable pub allFollow : ℕ → List Version → Outcome Kept
 allFollow last [] = gives kept
 allFollow last (v ∷ vs) =
     then (follows last v) λ k.
     allFollow (v .place) vs
 
--- No version at all: no gap is set, 19. A first place that is not 0 is not above what comes before it, 24. Else the first
--- version's settings, and then the others.
+-- No version at all: no gap is set, 19. A first place that is not 0 is not above what comes before
+-- it, 24. Else the first version's settings, and then the others.
 unfoldable pub inOrder : List Version → Outcome Kept
 inOrder [] = refuses 19
 inOrder (v ∷ vs) =
@@ -84,7 +86,8 @@ lastPlace store = getD (store .versions) (store .count - 1) noVersion .place
 unfoldable pub withOne : Store → Version → Store
 withOne store v = record { versions = set (store .versions) (store .count) v; count = store .count + 1 }
 
--- Whether a version is added: the store's own refusal; 4, 19, 18 and 24 for the version; "then 25 for a 33rd version".
+-- Whether a version is added: the store's own refusal; 4, 19, 18 and 24 for the version; "then 25
+-- for a 33rd version".
 unfoldable pub mayAdd : Store → Version → Outcome Kept
 mayAdd store v =
     then (judged store) λ k.

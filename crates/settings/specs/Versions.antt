@@ -1,5 +1,5 @@
--- A version of the settings (document 02, M-111): "Keep up to 32 versions of the settings (gap, S, S*), each in force from a
--- stated odometer place until the next one's."
+-- A version of the settings (document 02, M-111): "Keep up to 32 versions of the settings (gap, S,
+-- S*), each in force from a stated odometer place until the next one's."
 -- Assumes nothing.
 use Prim.Native.Nat.{ℕ}
 use mathlib.Core.Bool.{Bool, _&&_}
@@ -27,8 +27,8 @@ settingsOf gap s t =
     then (goodPair s t) λ g.
     pick (allowed gap) (gives kept) (refuses 19)
 
--- A version to be added after one that is in force from `last` on: "4 and 19 for the settings, then 18 for a place above
--- 4,000,000,000", "then 24 for an added place not above the last".
+-- A version to be added after one that is in force from `last` on: "4 and 19 for the settings, then
+-- 18 for a place above 4,000,000,000", "then 24 for an added place not above the last".
 unfoldable pub follows : ℕ → Version → Outcome Kept
 follows last v =
     then (settingsOf (v .gap) (v .s) (v .t)) λ k.

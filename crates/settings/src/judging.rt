@@ -1,4 +1,5 @@
-// Judging a lent store: 25, 19, 24 for the store as a whole, then as adding version by version would; and whether it takes one version more.
+// Judging a lent store: 25, 19, 24 for the store as a whole, then as adding version by version
+// would; and whether it takes one version more.
 ghost use mathlib.Core.Path.{_≡_};
 ghost use Prim.Native.Nat.{_≤_};
 ghost use lib.ListN.{take, drop};
@@ -31,7 +32,8 @@ fn all_follow(versions: [Version; 32], count: usize) -> Verdict
     Verdict::Kept
 }
 
-// The judgement of a store: 25 for its count, 19 where it is empty, 24 for its first place, then its versions one by one.
+// The judgement of a store: 25 for its count, 19 where it is empty, 24 for its first place, then
+// its versions one by one.
 pub fn judge(store: Store) -> Verdict
     ensures { λ r. ⌜ saysVerdict r ≡ judged store ⌝ }
 {

@@ -1,10 +1,12 @@
-// Settings that change on the way (document 02, M-111): up to 32 versions of gap, S and S*, each in force from a place of
-// the odometer until the next one's.
-// Promises: a store that begin and add made is never empty and in order; any place up to 4,000,000,000 has one version in force; a lent store
-// that they did not make is refused with 25, 19 or 24 for the store as a whole, then as adding version by version would.
-// Specification: specs/Versions.antt, Store.antt, At.antt, Says.antt (the answers); laws: specs/Laws.antt.
-// A store's own refusal is that of a lent store which begin and add did not make: 25 for a count above 32, 19 for a count of 0, 24 for a first place
-// that is not 0, else the number that its first bad version would have been given.
+// Settings that change on the way (document 02, M-111): up to 32 versions of gap, S and S*, each in
+// force from a place of the odometer until the next one's.
+// Promises: a store that begin and add made is never empty and in order; any place up to
+// 4,000,000,000 has one version in force; a lent store that they did not make is refused with 25,
+// 19 or 24 for the store as a whole, then as adding version by version would.
+// Specification: specs/Versions.antt, Store.antt, At.antt, Says.antt (the answers); laws:
+// specs/Laws.antt. A store's own refusal is that of a lent store which begin and add did not make:
+// 25 for a count above 32, 19 for a count of 0, 24 for a first place that is not 0, else the number
+// that its first bad version would have been given.
 ghost use mathlib.Core.Path.{_≡_};
 ghost use Rattle.settings.specs.Store.{begin, add};
 ghost use Rattle.settings.specs.At.{asked, hold};
@@ -17,7 +19,8 @@ mod versions;
 pub use places::leaves;
 pub use versions::allowed;
 
-// A version of the settings: the gap and the sync words S and S* (s and t), in force from a place on.
+// A version of the settings: the gap and the sync words S and S* (s and t), in force from a place
+// on.
 pub struct Version {
     pub place: u32,
     pub gap: u32,
@@ -52,14 +55,16 @@ pub struct Begun {
     pub verdict: Verdict,
 }
 
-// What adding a version answers: the store after it, and how it went. Refused, it is the store as it was.
+// What adding a version answers: the store after it, and how it went. Refused, it is the store as
+// it was.
 pub struct Added {
     pub store: Store,
     pub verdict: Verdict,
 }
 
-// The settings in force at a place, with the places from which and until which they are: `until` is the first place at which they are
-// not. The last version is in force to the end; its `until` is 4,000,000,001.
+// The settings in force at a place, with the places from which and until which they are: `until` is
+// the first place at which they are not. The last version is in force to the end; its `until` is
+// 4,000,000,001.
 pub struct Held {
     pub gap: u32,
     pub s: u8,
@@ -96,8 +101,8 @@ pub fn begin(gap: u32, s: u8, t: u8) -> Begun
     }
 }
 
-// The store with one version more, in force from this place on; or the store's own refusal, then 4, 19, 18, 24, 25 in this order, and the store as it
-// was.
+// The store with one version more, in force from this place on; or the store's own refusal, then 4,
+// 19, 18, 24, 25 in this order, and the store as it was.
 pub fn add(store: Store, place: u32, gap: u32, s: u8, t: u8) -> Added
     ensures { λ r. ⌜ saysAdded r ≡ add store (record { place = place; gap = gap; s = s; t = t }) ⌝ }
 {
@@ -115,7 +120,8 @@ pub fn add(store: Store, place: u32, gap: u32, s: u8, t: u8) -> Added
     }
 }
 
-// The settings in force at a place, with the places from which and until which they are; or the store's own refusal, then 18.
+// The settings in force at a place, with the places from which and until which they are; or the
+// store's own refusal, then 18.
 pub fn at(store: Store, place: u32) -> Asked
     ensures { λ r. ⌜ saysAsked r ≡ asked store place ⌝ }
 {
@@ -131,7 +137,8 @@ pub fn at(store: Store, place: u32) -> Asked
     }
 }
 
-// The settings to hold at a place, by whoever goes over many: those in force there; where asking is refused, those held before.
+// The settings to hold at a place, by whoever goes over many: those in force there; where asking is
+// refused, those held before.
 pub fn hold(store: Store, held: Held, place: u32) -> Held
     ensures { λ r. ⌜ r ≡ hold store held place ⌝ }
 {

@@ -1,4 +1,5 @@
-// The places of a store: what stands there, and which version is in force at a place of the odometer.
+// The places of a store: what stands there, and which version is in force at a place of the
+// odometer.
 ghost use mathlib.Core.Path.{_≡_};
 ghost use Prim.Native.Nat.{_≤_, _<_};
 ghost use Rattle.settings.specs.Store.{noStore, opened, lastPlace, withOne};
@@ -71,7 +72,8 @@ fn holds(version: Version, until: u32) -> Held
     }
 }
 
-// The version in force at a place: from the first on, the next one takes its place as long as its own is not above.
+// The version in force at a place: from the first on, the next one takes its place as long as its
+// own is not above.
 pub fn in_force(store: Store, place: u32) -> Held
     requires { ⌜ (1 ≤ store .count) × (store .count ≤ 32) ⌝ }
     ensures { λ r. ⌜ r ≡ heldAt store place ⌝ }
@@ -91,7 +93,8 @@ pub fn in_force(store: Store, place: u32) -> Held
     holds(now, 4000000001)
 }
 
-// Whether a place lies outside those at which the held settings are in force, so that the store is to be asked again.
+// Whether a place lies outside those at which the held settings are in force, so that the store is
+// to be asked again.
 pub fn leaves(held: Held, place: u32) -> bool
     ensures { λ r. ⌜ r ≡ leaves held place ⌝ }
 {

@@ -29,7 +29,8 @@ pub fn settings_of(gap: u32, s: u8, t: u8) -> Verdict
     }
 }
 
-// Whether a version may follow one that is in force from `last` on: 4 and 19 for its settings, 18 for its place, 24 where that is not above.
+// Whether a version may follow one that is in force from `last` on: 4 and 19 for its settings, 18
+// for its place, 24 where that is not above.
 pub fn follows(last: u32, version: Version) -> Verdict
     ensures { λ r. ⌜ saysVerdict r ≡ follows last version ⌝ }
 {

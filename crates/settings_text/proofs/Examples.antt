@@ -39,7 +39,8 @@ pub odd : (line (codes "0 40 72") ≡ Stated.Unreadable) × (line (codes "0 40 7
 unfolding stated version lineOf keptAll kept noWords wordOf number name same wordsOf some cut upTo decimal allDigits continued hex hexDigit
 odd = (refl, refl, refl, refl, refl, refl)
 
--- The first bad line, counted with comments and blank ones; a first place that is not 0, after a byte order mark too; no version at all.
+-- The first bad line, counted with comments and blank ones; a first place that is not 0, after a
+-- byte order mark too; no version at all.
 pub bad-ones : (sheet (codes "# settings\n\nx\n1 40 72 0D") ≡ bad 3 Condition.Unreadable)
     × (sheet (0xEF ∷ 0xBB ∷ 0xBF ∷ codes "1 40 72 0D\nx") ≡ bad 1 Condition.FirstPlace)
     × (sheet [] ≡ bad 0 (Condition.Refused 19)) × (sheet (codes "# nothing") ≡ bad 0 (Condition.Refused 19))

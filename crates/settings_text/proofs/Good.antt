@@ -1,4 +1,5 @@
--- The store of a text that is fine is good, and of one that is not fine there is none: every line that is taken leaves a good store, or none.
+-- The store of a text that is fine is good, and of one that is not fine there is none: every line
+-- that is taken leaves a good store, or none.
 -- Assumes nothing.
 use mathlib.Core.Path.{_≡_, refl, sym, ap, _∙_}
 use mathlib.Core.Bool.{Bool, true, false}

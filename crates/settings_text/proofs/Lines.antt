@@ -48,7 +48,8 @@ unfolding lineFrom cut upTo
 no-more r [] at e = refl
 no-more r (c ∷ cs) at e = last-by (newline c) r c cs (at + 1) (no-more (character r c) cs (at + 1)) e
 
--- After a line that ends: the place of the next one lies beyond, and the lines of the text are this one and those from there on.
+-- After a line that ends: the place of the next one lies beyond, and the lines of the text are this
+-- one and those from there on.
 pub record Goes (t : List ℕ) (at next : ℕ) : Type 0 where
   pub beyond : at < next
   pub within : next ≤ at + length t

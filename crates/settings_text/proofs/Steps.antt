@@ -1,4 +1,5 @@
--- A text of settings by its first line: it is bad and decides, or the last, or what is left decides.
+-- A text of settings by its first line: it is bad and decides, or the last, or what is left
+-- decides.
 -- Assumes nothing.
 use mathlib.Core.Path.{_≡_, refl, sym, ap, _∙_}
 use mathlib.Core.Bool.{Bool, true, false}

@@ -1,4 +1,5 @@
--- A line of the settings: `PLACE GAP S S*` for each version, decimal, decimal, two hex digits each. Its words are those of the crate lines.
+-- A line of the settings: `PLACE GAP S S*` for each version, decimal, decimal, two hex digits each.
+-- Its words are those of the crate lines.
 -- Assumes nothing.
 use Prim.Native.Nat.{ℕ}
 use lib.Dec.{eqb}
@@ -16,7 +17,8 @@ use Rattle.settings_text.specs.declared.line.Stated.{Stated}
 abbrev pub wordAt : TextLine → ℕ → Word
 wordAt line i = getD (line .words) i noWord
 
--- A number as a place or a gap. The largest of 32 bits stands for all above it: a number too large for its type is refused as what it is, 18 or 19.
+-- A number as a place or a gap. The largest of 32 bits stands for all above it: a number too large
+-- for its type is refused as what it is, 18 or 19.
 abbrev pub figureOf : Number → Figure
 figureOf (Number.Is n) = Figure.Is n
 figureOf Number.Above = Figure.Is largest
@@ -40,7 +42,8 @@ version place gap s t =
     withWord t λ b.
     Stated.Version p g a b
 
--- What a line states: nothing where it has no word, a version where it has four, else it is unreadable.
+-- What a line states: nothing where it has no word, a version where it has four, else it is
+-- unreadable.
 unfoldable pub stated : TextLine → Stated
 stated line =
     pick (eqb (line .count) 0) Stated.Nothing

@@ -27,11 +27,13 @@ isFine Condition.TooLong = false
 unfoldable pub bad : ℕ → Condition → Sheet
 bad line how = record { store = noStore; line = line; how = how }
 
--- What a text comes to after its last line: without any version 19. There is no line to name then: 0.
+-- What a text comes to after its last line: without any version 19. There is no line to name then:
+-- 0.
 unfoldable pub ended : Store → Sheet
 ended store = pick (eqb (store .count) 0) (bad 0 (Condition.Refused 19)) (record { store = store; line = 0; how = Condition.Fine })
 
--- The lines from the one with number n on, which are counted with comments and blank ones: the first bad line is told.
+-- The lines from the one with number n on, which are counted with comments and blank ones: the
+-- first bad line is told.
 unfoldable pub linesFrom : Store → ℕ → List (List ℕ) → Sheet
 linesFrom store n [] = ended store
 linesFrom store n (line ∷ lines) =
@@ -42,6 +44,7 @@ linesFrom store n (line ∷ lines) =
 abbrev pub longest : ℕ
 longest = 1048576
 
--- The settings of a text: the store that its lines make, or the first bad line and what is wrong with it.
+-- The settings of a text: the store that its lines make, or the first bad line and what is wrong
+-- with it.
 unfoldable pub sheet : List ℕ → Sheet
 sheet text = pick (leb (length text) longest) (linesFrom noStore 1 (linesIn text)) (bad 0 Condition.TooLong)

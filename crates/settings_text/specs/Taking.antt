@@ -21,7 +21,8 @@ afterIt (refuses n) before after = record { store = before; how = Condition.Refu
 abbrev pub changed : Store → Change → Taken
 changed before change = afterIt (change .answer) before (change .store)
 
--- A version given to the store: the first opens it, and its place is 0, else that is told; any other is added.
+-- A version given to the store: the first opens it, and its place is 0, else that is told; any
+-- other is added.
 unfoldable pub given : Store → Version → Taken
 given store v =
     pick (eqb (store .count) 0)

@@ -1,5 +1,7 @@
--- What is said of settings that are not fine: `settings line 3 refused 24: place not above the last one`, `settings line 3 unreadable`, or
--- `settings line 1 unreadable: first place not 0`; `settings refused 19: gap outside 1 to 200` where no line is to be named.
+-- What is said of settings that are not fine:
+-- `settings line 3 refused 24: place not above the last one`, `settings line 3 unreadable`, or
+-- `settings line 1 unreadable: first place not 0`; `settings refused 19: gap outside 1 to 200`
+-- where no line is to be named.
 -- Assumes nothing.
 use Prim.Native.Nat.{ℕ}
 use mathlib.Core.List.{List, [], _++_}

@@ -1,4 +1,5 @@
--- The hypotheses are met: a line and a text, taken and read, that are fine, and one of each that is not.
+-- The hypotheses are met: a line and a text, taken and read, that are fine, and one of each that is
+-- not.
 -- Assumes nothing.
 use mathlib.Core.Path.{_≡_, refl}
 use mathlib.Core.List.{List, [], _∷_}

@@ -1,5 +1,7 @@
--- Demand 1 for the settings as a text (document 02, M-111): "every call ends with a named reading or a numbered refusal .., given exactly under the condition
--- written there. A refusal hands out no figure, and lent memory and the running state stay untouched". Shown in proofs/Take.antt, Text.antt, Good.antt and Left.antt.
+-- Demand 1 for the settings as a text (document 02, M-111): "every call ends with a named reading
+-- or a numbered refusal .., given exactly under the condition written there. A refusal hands out no
+-- figure, and lent memory and the running state stay untouched". Shown in proofs/Take.antt,
+-- Text.antt, Good.antt and Left.antt.
 -- Assumes nothing.
 use Prim.Native.Nat.{ℕ, _+_}
 use mathlib.Core.Path.{_≡_}
@@ -60,8 +62,9 @@ ByRules rules how = (o : Outcome Kept) × Decided (Is kept) rules o × (how ≡ 
 abbrev pub States : TextLine → Version → Type 0
 States line v = stated line ≡ Stated.Version (v .place) (v .gap) (v .s) (v .t)
 
--- `take`: a line without a version gives no number. The first version opens the store: its place is 0, else that is told; then 4 and 19. Any other is
--- added: the store's own refusals, 4, 19, 18, 24, 25.
+-- `take`: a line without a version gives no number. The first version opens the store: its place is
+-- 0, else that is told; then 4 and 19. Any other is added: the store's own refusals, 4, 19, 18, 24,
+-- 25.
 pub record TakeDecided : Type 0 where
   pub blank : (store : Store) (line : TextLine) (r : Taken) → Takes store line r → stated line ≡ Stated.Nothing → r .how ≡ Condition.Fine
   pub unreadable : (store : Store) (line : TextLine) (r : Taken) → Takes store line r → stated line ≡ Stated.Unreadable → r .how ≡ Condition.Unreadable
@@ -86,7 +89,8 @@ fault line how = record { line = line; how = how }
 abbrev pub says : Sheet → Answer Fault Store
 says r = pick (isFine (r .how)) (gives (r .store)) (refuses (fault (r .line) (r .how)))
 
--- Line by line, in order, each taken with the store of those before it, the one with number n first; 19 where no line states a version.
+-- Line by line, in order, each taken with the store of those before it, the one with number n
+-- first; 19 where no line states a version.
 unfoldable pub lineRules : Store → ℕ → List (List ℕ) → List (Rule (Answer Fault Store))
 lineRules store n [] = rowOf (fault 0 (Condition.Refused 19)) (eqb (store .count) 0) ∷ []
 lineRules store n (line ∷ lines) =
@@ -112,7 +116,8 @@ ReadGood = (text : List ℕ) (r : Sheet) → Reads text r → r .how ≡ Conditi
 
 -- ---- what a refusal leaves
 
--- A line that is not fine leaves the store as it was; of a text that is not fine there is no store, and nothing but what is wrong.
+-- A line that is not fine leaves the store as it was; of a text that is not fine there is no store,
+-- and nothing but what is wrong.
 pub record Untouched : Type 0 where
   pub take : (store : Store) (line : TextLine) (r : Taken) → Takes store line r → isFine (r .how) ≡ false → r .store ≡ store
   pub read : (text : List ℕ) (r : Sheet) (f : Fault) → Reads text r → says r ≡ refuses f → r ≡ bad (f .line) (f .how)

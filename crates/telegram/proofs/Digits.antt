@@ -1,4 +1,5 @@
--- Single binary digits: of `&`, of `^`, of a word whose digits are all set, of the digits above the highest that is set.
+-- Single binary digits: of `&`, of `^`, of a word whose digits are all set, of the digits above the
+-- highest that is set.
 -- Assumes nothing.
 use Prim.Native.Nat.{ℕ, suc, _+_, _-_, _*_, _/_, _%_, _^_, _≤_, _<_}
 use mathlib.Core.Path.{_≡_, refl, sym, ap, ap₂, _∙_}

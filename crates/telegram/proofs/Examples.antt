@@ -1,4 +1,5 @@
--- Worked examples, computed by the definitions: the sync pair of source 001, telegrams, places and document 01's edges.
+-- Worked examples, computed by the definitions: the sync pair of source 001, telegrams, places and
+-- document 01's edges.
 -- Assumes nothing.
 use Prim.Native.Nat.{ℕ}
 use mathlib.Core.Path.{_≡_, refl}
@@ -44,7 +45,8 @@ a-number : telegram 0xc3 0x88 0x06 ≡ gives (Telegram.Number 1152)
 unfolding telegram shortWord longWord readWord parity onesOf isCode even count covers exchanged other word figure onwards isCheck
 a-number = refl
 
--- The first bad word decides: a bad long word, a bad Y, an X of 15, a Y of 15 before a Z that is no code word.
+-- The first bad word decides: a bad long word, a bad Y, an X of 15, a Y of 15 before a Z that is no
+-- code word.
 bad-number : telegram 0xc3 0x88 0x07 ≡ refuses (badWord Word.YZ (why 1 (are Parity.Odd)))
 unfolding telegram shortWord longWord readWord parity onesOf isCode even count covers exchanged other word figure onwards isCheck
 bad-number = refl

@@ -1,4 +1,5 @@
--- What the search's answer says of a stretch: a place handed out is its first, and what it refuses, the survey refuses too.
+-- What the search's answer says of a stretch: a place handed out is its first, and what it refuses,
+-- the survey refuses too.
 -- Assumes nothing.
 use mathlib.Core.Path.{_≡_, refl, ap, _∙_}
 use mathlib.Core.Bool.{Bool, true, false}
@@ -13,7 +14,8 @@ use Rattle.telegram.specs.Survey.{together, survey}
 use Rattle.telegram.proofs.Rest.{First, first-and-rest}
 use Rattle.words.proofs.Never.{cannot-be}
 
--- What it says that the place p is handed out with m: the stretch is a good one, p is its first place, and m is read there.
+-- What it says that the place p is handed out with m: the stretch is a good one, p is its first
+-- place, and m is read there.
 pub record Handed (b : List ℕ) (start len s t p : ℕ) (m : Received) : Type 0 where
   pub good : isGood s t ≡ true
   pub taken : inside b start len ≡ true

@@ -1,5 +1,5 @@
--- The law of the search: asked again from the bit after a place, and so on until 6, it hands out exactly the places of the
--- stretch, each once and in order.
+-- The law of the search: asked again from the bit after a place, and so on until 6, it hands out
+-- exactly the places of the stretch, each once and in order.
 -- Assumes nothing.
 use mathlib.Core.Path.{_≡_, refl, sym, ap, _∙_, subst}
 use mathlib.Core.Bool.{true}
@@ -15,8 +15,9 @@ use Rattle.telegram.specs.Place.{wordsAt, places, Single, at, firstOf, f
 use Rattle.telegram.proofs.Taken.{part-taken}
 use Rattle.telegram.proofs.Rest.{first-and-rest}
 
--- What comes of asking on and on, where `Says start len o` is that asking with a stretch is answered by o: a place with its
--- telegram, and then what comes from the bit after it to the same end; or nothing more, by refusal 6.
+-- What comes of asking on and on, where `Says start len o` is that asking with a stretch is
+-- answered by o: a place with its telegram, and then what comes from the bit after it to the same
+-- end; or nothing more, by refusal 6.
 pub data Comes (Says : ℕ → ℕ → Outcome Single → Type 0) : ℕ → ℕ → List Single → Type 0 where
   further : {start len p : ℕ} {m : Received} {rest : List Single}
       → Says start len (gives (at p m)) → Comes Says (p + 1) (start + len - (p + 1)) rest → Comes Says start len (at p m ∷ rest)

@@ -1,5 +1,5 @@
--- Many offsets at once: the outer bytes of a place differ as the sync words do, so where no two bytes 32 bits apart differ
--- so, no offset is a place.
+-- Many offsets at once: the outer bytes of a place differ as the sync words do, so where no two
+-- bytes 32 bits apart differ so, no offset is a place.
 -- Assumes nothing.
 use Prim.Native.Nat.{ℕ, zero, suc, _+_, _-_, _*_, _/_, _%_, _^_, _≤_, _<_}
 use mathlib.Core.Path.{_≡_, sym, ap, ap₂, _∙_, subst}
@@ -32,7 +32,8 @@ none-before h o j small below less =
     ap (λ (n : ℕ). n % 2) (none-above h k fits (omega arith))
 
 module _ (b : List ℕ) (s t : ℕ) where
-  -- An offset that h does not mark, where h marks each at which two bytes 32 bits apart differ as the sync words do.
+  -- An offset that h does not mark, where h marks each at which two bytes 32 bits apart differ as
+  -- the sync words do.
   pub unmarked : (p x y h : ℕ) → x ≡ bitsAt b (8 * (p / 8)) 64 → y ≡ bitsAt b (8 * (p / 8 + 4)) 64
       → ((k : ℕ) → k < 64 → (2 ^ 64 - 1) / 2 ^ (7 + p % 8) / 2 ^ k % 2 ≡ 1 → bitXor y x / 2 ^ k % 256 ≡ bitXor s t → h / 2 ^ k % 2 ≡ 1)
       → (j : ℕ) → j < 57 - p % 8 → h / 2 ^ (56 - p % 8 - j) % 2 ≡ 0 → paired b s t (p + j) ≡ false

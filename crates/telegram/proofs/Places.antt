@@ -1,4 +1,5 @@
--- The places of a stretch one offset at a time: the first offset is one or not, and the rest is a stretch one bit shorter.
+-- The places of a stretch one offset at a time: the first offset is one or not, and the rest is a
+-- stretch one bit shorter.
 -- Assumes nothing.
 use mathlib.Core.Path.{_≡_, refl, ap, ap₂, _∙_}
 use mathlib.Core.Bool.{Bool, true, false, _&&_}

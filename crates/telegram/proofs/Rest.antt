@@ -1,4 +1,5 @@
--- The first place of a stretch lies in it with its forty bits, and the other places are those from the bit after it on.
+-- The first place of a stretch lies in it with its forty bits, and the other places are those from
+-- the bit after it on.
 -- Assumes nothing.
 use mathlib.Core.Path.{_≡_, refl, sym, ap, ap₂, _∙_}
 use mathlib.Core.Bool.{Bool, true, false, _&&_}

@@ -1,4 +1,5 @@
--- The places of a stretch taken together one after the other: so many are alike so far, and the rest is ahead.
+-- The places of a stretch taken together one after the other: so many are alike so far, and the
+-- rest is ahead.
 -- Assumes nothing.
 use mathlib.Core.Path.{_≡_, sym, ap, ap₂, _∙_}
 use mathlib.Core.Bool.{Bool, true, false, _&&_, and-false}

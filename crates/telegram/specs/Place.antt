@@ -1,7 +1,7 @@
--- Places (document 01, "A telegram"): "A *place* is a start p in a stretch such that bits p to p+39 lie in it, the outer
--- bytes are S and S* in either order, and the three words between are accepted. Every offset is tested, overlapping
--- ones too. The search for single telegrams is asked with a stretch and hands out its first place with the telegram's
--- figures."
+-- Places (document 01, "A telegram"): "A *place* is a start p in a stretch such that bits p to p+39
+-- lie in it, the outer bytes are S and S* in either order, and the three words between are
+-- accepted. Every offset is tested, overlapping ones too. The search for single telegrams is asked
+-- with a stretch and hands out its first place with the telegram's figures."
 -- Assumes nothing.
 use Prim.Native.Nat.{ℕ, zero, suc, _+_}
 use mathlib.Core.Bool.{Bool, true, false, _&&_, _||_}
@@ -25,7 +25,8 @@ abbrev pub accepted : Received → Bool
 accepted (gives m) = true
 accepted (refuses b) = false
 
--- Whether p, a bit of the stretch that begins at `start` and has `len` bits, is a place, with the sync words s and t.
+-- Whether p, a bit of the stretch that begins at `start` and has `len` bits, is a place, with the
+-- sync words s and t.
 unfoldable pub isPlace : List ℕ → ℕ → ℕ → ℕ → ℕ → ℕ → Bool
 isPlace b start len s t p = leb (p + 40) (start + len) && areSyncs s t (bitsAt b p 8) (bitsAt b (p + 32) 8) && accepted (wordsAt b p)
 

@@ -25,13 +25,15 @@ abbrev pub saysReach : Reach → Outcome Taken
 saysReach Reach.Inside = gives taken
 saysReach Reach.Beyond = refuses 5
 
--- A telegram; "not a code word" is 1, "a short word of a telegram reads 15" is 3, each of the word named; with 1 goes the parity of its ones.
+-- A telegram; "not a code word" is 1, "a short word of a telegram reads 15" is 3, each of the word
+-- named; with 1 goes the parity of its ones.
 abbrev pub saysTelegramRead : TelegramRead → Received
 saysTelegramRead (TelegramRead.Is t) = gives t
 saysTelegramRead (TelegramRead.NotCode w p) = refuses (badWord w (why 1 (are p)))
 saysTelegramRead (TelegramRead.Fifteen w) = refuses (badWord w (why 3 unsaid))
 
--- The three words to send; "figure to write above 15 or above 2,047" is 2, "a short word of a telegram reads 15" is 3.
+-- The three words to send; "figure to write above 15 or above 2,047" is 2, "a short word of a
+-- telegram reads 15" is 3.
 abbrev pub saysSpelt : Spelt → Outcome Words
 saysSpelt (Spelt.Words x y z) = gives (record { x = x; y = y; z = z })
 saysSpelt Spelt.TooLarge = refuses 2
@@ -44,7 +46,8 @@ saysFound Found.NotSeven = refuses 4
 saysFound Found.Beyond = refuses 5
 saysFound Found.NoPlace = refuses 6
 
--- Places that are alike, by their telegram, the first of them and their number; 4, 5 and 6 as above, and "places differ" is 7.
+-- Places that are alike, by their telegram, the first of them and their number; 4, 5 and 6 as
+-- above, and "places differ" is 7.
 abbrev pub saysSurveyed : Surveyed → Outcome Alike
 saysSurveyed (Surveyed.Alike t first count) = gives (alike (gives t) first count)
 saysSurveyed Surveyed.NotSeven = refuses 4

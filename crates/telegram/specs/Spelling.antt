@@ -1,5 +1,6 @@
 -- What a test balise is to say, and the three words that say it (document 02, M-100).
--- "Given X, Y, Z as figures (for X = 12 one figure to 2,047)"; "Refusals: 2 and 3 as in 01; .. order 2, 3, ..".
+-- "Given X, Y, Z as figures (for X = 12 one figure to 2,047)"; "Refusals: 2 and 3 as in 01; ..
+-- order 2, 3, ..".
 -- Assumes nothing.
 use Prim.Native.Nat.{ℕ, _/_, _%_}
 use mathlib.Core.Bool.{Bool, false, _||_}
@@ -8,7 +9,8 @@ use Rattle.words.specs.Answer.{Outcome, gives, refuses, pick}
 use Rattle.words.specs.Code.{sent}
 use Rattle.telegram.specs.declared.Telegram.{Telegram}
 
--- The telegram that is asked for: three figures, or, for X = 12, the number y; z is then not looked at.
+-- The telegram that is asked for: three figures, or, for X = 12, the number y; z is then not looked
+-- at.
 unfoldable pub asked : ℕ → ℕ → ℕ → Telegram
 asked x y z = pick (eqb x 12) (Telegram.Number y) (Telegram.Figures x y z)
 
@@ -28,7 +30,8 @@ pub record Words : Type 0 where
   pub y : ℕ
   pub z : ℕ
 
--- The words of a telegram: each figure as a short word, or 12 as a short word and the number as a long one, Y its high byte.
+-- The words of a telegram: each figure as a short word, or 12 as a short word and the number as a
+-- long one, Y its high byte.
 unfoldable pub wordsOf : Telegram → Words
 wordsOf (Telegram.Figures x y z) = record { x = sent 8 x; y = sent 8 y; z = sent 8 z }
 wordsOf (Telegram.Number m) = record { x = sent 8 12; y = sent 16 m / 256; z = sent 16 m % 256 }

@@ -1,5 +1,5 @@
--- A stretch of bits (document 01, "A telegram"): "a start and a length inside a lent byte buffer; starts and places
--- are counted in bits from the buffer's first, which is 0." Highest bit first.
+-- A stretch of bits (document 01, "A telegram"): "a start and a length inside a lent byte buffer;
+-- starts and places are counted in bits from the buffer's first, which is 0." Highest bit first.
 -- Assumes nothing.
 use Prim.Native.Nat.{ℕ, zero, suc, _+_, _-_, _*_, _/_, _%_, _^_}
 use mathlib.Core.Bool.{Bool, _&&_}
@@ -17,8 +17,9 @@ unfoldable pub bitsAt : List ℕ → ℕ → ℕ → ℕ
 bitsAt b p zero = 0
 bitsAt b p (suc n) = bitsAt b p n * 2 + bitAt b (p + n)
 
--- Whether the stretch is taken: it does not reach beyond the buffer, and has at most 16,777,216 bits. (A bit's number
--- has 64 bits: a buffer that no machine has could hold more, and what lies there is beyond it too.)
+-- Whether the stretch is taken: it does not reach beyond the buffer, and has at most 16,777,216
+-- bits. (A bit's number has 64 bits: a buffer that no machine has could hold more, and what lies
+-- there is beyond it too.)
 unfoldable pub inside : List ℕ → ℕ → ℕ → Bool
 inside b start len = leb (start + len) (8 * length b) && ltb (start + len) (2 ^ 64) && leb len 16777216
 

@@ -1,6 +1,7 @@
--- All places of a stretch together, a house addition for the judging of contacts (document 01, "Contacts and readings"):
--- "two or more places, all with the same X, Y and Z: read, with the first place and the number of places", and "two places
--- that differ: refusal 7". One place alone is alike here: what it makes is judged where a contact is judged.
+-- All places of a stretch together, a house addition for the judging of contacts (document 01,
+-- "Contacts and readings"): "two or more places, all with the same X, Y and Z: read, with the first
+-- place and the number of places", and "two places that differ: refusal 7". One place alone is
+-- alike here: what it makes is judged where a contact is judged.
 -- Assumes nothing.
 use Prim.Native.Nat.{ℕ, _+_}
 use mathlib.Core.Bool.{Bool, true, _&&_}

@@ -1,5 +1,5 @@
--- The sync pair (document 01, "A telegram"): "S and S* are settings from the vehicle's papers; the pair is good exactly
--- if the two differ in seven of their eight bits."
+-- The sync pair (document 01, "A telegram"): "S and S* are settings from the vehicle's papers; the
+-- pair is good exactly if the two differ in seven of their eight bits."
 -- Assumes nothing.
 use Prim.Native.Nat.{ℕ, zero, suc, _+_}
 use mathlib.Core.Bool.{Bool}

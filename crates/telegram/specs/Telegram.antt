@@ -1,6 +1,7 @@
 -- The three words of a telegram (document 01, "A telegram").
--- "X is M(8,4). If X reads 12, Y and Z are one M(16,11) word; otherwise each is M(8,4). House: a short word that reads
--- 15 is refused in a telegram." "X is judged before Y, Y before Z, and the first bad word decides whatever the numbers."
+-- "X is M(8,4). If X reads 12, Y and Z are one M(16,11) word; otherwise each is M(8,4). House: a
+-- short word that reads 15 is refused in a telegram." "X is judged before Y, Y before Z, and the
+-- first bad word decides whatever the numbers."
 -- Assumes nothing.
 use Prim.Native.Nat.{ℕ, _+_, _*_}
 use lib.Dec.{eqb}
@@ -14,8 +15,8 @@ use Rattle.telegram.specs.declared.Word.{Word}
 pub data BadWord : Type 0 where
   badWord : Word → Why → BadWord
 
--- What the three received words are: a telegram (the figures of X, Y and Z, or, if X reads 12, the number that Y and Z carry
--- together), or refused for its first bad word.
+-- What the three received words are: a telegram (the figures of X, Y and Z, or, if X reads 12, the
+-- number that Y and Z carry together), or refused for its first bad word.
 abbrev pub Received : Type 0
 Received = Answer BadWord Telegram
 

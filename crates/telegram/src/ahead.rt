@@ -1,5 +1,5 @@
-// Up to 57 offsets at once: the outer bytes of a place stand 32 bits apart and differ as S and S* do, so where no two bytes that far
-// apart differ so, no place begins.
+// Up to 57 offsets at once: the outer bytes of a place stand 32 bits apart and differ as S and S*
+// do, so where no two bytes that far apart differ so, no place begins.
 ghost use mathlib.Core.Path.{_≡_};
 ghost use mathlib.Core.Bool.{false};
 ghost use Prim.Native.Nat.{ℕ, _+_, _-_, _*_, _/_, _%_, _<_, _≤_, _^_};
@@ -7,7 +7,8 @@ ghost use Rattle.telegram.specs.Stretch.{bitsAt};
 ghost use Rattle.telegram.specs.Place.{areSyncs};
 use crate::bits::eight_bytes;
 
-// Marks for the 57 - p % 8 offsets from p on, of which bit 56 - p % 8 is the first: one without a mark is no place.
+// Marks for the 57 - p % 8 offsets from p on, of which bit 56 - p % 8 is the first: one without a
+// mark is no place.
 pub fn marks(buf: &[u8], p: usize, s: u8, t: u8) -> u64
     ensures { λ r. ⌜ (r ≤ (2 ^ 64 - 1) / 2 ^ (7 + p % 8)) × ((j : ℕ) → j < 57 - p % 8 → r / 2 ^ (56 - p % 8 - j) % 2 ≡ 0 → areSyncs s t (bitsAt (now (buf .entry)) (p + j) 8) (bitsAt (now (buf .entry)) (p + j + 32) 8) ≡ false) ⌝ }
 {

@@ -15,7 +15,8 @@ use crate::bits::forty;
 use crate::forty::is_place;
 use crate::forty::word;
 
-// The place `first`, which says `telegram`, with the places after it and before bit `stop`: all alike, or two differ.
+// The place `first`, which says `telegram`, with the places after it and before bit `stop`: all
+// alike, or two differ.
 pub fn to_first(buf: &[u8], first: usize, stop: usize, s: u8, t: u8, telegram: Telegram) -> Surveyed
     requires { ⌜ (first < stop) × (gives telegram ≡ wordsAt (now buf) first) ⌝ }
     ensures { λ r. ⌜ saysSurveyed r ≡ together (now (buf .entry)) (first ∷ places (now (buf .entry)) (first + 1) (stop - (first + 1) + 39) s t) ⌝ }

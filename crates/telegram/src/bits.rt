@@ -1,4 +1,5 @@
-// The bits of a lent buffer, highest bit of a byte first, eight bytes at a time. Beyond the buffer's end they count as zeroes.
+// The bits of a lent buffer, highest bit of a byte first, eight bytes at a time. Beyond the
+// buffer's end they count as zeroes.
 ghost use mathlib.Core.Path.{_≡_};
 ghost use Prim.Native.Nat.{_+_, _*_, _<_, _≤_, _^_};
 ghost use lib.Dec.{leb};

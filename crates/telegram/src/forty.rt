@@ -16,7 +16,8 @@ const THIRD: u64 = 65536;
 
 const FOURTH: u64 = 256;
 
-// Whether the forty bits v are a telegram between s and t, in either order: the sync words are looked at first.
+// Whether the forty bits v are a telegram between s and t, in either order: the sync words are
+// looked at first.
 pub fn is_place(v: u64, s: u8, t: u8) -> bool
     requires { ⌜ v < 2 ^ 40 ⌝ }
     ensures { λ r. ⌜ r ≡ areSyncs s t (v / 2 ^ 32) (v % 256) && accepted (telegram (v / 2 ^ 24 % 256) (v / 2 ^ 16 % 256) (v / 2 ^ 8 % 256)) ⌝ }

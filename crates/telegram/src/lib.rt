@@ -1,7 +1,11 @@
-// Telegrams of document 01: the sync pair, the three words between two sync words, the places in a stretch of bits.
-// Promises: a telegram is read whole or refused by its first bad word, and spelt as the words that read so; every place of a stretch is found, and no other.
-// Specification: specs/Sync.antt, specs/Telegram.antt, specs/Spelling.antt, specs/Stretch.antt, specs/Place.antt, specs/Survey.antt, specs/Says.antt (the answers).
-// Laws: asked again from the bit after each place until 6, `find` hands out exactly the places of the stretch, each once, in order (proofs/Law.antt).
+// Telegrams of document 01: the sync pair, the three words between two sync words, the places in a
+// stretch of bits.
+// Promises: a telegram is read whole or refused by its first bad word, and spelt as the words that
+// read so; every place of a stretch is found, and no other.
+// Specification: specs/Sync.antt, specs/Telegram.antt, specs/Spelling.antt, specs/Stretch.antt,
+// specs/Place.antt, specs/Survey.antt, specs/Says.antt (the answers).
+// Laws: asked again from the bit after each place until 6, `find` hands out exactly the places of
+// the stretch, each once, in order (proofs/Law.antt).
 ghost use mathlib.Core.Path.{_≡_};
 ghost use Rattle.telegram.specs.Stretch.{stretchOf};
 ghost use Rattle.telegram.specs.Sync.{goodPair};
@@ -32,7 +36,8 @@ pub enum Pair {
     NotSeven,
 }
 
-// What the judgement of a stretch answers: it is taken, or it reaches beyond the lent buffer or is too long.
+// What the judgement of a stretch answers: it is taken, or it reaches beyond the lent buffer or is
+// too long.
 pub enum Reach {
     Inside,
     Beyond,
@@ -52,14 +57,16 @@ pub enum Word {
     YZ,
 }
 
-// What reading three received words answers: the telegram, or which word was bad and why; one that is no code word with the parity of its ones.
+// What reading three received words answers: the telegram, or which word was bad and why; one that
+// is no code word with the parity of its ones.
 pub enum TelegramRead {
     Is(Telegram),
     NotCode(Word, Parity),
     Fifteen(Word),
 }
 
-// What the search for single telegrams answers: the first place and its telegram, or why there is none.
+// What the search for single telegrams answers: the first place and its telegram, or why there is
+// none.
 pub enum Found {
     At { place: usize, telegram: Telegram },
     NotSeven,
@@ -67,7 +74,8 @@ pub enum Found {
     NoPlace,
 }
 
-// What the survey of a stretch answers: places that are all alike, with the first of them and their number, or why not.
+// What the survey of a stretch answers: places that are all alike, with the first of them and their
+// number, or why not.
 pub enum Surveyed {
     Alike {
         telegram: Telegram,
@@ -80,7 +88,8 @@ pub enum Surveyed {
     NoPlace,
 }
 
-// Whether the sync words S and S* make a good pair: they differ in exactly seven of their eight bits; else refusal 4.
+// Whether the sync words S and S* make a good pair: they differ in exactly seven of their eight
+// bits; else refusal 4.
 pub fn good_pair(s: u8, t: u8) -> Pair
     ensures { λ r. ⌜ saysPair r ≡ goodPair s t ⌝ }
 {
@@ -91,8 +100,8 @@ pub fn good_pair(s: u8, t: u8) -> Pair
     }
 }
 
-// Whether a stretch is taken: it does not reach beyond the lent buffer, its end has a number of 64 bits, and it has at most 16,777,216 bits; else
-// refusal 5.
+// Whether a stretch is taken: it does not reach beyond the lent buffer, its end has a number of 64
+// bits, and it has at most 16,777,216 bits; else refusal 5.
 pub fn inside(buf: &[u8], start: usize, len: usize) -> Reach
     ensures { λ r. ⌜ saysReach r ≡ stretchOf (now (buf .entry)) start len ⌝ }
 {
@@ -103,8 +112,8 @@ pub fn inside(buf: &[u8], start: usize, len: usize) -> Reach
     }
 }
 
-// The telegram that three received words make, X judged before Y and Y before Z; the first bad word refuses it with 1 or 3 and is named, with 1 by its
-// parity too.
+// The telegram that three received words make, X judged before Y and Y before Z; the first bad word
+// refuses it with 1 or 3 and is named, with 1 by its parity too.
 pub fn read(x: u8, y: u8, z: u8) -> TelegramRead
     ensures { λ r. ⌜ saysTelegramRead r ≡ telegram x y z ⌝ }
 {
@@ -122,7 +131,8 @@ pub fn read(x: u8, y: u8, z: u8) -> TelegramRead
     }
 }
 
-// The first place, with its telegram, of the stretch that begins at bit `start` and has `len` bits; or refusal 4, then 5, then 6 if it has none.
+// The first place, with its telegram, of the stretch that begins at bit `start` and has `len` bits;
+// or refusal 4, then 5, then 6 if it has none.
 pub fn find(buf: &[u8], start: usize, len: usize, s: u8, t: u8) -> Found
     ensures { λ r. ⌜ saysFound r ≡ find (now (buf .entry)) start len s t ⌝ }
 {
@@ -138,8 +148,8 @@ pub fn find(buf: &[u8], start: usize, len: usize, s: u8, t: u8) -> Found
     scan::first_place(buf, start, start + (len - 39), s, t)
 }
 
-// All places of the stretch at once: alike, each with the same X, Y and Z, with the first of them and their number; or refusal 4, 5, 6, or 7 if two
-// differ.
+// All places of the stretch at once: alike, each with the same X, Y and Z, with the first of them
+// and their number; or refusal 4, 5, 6, or 7 if two differ.
 pub fn survey(buf: &[u8], start: usize, len: usize, s: u8, t: u8) -> Surveyed
     ensures { λ r. ⌜ saysSurveyed r ≡ survey (now (buf .entry)) start len s t ⌝ }
 {

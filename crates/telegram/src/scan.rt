@@ -1,4 +1,5 @@
-// The walk over the offsets of a stretch to its first place: past those without a mark, and on to the first that has one.
+// The walk over the offsets of a stretch to its first place: past those without a mark, and on to
+// the first that has one.
 ghost use mathlib.Core.Path.{_≡_};
 ghost use Prim.Native.Nat.{_+_, _-_, _≤_};
 ghost use Rattle.telegram.specs.Place.{firstOf, places};

@@ -61,7 +61,8 @@ fn number(m: u16) -> Spelt
     }
 }
 
-// The three words that are sent for the figures x, y, z, or for the number y after a 12; or refusal 2, then 3.
+// The three words that are sent for the figures x, y, z, or for the number y after a 12; or refusal
+// 2, then 3.
 pub fn spell(x: u8, y: u16, z: u8) -> Spelt
     ensures { λ r. ⌜ saysSpelt r ≡ spell (asked x y z) ⌝ }
 {

@@ -1,4 +1,5 @@
-// A contact under a store of settings (document 02, M-111): judged with the sync pair in force at the odometer given with it.
+// A contact under a store of settings (document 02, M-111): judged with the sync pair in force at
+// the odometer given with it.
 use crate::say;
 use contact::judge_under;
 use settings::Store;

@@ -41,7 +41,8 @@ pub fn stretches() {
     say::found(find(&balise, 0, 40, 0x72, 0x0d));
 }
 
-// The first place from bit `start` on; what comes back is the bit after it, where it is asked again.
+// The first place from bit `start` on; what comes back is the bit after it, where it is asked
+// again.
 fn ask(start: usize) -> usize
     requires { ⌜ start ≤ 72 ⌝ }
     ensures { λ r. ⌜ r ≤ 72 ⌝ }

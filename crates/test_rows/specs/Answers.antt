@@ -1,5 +1,6 @@
--- What judging a group answers, as the file of groups writes it: `present signal, A at 100, AY 8, AZ 5, n1612, 4000 dm, main 130, target 80`, or `refused 13`.
--- It is put piece by piece into a lent buffer, each piece whole or not at all.
+-- What judging a group answers, as the file of groups writes it:
+-- `present signal, A at 100, AY 8, AZ 5, n1612, 4000 dm, main 130, target 80`, or `refused 13`. It
+-- is put piece by piece into a lent buffer, each piece whole or not at all.
 -- Assumes nothing.
 use Prim.Native.Nat.{ℕ}
 use mathlib.Core.Bool.{Bool, true, false}

@@ -1,4 +1,5 @@
-// What judging a group answers, as text into a lent buffer: each function puts its pieces from `at` on, each whole or not at all, and answers the place after them.
+// What judging a group answers, as text into a lent buffer: each function puts its pieces from `at`
+// on, each whole or not at all, and answers the place after them.
 ghost use mathlib.Core.Path.{_≡_};
 ghost use mathlib.Core.List.{[], _∷_};
 ghost use Rattle.text.specs.Put.{put, came};
@@ -109,7 +110,8 @@ fn message(m: Message, out: &mut [u8], at: usize) -> usize
     content(c, out, after_number)
 }
 
-// The whole answer at the start of out, piece by piece, each whole or not at all; answers how many bytes it has.
+// The whole answer at the start of out, piece by piece, each whole or not at all; answers how many
+// bytes it has.
 pub fn put(j: GroupJudged, out: &mut [u8]) -> usize
     ensures { λ r. ⌜ came r (now (out .exit)) ≡ puts (answerPieces j) (now (out .entry)) 0 ⌝ }
 {

@@ -1,5 +1,5 @@
-// A balise as a group's line writes it, as what was heard: X.Y.Z and 12nN are written by the crate `words`, words in hex
-// stand as they are.
+// A balise as a group's line writes it, as what was heard: X.Y.Z and 12nN are written by the crate
+// `words`, words in hex stand as they are.
 use crate::spelling;
 use figures::Byte;
 use figures::Figure;

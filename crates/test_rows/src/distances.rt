@@ -1,4 +1,5 @@
-// Table DF: a line holds BY, the figure, the cell in metres as the text shows it, and the decimetres it means or NA.
+// Table DF: a line holds BY, the figure, the cell in metres as the text shows it, and the
+// decimetres it means or NA.
 use crate::say;
 use crate::spelling;
 use crate::tally;

@@ -1,6 +1,9 @@
-// Compares the crate `group` with tables DF, HS and FS of source 000 and groups worked out from document 01, in three files named to it.
-// Promises: it is safe and it ends; it writes each answer, a line for each difference, and counts, compared with the file stdout beside it.
-// Specification: specs/Spelling.antt (the numbers that fields spell), specs/Counting.antt; the tables as the scan shows them, and the groups worked out by hand.
+// Compares the crate `group` with tables DF, HS and FS of source 000 and groups worked out from
+// document 01, in three files named to it.
+// Promises: it is safe and it ends; it writes each answer, a line for each difference, and counts,
+// compared with the file stdout beside it.
+// Specification: specs/Spelling.antt (the numbers that fields spell), specs/Counting.antt; the
+// tables as the scan shows them, and the groups worked out by hand.
 ghost use Rattle.io.specs.Counts.{Counts};
 
 mod answers;
@@ -22,7 +25,8 @@ fn opened(which: usize) -> i32 {
     os::open_read(&path[..n])
 }
 
-// Reads the file that an argument names, as far as the buffer holds it; of one that cannot be opened, nothing.
+// Reads the file that an argument names, as far as the buffer holds it; of one that cannot be
+// opened, nothing.
 fn read_file(which: usize, buf: &mut [u8]) -> usize
     ensures { λ r. ⌜ Counts r (now (buf .exit)) ⌝ }
 {

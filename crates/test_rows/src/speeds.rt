@@ -1,5 +1,5 @@
-// Tables HS and FS: a line holds the table's name, the figure, the cell in km/h as the text shows it, and the km/h it means
-// or `none` for no information.
+// Tables HS and FS: a line holds the table's name, the figure, the cell in km/h as the text shows
+// it, and the km/h it means or `none` for no information.
 use crate::say;
 use crate::spelling;
 use crate::tally;

@@ -51,7 +51,8 @@ rightCell c f =
       next = c .next;
     }
 
--- A cell that the scan misreads: whether what it shows was refused by the checks, and is absent from the list.
+-- A cell that the scan misreads: whether what it shows was refused by the checks, and is absent
+-- from the list.
 unfoldable pub misreadCell : Counts → Bool → Bool → Counts
 misreadCell c refused absent =
     record {

@@ -1,5 +1,6 @@
--- A line of table NR's file: the figure, the cell as the scan shows it, and the four hexadecimal digits read off the cell or `-`; of a cell that
--- was put right, the four digits put right, and why. A tab stands between two columns; a line that begins with # is a comment.
+-- A line of table NR's file: the figure, the cell as the scan shows it, and the four hexadecimal
+-- digits read off the cell or `-`; of a cell that was put right, the four digits put right, and
+-- why. A tab stands between two columns; a line that begins with # is a comment.
 -- Assumes nothing.
 use Prim.Native.Nat.{ℕ, _+_, _*_}
 use mathlib.Core.Bool.{Bool, _&&_}
@@ -38,7 +39,8 @@ heldBy figure (Shown.Word w) = Cell.Word figure w
 heldBy figure Shown.Unreadable = Cell.Unreadable figure
 heldBy figure Shown.Unknown = Cell.Unknown
 
--- The same of a cell that was put right: the word put right, beside a wrong one or none that was read off it.
+-- The same of a cell that was put right: the word put right, beside a wrong one or none that was
+-- read off it.
 abbrev pub righted : ℕ → Shown → ℕ → Cell
 righted figure (Shown.Word wrong) w = Cell.Misread figure wrong w
 righted figure Shown.Unreadable w = Cell.Right figure w

@@ -1,4 +1,5 @@
-// Every long word by both readers, by the checks and by the printed list: whether they give the same.
+// Every long word by both readers, by the checks and by the printed list: whether they give the
+// same.
 use crate::say;
 use figures::more;
 use words::LongRead;

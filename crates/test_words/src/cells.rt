@@ -1,13 +1,14 @@
-// A line of table NR's file: the figure, a tab, the cell as the scan shows it, a tab, and the four hexadecimal digits
-// read off the cell or `-`; of a cell that was put right, a tab, the four digits put right, a tab, and why. A line that begins
-// with # is a comment.
+// A line of table NR's file: the figure, a tab, the cell as the scan shows it, a tab, and the four
+// hexadecimal digits read off the cell or `-`; of a cell that was put right, a tab, the four digits
+// put right, a tab, and why. A line that begins with # is a comment.
 ghost use mathlib.Core.Path.{_≡_};
 ghost use Rattle.test_words.specs.Lines.{begins, wordBy, shownBy, heldBy, righted, putRight, columnsOf, cellOf};
 use figures::Byte;
 use figures::Figure;
 
-// What a line holds: a figure with the word that its cell shows; one whose cell shows no word, with the word put right; one whose
-// cell shows a wrong word, with that word and the word put right; one whose cell is unreadable; a comment, or none of these.
+// What a line holds: a figure with the word that its cell shows; one whose cell shows no word, with
+// the word put right; one whose cell shows a wrong word, with that word and the word put right; one
+// whose cell is unreadable; a comment, or none of these.
 pub enum Cell {
     Word(u16, u16),
     Right(u16, u16),

@@ -19,7 +19,8 @@ pub struct Cells {
     pub listed: u32,
 }
 
-// What was counted. Of the misread ones, what the scan shows was refused by the checks, and is absent from the list; `next` is the figure that stands next.
+// What was counted. Of the misread ones, what the scan shows was refused by the checks, and is
+// absent from the list; `next` is the figure that stands next.
 pub struct Counts {
     pub cells: u32,
     pub readable: Cells,
@@ -105,7 +106,8 @@ pub fn right(counts: Counts, found: WordFound) -> Counts
     c
 }
 
-// A cell that the scan misreads, by whether what it shows was refused by the checks and by the list.
+// A cell that the scan misreads, by whether what it shows was refused by the checks and by the
+// list.
 pub fn misread(counts: Counts, refused: bool, absent: bool) -> Counts
     ensures { λ r. ⌜ r ≡ misreadCell counts refused absent ⌝ }
 {

@@ -1,4 +1,5 @@
-// Every word there is: how many are read, whether each that is read is written back as itself, and how many of the refused are odd and even.
+// Every word there is: how many are read, whether each that is read is written back as itself, and
+// how many of the refused are odd and even.
 use crate::say;
 use figures::more;
 use words::LongRead;
@@ -7,7 +8,8 @@ use words::Parity;
 use words::ShortRead;
 use words::ShortWritten;
 
-// How many of the words are read, how many of those are written back, and how many of the refused ones are odd and even.
+// How many of the words are read, how many of those are written back, and how many of the refused
+// ones are odd and even.
 struct Tally {
     read: u32,
     back: u32,

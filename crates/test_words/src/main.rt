@@ -1,7 +1,10 @@
-// Compares the two codes and the printed list with table NR of source 000, whose file is its first argument, every word with itself,
-// and every long word as the list reads it with what the checks read.
-// Promises: it is safe and it ends; it writes its counts and a line for each difference, compared with the file stdout beside it.
-// Specification: specs/Lines.antt (a line of the table's file), specs/Counting.antt; the table as the scan shows it.
+// Compares the two codes and the printed list with table NR of source 000, whose file is its first
+// argument, every word with itself, and every long word as the list reads it with what the checks
+// read.
+// Promises: it is safe and it ends; it writes its counts and a line for each difference, compared
+// with the file stdout beside it.
+// Specification: specs/Lines.antt (a line of the table's file), specs/Counting.antt; the table as
+// the scan shows it.
 mod alike;
 mod cells;
 mod counts;

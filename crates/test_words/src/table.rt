@@ -1,5 +1,5 @@
-// Table NR, cell by cell: the word of each is written, and read by the checks and by the printed list, as it is shown or as it was
-// put right; what the scan shows in its place is refused by both.
+// Table NR, cell by cell: the word of each is written, and read by the checks and by the printed
+// list, as it is shown or as it was put right; what the scan shows in its place is refused by both.
 use crate::cells;
 use crate::cells::Cell;
 use crate::counts;

@@ -1,4 +1,5 @@
--- Each contract fixes the place answered and every byte of the buffer: any two that it allows are equal.
+-- Each contract fixes the place answered and every byte of the buffer: any two that it allows are
+-- equal.
 -- Assumes nothing.
 use mathlib.Core.Path.{_≡_, sym, ap, _∙_}
 use Prim.Native.Nat.{ℕ}

@@ -15,8 +15,8 @@ pub record Put : Type 0 where
   pub next : ℕ
   pub buffer : List ℕ
 
--- A text that fits stands in the buffer from the place `at` on, and the next place is the one after it; for want of room the buffer stays
--- as it is, and so does the place.
+-- A text that fits stands in the buffer from the place `at` on, and the next place is the one after
+-- it; for want of room the buffer stays as it is, and so does the place.
 unfoldable pub put : List ℕ → List ℕ → ℕ → Put
 put text buffer at =
     pick (leb (at + length text) (length buffer))

@@ -21,6 +21,7 @@ unfoldable pub digits : ℕ → ℕ → List ℕ
 digits zero n = []
 digits (suc most) n = pick (ltb n 10) (digit n ∷ []) (digits most (n / 10) ++ (digit (n % 10) ∷ []))
 
--- A number in decimal without leading zeroes. A number of a line is below 2^64 and has at most 20 digits.
+-- A number in decimal without leading zeroes. A number of a line is below 2^64 and has at most 20
+-- digits.
 unfoldable pub decimal : ℕ → List ℕ
 decimal n = digits 20 n

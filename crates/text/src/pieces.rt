@@ -41,7 +41,8 @@ pub fn places(n: u64) -> usize
     count
 }
 
-// The number in decimal into buf from `at` on and up to `end`, from its last digit to its first; the place after it.
+// The number in decimal into buf from `at` on and up to `end`, from its last digit to its first;
+// the place after it.
 pub fn spell(n: u64, buf: &mut [u8], at: usize, end: usize) -> usize
     requires { ⌜ (end ≡ at + length (decimal n)) × (end ≤ length (now buf)) ⌝ }
     ensures { λ r. ⌜ r ≡ at + length (decimal n) ⌝ }

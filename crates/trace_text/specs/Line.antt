@@ -1,4 +1,5 @@
--- The line of a record: "followed by ` # ` and its number (`1000 1 8 5 # 1`)"; "single blanks"; "hex is written in capitals".
+-- The line of a record: "followed by ` # ` and its number (`1000 1 8 5 # 1`)"; "single blanks";
+-- "hex is written in capitals".
 -- Assumes nothing.
 use Prim.Native.Nat.{ℕ, _+_, _/_, _%_}
 use mathlib.Core.List.{List, [], _∷_, _++_}

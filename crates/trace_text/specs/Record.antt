@@ -1,5 +1,6 @@
--- The record of a thing at a place (document 01, "A ride"): "8 bytes. Bytes 0 to 3 odometer in dm, high byte first; byte 4 kind (0 information, 1 marker,
--- 2 unreadable, 3 position only); bytes 5 to 7 the received X, Y, Z, all zero for kinds 1 to 3."
+-- The record of a thing at a place (document 01, "A ride"): "8 bytes. Bytes 0 to 3 odometer in dm,
+-- high byte first; byte 4 kind (0 information, 1 marker, 2 unreadable, 3 position only); bytes 5 to
+-- 7 the received X, Y, Z, all zero for kinds 1 to 3."
 -- Assumes nothing.
 use Prim.Native.Nat.{ℕ, _/_, _%_}
 use mathlib.Core.List.{List, [], _∷_}
@@ -19,7 +20,8 @@ recordOf place What.Unreadable = gives (bytesOf place 2 0 0 0)
 recordOf place What.Position = gives (bytesOf place 3 0 0 0)
 recordOf place (What.Raw kind x y z) = gives (bytesOf place kind x y z)
 
--- What making a record answers: that it is made, or the number of its refusal; and its bytes, all zero if it is not.
+-- What making a record answers: that it is made, or the number of its refusal; and its bytes, all
+-- zero if it is not.
 pub data Made : Type 0 where
   made : Made
 

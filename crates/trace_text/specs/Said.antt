@@ -1,6 +1,8 @@
--- What a line of a trace's text says (house): "`PLACE WHAT`, with PLACE in dm, decimal, and WHAT one of"
--- `1 8 5`, "a balise of three figures", `12 17`, "a number balise", `marker`, `unreadable`, `position`, `raw 04 00 00 00`, "any other record: its bytes 4 to
--- 7 in hex". "`X Y Z` with X not 12, or `12 NUMBER`, and nothing after: `1000 12 8 5` and `1000 12` are unreadable, and so is a PLACE above 4,294,967,295."
+-- What a line of a trace's text says (house): "`PLACE WHAT`, with PLACE in dm, decimal, and WHAT
+-- one of" `1 8 5`, "a balise of three figures", `12 17`, "a number balise", `marker`, `unreadable`,
+-- `position`, `raw 04 00 00 00`, "any other record: its bytes 4 to 7 in hex". "`X Y Z` with X not
+-- 12, or `12 NUMBER`, and nothing after: `1000 12 8 5` and `1000 12` are unreadable, and so is a
+-- PLACE above 4,294,967,295."
 -- Assumes nothing.
 use Prim.Native.Nat.{ℕ}
 use mathlib.Core.Bool.{Bool, true, false}
@@ -19,7 +21,8 @@ use Rattle.trace_text.specs.declared.Said.{Said}
 use Rattle.trace_text.specs.declared.reading.Figure.{Figure}
 use Rattle.trace_text.specs.declared.reading.Read.{Read}
 
--- A word as a figure: "a figure of any length is a figure". One too large for its type, of which `most` is the largest, stands as that, which is refused like it.
+-- A word as a figure: "a figure of any length is a figure". One too large for its type, of which
+-- `most` is the largest, stands as that, which is refused like it.
 unfoldable pub figureOf : Number → ℕ → Figure
 figureOf (Number.Is n) most = Figure.Is (pick (leb n most) n most)
 figureOf Number.Above most = Figure.Is most
@@ -90,7 +93,8 @@ raw name a b c d =
 abbrev pub nth : TextLine → ℕ → Word
 nth line i = getD (line .words) i noWord
 
--- What stands after the place, "and nothing after": it goes by the number of words, the place among them.
+-- What stands after the place, "and nothing after": it goes by the number of words, the place among
+-- them.
 unfoldable pub whatOf : TextLine → Read
 whatOf line =
     pick (eqb (line .count) 2) (named (nth line 1 .name))

@@ -1,5 +1,6 @@
--- What a record of a trace says: a thing at a place. "Figures where the words read as a telegram, `raw` for whatever else"; "kind 0 with words that do not
--- read as a telegram (damaged, or a 15) is `raw 00 ..`".
+-- What a record of a trace says: a thing at a place. "Figures where the words read as a telegram,
+-- `raw` for whatever else"; "kind 0 with words that do not read as a telegram (damaged, or a 15) is
+-- `raw 00 ..`".
 -- Assumes nothing.
 use Prim.Native.Nat.{ℕ, _+_, _*_}
 use mathlib.Core.Bool.{_&&_}

@@ -1,7 +1,9 @@
-// The records of a trace as lines of text (house), in and out: `1000 1 8 5`, `6390 12 17`, `13000 marker`, `22100 unreadable`, `6000 position`,
-// `15000 raw 04 00 00 00`.
-// Promises: every line is answered: a thing at a place, nothing, or unreadable; a thing is a record, or is refused with 2 or 3.
-// Specification: specs/Said.antt (what a line says), specs/Record.antt (its record), specs/Thing.antt (what a record says), specs/Line.antt (its line).
+// The records of a trace as lines of text (house), in and out: `1000 1 8 5`, `6390 12 17`,
+// `13000 marker`, `22100 unreadable`, `6000 position`, `15000 raw 04 00 00 00`.
+// Promises: every line is answered: a thing at a place, nothing, or unreadable; a thing is a
+// record, or is refused with 2 or 3.
+// Specification: specs/Said.antt (what a line says), specs/Record.antt (its record),
+// specs/Thing.antt (what a record says), specs/Line.antt (its line).
 ghost use mathlib.Core.Path.{_≡_};
 ghost use Rattle.trace_text.specs.Said.{said, thing};
 ghost use Rattle.trace_text.specs.Record.{recordOf, recording};
@@ -19,8 +21,9 @@ use lines::Number;
 use lines::TextLine;
 use reading::Read;
 
-// What lies at a place: a balise with its figures X, Y and Z (for X = 12 with its number Y), where one too large for its type stands as the largest of
-// it; a marker, something unreadable, a position only; or any record, by its kind and words.
+// What lies at a place: a balise with its figures X, Y and Z (for X = 12 with its number Y), where
+// one too large for its type stands as the largest of it; a marker, something unreadable, a
+// position only; or any record, by its kind and words.
 pub enum What {
     Balise { x: u8, y: u16, z: u8 },
     Marker,
@@ -104,8 +107,8 @@ pub fn thing_at(trace: &[u8], at: usize) -> Said
     Said::Thing { place, what }
 }
 
-// The line of what lies at a place, with the number of its record, into buf from `at` on, and the place after it; without room buf stays as it is, and the
-// answer is `at`.
+// The line of what lies at a place, with the number of its record, into buf from `at` on, and the
+// place after it; without room buf stays as it is, and the answer is `at`.
 pub fn put_record(number: u64, place: u32, what: What, buf: &mut [u8], at: usize) -> usize
     ensures { λ r. ⌜ came r (now (buf .exit)) ≡ put (recordLine number place what) (now (buf .entry)) at ⌝ }
 {
@@ -114,8 +117,8 @@ pub fn put_record(number: u64, place: u32, what: What, buf: &mut [u8], at: usize
     text::put(&space[..n], buf, at)
 }
 
-// What lies at a place, as `put_record` writes it before the number, into buf from `at` on, and the place after it; without room buf stays as it is, and the
-// answer is `at`.
+// What lies at a place, as `put_record` writes it before the number, into buf from `at` on, and the
+// place after it; without room buf stays as it is, and the answer is `at`.
 pub fn put_thing(place: u32, what: What, buf: &mut [u8], at: usize) -> usize
     ensures { λ r. ⌜ came r (now (buf .exit)) ≡ put (thingText place what) (now (buf .entry)) at ⌝ }
 {

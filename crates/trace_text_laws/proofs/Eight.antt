@@ -1,4 +1,5 @@
--- The eight bytes of a record in a block: what stands there is a thing with a record, which is those bytes.
+-- The eight bytes of a record in a block: what stands there is a thing with a record, which is
+-- those bytes.
 -- Assumes nothing.
 use mathlib.Core.Path.{_≡_, refl, sym, ap, ap₂, subst, _∙_}
 use mathlib.Core.List.{List, [], _∷_, _++_}

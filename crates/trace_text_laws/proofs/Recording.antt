@@ -1,4 +1,5 @@
--- What a record says, recorded, is that record: words that read as a telegram are those that are written for it.
+-- What a record says, recorded, is that record: words that read as a telegram are those that are
+-- written for it.
 -- Assumes nothing.
 use mathlib.Core.Path.{_≡_, refl, sym, ap, _∙_}
 use mathlib.Core.Bool.{Bool, true, false, _&&_}

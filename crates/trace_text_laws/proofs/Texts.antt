@@ -1,4 +1,5 @@
--- The lines that are put one after the other into the buffer tell the records of the block, and all blocks' lines the trace.
+-- The lines that are put one after the other into the buffer tell the records of the block, and all
+-- blocks' lines the trace.
 -- Assumes nothing.
 use mathlib.Core.Path.{_≡_, refl, sym, ap, subst, _∙_}
 use mathlib.Core.Bool.{Bool, true, false}

@@ -1,4 +1,5 @@
--- A trace of one record, a marker at 5 dm, printed and read with every call in full: the hypotheses are met.
+-- A trace of one record, a marker at 5 dm, printed and read with every call in full: the hypotheses
+-- are met.
 -- Assumes nothing.
 use mathlib.Core.Path.{_≡_, refl, sym, ap, subst, _∙_}
 use mathlib.Core.Logic.{inr}

@@ -1,4 +1,5 @@
--- The words of a thing: two hex digits are a byte, and the figures of a balise that has a record are small.
+-- The words of a thing: two hex digits are a byte, and the figures of a balise that has a record
+-- are small.
 -- Assumes nothing.
 use mathlib.Core.Path.{_≡_, refl, sym, ap, ap₂, _∙_}
 use mathlib.Core.Bool.{Bool, true, false, _||_}

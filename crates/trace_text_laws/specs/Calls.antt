@@ -1,5 +1,6 @@
--- What the contracts of `trace_text` allow: the theorems take these as their hypotheses. `Post` of a function is its `ensures` line, made into a statement
--- by the kit. A lent buffer is a reference whose bytes are `now` of it.
+-- What the contracts of `trace_text` allow: the theorems take these as their hypotheses. `Post` of
+-- a function is its `ensures` line, made into a statement by the kit. A lent buffer is a reference
+-- whose bytes are `now` of it.
 -- Assumes nothing.
 use Prim.Native.Nat.{ℕ}
 use mathlib.Core.Path.{_≡_}
@@ -35,7 +36,8 @@ ThingAt block at r =
     (κs : Lfts 1) × (trace : RefT (List ℕ)) × (e : AtExit (endedOf 1 thing-at-kinds.ps thing-at-kinds.r) κs)
     × (now trace ≡ block) × thing-at-reads.Post κs (trace, (at, tt)) r e
 
--- The contract of `put_record` allows the answer r for this number, place and thing, and that the lent buffer, which held `before`, holds `after` then.
+-- The contract of `put_record` allows the answer r for this number, place and thing, and that the
+-- lent buffer, which held `before`, holds `after` then.
 abbrev pub PutRecord : ℕ → ℕ → What → List ℕ → ℕ → ℕ → List ℕ → Type 0
 PutRecord number place what before at r after =
     (κs : Lfts 1) × (buf : RefT (List ℕ)) × (e : AtExit (endedOf 1 put-record-kinds.ps put-record-kinds.r) κs)

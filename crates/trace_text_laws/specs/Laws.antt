@@ -1,4 +1,5 @@
--- A record, what it says, and the line of it, there and back. Shown in proofs/Recording.antt and proofs/LineBack.antt.
+-- A record, what it says, and the line of it, there and back. Shown in proofs/Recording.antt and
+-- proofs/LineBack.antt.
 -- Assumes nothing.
 use Prim.Native.Nat.{ℕ, _+_, _≤_, _<_}
 use mathlib.Core.Path.{_≡_}
@@ -38,8 +39,9 @@ asSaid What.Unreadable = What.Unreadable
 asSaid What.Position = What.Position
 asSaid (What.Raw kind x y z) = What.Raw kind x y z
 
--- A printed line reads back: `put_record` puts it into a buffer that has room for it, `next_line` reads it there, and `read` says the thing at its place; the
--- next line begins where the next would be put.
+-- A printed line reads back: `put_record` puts it into a buffer that has room for it, `next_line`
+-- reads it there, and `read` says the thing at its place; the next line begins where the next would
+-- be put.
 abbrev pub LineBack : Type 0
 LineBack =
     (number place : ℕ) (what : What) (before after : List ℕ) (at next : ℕ) (fresh : Reader) (g : Got) (s : Said)

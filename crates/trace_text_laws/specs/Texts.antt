@@ -1,5 +1,6 @@
--- The text of a trace, there and back: "for every trace of whole records, reading the text of its records gives it back; for every text that is read, the
--- text of what it gives is read as the same records". Shown in proofs/Texts.antt.
+-- The text of a trace, there and back: "for every trace of whole records, reading the text of its
+-- records gives it back; for every text that is read, the text of what it gives is read as the same
+-- records". Shown in proofs/Texts.antt.
 -- Assumes nothing.
 use Prim.Native.Nat.{ℕ, _+_, _%_, _≤_}
 use mathlib.Core.Path.{_≡_}
@@ -18,15 +19,18 @@ use Rattle.trace_text_laws.specs.Laws.{Bytes}
 
 -- ---- `records`
 
--- The records of a block, each from the byte after the one before: `thing_at` says what stands there, and `put_record` puts its line, with any number, after the line
--- before; every answer is one that its contract allows. From a byte of the block, a place of the lent buffer and its bytes: where the last line ends, and the buffer then.
+-- The records of a block, each from the byte after the one before: `thing_at` says what stands
+-- there, and `put_record` puts its line, with any number, after the line before; every answer is
+-- one that its contract allows. From a byte of the block, a place of the lent buffer and its bytes:
+-- where the last line ends, and the buffer then.
 pub data Puts (block : List ℕ) : ℕ → ℕ → List ℕ → ℕ → List ℕ → Type 0 where
   one : {from at next end : ℕ} {before between after : List ℕ} (number place : ℕ) (what : What)
       → ThingAt block from (Said.Thing place what) → PutRecord number place what before at next between → Puts block (from + 8) next between end after
       → Puts block from at before end after
   over : {from at : ℕ} {buffer : List ℕ} → length block ≤ from → Puts block from at buffer at buffer
 
--- Block after block of whole records, 8,192 bytes at most, each into a buffer of 65,536: what is written, one after the other, is the text.
+-- Block after block of whole records, 8,192 bytes at most, each into a buffer of 65,536: what is
+-- written, one after the other, is the text.
 pub data Printed : List (List ℕ) → List ℕ → Type 0 where
   none : Printed [] []
   block : {b before after text : List ℕ} {bs : List (List ℕ)} {end : ℕ} → length b % 8 ≡ 0 → length b ≤ 8192 → length before ≡ 65536
@@ -52,7 +56,8 @@ Writes (made records) bytes = joined records ≡ bytes
 Writes unreadable bytes = ⊥
 Writes (refused n) bytes = ⊥
 
--- Line after line: `read` says what it says, `record_of` makes its record; the first wrong line decides. Every answer is one that its contract allows.
+-- Line after line: `read` says what it says, `record_of` makes its record; the first wrong line
+-- decides. Every answer is one that its contract allows.
 pub data Comes : List TextLine → Result → Type 0 where
   no-more : Comes [] (made [])
   nothing : {l : TextLine} {ls : List TextLine} {rest : Result} → ReadLine l Said.Nothing → Comes ls rest → Comes (l ∷ ls) rest
@@ -75,7 +80,8 @@ pub record Taken (text : List ℕ) (result : Result) : Type 0 where
 -- ---- there and back
 
 pub record ThereAndBack : Type 0 where
-  -- For every trace of whole records, reading the text of its records gives it back, in whatever blocks it is printed and read.
+  -- For every trace of whole records, reading the text of its records gives it back, in whatever
+  -- blocks it is printed and read.
   pub of-a-trace : (blocks : List (List ℕ)) (text : List ℕ) (result : Result) → Bytes (joined blocks) → Printed blocks text → Taken text result → Writes result (joined blocks)
   -- A text that is read gives whole records,
   pub whole-records : (text : List ℕ) (records : List (List ℕ)) → Taken text (made records) → length (joined records) % 8 ≡ 0

@@ -24,7 +24,8 @@ fn goes_on(how: PassStands) -> bool {
     }
 }
 
-// A pass over the open text: how it stands, whether all of it could be read, and whether it is over.
+// A pass over the open text: how it stands, whether all of it could be read, and whether it is
+// over.
 struct Passed {
     stand: Laying,
     is_read: bool,

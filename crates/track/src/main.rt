@@ -1,7 +1,8 @@
 // From the text of a track to the lead that a bench riding over it would give, to standard output.
-// Promises: it is safe and it ends; the frames are track_lead::write's, block by block and thing by thing; nothing is written of a text that is refused.
-// Specification: none of its own; what the frames come to is crates/track_lead/specs/Laws.antt, what cannot be said of a program's reads and
-// writes stands in docs/EXCEPTIONS.md.
+// Promises: it is safe and it ends; the frames are track_lead::write's, block by block and thing by
+// thing; nothing is written of a text that is refused.
+// Specification: none of its own; what the frames come to is crates/track_lead/specs/Laws.antt,
+// what cannot be said of a program's reads and writes stands in docs/EXCEPTIONS.md.
 mod call;
 mod going;
 mod out;

@@ -20,7 +20,8 @@ pub enum PassStands {
     CannotWrite,
 }
 
-// A pass over the text: whether it writes (the second does), the number of its line, the way, the feed, and how it stands.
+// A pass over the text: whether it writes (the second does), the number of its line, the way, the
+// feed, and how it stands.
 pub struct Laying {
     pub writes: bool,
     pub lines: u64,
@@ -55,7 +56,8 @@ fn with_feed(stand: Laying, feed: Feed) -> Laying {
     }
 }
 
-// All frames before the decimetre `to`, block after block up to one that is empty. It counts its turns down from a number that no lead uses up.
+// All frames before the decimetre `to`, block after block up to one that is empty. It counts its
+// turns down from a number that no lead uses up.
 pub fn write_to(stand: Laying, to: u32, room: &mut [u8]) -> Laying {
     let mut feed = stand.feed;
     let mut turns = u64::MAX;
@@ -74,7 +76,8 @@ pub fn write_to(stand: Laying, to: u32, room: &mut [u8]) -> Laying {
     with_feed(stand, feed)
 }
 
-// A thing at its place, in the second pass: all frames before it, then it passes. A position passes nothing.
+// A thing at its place, in the second pass: all frames before it, then it passes. A position passes
+// nothing.
 fn feed_to(stand: Laying, place: u32, thing: Thing, room: &mut [u8]) -> Laying {
     if let Thing::Nothing = thing {
         return stand;

@@ -1,4 +1,5 @@
--- What is unreadable: 55 hex, so zeroes and ones in turn. One contact opens and closes over it, and it is refused with 8.
+-- What is unreadable: 55 hex, so zeroes and ones in turn. One contact opens and closes over it, and
+-- it is refused with 8.
 -- Assumes nothing.
 use Prim.Native.Nat.{ℕ, zero, suc, _+_, _-_, _*_, _%_, _≤_, _<_}
 use mathlib.Core.Path.{_≡_, refl, sym, ap, ap₂, _∙_, subst}
@@ -73,7 +74,8 @@ module _ (b : List ℕ) (start : ℕ) (turns : (i : ℕ) → i < 96 → bitAt b 
   -- ---- its contact, from bit o of it on and with e of the ones after it
 
   module _ (o e : ℕ) (o-low : o ≤ 15) (e-low : e ≤ 11) (s t : ℕ) (good : isGood s t ≡ true) where
-    -- Two bytes 32 bits apart, of which the first begins at bit q, differ in four bits at most: where the second has a one for the first's zero.
+    -- Two bytes 32 bits apart, of which the first begins at bit q, differ in four bits at most:
+    -- where the second has a one for the first's zero.
     unlike : (p q i : ℕ) → p ≡ start + q → q + 40 ≤ 107 → i < 8 → unequal (bitAt b (p + i)) (bitAt b (p + 32 + i)) ≤ 1 - (q + i) % 2
     unlike p q i is high less = go (ltb (q + 32 + i) 96) refl
       where

@@ -1,4 +1,5 @@
--- The whole way: by the contracts, `track` writes the lead of its text, `record` makes the records of that lead, and `trace` those of the text.
+-- The whole way: by the contracts, `track` writes the lead of its text, `record` makes the records
+-- of that lead, and `trace` those of the text.
 -- Assumes nothing.
 use Prim.Native.Nat.{ℕ, _≤_, _<_}
 use mathlib.Core.Path.{_≡_, refl, sym, ap, ap₂, _∙_, subst}

@@ -1,4 +1,5 @@
--- Thing after thing: the contacts of the whole line are those of the things, and their records the text's.
+-- Thing after thing: the contacts of the whole line are those of the things, and their records the
+-- text's.
 -- Assumes nothing.
 use Prim.Native.Nat.{ℕ, zero, suc, _+_, _-_, _*_, _/_, _%_, _^_, _≤_, _<_}
 use mathlib.Core.Path.{_≡_, refl, sym, ap, ap₂, _∙_, subst}
@@ -127,7 +128,8 @@ module _ (n s t begin : ℕ) (all : List Item) (some : 0 < n) (m : ℕ) (store :
       ∙ ap (λ (o : Over). bitAt (sent-specs.lineIn s t (o .thing) (k - o .since)) (j % 96)) is
       ∙ in-frame s t (over .thing) (k - over .since) (j % 96) (omega arith) ∙ ap (bitOr (sends s t (over .thing))) e
 
-  -- Where the chain stands: these lines are to come, this thing has begun, and from bit i on it sends ones.
+  -- Where the chain stands: these lines are to come, this thing has begun, and from bit i on it
+  -- sends ones.
   pub record Here (rest : List Item) (over : Over) (i : ℕ) : Type 0 where
     pub same : (k : ℕ) → over .since ≤ k → latest n begin all k nothing ≡ latest n begin rest k over
     pub began : 96 * over .since ≤ i

@@ -1,4 +1,5 @@
--- The frames of a track's lead, as a recorder takes them apart: frame k has its line and its odometer.
+-- The frames of a track's lead, as a recorder takes them apart: frame k has its line and its
+-- odometer.
 -- Assumes nothing.
 use Prim.Native.Nat.{ℕ, zero, suc, _+_, _-_, _*_, _/_, _%_, _≤_, _<_}
 use mathlib.Core.Path.{_≡_, refl, sym, ap, ap₂, _∙_}

@@ -1,4 +1,5 @@
--- One thing of the track, alone in its frames: exactly one contact comes of it, in its first frame, and its record is the thing's.
+-- One thing of the track, alone in its frames: exactly one contact comes of it, in its first frame,
+-- and its record is the thing's.
 -- Assumes nothing.
 use Prim.Native.Nat.{ℕ, zero, suc, _+_, _-_, _*_, _/_, _%_, _^_, _≤_, _<_}
 use mathlib.Core.Path.{_≡_, refl, sym, ap, ap₂, _∙_, subst}
@@ -51,7 +52,8 @@ unfolding recordOf contentOf atOdometer
 words-kept s t x y z heard odometer first count high =
     simp (spelt-back x y z (heard .x-byte) (heard .y-byte) (heard .z-byte) (heard .says) (heard .valid), le-ltb 4000000000 odometer high)
 
--- What a thing leaves: one contact that begins in its first frame, whose record is this; and a detector that stands as before.
+-- What a thing leaves: one contact that begins in its first frame, whose record is this; and a
+-- detector that stands as before.
 pub record Step (b : List ℕ) (s t h i start long end place : ℕ) (bytes : List ℕ) : Type 0 where
   pub skipped : ℕ
   pub in-first : skipped < 96

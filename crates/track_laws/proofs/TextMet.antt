@@ -1,4 +1,5 @@
--- A text that meets the hypotheses: a balise, a marker and something unreadable, four decimetres apart, with 72 and 0D hex.
+-- A text that meets the hypotheses: a balise, a marker and something unreadable, four decimetres
+-- apart, with 72 and 0D hex.
 -- Assumes nothing.
 use Prim.Native.Nat.{ℕ, _≤_}
 use mathlib.Core.Path.{_≡_, refl, ap}

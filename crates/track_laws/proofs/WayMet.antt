@@ -1,4 +1,5 @@
--- The text `0 marker`, tracked, recorded and traced with every call in full: the hypotheses of the whole way are met.
+-- The text `0 marker`, tracked, recorded and traced with every call in full: the hypotheses of the
+-- whole way are met.
 -- Assumes nothing.
 use Prim.Native.Nat.{ℕ, _≤_}
 use mathlib.Core.Path.{_≡_, refl}

@@ -1,4 +1,5 @@
--- The lead of the text `0 marker`, recorded with every call in full, and what the whole way says of it.
+-- The lead of the text `0 marker`, recorded with every call in full, and what the whole way says of
+-- it.
 -- Assumes nothing.
 use Prim.Native.Nat.{ℕ}
 use mathlib.Core.Path.{_≡_, refl}

@@ -1,4 +1,5 @@
--- Asked on and on until nothing comes, `write` writes all frames before a decimetre: once the feed has come to it, more room makes no difference.
+-- Asked on and on until nothing comes, `write` writes all frames before a decimetre: once the feed
+-- has come to it, more room makes no difference.
 -- Assumes nothing.
 use Prim.Native.Nat.{ℕ, zero, suc, _+_, _-_, _*_, _/_, _≤_, _<_}
 use mathlib.Core.Path.{_≡_, refl, sym, ap, ap₂, _∙_, subst}

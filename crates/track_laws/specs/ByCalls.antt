@@ -1,5 +1,6 @@
--- The whole way by calls: what `track` writes of a text, what `record` makes of that, and what `trace` makes of the text, for any answers that the contracts of the functions
--- that they call allow (docs/LEAD.md). Shown in proofs/ByCalls.antt.
+-- The whole way by calls: what `track` writes of a text, what `record` makes of that, and what
+-- `trace` makes of the text, for any answers that the contracts of the functions that they call
+-- allow (docs/LEAD.md). Shown in proofs/ByCalls.antt.
 -- Assumes nothing.
 use Prim.Native.Nat.{ℕ, _≤_, _<_}
 use mathlib.Core.Path.{_≡_}
@@ -39,13 +40,15 @@ pub data Goes : Way → List Item → Way → Type 0 where
   none : {way : Way} → Goes way [] way
   on : {way next last : Way} {item : Item} {items : List Item} → TakeLine way (item .place) (item .thing) (OneTaken.On next) → Goes next items last → Goes way (item ∷ items) last
 
--- `write` is asked on and on, into buffers with room for a frame, until nothing comes: all frames before the decimetre `to`.
+-- `write` is asked on and on, into buffers with room for a frame, until nothing comes: all frames
+-- before the decimetre `to`.
 pub data WritesTo (to : ℕ) : Feed → List ℕ → Feed → Type 0 where
   some : {feed last : Feed} {rest : List ℕ} (before after : List ℕ) (r : Wrote) → 16 ≤ length before → WriteFrames feed to before r after → (r .count ≡ 0 → ⊥)
       → WritesTo to (r .feed) rest last → WritesTo to feed (take (r .count) after ++ rest) last
   no-more : {feed : Feed} (before after : List ℕ) (r : Wrote) → 16 ≤ length before → WriteFrames feed to before r after → r .count ≡ 0 → WritesTo to feed [] (r .feed)
 
--- The second pass: the frames before each thing, then it passes; a position passes nothing; at last the frames to the way's end.
+-- The second pass: the frames before each thing, then it passes; a position passes nothing; at last
+-- the frames to the way's end.
 pub data Feeds (to : ℕ) : Feed → List Item → List ℕ → Type 0 where
   end : {feed last : Feed} {bytes : List ℕ} → WritesTo to feed bytes last → Feeds to feed [] bytes
   position : {feed : Feed} {item : Item} {items : List Item} {bytes : List ℕ} → isSent (item .thing) ≡ false → Feeds to feed items bytes → Feeds to feed (item ∷ items) bytes
@@ -74,9 +77,10 @@ pub record Tracked (n s t : ℕ) (text lead : List ℕ) : Type 0 where
 
 -- ---- the law
 
--- "For every text of audible balises, markers and unreadables at least 4 dm apart, with a good pair of which no word ends in four ones, the records of kinds 0 to 2 that
--- `record` makes of `track`'s lead are those that `trace` makes of the text, at the same places, in the same order." (That they lie at least 4 dm apart is what `track`
--- takes; `trace` refuses none of them.)
+-- "For every text of audible balises, markers and unreadables at least 4 dm apart, with a good pair
+-- of which no word ends in four ones, the records of kinds 0 to 2 that `record` makes of `track`'s
+-- lead are those that `trace` makes of the text, at the same places, in the same order." (That they
+-- lie at least 4 dm apart is what `track` takes; `trace` refuses none of them.)
 abbrev pub TheWholeWay : Type 0
 TheWholeWay =
     (n s t : ℕ) (text lead : List ℕ) (store : Store) (pieces records : List (List ℕ)) (result : Result) (tracked : Tracked n s t text lead)

@@ -1,5 +1,6 @@
--- What the contracts of `track_text` and `track_lead` allow: the theorems take these as their hypotheses. `Post` of a function is its `ensures` line, made into
--- a statement by the kit. A lent buffer is a reference whose bytes are `now` of it.
+-- What the contracts of `track_text` and `track_lead` allow: the theorems take these as their
+-- hypotheses. `Post` of a function is its `ensures` line, made into a statement by the kit. A lent
+-- buffer is a reference whose bytes are `now` of it.
 -- Assumes nothing.
 use Prim.Native.Nat.{ℕ}
 use mathlib.Core.Path.{_≡_}
@@ -34,14 +35,16 @@ use Rattle.track_lead.proofs.write.Reads as write-reads
 abbrev pub ReadsAs : TextLine → Entry → Type 0
 ReadsAs line r = (e : AtExit (endedOf 0 read-kinds.ps read-kinds.r) tt) × read-reads.Post tt (line, tt) r e
 
--- The contract of `fresh` allows this way, that of `take` the answer r for a line with this place and thing after this way.
+-- The contract of `fresh` allows this way, that of `take` the answer r for a line with this place
+-- and thing after this way.
 abbrev pub FreshWay : Way → Type 0
 FreshWay r = (e : AtExit (endedOf 0 fresh-kinds.ps fresh-kinds.r) tt) × fresh-reads.Post tt tt r e
 
 abbrev pub TakeLine : Way → ℕ → Thing → Taken → Type 0
 TakeLine way place thing r = (e : AtExit (endedOf 0 take-kinds.ps take-kinds.r) tt) × take-reads.Post tt (way, (place, (thing, tt))) r e
 
--- The contract of `until` allows this end of a way, that of `begin` this feed at its beginning, that of `passes` the feed r once this thing begins.
+-- The contract of `until` allows this end of a way, that of `begin` this feed at its beginning,
+-- that of `passes` the feed r once this thing begins.
 abbrev pub Until : Way → ℕ → Type 0
 Until way r = (e : AtExit (endedOf 0 until-kinds.ps until-kinds.r) tt) × until-reads.Post tt (way, tt) r e
 
@@ -51,7 +54,8 @@ BeginFeed way n s t r = (e : AtExit (endedOf 0 begin-kinds.ps begin-kinds.r) tt)
 abbrev pub Passes : Feed → Thing → Feed → Type 0
 Passes feed thing r = (e : AtExit (endedOf 0 passes-kinds.ps passes-kinds.r) tt) × passes-reads.Post tt (feed, (thing, tt)) r e
 
--- The contract of `write` allows the answer r for this feed up to this decimetre, and that the lent buffer, which held `before`, holds `after` then.
+-- The contract of `write` allows the answer r for this feed up to this decimetre, and that the lent
+-- buffer, which held `before`, holds `after` then.
 abbrev pub WriteFrames : Feed → ℕ → List ℕ → Wrote → List ℕ → Type 0
 WriteFrames feed to before r after =
     (κs : Lfts 1) × (out : RefT (List ℕ)) × (e : AtExit (endedOf 1 write-kinds.ps write-kinds.r) κs)

@@ -1,6 +1,8 @@
--- Demand 1 for the functions that make records and tracks of figures: "every call ends with a named reading or a numbered refusal from document 01, given exactly under the
--- condition written there"; "a refusal hands out no figure". The conditions are those of crates/demands/specs/Table02.antt. The functions of `plan_text`, `typed_lines` and `lines`, `thing_at`,
--- `put_record` and both `read`s always answer: what a line is that says no thing has no number.
+-- Demand 1 for the functions that make records and tracks of figures: "every call ends with a named
+-- reading or a numbered refusal from document 01, given exactly under the condition written there";
+-- "a refusal hands out no figure". The conditions are those of crates/demands/specs/Table02.antt.
+-- The functions of `plan_text`, `typed_lines` and `lines`, `thing_at`, `put_record` and both
+-- `read`s always answer: what a line is that says no thing has no number.
 -- Assumes nothing.
 use Prim.Native.Nat.{ℕ}
 use mathlib.Core.Path.{_≡_}
@@ -56,7 +58,8 @@ pub record Demand1 : Type 0 where
   pub take : (way : Way) (place : ℕ) (thing : Thing) (r : Taken) → TakeLine way place thing r
       → Decided Given (takeRules way place thing) (saysTaken r)
 
--- "A refusal hands out no figure": the same refusal is the same answer, whatever was asked; the bytes beside a refused record are zero.
+-- "A refusal hands out no figure": the same refusal is the same answer, whatever was asked; the
+-- bytes beside a refused record are zero.
 pub record Untouched : Type 0 where
   pub spell : Bare saysSpelt
   pub record-of : (place : ℕ) (what : What) (r : Recorded) (n : ℕ) → RecordOf place what r → saysMakingWent (r .how) ≡ refuses n → r .bytes ≡ eightZeroes

@@ -1,5 +1,5 @@
--- Noise in the words of the lead (docs/LEAD.md): "Each bit of the line flips .. exactly if x modulo 1,000,000 is below N"; "odometers stay, and so do bytes after the last
--- whole frame."
+-- Noise in the words of the lead (docs/LEAD.md): "Each bit of the line flips .. exactly if x modulo
+-- 1,000,000 is below N"; "odometers stay, and so do bytes after the last whole frame."
 -- Assumes nothing.
 use Prim.Native.Nat.{ℕ, _+_, _*_, _≤_, _<_}
 use mathlib.Core.Path.{_≡_}

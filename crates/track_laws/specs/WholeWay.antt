@@ -1,5 +1,7 @@
--- The law of the whole way (docs/LEAD.md): "for every text of audible balises, markers and unreadables at least 4 dm apart, with a good pair of which no word ends
--- in four ones, the records of kinds 0 to 2 that `record` makes of `track`'s lead are those that `trace` makes of the text, at the same places, in the same order."
+-- The law of the whole way (docs/LEAD.md): "for every text of audible balises, markers and
+-- unreadables at least 4 dm apart, with a good pair of which no word ends in four ones, the records
+-- of kinds 0 to 2 that `record` makes of `track`'s lead are those that `trace` makes of the text,
+-- at the same places, in the same order."
 -- Assumes nothing.
 use Prim.Native.Nat.{ℕ, _≤_, _<_}
 use mathlib.Core.Path.{_≡_}

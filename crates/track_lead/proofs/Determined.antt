@@ -1,4 +1,5 @@
--- Each contract fixes the whole answer, and `write`'s every byte of the buffer: any two answers that it allows are equal.
+-- Each contract fixes the whole answer, and `write`'s every byte of the buffer: any two answers
+-- that it allows are equal.
 -- Assumes nothing.
 use mathlib.Core.Path.{_≡_, refl, sym, ap, _∙_}
 use Prim.Native.Nat.{ℕ}

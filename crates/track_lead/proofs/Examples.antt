@@ -1,4 +1,5 @@
--- Small leads, computed: a marker at place 12 with one frame to a decimetre, and the edges of the way.
+-- Small leads, computed: a marker at place 12 with one frame to a decimetre, and the edges of the
+-- way.
 -- Assumes nothing.
 use mathlib.Core.Path.{_≡_, refl}
 use mathlib.Core.List.{List, [], _∷_}

@@ -1,4 +1,5 @@
--- The thing over the antenna in a frame: the last that has begun. The places of a text that is taken never fall.
+-- The thing over the antenna in a frame: the last that has begun. The places of a text that is
+-- taken never fall.
 -- Assumes nothing.
 use Prim.Native.Nat.{ℕ, zero, suc, _+_, _-_, _*_, _≤_, _<_, min}
 use mathlib.Core.Path.{_≡_, refl, sym, ap, _∙_, subst}
@@ -18,7 +19,8 @@ use Rattle.track_lead.specs.Lead.{Item, wayFrom, Over, firstFrame, lates
 
 -- ---- places that never fall
 
--- The places of the lines are `low` or higher, each at least as high as the one before, and at most `high`.
+-- The places of the lines are `low` or higher, each at least as high as the one before, and at most
+-- `high`.
 abbrev pub Rising : ℕ → ℕ → List Item → Type 0
 Rising low high [] = low ≤ high
 Rising low high (item ∷ items) = (low ≤ item .place) × Rising (item .place) high items
@@ -27,7 +29,8 @@ pub rises : (low high : ℕ) (items : List Item) → Rising low high items → l
 rises low high [] r = r
 rises low high (item ∷ items) r = let l = rises (item .place) high items (r .1) in omega (arith, r .0)
 
--- A line that is taken: its place is no lower than the last, and at most 4,000,000,000; and the way after it.
+-- A line that is taken: its place is no lower than the last, and at most 4,000,000,000; and the way
+-- after it.
 pub record TakenSo (way : Way) (place : ℕ) (thing : Thing) (next : Way) : Type 0 where
   pub on : way .last ≤ place
   pub low : place ≤ highest

@@ -1,4 +1,5 @@
--- A feed stands at a frame of a lead: what it writes from there on are the lead's frames, as long as no thing begins.
+-- A feed stands at a frame of a lead: what it writes from there on are the lead's frames, as long
+-- as no thing begins.
 -- Assumes nothing.
 use Prim.Native.Nat.{ℕ, zero, suc, _+_, _-_, _*_, _/_, _%_, _≤_, _<_, min}
 use mathlib.Core.Path.{_≡_, refl, sym, ap, ap₂, _∙_, subst}

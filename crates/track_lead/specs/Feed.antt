@@ -1,5 +1,6 @@
--- The frames of a lead, one after the other: sixteen bytes each, "bytes 0 to 3: the odometer in dm, high byte first", "bytes 4 to 15: the next 96 bits
--- of the line" (docs/LEAD.md, "The lead"); "N frames for each dm" (docs/LEAD.md).
+-- The frames of a lead, one after the other: sixteen bytes each, "bytes 0 to 3: the odometer in dm,
+-- high byte first", "bytes 4 to 15: the next 96 bits of the line" (docs/LEAD.md, "The lead"); "N
+-- frames for each dm" (docs/LEAD.md).
 -- Assumes nothing.
 use Prim.Native.Nat.{ℕ, zero, suc, _+_, _-_, _*_, _/_, _%_}
 use mathlib.Core.List.{List, [], _∷_, _++_}
@@ -28,7 +29,8 @@ frameOf odometer line = odometer / 16777216 % 256 ∷ odometer / 65536 % 256 ∷
 unfoldable pub frame : Feed → List ℕ
 frame feed = frameOf (feed .place) (lineIn (feed .s) (feed .t) (feed .thing) (feed .since))
 
--- After it: the next of the decimetre's frames, or the next decimetre. From the third frame of a thing on it sends ones.
+-- After it: the next of the decimetre's frames, or the next decimetre. From the third frame of a
+-- thing on it sends ones.
 unfoldable pub after : Feed → Feed
 after feed =
     record {
@@ -53,7 +55,8 @@ frames feed to (suc room) =
     let rest = frames (after feed) to room in
     pick (ltb (feed .place) to) (record { feed = rest .feed; bytes = frame feed ++ rest .bytes }) (record { feed = feed; bytes = [] })
 
--- Written into a lent buffer: the feed after it, how many bytes, and the buffer then, in which all after them stays.
+-- Written into a lent buffer: the feed after it, how many bytes, and the buffer then, in which all
+-- after them stays.
 pub record Writing : Type 0 where
   pub feed : Feed
   pub count : ℕ

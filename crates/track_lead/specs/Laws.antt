@@ -1,4 +1,5 @@
--- What is promised of feeding: block by block and thing by thing, what is written is the lead of the text.
+-- What is promised of feeding: block by block and thing by thing, what is written is the lead of
+-- the text.
 -- Assumes nothing.
 use Prim.Native.Nat.{ℕ, _+_, _-_, _*_, _<_}
 use mathlib.Core.Path.{_≡_}
@@ -27,7 +28,8 @@ left feed to = feed .n * (to - feed .place) - feed .nth
 abbrev pub allTo : Feed → ℕ → Fed
 allTo feed to = frames feed to (left feed to)
 
--- The lines in order: before each thing all frames up to its place, then it passes; at last all frames up to the end.
+-- The lines in order: before each thing all frames up to its place, then it passes; at last all
+-- frames up to the end.
 unfoldable pub fed : Feed → List Item → ℕ → List ℕ
 fed feed [] to = allTo feed to .bytes
 fed feed (item ∷ items) to =

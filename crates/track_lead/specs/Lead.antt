@@ -1,5 +1,6 @@
--- The lead of a text (docs/LEAD.md, "A track"): "the lead (N1) of a ride over the things of the text: N frames for each dm .., from 10 dm before the first place
--- (or 0) to 10 dm after the last"; "Frames are written for every dm from the first to the last, both included".
+-- The lead of a text (docs/LEAD.md, "A track"): "the lead (N1) of a ride over the things of the
+-- text: N frames for each dm .., from 10 dm before the first place (or 0) to 10 dm after the last";
+-- "Frames are written for every dm from the first to the last, both included".
 -- Assumes nothing.
 use Prim.Native.Nat.{ℕ, zero, suc, _+_, _-_, _*_, _/_}
 use mathlib.Core.Bool.{Bool, _&&_}

@@ -1,5 +1,6 @@
--- What is sent on the way (docs/LEAD.md, "A track"): "a balise is sent over three frames beginning with S at its place's first frame, a marker (zeroes) and what
--- is unreadable (55 hex) over one, ones elsewhere".
+-- What is sent on the way (docs/LEAD.md, "A track"): "a balise is sent over three frames beginning
+-- with S at its place's first frame, a marker (zeroes) and what is unreadable (55 hex) over one,
+-- ones elsewhere".
 -- Assumes nothing.
 use Prim.Native.Nat.{ℕ, _*_}
 use mathlib.Core.List.{List, [], _++_}
@@ -11,7 +12,8 @@ use Rattle.track_lead.specs.declared.Thing.{Thing}
 abbrev pub twelve : ℕ → List ℕ
 twelve byte = replicate 12 byte
 
--- The bytes that a thing sends with the sync words s and t: a balise its telegrams, 288 bits of them.
+-- The bytes that a thing sends with the sync words s and t: a balise its telegrams, 288 bits of
+-- them.
 abbrev pub sends : ℕ → ℕ → Thing → List ℕ
 sends s t (Thing.Balise x y z) = take 36 (telegrams s t (record { x = x; y = y; z = z }) 9)
 sends s t Thing.Marker = twelve 0

@@ -1,5 +1,7 @@
--- The way of a track (docs/LEAD.md, "A track"): its lines in order, and what is refused of a line: "18, 17, too near, in this order"; "`position` is no thing for
--- *too near*, but its place counts for 17 and 18"; "from 10 dm before the first place (or 0) to 10 dm after the last", "the last at most 4,000,000,000".
+-- The way of a track (docs/LEAD.md, "A track"): its lines in order, and what is refused of a line:
+-- "18, 17, too near, in this order"; "`position` is no thing for *too near*, but its place counts
+-- for 17 and 18"; "from 10 dm before the first place (or 0) to 10 dm after the last", "the last at
+-- most 4,000,000,000".
 -- Assumes nothing.
 use Prim.Native.Nat.{ℕ, _+_, _-_, min}
 use mathlib.Core.Bool.{Bool, true, false, _&&_}

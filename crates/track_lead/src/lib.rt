@@ -1,8 +1,11 @@
-// The lead of a track: frames of odometer and line, as a bench that rides over the things of a text would give them. A way goes over the text's
-// lines first; then a feed writes the frames, in blocks of any size.
-// Promises: a line is taken or refused as the house's rules say; what is written, block by block and thing by thing, is the lead of the text.
-// Specification: specs/Way.antt (the lines), specs/Sent.antt (what a thing sends), specs/Feed.antt (frame after frame), specs/Lead.antt (the
-// lead of a text), specs/Says.antt (the answers), specs/Laws.antt (what is promised).
+// The lead of a track: frames of odometer and line, as a bench that rides over the things of a text
+// would give them. A way goes over the text's lines first; then a feed writes the frames, in blocks
+// of any size.
+// Promises: a line is taken or refused as the house's rules say; what is written, block by block
+// and thing by thing, is the lead of the text.
+// Specification: specs/Way.antt (the lines), specs/Sent.antt (what a thing sends), specs/Feed.antt
+// (frame after frame), specs/Lead.antt (the lead of a text), specs/Says.antt (the answers),
+// specs/Laws.antt (what is promised).
 ghost use mathlib.Core.Path.{_≡_};
 ghost use Rattle.track_lead.specs.Way.{fresh, take, from, until};
 ghost use Rattle.track_lead.specs.Feed.{begin, passes, write};
@@ -12,7 +15,8 @@ mod feeding;
 mod going;
 mod sending;
 
-// What stands at a place: a balise, by the words that it sends; a marker; what is unreadable; or nothing, a position only.
+// What stands at a place: a balise, by the words that it sends; a marker; what is unreadable; or
+// nothing, a position only.
 pub enum Thing {
     Balise { x: u8, y: u8, z: u8 },
     Marker,
@@ -41,8 +45,8 @@ pub enum Taken {
     TooNear,
 }
 
-// A feed: the frames to each decimetre, the sync pair; the next frame's odometer, and which of the decimetre's frames it is, from 0; the thing
-// last begun, and how many frames ago, up to 3.
+// A feed: the frames to each decimetre, the sync pair; the next frame's odometer, and which of the
+// decimetre's frames it is, from 0; the thing last begun, and how many frames ago, up to 3.
 pub struct Feed {
     pub n: u32,
     pub s: u8,

@@ -1,4 +1,5 @@
--- What a line of a track's text says (docs/LEAD.md, "A track"): a thing at its place; "`raw` is unreadable here"; "in a line: unreadable, 2, 3".
+-- What a line of a track's text says (docs/LEAD.md, "A track"): a thing at its place; "`raw` is
+-- unreadable here"; "in a line: unreadable, 2, 3".
 -- Assumes nothing.
 use Prim.Native.Nat.{ℕ}
 use lib.Dec.{eqb}
@@ -11,7 +12,8 @@ use Rattle.trace_text.specs.Said.{said}
 use Rattle.track_lead.specs.declared.Thing.{Thing}
 use Rattle.track_text.specs.declared.Entry.{Entry}
 
--- A balise at its place by the words that it sends; "figure to write above 15 or above 2,047" is 2, "a short word of a telegram reads 15" is 3.
+-- A balise at its place by the words that it sends; "figure to write above 15 or above 2,047" is 2,
+-- "a short word of a telegram reads 15" is 3.
 abbrev pub balise : ℕ → Outcome Words → Entry
 balise place (gives w) = Entry.At place (Thing.Balise (w .x) (w .y) (w .z))
 balise place (refuses n) = pick (eqb n 2) Entry.TooLarge Entry.Fifteen

@@ -10,7 +10,8 @@ pub enum Form {
     Plan,
 }
 
-// What a line gives: whether it has bytes, which they are, and what is wrong with it: 0 for nothing, 1 for an unreadable line, else document 01's number.
+// What a line gives: whether it has bytes, which they are, and what is wrong with it: 0 for
+// nothing, 1 for an unreadable line, else document 01's number.
 pub struct Given {
     pub bytes: [u8; 8],
     pub has: bool,

@@ -15,7 +15,8 @@ pub enum PassGoes {
     CannotWrite,
 }
 
-// Where a pass stands: the number of its line, how many things were given, how many bytes wait to be written, what is wrong with the line, and how it goes.
+// Where a pass stands: the number of its line, how many things were given, how many bytes wait to
+// be written, what is wrong with the line, and how it goes.
 pub struct Done {
     pub number: u64,
     pub things: u64,

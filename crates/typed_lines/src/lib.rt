@@ -1,14 +1,19 @@
-// The lines of a text in an open file, one after the other, for the programs that take a text: `trace`, `plan`, `track`.
-// 1. `begin(fd)` is before the first line. `next(pass, block)` answers the next line with its number (`Line`), what stands after the last newline too, even if that is empty;
-//    or that no line is left (`End`), or that a read failed (`CannotRead`). `block` is any buffer of three bytes at least, and each call is lent the same one, unchanged.
-// Promises: it is safe and it ends, in the same memory for a file of any size. What is kept of a line is what `lines` keeps; that the blocks join is crates/lines_laws/specs/Texts.antt. What is
+// The lines of a text in an open file, one after the other, for the programs that take a text:
+// `trace`, `plan`, `track`.
+// 1. `begin(fd)` is before the first line. `next(pass, block)` answers the next line with its
+//    number (`Line`), what stands after the last newline too, even if that is empty; or that no
+//    line is left (`End`), or that a read failed (`CannotRead`). `block` is any buffer of three
+//    bytes at least, and each call is lent the same one, unchanged.
+// Promises: it is safe and it ends, in the same memory for a file of any size. What is kept of a
+// line is what `lines` keeps; that the blocks join is crates/lines_laws/specs/Texts.antt. What is
 // read stands outside contracts: docs/EXCEPTIONS.md.
 use lines::Got;
 use lines::Reader;
 use lines::TextLine;
 
-// Where the reading of a text stands: its file, the line that is being read and its number, how many bytes of the text are in the block and where the line goes on there; whether the
-// first block was read, and whether the last line was handed out.
+// Where the reading of a text stands: its file, the line that is being read and its number, how
+// many bytes of the text are in the block and where the line goes on there; whether the first block
+// was read, and whether the last line was handed out.
 pub struct Pass {
     fd: i32,
     reader: Reader,
@@ -84,7 +89,8 @@ fn with_block(pass: Pass, reader: Reader, count: usize, at: usize) -> Pass {
     }
 }
 
-// A line, after which the next one begins at a place of the block; the last one where the text is over.
+// A line, after which the next one begins at a place of the block; the last one where the text is
+// over.
 fn one_line(pass: Pass, got: Got, is_over: bool) -> Step {
     let line = got.line;
     let reader = got.reader;
@@ -134,7 +140,8 @@ fn last_line(reader: Reader) -> Got {
     lines::next_line(reader, b"", 0)
 }
 
-// The next line, block after block. A proved loop has to end, and nothing says that a file does: so it counts its turns down from a number that no run uses up.
+// The next line, block after block. A proved loop has to end, and nothing says that a file does: so
+// it counts its turns down from a number that no run uses up.
 fn on(pass: Pass, block: &mut [u8]) -> Step {
     let mut here = pass;
     let mut turns = u64::MAX;

@@ -1,4 +1,5 @@
--- From what the inner functions found to what the public ones answer: once for every number n of bits.
+-- From what the inner functions found to what the public ones answer: once for every number n of
+-- bits.
 -- Assumes nothing.
 use mathlib.Core.Path.{_≡_, refl, sym, ap, _∙_, subst}
 use mathlib.Core.Bool.{Bool, true, false}

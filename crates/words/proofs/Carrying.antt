@@ -1,4 +1,5 @@
--- The bits of a received word that carry its figure stand together in five parts, but for those that are exchanged.
+-- The bits of a received word that carry its figure stand together in five parts, but for those
+-- that are exchanged.
 -- Assumes nothing.
 use mathlib.Core.Path.{_≡_, sym, ap, _∙_}
 use Prim.Native.Nat.{ℕ, _+_, _*_, _/_, _%_, _^_, _<_}

@@ -1,4 +1,5 @@
--- Laws of the checks' counts: each is a sum over the positions, and the exchange only says where a position's bit stands.
+-- Laws of the checks' counts: each is a sum over the positions, and the exchange only says where a
+-- position's bit stands.
 -- Assumes nothing.
 use mathlib.Core.Path.{_≡_, sym, ap, _∙_}
 use mathlib.Core.Bool.{Bool, true, false}

@@ -1,4 +1,5 @@
--- Laws of a word's bits: a word is its bits, and two words' bits differ where their exclusive or has a one.
+-- Laws of a word's bits: a word is its bits, and two words' bits differ where their exclusive or
+-- has a one.
 -- Assumes nothing.
 use mathlib.Core.Path.{_≡_, refl, sym, ap, ap₂, _∙_, subst}
 use mathlib.Core.Logic.{_⊎_, inl, inr}

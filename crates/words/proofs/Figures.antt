@@ -1,4 +1,5 @@
--- Laws of the figure that a plain word carries: it grows as positions are read, and n positions keep it below 2 ^ n.
+-- Laws of the figure that a plain word carries: it grows as positions are read, and n positions
+-- keep it below 2 ^ n.
 -- Assumes nothing.
 use mathlib.Core.Path.{_≡_, refl, sym, ap, _∙_, subst}
 use mathlib.Core.Bool.{Bool, true, false}
@@ -12,7 +13,8 @@ use Rattle.words.specs.Bits.{bit}
 use Rattle.words.specs.Plain.{isCheck, onwards, figure, carriers}
 use Rattle.words.proofs.Digits.{bit-lt}
 
--- The figure after one position more: as it was at a check, else with the position's bit added below.
+-- The figure after one position more: as it was at a check, else with the position's bit added
+-- below.
 abbrev pub grown : ℕ → ℕ → ℕ → ℕ
 grown h n a = pick (isCheck n) a (a * 2 + bit h n)
 

@@ -1,5 +1,5 @@
--- The laws of the two codes, each once over the width: reading back, writing back, noise, and the least number of flips
--- that noise needs to pass.
+-- The laws of the two codes, each once over the width: reading back, writing back, noise, and the
+-- least number of flips that noise needs to pass.
 -- Assumes nothing.
 use mathlib.Core.Path.{_≡_, refl, sym, ap, ap₂, _∙_, subst}
 use mathlib.Core.Bool.{Bool, true, false}
@@ -35,8 +35,8 @@ pub shown : (n w x : ℕ) → readWord n w ≡ gives x → (isCode n (exchanged 
 unfolding readWord
 shown n w x e = given (isCode n (exchanged n w)) (figure n (exchanged n w)) x (notCodeWord n w) e
 
--- What is heard where x was sent and the flips alone read as this answer: a refusal stays one, a figure is added to x
--- bit by bit without carry.
+-- What is heard where x was sent and the flips alone read as this answer: a refusal stays one, a
+-- figure is added to x bit by bit without carry.
 abbrev pub heard : ℕ → Answer Why ℕ → Answer Why ℕ
 heard x (gives y) = gives (bitXor x y)
 heard x (refuses b) = refuses b
@@ -46,8 +46,8 @@ pub even-number : {n : ℕ} → Width n → (w x : ℕ) → readWord n w ≡ giv
 even-number {n} wide w x e =
     ap (λ (k : ℕ). k % 2) (sym (ones-exchanged wide w)) ∙ even-ones n (exchanged n w) (width-le wide) (shown n w x e .0)
 
--- The noise law: whichever code word c was sent, what is received with the flips f reads as the flips alone decide, and what is refused
--- has the flips' parity.
+-- The noise law: whichever code word c was sent, what is received with the flips f reads as the
+-- flips alone decide, and what is refused has the flips' parity.
 pub noise : {n : ℕ} → Width n → (c f x : ℕ) → readWord n c ≡ gives x → readWord n (bitXor c f) ≡ heard x (readWord n f)
 unfolding readWord
 noise {n} wide c f x e =

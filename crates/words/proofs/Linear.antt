@@ -1,4 +1,5 @@
--- The codes are linear: counts, figures and the exchange of an exclusive or are those of its two parts together.
+-- The codes are linear: counts, figures and the exchange of an exclusive or are those of its two
+-- parts together.
 -- Assumes nothing.
 use mathlib.Core.Path.{_≡_, refl, sym, ap, ap₂, _∙_, subst}
 use mathlib.Core.Bool.{Bool, true, false, _&&_}

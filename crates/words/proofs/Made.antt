@@ -1,4 +1,5 @@
--- Making the checks even one after the other leaves every check even and every other position as it was.
+-- Making the checks even one after the other leaves every check even and every other position as it
+-- was.
 -- Assumes nothing.
 use mathlib.Core.Path.{_≡_, refl, sym, ap, ap₂, _∙_, subst}
 use mathlib.Core.Logic.{_⊎_, inl, inr}

@@ -1,5 +1,5 @@
--- The short code has sixteen words: a byte is one of them exactly if it is the word of its high four bits, which are its figure.
--- One computed test over the 256 bytes.
+-- The short code has sixteen words: a byte is one of them exactly if it is the word of its high
+-- four bits, which are its figure. One computed test over the 256 bytes.
 -- Assumes nothing.
 use mathlib.Core.Path.{_≡_, refl}
 use mathlib.Core.Bool.{Bool, true, false, not}

@@ -1,4 +1,5 @@
--- Spelling a word bit by bit, lowest first: after the bits below i the word so far is right, and the next bit is worth 2 ^ i.
+-- Spelling a word bit by bit, lowest first: after the bits below i the word so far is right, and
+-- the next bit is worth 2 ^ i.
 -- Assumes nothing.
 use mathlib.Core.Path.{_≡_, refl, sym, ap, ap₂, _∙_, subst}
 use Prim.Native.Nat.{ℕ, suc, _+_, _*_, _^_, _≤_, _<_}

@@ -1,4 +1,5 @@
--- A code word that is not 0 has at least four ones: two ones at different positions leave some check odd.
+-- A code word that is not 0 has at least four ones: two ones at different positions leave some
+-- check odd.
 -- Assumes nothing.
 use mathlib.Core.Path.{_≡_, refl, sym, ap, ap₂, _∙_, subst}
 use mathlib.Core.Logic.{_⊎_, inl, inr}

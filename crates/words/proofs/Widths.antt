@@ -1,4 +1,5 @@
--- The two widths, 8 and 16 bits: the exchange stays within each, undoes itself, and keeps the number of ones.
+-- The two widths, 8 and 16 bits: the exchange stays within each, undoes itself, and keeps the
+-- number of ones.
 -- Assumes nothing.
 use mathlib.Core.Path.{_≡_, refl, sym, ap, ap₂, _∙_, subst}
 use mathlib.Core.Bool.{Bool}

@@ -1,5 +1,5 @@
--- A written plain word is a code word that carries its figure: the checks are made even one after the other, and none
--- that is made later is looked at by one made before.
+-- A written plain word is a code word that carries its figure: the checks are made even one after
+-- the other, and none that is made later is looked at by one made before.
 -- Assumes nothing.
 use mathlib.Core.Path.{_≡_, refl, sym, ap, ap₂, _∙_, subst}
 use mathlib.Core.Logic.{_⊎_, inl, inr}
@@ -41,7 +41,8 @@ unfolding blind
 inOrder [] = true
 inOrder (c ∷ cs) = both (both (eqb (covers c c) 1) (not (among c cs))) (both (blind c cs) (inOrder cs))
 
--- What making all the listed checks of h even gives: n bits, all of them even, every other position as it was.
+-- What making all the listed checks of h even gives: n bits, all of them even, every other position
+-- as it was.
 pub record Made (n h g : ℕ) (cs : List ℕ) : Type 0 where
   pub fits : g < 2 ^ n
   pub outside : (i : ℕ) → i < n → among i cs ≡ false → bit g i ≡ bit h i

@@ -1,6 +1,6 @@
 -- The sent code M (document 01, "The two codes"): M(8,4) at n = 8, M(16,11) at n = 16.
--- "The sent code M is H with bits 3 and 4 exchanged, and in the long one also 11 and 12. A word that is not a code
--- word is refused. Nothing is corrected."
+-- "The sent code M is H with bits 3 and 4 exchanged, and in the long one also 11 and 12. A word
+-- that is not a code word is refused. Nothing is corrected."
 -- Assumes nothing.
 use Prim.Native.Nat.{ℕ}
 use lib.Dec.{eqb, leb}
@@ -17,7 +17,8 @@ other i = pick (eqb i 3) 4 (pick (eqb i 4) 3 (pick (eqb i 11) 12 (pick (eqb i 12
 unfoldable pub exchanged : ℕ → ℕ → ℕ
 exchanged n w = word (λ i. bit w (other i)) n
 
--- What a received word of n bits reads: its figure, or, if it is not a code word, refusal 1 with whether its ones are odd or even.
+-- What a received word of n bits reads: its figure, or, if it is not a code word, refusal 1 with
+-- whether its ones are odd or even.
 unfoldable pub readWord : ℕ → ℕ → Answer Why ℕ
 readWord n w = pick (isCode n (exchanged n w)) (gives (figure n (exchanged n w))) (refuses (notCodeWord n w))
 
@@ -25,7 +26,8 @@ readWord n w = pick (isCode n (exchanged n w)) (gives (figure n (exchanged n w))
 unfoldable pub sent : ℕ → ℕ → ℕ
 sent n x = exchanged n (plainWord n x)
 
--- What writing the figure x answers, the largest figure given: the word, or refusal 2 if x is above it.
+-- What writing the figure x answers, the largest figure given: the word, or refusal 2 if x is above
+-- it.
 unfoldable pub writeWord : ℕ → ℕ → ℕ → Outcome ℕ
 writeWord n largest x = pick (leb x largest) (gives (sent n x)) (refuses 2)
 

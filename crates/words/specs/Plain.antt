@@ -1,7 +1,8 @@
--- The plain code H (document 01, "The two codes"), for words of n bits: 8 for the short code, 16 for the long one.
--- "Bits 8, 4, 2, 1, 0 are checks, the rest carry the figure, highest first. Check 2^k makes the count of ones even
--- over the positions whose number has 2^k in it; check 0 makes the whole word even."
--- A word of 8 bits has no position 8; check 8 covers none of its positions, and so asks nothing of it.
+-- The plain code H (document 01, "The two codes"), for words of n bits: 8 for the short code, 16
+-- for the long one. "Bits 8, 4, 2, 1, 0 are checks, the rest carry the figure, highest first. Check
+-- 2^k makes the count of ones even over the positions whose number has 2^k in it; check 0 makes the
+-- whole word even." A word of 8 bits has no position 8; check 8 covers none of its positions, and
+-- so asks nothing of it.
 -- Assumes nothing.
 use Prim.Native.Nat.{ℕ, zero, suc, _+_, _*_, _/_, _%_, _^_}
 use mathlib.Core.Bool.{Bool, true, false, _&&_, _||_}
@@ -23,7 +24,8 @@ among i (c ∷ cs) = eqb i c || among i cs
 unfoldable pub isCheck : ℕ → Bool
 isCheck i = among i checks
 
--- 1 if check c looks at the position i, else 0: check 0 looks at every one, check 2^k at those whose number has 2^k in it.
+-- 1 if check c looks at the position i, else 0: check 0 looks at every one, check 2^k at those
+-- whose number has 2^k in it.
 unfoldable pub covers : ℕ → ℕ → ℕ
 covers c i = pick (eqb c 0) 1 (i / c % 2)
 
@@ -45,7 +47,8 @@ allEven n h (c ∷ cs) = even n h c && allEven n h cs
 unfoldable pub isCode : ℕ → ℕ → Bool
 isCode n h = allEven n h checks
 
--- The figure so far, a, continued by the positions below n, highest first; the checks are passed over.
+-- The figure so far, a, continued by the positions below n, highest first; the checks are passed
+-- over.
 unfoldable pub onwards : ℕ → ℕ → ℕ → ℕ
 onwards h zero a = a
 onwards h (suc n) a = onwards h n (pick (isCheck n) a (a * 2 + bit h n))
@@ -59,7 +62,8 @@ unfoldable pub carriers : ℕ → ℕ
 carriers zero = 0
 carriers (suc n) = pick (isCheck n) (carriers n) (carriers n + 1)
 
--- The figure x in its positions, with 0 at each check: the lowest that carries has the figure's lowest bit.
+-- The figure x in its positions, with 0 at each check: the lowest that carries has the figure's
+-- lowest bit.
 unfoldable pub carried : ℕ → ℕ → ℕ
 carried n x = word (λ i. pick (isCheck i) 0 (bit x (carriers i))) n
 

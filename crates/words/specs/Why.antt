@@ -1,5 +1,6 @@
--- Why a received word is refused (document 01's table, and request M-106): "Knowing whether an odd or an even number of bits flipped
--- tells a loose screen from crosstalk. A word refused with 1 now also says which."
+-- Why a received word is refused (document 01's table, and request M-106): "Knowing whether an odd
+-- or an even number of bits flipped tells a loose screen from crosstalk. A word refused with 1 now
+-- also says which."
 -- Assumes nothing.
 use Prim.Native.Nat.{ℕ, _%_}
 use lib.Dec.{eqb}

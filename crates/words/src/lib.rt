@@ -1,7 +1,9 @@
 // The two codes of document 01: M(8,4) for a short word, M(16,11) for a long one.
-// Promises: a word reads as its figure or is refused and says whether its ones are odd or even, nothing is mended; a figure is written as its one word or refused.
-// Specification: specs/Plain.antt (the plain code H), specs/Code.antt (the sent code M), specs/Why.antt (refusals of words), specs/Says.antt (the answers);
-// specs/Limits.antt is for those above: the largest number of 64 bits.
+// Promises: a word reads as its figure or is refused and says whether its ones are odd or even,
+// nothing is mended; a figure is written as its one word or refused.
+// Specification: specs/Plain.antt (the plain code H), specs/Code.antt (the sent code M),
+// specs/Why.antt (refusals of words), specs/Says.antt (the answers); specs/Limits.antt is for those
+// above: the largest number of 64 bits.
 ghost use mathlib.Core.Path.{_≡_};
 ghost use Rattle.words.specs.Code.{readShort, writeShort, readLong, writeLong};
 ghost use Rattle.words.specs.Says.{saysShortRead, saysShortWritten, saysLongRead, saysLongWritten};
@@ -39,7 +41,8 @@ pub enum LongWritten {
     TooLarge,
 }
 
-// The figure of a received byte if every check of the plain code is even; else refusal 1, with whether its ones are odd or even in number.
+// The figure of a received byte if every check of the plain code is even; else refusal 1, with
+// whether its ones are odd or even in number.
 pub fn read_short(word: u8) -> ShortRead
     ensures { λ r. ⌜ saysShortRead r ≡ readShort word ⌝ }
 {
@@ -62,7 +65,8 @@ pub fn write_short(figure: u8) -> ShortWritten
     }
 }
 
-// The figure of sixteen received bits if every check is even; else refusal 1, with whether their ones are odd or even in number.
+// The figure of sixteen received bits if every check is even; else refusal 1, with whether their
+// ones are odd or even in number.
 pub fn read_long(word: u16) -> LongRead
     ensures { λ r. ⌜ saysLongRead r ≡ readLong word ⌝ }
 {

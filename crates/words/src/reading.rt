@@ -8,7 +8,8 @@ ghost use Rattle.words.specs.Code.{exchanged};
 ghost use Rattle.words.specs.Why.{parity};
 use crate::Parity;
 
-// The positions that each check looks at, in a word as received: bits 3 and 4 stand exchanged there, and 11 and 12.
+// The positions that each check looks at, in a word as received: bits 3 and 4 stand exchanged
+// there, and 11 and 12.
 const CHECK_8: u32 = 0xFF00;
 
 const CHECK_4: u32 = 0xE8E8;
@@ -46,7 +47,8 @@ const SHORT: [u8; 16] = [
     0xFF,
 ];
 
-// Whether the received byte w is a code word of the short code: that of the figure in its high four bits.
+// Whether the received byte w is a code word of the short code: that of the figure in its high four
+// bits.
 pub fn is_short(w: u8) -> bool
     ensures { λ r. ⌜ r ≡ isCode 8 (exchanged 8 w) ⌝ }
 {
@@ -65,7 +67,8 @@ pub fn is_code(w: u32) -> bool
         && is_even(w & CHECK_0)
 }
 
-// Whether the ones of the received word w, of the long code, or of the short one if it is a byte, are odd or even in number.
+// Whether the ones of the received word w, of the long code, or of the short one if it is a byte,
+// are odd or even in number.
 pub fn parity(w: u32) -> Parity
     requires { ⌜ w < 65536 ⌝ }
     ensures { λ r. ⌜ (r ≡ parity 16 w) × (w < 256 → r ≡ parity 8 w) ⌝ }
@@ -77,7 +80,8 @@ pub fn parity(w: u32) -> Parity
     }
 }
 
-// The figure that the received word w of the long code carries: bits 15, 14, 13, 11, 12, 10, 9 and 7 to 4.
+// The figure that the received word w of the long code carries: bits 15, 14, 13, 11, 12, 10, 9 and
+// 7 to 4.
 pub fn figure(w: u32) -> u32
     requires { ⌜ w < 65536 ⌝ }
     ensures { λ r. ⌜ r ≡ figure 16 (exchanged 16 w) ⌝ }

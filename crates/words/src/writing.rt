@@ -1,4 +1,5 @@
-// Writing a figure as a word of n bits, 8 or 16: its bits in their positions, then the checks, then the exchange.
+// Writing a figure as a word of n bits, 8 or 16: its bits in their positions, then the checks, then
+// the exchange.
 ghost use mathlib.Core.Path.{_≡_};
 ghost use Prim.Native.Nat.{_+_, _≤_, _<_};
 ghost use Rattle.words.specs.Answer.{pick};

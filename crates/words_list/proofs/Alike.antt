@@ -1,4 +1,5 @@
--- The promise holds: both contracts are one equation, the list is the one that the contract names, and it has each word at its figure.
+-- The promise holds: both contracts are one equation, the list is the one that the contract names,
+-- and it has each word at its figure.
 -- Assumes nothing.
 use mathlib.Core.Path.{_≡_, refl, sym, ap, _∙_, subst}
 use mathlib.Core.Bool.{Bool, true, false}

@@ -1,4 +1,5 @@
--- Going down a list from its first word, one meets the word at a figure where it stands, or passes all and it stands nowhere.
+-- Going down a list from its first word, one meets the word at a figure where it stands, or passes
+-- all and it stands nowhere.
 -- Assumes nothing.
 use mathlib.Core.Path.{_≡_, refl, ap}
 use mathlib.Core.Bool.{Bool, true, false}

@@ -1,4 +1,5 @@
--- The table's rule: one test that is computed over the whole table, and the law that carries it to every entry.
+-- The table's rule: one test that is computed over the whole table, and the law that carries it to
+-- every entry.
 -- Assumes nothing.
 use mathlib.Core.Path.{_≡_, refl, sym, ap, ap₂, _∙_}
 use mathlib.Core.Bool.{Bool, true, false}
@@ -11,7 +12,8 @@ use Rattle.words.specs.Answer.{pick}
 use Rattle.words.specs.Code.{sent}
 use Rattle.words_list.specs.Listed.{wordsFrom, list}
 
--- The test: each entry of the table, the first at the figure x, is the word that is sent for its figure.
+-- The test: each entry of the table, the first at the figure x, is the word that is sent for its
+-- figure.
 abbrev pub each : ℕ → List ℕ → Bool
 each x [] = true
 each x (e ∷ l) = pick (eqb e (sent 16 x)) (each (suc x) l) false

@@ -1,6 +1,7 @@
--- What is promised of the printed list and its reader (document 02, M-105): "It must give for every one of the 65,536 words what the
--- reader by checks gives"; and each word of the list stands at its own figure and nowhere else.
--- That all of this holds: proofs/Alike.antt, of the contracts of this crate's two functions.
+-- What is promised of the printed list and its reader (document 02, M-105): "It must give for every
+-- one of the 65,536 words what the reader by checks gives"; and each word of the list stands at its
+-- own figure and nowhere else. That all of this holds: proofs/Alike.antt, of the contracts of this
+-- crate's two functions.
 -- Assumes nothing.
 use Prim.Native.Nat.{ℕ, _<_}
 use mathlib.Core.Path.{_≡_}
@@ -18,10 +19,12 @@ use Rattle.words_list.specs.Listed.{readBy}
 abbrev pub ByChecks : ℕ → LongRead → Type 0
 ByChecks w r = (x : AtExit (endedOf 0 checks-kinds.ps checks-kinds.r) tt) × checks-reads.Post tt (w, tt) r x
 
--- The promise. `ByList w r` is that the contract of the second reader, `words_list::read_long`, allows the answer r for the word w;
--- `Lists l` is that the contract of `words_list::list` allows it to hand out the list l.
+-- The promise. `ByList w r` is that the contract of the second reader, `words_list::read_long`,
+-- allows the answer r for the word w; `Lists l` is that the contract of `words_list::list` allows
+-- it to hand out the list l.
 pub record Printed (ByList : ℕ → LongRead → Type 0) (Lists : List ℕ → Type 0) : Type 0 where
-  -- "for every one of the 65,536 words what the reader by checks gives": any two answers are equal, and both have one
+  -- "for every one of the 65,536 words what the reader by checks gives": any two answers are equal,
+  -- and both have one
   pub same : (w : ℕ) (r r′ : LongRead) → ByChecks w r → ByList w r′ → r ≡ r′
   pub answered : (w : ℕ) → (r : LongRead) × (ByChecks w r × ByList w r)
   -- so reads a fitter who goes down the list from figure 0 on

@@ -1,5 +1,6 @@
 // A second, plain reader for the long code, which a fitter can follow with the printed list.
-// Promises: it gives for every word what the reader by checks gives; each word of the list stands at its own figure and nowhere else.
+// Promises: it gives for every word what the reader by checks gives; each word of the list stands
+// at its own figure and nowhere else.
 // Specification: specs/Listed.antt (the list, and reading by it), specs/Alike.antt (the promises).
 ghost use mathlib.Core.Path.{_≡_};
 ghost use Rattle.words.specs.Code.{readLong};
@@ -18,8 +19,8 @@ pub fn list() -> [u16; 2048]
     table::WORDS
 }
 
-// The figure of sixteen received bits, or refusal 1 with their parity: what `words::read_long` promises, word for word. The list is searched from figure
-// 0 on.
+// The figure of sixteen received bits, or refusal 1 with their parity: what `words::read_long`
+// promises, word for word. The list is searched from figure 0 on.
 pub fn read_long(word: u16) -> LongRead
     ensures { λ r. ⌜ saysLongRead r ≡ readLong word ⌝ }
 {

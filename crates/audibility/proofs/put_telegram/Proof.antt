@@ -1,4 +1,5 @@
--- `put_telegram` spells the line in a space of its own, and puts it into the buffer if it fits there.
+-- `put_telegram` spells the line in a space of its own, and puts it into the buffer if it fits
+-- there.
 use native.Mathlib.Omega.{arith}
 use Rattle.text.proofs.Standing.{Begins, begins, as-long, put-as}
 use Rattle.telegram.specs.Spelling.{asked}

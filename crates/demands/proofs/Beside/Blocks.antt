@@ -1,5 +1,5 @@
--- Cards by a function that lists: whatever blocks it is called with, each call goes on with the records that the
--- ones before did not take.
+-- Cards by a function that lists: whatever blocks it is called with, each call goes on with the
+-- records that the ones before did not take.
 -- Assumes nothing.
 use Prim.Native.Nat.{ℕ, _+_, _*_, _/_, _≤_, _<_}
 use native.Mathlib.Omega.{arith}

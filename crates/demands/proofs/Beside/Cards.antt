@@ -1,4 +1,5 @@
--- Cards by `run` and by `step`: the state goes on from card to card, and so do the answers of `step`, one by one.
+-- Cards by `run` and by `step`: the state goes on from card to card, and so do the answers of
+-- `step`, one by one.
 -- Assumes nothing.
 use Prim.Native.Nat.{ℕ, suc, _+_, _/_, _%_}
 use native.Mathlib.Nat.{add-zero}

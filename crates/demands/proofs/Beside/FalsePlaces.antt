@@ -1,5 +1,6 @@
--- For each of the eight sent bits a line whose sync words are equal in that bit, with so many flips in its forty bits that a telegram is handed out
--- where none was sent: why nothing is claimed for other pairs, or with a flip more.
+-- For each of the eight sent bits a line whose sync words are equal in that bit, with so many flips
+-- in its forty bits that a telegram is handed out where none was sent: why nothing is claimed for
+-- other pairs, or with a flip more.
 -- Assumes nothing.
 use mathlib.Core.Path.{_≡_, refl, sym, ap, ap₂, _∙_, subst}
 use mathlib.Core.Bool.{Bool, true, false, not}
@@ -31,14 +32,14 @@ use Rattle.demands.specs.SyncNoise.{FalsePlace, enough}
 use Rattle.demands.proofs.Witness.CallsMet.{lent}
 use Rattle.balise_line.proofs.EqualBit.{isOnly, only-this}
 
--- The balise sends zeroes between the sync words s and t. Of the stretch, forty bits that begin at the line bit `phase`, the bytes s, 0, 0, 0 and t are
--- received.
+-- The balise sends zeroes between the sync words s and t. Of the stretch, forty bits that begin at
+-- the line bit `phase`, the bytes s, 0, 0, 0 and t are received.
 abbrev zeroes : ℕ → ℕ → ℕ → OneBalise
 zeroes s t phase =
     record { buffer = s ∷ 0 ∷ 0 ∷ 0 ∷ t ∷ []; start = 0; len = 40; s = s; t = t; x = 0; y = 0; z = 0; telegram = Telegram.Figures 0 0 0; phase = phase }
 
--- By the equal bit, from the first sent to the eighth: the sync words, and where the stretch begins, one bit or two before a telegram's beginning or
--- after it.
+-- By the equal bit, from the first sent to the eighth: the sync words, and where the stretch
+-- begins, one bit or two before a telegram's beginning or after it.
 abbrev line : ℕ → OneBalise
 line i =
     zeroes (getD (0x55 ∷ 0x33 ∷ 0xc0 ∷ 0xe0 ∷ 0xf0 ∷ 0xf8 ∷ 0x31 ∷ 0x54 ∷ []) i 0)

@@ -1,4 +1,5 @@
--- Odd or even, over the readers' contracts: a received word is what was sent and its flips together, and what was sent is even.
+-- Odd or even, over the readers' contracts: a received word is what was sent and its flips
+-- together, and what was sent is even.
 -- Assumes nothing.
 use mathlib.Core.Path.{_≡_, refl, sym, ap, _∙_}
 use mathlib.Core.Bool.{Bool, true, false}
@@ -82,7 +83,8 @@ parities = record {
   long-code = odd-or-even long saysLongRead ReadLong (λ w r called. called .1);
 }
 
--- The hypotheses can be met: a nine was sent, 99 hex, and one bit flipped, so the word says odd; two, and it says even.
+-- The hypotheses can be met: a nine was sent, 99 hex, and one bit flipped, so the word says odd;
+-- two, and it says even.
 one-flip : ReadShort (bitXor 0x99 0x01) (ShortRead.NotCode Parity.Odd)
 unfolding readWord parity onesOf isCode even count covers figure onwards isCheck exchanged other word
 one-flip = ((0x98, tt), refl)

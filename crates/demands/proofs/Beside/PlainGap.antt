@@ -1,4 +1,5 @@
--- A plain gap: its store of one version refuses with 19 where the gap is not allowed, and has that gap everywhere where it is.
+-- A plain gap: its store of one version refuses with 19 where the gap is not allowed, and has that
+-- gap everywhere where it is.
 -- Assumes nothing.
 use mathlib.Core.Path.{sym, _∙_}
 use mathlib.Core.List.{[], _∷_}

@@ -1,4 +1,5 @@
--- What is promised of settings that change on the way: every store that calls made is judged good, and the laws of the definitions carry over.
+-- What is promised of settings that change on the way: every store that calls made is judged good,
+-- and the laws of the definitions carry over.
 -- Assumes nothing.
 use Prim.Native.Nat.{ℕ, _≤_, _<_}
 use mathlib.Core.Path.{_≡_, refl, sym, ap, subst, subst⁻¹, _∙_}

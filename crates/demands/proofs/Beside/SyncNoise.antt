@@ -1,5 +1,5 @@
--- Noise on the sync words too: where the equal bit is in the middle, every wrong offset costs three flips, and two in forty bits are too few for a
--- false place.
+-- Noise on the sync words too: where the equal bit is in the middle, every wrong offset costs three
+-- flips, and two in forty bits are too few for a false place.
 -- Assumes nothing.
 use mathlib.Core.Path.{_≡_, sym, ap, ap₂, _∙_}
 use mathlib.Core.Bool.{Bool}

@@ -1,4 +1,5 @@
--- A store of one version, with any good pair: it is judged good exactly if its gap is allowed, and has that gap everywhere.
+-- A store of one version, with any good pair: it is judged good exactly if its gap is allowed, and
+-- has that gap everywhere.
 -- Assumes nothing.
 use Prim.Native.Nat.{ℕ}
 use mathlib.Core.Path.{_≡_, refl, sym, ap, subst, _∙_}
@@ -44,7 +45,8 @@ module _ (gap s t : ℕ) (pair : notSeven s t ≡ false) where
   unfolding gapAt heldAt versionsOf opened noStore heldFrom
   rule-so = refl
 
-  -- whoever judges it first refuses a gap that is not allowed with 19, and then goes by his own rules
+  -- whoever judges it first refuses a gap that is not allowed with 19, and then goes by his own
+  -- rules
   by-rules : {A : Type 0} (Reading : Outcome A → Type 0) (rules : List (Rule (Outcome A))) (o : Outcome A) (k : Bool) → allowed gap ≡ k
       → Decided Reading (storeRules (pick k (opened (firstOf gap s t)) noStore) rules) o → Decided Reading (row 19 (badGap gap) ∷ rules) o
   unfolding opened noStore overfull startsLate

@@ -1,4 +1,5 @@
--- The conditions that the table spells out in document 01's figures are those by which the functions refuse.
+-- The conditions that the table spells out in document 01's figures are those by which the
+-- functions refuse.
 -- Assumes nothing.
 use mathlib.Core.Path.{_≡_, refl, sym, ap, ap₂, _∙_}
 use mathlib.Core.Bool.{Bool, true, false, not, _&&_, _||_}

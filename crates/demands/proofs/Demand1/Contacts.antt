@@ -69,7 +69,8 @@ nexting b search =
     go true quiet nine reads = (λ q. absurd (true-not-false (sym q)), λ q. (λ p. absurd (true-not-false (sym p)), reads))
     go true (refused n) nine reads = (λ q. absurd (true-not-false (sym q)), λ q. (λ p. ap refuses nine, λ p. absurd (true-not-false p)))
 
--- (a) to (d), from whether there are two places, whether they are alike, and whether the bits are a marker's
+-- (a) to (d), from whether there are two places, whether they are alike, and whether the bits are a
+-- marker's
 lettered : (two alike mark : Bool) (a m : Contact)
     → Decided (λ o. ((two && alike) ≡ true → o ≡ gives a) × ((two && alike) ≡ false → o ≡ gives m))
     (row 7 (not alike) ∷ row 8 (not (two && alike) && not mark) ∷ [])

@@ -59,7 +59,8 @@ signal-refused az bs = go (isPreset (yOf (B bs)) && noIncrease az)
     go true = refl
     go false = refl
 
--- what a group of the present direction says can only be refused with 15, and is if its distance is judged and not allowed
+-- what a group of the present direction says can only be refused with 15, and is if its distance is
+-- judged and not allowed
 content-fifteen : (kind : Kind) (v ay az : ℕ) (bs : List Placed) → Only 15 (contentOf kind v ay az bs)
 unfolding Only
 content-fifteen Kind.Signal v ay az bs =

@@ -1,4 +1,5 @@
--- A listing in either style refuses as the settings' judgement and document 01's table say, and then leaves everything as it was.
+-- A listing in either style refuses as the settings' judgement and document 01's table say, and
+-- then leaves everything as it was.
 -- Assumes nothing.
 use Prim.Native.Nat.{ℕ, _%_}
 use mathlib.Core.Path.{_≡_, refl, sym, ap, ap₂, subst, _∙_}

@@ -1,4 +1,5 @@
--- The next contact begins with the first bit that opens one, and ends before the first after it that closes it.
+-- The next contact begins with the first bit that opens one, and ends before the first after it
+-- that closes it.
 -- Assumes nothing.
 use mathlib.Core.Path.{_≡_, refl, sym, ap, ap₂, _∙_}
 use mathlib.Core.Bool.{Bool, true, false, _||_}

@@ -1,4 +1,5 @@
--- The check of a record, the step and the run refuse as document 01's table says, and leave the ride as it was.
+-- The check of a record, the step and the run refuse as document 01's table says, and leave the
+-- ride as it was.
 -- Assumes nothing.
 use mathlib.Core.Path.{_≡_, refl, sym, subst}
 use mathlib.Core.Bool.{Bool, true, false, not}

@@ -1,4 +1,5 @@
--- A search, and the one a bit further on: what a bit of the one is, the bit before it is of the other.
+-- A search, and the one a bit further on: what a bit of the one is, the bit before it is of the
+-- other.
 -- Assumes nothing.
 use mathlib.Core.Path.{_≡_, refl, sym, ap, ap₂, _∙_}
 use mathlib.Core.Bool.{Bool, true, false, _&&_, _||_}

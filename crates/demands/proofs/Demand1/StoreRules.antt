@@ -88,7 +88,8 @@ store-so Reading next rules store rest =
     refuse-so Reading (orderRules (take (store .count) (store .versions)) rules) 25 (inOrder (take (store .count) (store .versions))) next (ltb 32 (store .count))
     (order-so Reading next rules (take (store .count) (store .versions)) rest)
 
--- A function under a store that asks of its bytes only that they are records: the store's own refusal, then 16.
+-- A function under a store that asks of its bytes only that they are records: the store's own
+-- refusal, then 16.
 pub records-so : {A : Type 0} (store : Store) (bytes : List ℕ) (made : Outcome A) → Given made
     → Decided Given (storeRules store (row 16 (badLength bytes) ∷ [])) (then (judged store) (λ k. pick (eqb (length bytes % 8) 0) made (refuses 16)))
 unfolding badLength

@@ -1,4 +1,5 @@
--- Demand 1 holds of the viewer's functions: opening judges the settings first and then the length, forward the end, back the kept count.
+-- Demand 1 holds of the viewer's functions: opening judges the settings first and then the length,
+-- forward the end, back the kept count.
 -- Assumes nothing.
 use Prim.Native.Nat.{ℕ, _/_, _%_}
 use mathlib.Core.Path.{_≡_, refl, sym, ap, subst, _∙_}

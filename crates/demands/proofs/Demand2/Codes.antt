@@ -1,5 +1,5 @@
--- Both codes: a figure in range is written as a word that reads back as it, and a word that is read is written back. One law over
--- the width, over the contracts.
+-- Both codes: a figure in range is written as a word that reads back as it, and a word that is read
+-- is written back. One law over the width, over the contracts.
 -- Assumes nothing.
 use Prim.Native.Nat.{ℕ, _<_, _≤_}
 use mathlib.Core.Path.{_≡_, sym, ap, _∙_}
@@ -29,7 +29,8 @@ in-range : (n largest x : ℕ) → x ≤ largest → writeWord n largest x ≡ g
 unfolding writeWord
 in-range n largest x l = ap (λ (t : Bool). pick t (gives (sent n x)) (refuses 2)) (le-leb x largest l)
 
--- Of a code whose writer says `writeWord n largest` and whose reader says `readWord n`, each told from what it says.
+-- Of a code whose writer says `writeWord n largest` and whose reader says `readWord n`, each told
+-- from what it says.
 module _ (n largest : ℕ) {A R : Type 0} (Writes : ℕ → A → Type 0) (word : ℕ → A) (Reads : ℕ → R → Type 0) (figure : ℕ → R)
     (written : (x w : ℕ) (a : A) → Writes x a → writeWord n largest x ≡ gives w → a ≡ word w)
     (reading : (w x : ℕ) (r : R) → Reads w r → readWord n w ≡ gives x → r ≡ figure x)

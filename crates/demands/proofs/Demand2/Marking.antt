@@ -1,4 +1,5 @@
--- An accepted group gives its line with its mark, and what is known after it, as document 01 says: by what its message says.
+-- An accepted group gives its line with its mark, and what is known after it, as document 01 says:
+-- by what its message says.
 -- Assumes nothing.
 use mathlib.Core.Path.{_≡_, refl, ap, _∙_}
 use mathlib.Core.Bool.{Bool, true, false}

@@ -1,4 +1,5 @@
--- What an accepted group says is what document 01's rules give for its balises: the judgement, taken apart.
+-- What an accepted group says is what document 01's rules give for its balises: the judgement,
+-- taken apart.
 -- Assumes nothing.
 use mathlib.Core.Path.{_≡_, refl, subst}
 use mathlib.Core.Logic.{_⊎_, inl, inr}
@@ -77,7 +78,8 @@ decided-view misfit (fit k a) bs m e =
     subst (View bs) is (plain (inl refl) refl)
 decided-view (fit k a) o bs m e = present-view k a bs m e
 
--- What holds of the message of all balises that are accepted holds of the message of every accepted group.
+-- What holds of the message of all balises that are accepted holds of the message of every accepted
+-- group.
 pub of-group : (Q : List Placed → Message → Type 0) → ((bs : List Placed) (m : Message) → judgeRead bs ≡ gives m → Q bs m)
     → (g : Group) (m : Message) → judge g ≡ gives m → Q (partsOf g) m
 unfolding judge partsOf

@@ -1,4 +1,5 @@
--- An accepted group holds the figure of its number balise or none, and the line of a signal shows it.
+-- An accepted group holds the figure of its number balise or none, and the line of a signal shows
+-- it.
 -- Assumes nothing.
 use mathlib.Core.Path.{_≡_, refl, ap, subst}
 use mathlib.Core.Logic.{_⊎_, inl, inr}

@@ -1,4 +1,5 @@
--- The rows in short and in long forms, and groups just outside, are judged as document 01 says: all of them computed at once.
+-- The rows in short and in long forms, and groups just outside, are judged as document 01 says: all
+-- of them computed at once.
 -- Assumes nothing.
 use mathlib.Core.Path.{_≡_, refl, _∙_}
 use mathlib.Core.List.{List, [], _∷_, map}

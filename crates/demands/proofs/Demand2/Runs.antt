@@ -1,5 +1,5 @@
--- A run is the step of its first record and then the run over the rest: the records of a trace come one after the other, and
--- their numbers do not matter to the state.
+-- A run is the step of its first record and then the run over the rest: the records of a trace come
+-- one after the other, and their numbers do not matter to the state.
 -- Assumes nothing.
 use mathlib.Core.Path.{_≡_, refl, sym, ap, ap₂, _∙_}
 use mathlib.Core.Bool.{Bool, true, false}

@@ -1,4 +1,5 @@
--- A step of an accepted record is steps 2 to 4 of document 01, as far as each hypothesis of specs/Steps.antt takes it.
+-- A step of an accepted record is steps 2 to 4 of document 01, as far as each hypothesis of
+-- specs/Steps.antt takes it.
 -- Assumes nothing.
 use mathlib.Core.Path.{_≡_, sym, ap, _∙_}
 use mathlib.Core.Bool.{Bool, true, _&&_}

@@ -1,4 +1,5 @@
--- Where every place has the words sent, `find` hands out nothing but the telegrams sent, and every unflipped one.
+-- Where every place has the words sent, `find` hands out nothing but the telegrams sent, and every
+-- unflipped one.
 -- Assumes nothing.
 use mathlib.Core.Path.{_≡_, refl, sym, ap, ap₂, _∙_, subst}
 use mathlib.Core.Logic.{_⊎_, inl, inr}
@@ -61,7 +62,8 @@ comes-listed {b} {s} {t} {start} {len} (further {p = p} {m = m} k c) =
     (at p (gives m) ∷ r .0, listed-further (specified b start len s t (Found.At p m) k) (r .1), ap₂ _∷_ (sym (found-back (Found.At p m))) (r .2), ap (λ (ps : List ℕ). p ∷ ps) (r .3))
 comes-listed {b} {s} {t} {start} {len} (ends k) = ([], listed-ends (specified b start len s t Found.NoPlace k), refl, refl)
 
--- And what the specification lists comes, to one who is answered at every call that lies between bit `low` and bit `high`.
+-- And what the specification lists comes, to one who is answered at every call that lies between
+-- bit `low` and bit `high`.
 listed-comes : {b : List ℕ} {s t start len : ℕ} {v : List Single} (low high : ℕ)
     → ((start len : ℕ) → low ≤ start → start + len ≤ high → (r : Found) × Find b start len s t r)
     → low ≤ start → start + len ≤ high → Listed (Specified b s t) start len v → (w : List Found) × Comes b s t start len w

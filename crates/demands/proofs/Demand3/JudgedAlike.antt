@@ -1,4 +1,5 @@
--- Where every place has the words sent, judging never answers 7, reads what was sent, and reads where there are two places.
+-- Where every place has the words sent, judging never answers 7, reads what was sent, and reads
+-- where there are two places.
 -- Assumes nothing.
 use mathlib.Core.Path.{_≡_, sym, ap, ap₂, _∙_, subst}
 use mathlib.Core.Logic.{inl, inr}

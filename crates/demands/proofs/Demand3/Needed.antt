@@ -1,6 +1,7 @@
--- Conditions of demand 3 that cannot be spared: for "together with the next", for the sync words and for the pair a line that breaks it, of
--- which what was not sent is handed out, or would be if refusal 4 did not come first.
--- (That a telegram of four flips can be another telegram is in Witnesses.)
+-- Conditions of demand 3 that cannot be spared: for "together with the next", for the sync words
+-- and for the pair a line that breaks it, of which what was not sent is handed out, or would be if
+-- refusal 4 did not come first. (That a telegram of four flips can be another telegram is in
+-- Witnesses.)
 -- Assumes nothing.
 use mathlib.Core.Path.{_≡_, refl, sym}
 use mathlib.Core.Bool.{false}
@@ -26,8 +27,8 @@ abbrev forty : List ℕ → ℕ → ℕ → ℕ → ℕ → ℕ → Telegram →
 forty buffer s t x y z sent phase =
     record { buffer = buffer; start = 0; len = 40; s = s; t = t; x = x; y = y; z = z; telegram = sent; phase = phase }
 
--- "Together with the next": two flips in each of two telegrams, none in a sync word. The balise sends 5, 13 and 7 between 08 and
--- E7 hex; five bits late 5, 8 and 3 are handed out.
+-- "Together with the next": two flips in each of two telegrams, none in a sync word. The balise
+-- sends 5, 13 and 7 between 08 and E7 hex; five bits late 5, 8 and 3 are handed out.
 abbrev apart : OneBalise
 apart = forty (0x08 ∷ 0x5a ∷ 0x8e ∷ 0x3c ∷ 0xe7 ∷ []) 0x08 0xe7 0x5a 0xd4 0x71 (Telegram.Figures 5 13 7) 5
 
@@ -47,8 +48,8 @@ apart-false : sentAt apart 0 ≡ false
 unfolding sentAt lineBit
 apart-false = refl
 
--- "No sync bit flips": one flip in a sync word and one in X. The balise sends zeroes between 00 and 7F hex; a telegram is handed
--- out one bit late, where none was sent.
+-- "No sync bit flips": one flip in a sync word and one in X. The balise sends zeroes between 00 and
+-- 7F hex; a telegram is handed out one bit late, where none was sent.
 abbrev sync-flip : OneBalise
 sync-flip = forty (0 ∷ 0 ∷ 0 ∷ 0 ∷ 0x7f ∷ []) 0x00 0x7f 0 0 0 (Telegram.Figures 0 0 0) 1
 
@@ -68,8 +69,8 @@ sync-flip-false : sentAt sync-flip 0 ≡ false
 unfolding sentAt lineBit
 sync-flip-false = refl
 
--- "Seven of their eight bits" (refusal 4): 6D and B6 hex differ in six. Two flips in one telegram, none in a sync word: of 10, 7 and
--- 13 the place three bits late would read 2, 8 and 10.
+-- "Seven of their eight bits" (refusal 4): 6D and B6 hex differ in six. Two flips in one telegram,
+-- none in a sync word: of 10, 7 and 13 the place three bits late would read 2, 8 and 10.
 abbrev six : OneBalise
 six = forty (0x6d ∷ 0x2b ∷ 0x8e ∷ 0xa5 ∷ 0xb6 ∷ []) 0x6d 0xb6 0xa5 0x71 0xd4 (Telegram.Figures 10 7 13) 3
 

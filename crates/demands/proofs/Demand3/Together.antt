@@ -1,4 +1,5 @@
--- Where every place has the words sent, the places are alike: `survey` and `judge` never answer 7, and read what was sent.
+-- Where every place has the words sent, the places are alike: `survey` and `judge` never answer 7,
+-- and read what was sent.
 -- Assumes nothing.
 use mathlib.Core.Path.{_≡_, refl, sym, ap, ap₂, _∙_, subst}
 use mathlib.Core.Logic.{_⊎_, inl, inr}

@@ -1,4 +1,5 @@
--- Calls of `read_short` and `find` that the contracts allow, made in full: hypotheses on calls are met.
+-- Calls of `read_short` and `find` that the contracts allow, made in full: hypotheses on calls are
+-- met.
 -- Assumes nothing.
 use mathlib.Core.Path.{refl}
 use mathlib.Core.List.{List, [], _∷_}
@@ -19,7 +20,8 @@ use Rattle.demands.specs.Calls.{HandedOut, first, later, further, ends}
 use Rattle.demands.specs.Demand3.{ComesOf}
 use Rattle.demands.proofs.Witness.Witnesses.{line, one}
 
--- The noise law: a one was sent, 8E hex flipped, which is the code word of eight, and a nine is read: one and eight, added without carry.
+-- The noise law: a one was sent, 8E hex flipped, which is the code word of eight, and a nine is
+-- read: one and eight, added without carry.
 one-sent : ReadShort 0x17 (ShortRead.Figure 1) × ReadShort 0x99 (ShortRead.Figure 9)
 unfolding readWord isCode even count covers figure onwards isCheck exchanged other word
 one-sent = (((0x17, tt), refl), ((0x99, tt), refl))

@@ -1,5 +1,5 @@
--- The hypotheses of the theorem on marks are met by the last record of document 01's ride, with no linking and with linking that
--- makes it early, good or late by one decimetre.
+-- The hypotheses of the theorem on marks are met by the last record of document 01's ride, with no
+-- linking and with linking that makes it early, good or late by one decimetre.
 -- Assumes nothing.
 use Prim.Native.Nat.{ℕ}
 use native.Mathlib.Omega.{arith}
@@ -61,7 +61,8 @@ itsGroup =
 abbrev last : List ℕ
 last = 0x00 ∷ 0x00 ∷ 0x17 ∷ 0x70 ∷ 0x03 ∷ 0x00 ∷ 0x00 ∷ 0x00 ∷ []
 
--- The record's step, from this linking on, with this mark: the signal's line, and that the next one is missed.
+-- The record's step, from this linking on, with this mark: the signal's line, and that the next one
+-- is missed.
 abbrev lastStep : Linking → Mark → OneStep
 lastStep linking mark =
     record {
@@ -115,7 +116,8 @@ Met linking mark = LeavesBehind (lastStep linking mark) × JudgeGroup itsGroup (
 abbrev lent : Linking → Ride × (ℕ × (List ℕ × Unit {0}))
 lent linking = (lastStep linking Mark.First .ride, (40, (last, tt)))
 
--- D = 500: 4D is 5 x 400, 6D is 5 x 600. At 399 early, at 400 and 600 good, at 601 late; with no linking first.
+-- D = 500: 4D is 5 x 400, 6D is 5 x 600. At 399 early, at 400 and 600 good, at 601 late; with no
+-- linking first.
 pub its-answers : JudgeGroup itsGroup (GroupJudged.Accepted itsMessage) × Answered Linking.Unset Mark.First × Answered (Linking.Set 500 601) Mark.Early
     × Answered (Linking.Set 500 600) Mark.Good × Answered (Linking.Set 500 400) Mark.Good × Answered (Linking.Set 500 399) Mark.Late
 unfolding readWord isCode even count covers figure onwards isCheck exchanged other word shortWord longWord telegram balises readAll fits first fitRow fitRows howMany fitIn fitting distance signalSpeed targetFigure routeSpeed distanceOf signalDistance numberOf judgeRead judge odometerOf passedOf inOrder checkRecord noGroup nothingKnown freshRide join takeUp markAt close leave closeBehind missedLines afterMissed goOn treat step badGap

@@ -1,5 +1,5 @@
--- The hypotheses of the theorems on numbers are met: the end of a ride closes a signal with its number balise after it, in either
--- direction.
+-- The hypotheses of the theorems on numbers are met: the end of a ride closes a signal with its
+-- number balise after it, in either direction.
 -- Assumes nothing.
 use Prim.Native.Nat.{ℕ}
 use native.Mathlib.Omega.{arith}

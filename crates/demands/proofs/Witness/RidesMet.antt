@@ -1,5 +1,6 @@
--- The hypotheses of the other theorems on rides are met: a record that finds no group open, one that leaves a group of one balise
--- behind, one that joins an open group, the end of a ride, and a group in the opposite direction.
+-- The hypotheses of the other theorems on rides are met: a record that finds no group open, one
+-- that leaves a group of one balise behind, one that joins an open group, the end of a ride, and a
+-- group in the opposite direction.
 -- Assumes nothing.
 use Prim.Native.Nat.{ℕ}
 use native.Mathlib.Omega.{arith}

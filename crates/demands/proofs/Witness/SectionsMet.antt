@@ -1,5 +1,6 @@
--- The hypotheses of the laws on rides in sections are met, by `step`: document 01's ride, cut after its first record, is ridden card by card; so is a ride with a number,
--- cut before its number balise; and a call that takes a whole card. (By `run` and `list`: StoresMet.antt.)
+-- The hypotheses of the laws on rides in sections are met, by `step`: document 01's ride, cut after
+-- its first record, is ridden card by card; so is a ride with a number, cut before its number
+-- balise; and a call that takes a whole card. (By `run` and `list`: StoresMet.antt.)
 -- Assumes nothing.
 use Prim.Native.Nat.{ℕ, _+_, _*_, _%_, _≤_}
 use native.Mathlib.Omega.{arith}

@@ -1,5 +1,6 @@
--- The hypotheses of the laws on rides under a store are met: a store of one version is opened with a pair that is not 00 and 7F; one of two
--- versions is good, and document 01's ride, cut after its first record, is ridden and listed under it card by card.
+-- The hypotheses of the laws on rides under a store are met: a store of one version is opened with
+-- a pair that is not 00 and 7F; one of two versions is good, and document 01's ride, cut after its
+-- first record, is ridden and listed under it card by card.
 -- Assumes nothing.
 use Prim.Native.Nat.{ℕ, _+_, _%_, _≤_}
 use native.Mathlib.Omega.{arith}

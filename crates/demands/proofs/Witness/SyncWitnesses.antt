@@ -1,5 +1,5 @@
--- Noise on the sync words: a line that meets the hypothesis and hands out its unflipped telegrams, and one that meets it only from the true places on,
--- of which a false place comes.
+-- Noise on the sync words: a line that meets the hypothesis and hands out its unflipped telegrams,
+-- and one that meets it only from the true places on, of which a false place comes.
 -- Assumes nothing.
 use mathlib.Core.Path.{_≡_, refl, ap, _∙_, subst}
 use mathlib.Core.Bool.{Bool, true, false}
@@ -38,9 +38,10 @@ use Rattle.demands.proofs.Beside.SyncNoise.{sync-noise}
 
 -- ---- two flips in a sync word
 
--- Figures 1, 8 and 5 are sent between 35 and DA hex, whose fourth sent bits are equal. The stretch of twenty bytes begins with Y of a telegram and ends with
--- X of another. Of its four whole telegrams the first two share a sync word that arrives as 36 for 35, two flips; and the last X arrives as 14 for
--- 17, two flips more.
+-- Figures 1, 8 and 5 are sent between 35 and DA hex, whose fourth sent bits are equal. The stretch
+-- of twenty bytes begins with Y of a telegram and ends with X of another. Of its four whole
+-- telegrams the first two share a sync word that arrives as 36 for 35, two flips; and the last X
+-- arrives as 14 for 17, two flips more.
 abbrev noisy : OneBalise
 noisy =
     record {
@@ -56,7 +57,8 @@ noisy =
       phase = 16;
     }
 
--- It meets what is asked: the line is a proper one, its equal bit is in the middle, and no forty bits in a row hold more than two flips.
+-- It meets what is asked: the line is a proper one, its equal bit is in the middle, and no forty
+-- bits in a row hold more than two flips.
 noisy-proper : Proper noisy
 unfolding isGood differing inside telegram shortWord readWord isCode even count covers exchanged other word figure onwards isCheck
 noisy-proper = record { bytes = (omega arith, omega arith, omega arith, omega arith, omega arith); pair = refl; valid = refl; taken = refl }
@@ -110,8 +112,8 @@ noisy-judged r c =
 
 -- ---- windows from the true places alone
 
--- Zeroes are sent between C0 and 1F hex, whose third sent bits are equal. The stretch of nine bytes has two whole telegrams, and a flip in each of the first two
--- sync words and in the second X.
+-- Zeroes are sent between C0 and 1F hex, whose third sent bits are equal. The stretch of nine bytes
+-- has two whole telegrams, and a flip in each of the first two sync words and in the second X.
 abbrev between : OneBalise
 between =
     record {

@@ -1,4 +1,5 @@
--- Lines that meet demand 3's hypothesis, and one with a fourth flip that does not and hands out what was not sent.
+-- Lines that meet demand 3's hypothesis, and one with a fourth flip that does not and hands out
+-- what was not sent.
 -- Assumes nothing.
 use mathlib.Core.Path.{_≡_, refl, sym, ap, _∙_}
 use mathlib.Core.List.{List, [], _∷_}
@@ -28,8 +29,9 @@ use Rattle.demands.specs.Demand3.{ComesOf}
 use Rattle.balise_line.proofs.Computed.{quietAt, few-flips, unflipped, clean}
 use Rattle.demands.proofs.Demand3.Handed.{specified, comes-is}
 
--- Figures 1, 8 and 5 are sent between 72 and 0D hex. The stretch of sixteen bytes begins with Y of a telegram and ends with X of
--- another; of the three whole telegrams between, the first has this word as its X.
+-- Figures 1, 8 and 5 are sent between 72 and 0D hex. The stretch of sixteen bytes begins with Y of
+-- a telegram and ends with X of another; of the three whole telegrams between, the first has this
+-- word as its X.
 abbrev pub line : ℕ → OneBalise
 line x =
     record {

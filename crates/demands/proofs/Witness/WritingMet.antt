@@ -1,4 +1,5 @@
--- A call of `write` that its contract allows, made in full, and what comes of judging its bits: hypotheses on calls of it are met.
+-- A call of `write` that its contract allows, made in full, and what comes of judging its bits:
+-- hypotheses on calls of it are met.
 -- Assumes nothing.
 use mathlib.Core.Path.{_≡_, refl}
 use mathlib.Core.List.{List, [], _∷_}

@@ -1,4 +1,5 @@
--- Inside the table the sum is the table's entry, by one computation over all of them; outside it is refusal 15.
+-- Inside the table the sum is the table's entry, by one computation over all of them; outside it is
+-- refusal 15.
 -- Assumes nothing.
 use Prim.Native.Nat.{_<_, _≤_}
 use mathlib.Core.Path.{sym}

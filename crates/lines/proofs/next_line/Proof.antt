@@ -1,4 +1,5 @@
--- `next_line` takes one character a turn: what is left of the block, with the line so far, comes to what the whole does.
+-- `next_line` takes one character a turn: what is left of the block, with the line so far, comes to
+-- what the whole does.
 use mathlib.Core.Path.{_≡_, refl, sym, ap, _∙_}
 use mathlib.Core.Bool.{Bool}
 use Prim.Native.Nat.{ℕ, _-_, _<_}

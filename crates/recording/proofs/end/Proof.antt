@@ -1,4 +1,5 @@
--- Inside a contact the record of what is cut; outside one, by whether the odometer is above the last record's.
+-- Inside a contact the record of what is cut; outside one, by whether the odometer is above the
+-- last record's.
 -- Assumes nothing.
 use Rattle.recording.specs.Says.{closing}
 use mathlib.Core.Path.{sym, ap, _∙_}

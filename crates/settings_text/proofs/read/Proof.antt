@@ -1,4 +1,5 @@
--- `read` takes line after line: what is left of the text, with the store so far, comes to what the whole does.
+-- `read` takes line after line: what is left of the text, with the store so far, comes to what the
+-- whole does.
 use mathlib.Core.Path.{_≡_, sym, ap, subst, _∙_}
 use mathlib.Core.Bool.{true}
 use Prim.Native.Nat.{ℕ, _+_, _-_, _≤_}

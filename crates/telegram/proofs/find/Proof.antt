@@ -1,4 +1,5 @@
--- The settings are judged first, then the stretch; the first place of a good stretch is what the scan finds.
+-- The settings are judged first, then the stretch; the first place of a good stretch is what the
+-- scan finds.
 -- Assumes nothing.
 use Prim.Native.Nat.{_+_, _-_}
 use mathlib.Core.Path.{_≡_, sym, _∙_}

@@ -1,4 +1,5 @@
--- `read_short` answers the high four bits exactly where the byte is a code word, and the parity elsewhere.
+-- `read_short` answers the high four bits exactly where the byte is a code word, and the parity
+-- elsewhere.
 -- Assumes nothing.
 use Prim.Native.Nat.{_/_, _<_}
 use mathlib.Core.Path.{_≡_, sym, ap, _∙_}

@@ -1,4 +1,5 @@
--- `list` meets its contract: the table passes the test at each of its 2,048 entries, which is computed.
+-- `list` meets its contract: the table passes the test at each of its 2,048 entries, which is
+-- computed.
 use mathlib.Core.Path.{refl}
 use Rattle.words.specs.Bits.{word}
 use Rattle.words.specs.Plain.{isCheck, covers, count, carriers, carried, madeEven, plainWord}

@@ -1,5 +1,6 @@
--- `read_long` is right because a code word stands in the list, at its figure alone: where the search meets the word, that is its
--- figure; where it has passed all of the list, the word is no code word.
+-- `read_long` is right because a code word stands in the list, at its figure alone: where the
+-- search meets the word, that is its figure; where it has passed all of the list, the word is no
+-- code word.
 use mathlib.Core.Path.{_≡_, refl, sym, ap, _∙_}
 use mathlib.Core.Bool.{false}
 use mathlib.Core.List.{List}

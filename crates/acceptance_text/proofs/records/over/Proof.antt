@@ -1,4 +1,5 @@
--- `over` takes the records one by one, with what is held for each: the block from each of them on is the whole block.
+-- `over` takes the records one by one, with what is held for each: the block from each of them on
+-- is the whole block.
 use mathlib.Core.Path.{_≡_, refl, sym, ap, _∙_}
 use mathlib.Core.List.{List}
 use mathlib.Core.Logic.{⊎-elim}

@@ -1,4 +1,5 @@
--- `fill` writes one byte a turn: those before it are the eight bytes in turn, those from it on the old ones.
+-- `fill` writes one byte a turn: those before it are the eight bytes in turn, those from it on the
+-- old ones.
 use mathlib.Core.Path.{_≡_, refl, _∙_}
 use Prim.Native.Nat.{ℕ, _-_, _%_, _≤_, _<_}
 use native.Mathlib.Omega.{arith}

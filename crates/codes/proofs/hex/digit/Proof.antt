@@ -1,4 +1,5 @@
--- `digit` is right because a number below 10 and one from 10 on are told apart by the test of the definition.
+-- `digit` is right because a number below 10 and one from 10 on are told apart by the test of the
+-- definition.
 use native.Mathlib.Omega.{arith}
 use borrow.Author.Tests.{lt-ltb, le-ltb}
 use borrow.Author.Needs.{needs}

@@ -1,4 +1,5 @@
--- `put_eight` puts one byte a turn: the bytes that are left, put after those that stand, always make the whole.
+-- `put_eight` puts one byte a turn: the bytes that are left, put after those that stand, always
+-- make the whole.
 use mathlib.Core.Path.{_≡_, refl, sym, ap, _∙_}
 use mathlib.Core.List.{List}
 use Prim.Native.Nat.{ℕ, _+_, _-_, _<_, _≤_}

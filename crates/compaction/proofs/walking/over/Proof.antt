@@ -1,5 +1,6 @@
--- `over` takes the records one by one: the next one settles the one that waits, which is treated with what is held for it. What is kept goes to
--- the block's start, no further on than what was read, so that what is still to be read is as it was.
+-- `over` takes the records one by one: the next one settles the one that waits, which is treated
+-- with what is held for it. What is kept goes to the block's start, no further on than what was
+-- read, so that what is still to be read is as it was.
 use Prim.Native.Nat.{ℕ, _+_, _-_, _*_, _/_, _≤_, _<_}
 use native.Mathlib.Omega.{arith}
 use mathlib.Core.Path.{_≡_, refl, sym, ap, subst, _∙_}

@@ -1,4 +1,5 @@
--- What the contacts are from the opening bit on, they still are from each later bit on that the walk comes to, until a bit closes.
+-- What the contacts are from the opening bit on, they still are from each later bit on that the
+-- walk comes to, until a bit closes.
 -- Assumes nothing.
 use Prim.Native.Nat.{ℕ, suc, _+_, _-_, _≤_, _<_}
 use mathlib.Core.Path.{_≡_, refl, sym, ap, _∙_}

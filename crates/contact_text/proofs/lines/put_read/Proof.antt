@@ -1,4 +1,5 @@
--- `put_read` puts the word, the figures, the number of places and the first of them one after the other.
+-- `put_read` puts the word, the figures, the number of places and the first of them one after the
+-- other.
 use mathlib.Core.Path.{ap, _∙_}
 use mathlib.Core.List.{List, _++_}
 use Prim.Native.Nat.{ℕ, _+_, _≤_}

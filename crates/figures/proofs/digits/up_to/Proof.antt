@@ -1,4 +1,5 @@
--- `up_to` takes one digit a turn: the number so far, continued by the digits that are left, is always the whole number.
+-- `up_to` takes one digit a turn: the number so far, continued by the digits that are left, is
+-- always the whole number.
 use mathlib.Core.Path.{_≡_, refl, sym, _∙_}
 use mathlib.Core.Bool.{true}
 use Prim.Native.Nat.{_+_, _-_, _*_, _≤_, _<_}

@@ -1,4 +1,5 @@
--- `place_of` looks at one byte a turn: the first sign from here on is always the first from the start on.
+-- `place_of` looks at one byte a turn: the first sign from here on is always the first from the
+-- start on.
 use mathlib.Core.Path.{_≡_, refl, sym, _∙_}
 use Prim.Native.Nat.{_+_, _-_}
 use native.Mathlib.Omega.{arith}

@@ -1,4 +1,5 @@
--- `with_noise` makes one bit a turn, the highest first: after i turns it has the first i bits, and the generator's number after them.
+-- `with_noise` makes one bit a turn, the highest first: after i turns it has the first i bits, and
+-- the generator's number after them.
 use Prim.Native.Nat.{ℕ, suc, _+_, _-_, _%_, _≤_, _<_}
 use mathlib.Core.Path.{_≡_, refl, sym, ap, ap₂, _∙_, subst}
 use native.Mathlib.Numerals.{add-one}

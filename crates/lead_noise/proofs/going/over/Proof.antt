@@ -1,4 +1,5 @@
--- `over` goes over the whole frames byte by byte: the bytes passed have their noise, those ahead none yet, and x is that of the next byte of line.
+-- `over` goes over the whole frames byte by byte: the bytes passed have their noise, those ahead
+-- none yet, and x is that of the next byte of line.
 use Prim.Native.Nat.{ℕ, _+_, _-_, _≤_}
 use mathlib.Core.Path.{_≡_, refl, ap, _∙_}
 use mathlib.Core.Logic.{⊎-elim}

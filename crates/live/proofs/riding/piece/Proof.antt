@@ -1,4 +1,5 @@
--- `piece` lists the frames until they are used, and counts its turns down. The buffer keeps its length.
+-- `piece` lists the frames until they are used, and counts its turns down. The buffer keeps its
+-- length.
 -- Assumes nothing.
 use mathlib.Core.Path.{_≡_, sym}
 use native.Mathlib.Omega.{arith}

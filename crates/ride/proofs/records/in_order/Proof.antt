@@ -1,4 +1,5 @@
--- `in_order` is the test of the definition, with `&` grouped from the left; the three bytes are looked at for the kinds 1 to 3 alone.
+-- `in_order` is the test of the definition, with `&` grouped from the left; the three bytes are
+-- looked at for the kinds 1 to 3 alone.
 use Rattle.ride.specs.Record.{inOrder}
 use borrow.Author.Tests.{ne-eqb}
 use borrow.Author.Needs.{needs}

@@ -1,4 +1,5 @@
--- `go_on` sets the odometer and takes the balise up where the record is quiet, and does all steps where it is not.
+-- `go_on` sets the odometer and takes the balise up where the record is quiet, and does all steps
+-- where it is not.
 use mathlib.Core.Path.{ap, sym, _∙_}
 use mathlib.Core.List.{[]}
 use Rattle.words.specs.Answer.{gives}

@@ -1,4 +1,5 @@
--- `is_quiet` asks for what an open group can do, or else for what linking can do where none is open.
+-- `is_quiet` asks for what an open group can do, or else for what linking can do where none is
+-- open.
 use mathlib.Core.Path.{sym, _∙_}
 use Rattle.ride.proofs.Steps.{quiet-open, quiet-none}
 use borrow.Author.Needs.{needs}

@@ -1,4 +1,5 @@
--- `put_figure` puts nothing for none, and else the space, the `n` and the number, which has at most five digits.
+-- `put_figure` puts nothing for none, and else the space, the `n` and the number, which has at most
+-- five digits.
 use mathlib.Core.Path.{sym, ap, _∙_}
 use mathlib.Core.List.{List, _++_}
 use Prim.Native.Nat.{ℕ, _<_, _^_}

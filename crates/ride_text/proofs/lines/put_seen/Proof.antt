@@ -1,4 +1,5 @@
--- `put_seen` puts the place, the direction, the kind, the mark, the number and the newline one after the other.
+-- `put_seen` puts the place, the direction, the kind, the mark, the number and the newline one
+-- after the other.
 use mathlib.Core.List.{_++_}
 use Rattle.text.specs.Text.{codes, decimal}
 use Rattle.text.proofs.Standing.{less, join, join-4}

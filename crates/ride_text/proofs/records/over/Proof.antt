@@ -1,4 +1,5 @@
--- `over` takes the records one by one, with what is held for each: the listing from each of them on is the whole.
+-- `over` takes the records one by one, with what is held for each: the listing from each of them on
+-- is the whole.
 use mathlib.Core.Path.{_≡_, refl, sym, ap, _∙_}
 use mathlib.Core.List.{List}
 use Prim.Native.Nat.{ℕ, suc, _+_, _-_, _/_, _<_, _≤_}

@@ -1,4 +1,5 @@
--- `in_force` goes from version to version: what is in force among those from here on is in force among all.
+-- `in_force` goes from version to version: what is in force among those from here on is in force
+-- among all.
 use mathlib.Core.Path.{_≡_, refl, sym, ap, _∙_}
 use Prim.Native.Nat.{_-_, _≤_}
 use native.Mathlib.Omega.{arith}

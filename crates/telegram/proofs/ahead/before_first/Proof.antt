@@ -1,4 +1,5 @@
--- The marks stand in the order of the offsets, so the zeroes above the highest are offsets without one.
+-- The marks stand in the order of the offsets, so the zeroes above the highest are offsets without
+-- one.
 -- Assumes nothing.
 use Prim.Native.Nat.{_+_}
 use native.Mathlib.Omega.{arith}

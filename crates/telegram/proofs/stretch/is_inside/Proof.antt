@@ -1,4 +1,5 @@
--- The stretch ends inside the buffer exactly if the bytes that it reaches into, counted up, are no more than the buffer's.
+-- The stretch ends inside the buffer exactly if the bytes that it reaches into, counted up, are no
+-- more than the buffer's.
 -- Assumes nothing.
 use Prim.Native.Nat.{_+_, _*_, _^_, _≤_, _<_}
 use mathlib.Core.Bool.{and-false}

@@ -1,4 +1,5 @@
--- `copy` copies one byte a turn: the bytes that are left, put after those that stand, always make the whole.
+-- `copy` copies one byte a turn: the bytes that are left, put after those that stand, always make
+-- the whole.
 use native.Mathlib.Nat.{add-zero}
 use mathlib.Core.Path.{_≡_, refl, sym, ap, _∙_}
 use mathlib.Core.List.{List}

@@ -1,4 +1,5 @@
--- `spell` puts the last digit first: the digits that are left, put before those that stand, always make the number.
+-- `spell` puts the last digit first: the digits that are left, put before those that stand, always
+-- make the number.
 use mathlib.Core.Path.{_≡_, refl, sym, ap, _∙_}
 use mathlib.Core.List.{List, [], _∷_, _++_}
 use Prim.Native.Nat.{ℕ, _+_, _/_, _%_, _^_, _<_, _≤_}

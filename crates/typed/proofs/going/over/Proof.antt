@@ -1,4 +1,5 @@
--- `over` takes line after line and counts its turns down; the block and what waits keep their lengths.
+-- `over` takes line after line and counts its turns down; the block and what waits keep their
+-- lengths.
 use mathlib.Core.Path.{_≡_, refl, _∙_}
 use native.Mathlib.Omega.{arith}
 use lib.ListN.{length}

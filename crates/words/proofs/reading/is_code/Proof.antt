@@ -1,4 +1,5 @@
--- `is_code` is right because the ones under each mask are those that the mask's check looks at, in a word of either code.
+-- `is_code` is right because the ones under each mask are those that the mask's check looks at, in
+-- a word of either code.
 use mathlib.Core.Path.{_≡_, refl, sym, ap, _∙_}
 use mathlib.Core.Bool.{Bool, true, false, _&&_, and-assoc, and-true}
 use mathlib.Core.Logic.{⊎-elim}

@@ -1,4 +1,5 @@
--- `carried` spells the word that has the figure's bits, lowest first, at the positions that carry, and 0 at each check.
+-- `carried` spells the word that has the figure's bits, lowest first, at the positions that carry,
+-- and 0 at each check.
 use mathlib.Core.Path.{_≡_, refl, sym, ap, ap₂, _∙_, subst}
 use mathlib.Core.Bool.{Bool, true, false}
 use Prim.Native.Nat.{ℕ, zero, suc, _+_, _-_, _*_, _/_, _%_, _^_, _≤_, _<_}

@@ -1,4 +1,5 @@
--- `sent` is its definition: the figure's bits, the five checks made even one after the other, the exchange.
+-- `sent` is its definition: the figure's bits, the five checks made even one after the other, the
+-- exchange.
 use mathlib.Core.Path.{_≡_, ap, _∙_}
 use Prim.Native.Nat.{ℕ}
 use native.Mathlib.Omega.{arith}
@@ -12,7 +13,8 @@ use Rattle.words.proofs.writing.sent.Tie as tie
 on : (n check : ℕ) {w v r : ℕ} → w ≡ v → r ≡ madeEven n w check → r ≡ madeEven n v check
 on n check is made = made ∙ ap (λ (h : ℕ). madeEven n h check) is
 
--- Each word follows from the one before it: the bare figure, the checks 8, 4, 2, 1 and 0, the exchange.
+-- Each word follows from the one before it: the bare figure, the checks 8, 4, 2, 1 and 0, the
+-- exchange.
 returns : tie.Need-returns
 unfolding sent plainWord
 returns c =
