@@ -34,7 +34,7 @@ use Rattle.antenna.specs.Hearing.{hear}
 use Rattle.antenna.specs.Line.{Told, told}
 use Rattle.antenna.specs.Piece.{first, hearPiece}
 use Rattle.noise_laws.specs.Lines.{noisyLine}
-use Rattle.noise_laws.proofs.OtherLines.{noisy-proper, noisy-pass}
+use Rattle.noise_laws.proofs.Lines.{noisy-proper, noisy-pass}
 use Rattle.recording_laws.specs.Calls.{FreshEar, HearPiece}
 use Rattle.recording_laws.specs.Hearing.{Piece, standing, opens as opened, closes as closed, ends, Heard, none, piece, InOne}
 use Rattle.antenna_noise_laws.specs.InPieces.{WithItsPair, AllTheSent}

@@ -24,8 +24,6 @@ pub mod Reading
 mod MarkerLine
 mod Marker
 mod Computed
-mod FirstLines
-mod LastLines
-pub mod OtherLines
+pub mod Lines
 mod Limits
 mod MarkerMet
