@@ -51,21 +51,21 @@ finish (Walk.After (Tail.Must next) p) = finishMust next
 finish (Walk.After (Tail.May next) p) = []
 
 -- Balises can be so.
-pub finish-sendable : (at : Stand) → areSendable (finish at) ≡ true
-finish-sendable (Stand.Before Before.Nothing) = refl
-finish-sendable (Stand.Before Before.Number) = refl
-finish-sendable (Stand.Before Before.Eight) = refl
-finish-sendable (Stand.Before Before.NumberEight) = refl
-finish-sendable (Stand.Before Before.BackFourteen) = refl
-finish-sendable (Stand.Before Before.BackNine) = refl
-finish-sendable (Stand.Before Before.BackMarker) = refl
-finish-sendable (Stand.Before Before.BackNumberMarker) = refl
-finish-sendable (Stand.After (Tail.Must Must.Nine) p) = refl
-finish-sendable (Stand.After (Tail.Must Must.LowNine) p) = refl
-finish-sendable (Stand.After (Tail.Must Must.Five) p) = refl
-finish-sendable (Stand.After (Tail.Must Must.Marker) p) = refl
-finish-sendable (Stand.After (Tail.Must Must.ThreeFiveSeven) p) = refl
-finish-sendable (Stand.After (Tail.May next) p) = refl
+pub finish-sendable : (at : Walk) → areSendable (finish at) ≡ true
+finish-sendable (Walk.Before Before.Nothing) = refl
+finish-sendable (Walk.Before Before.Number) = refl
+finish-sendable (Walk.Before Before.Eight) = refl
+finish-sendable (Walk.Before Before.NumberEight) = refl
+finish-sendable (Walk.Before Before.BackFourteen) = refl
+finish-sendable (Walk.Before Before.BackNine) = refl
+finish-sendable (Walk.Before Before.BackMarker) = refl
+finish-sendable (Walk.Before Before.BackNumberMarker) = refl
+finish-sendable (Walk.After (Tail.Must Must.Nine) p) = refl
+finish-sendable (Walk.After (Tail.Must Must.LowNine) p) = refl
+finish-sendable (Walk.After (Tail.Must Must.Five) p) = refl
+finish-sendable (Walk.After (Tail.Must Must.Marker) p) = refl
+finish-sendable (Walk.After (Tail.Must Must.ThreeFiveSeven) p) = refl
+finish-sendable (Walk.After (Tail.May next) p) = refl
 
 -- They fit a row that is still open, with 12 at most m times.
 pub record Finishes (at : Walk) (m : ℕ) : Type 0 where
