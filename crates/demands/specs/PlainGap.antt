@@ -20,7 +20,7 @@ use Rattle.ride_text.specs.declared.Listed.{Listed}
 use Rattle.compaction.specs.Says.{saysSize}
 use Rattle.compaction.specs.declared.Compacted.{Compacted}
 use Rattle.viewer.specs.Viewing.{done}
-use Rattle.viewer.specs.Says.{saysBegun}
+use Rattle.viewer.specs.Says.{saysOpeningWent}
 use Rattle.viewer.specs.Laws.{Starts}
 use Rattle.viewer.specs.declared.Started.{Started}
 use Rattle.demands.specs.Table.{notSeven, badGap}
@@ -50,6 +50,6 @@ pub record PlainGap : Type 1 where
   pub compact : (gap : ℕ) (b : Begun) → Opened gap b → (ride : Ride) (before : List ℕ) (r : Compacted) (after : List ℕ)
       → CompactIn ride (b .store) before r after → Decided Given (runRules gap before) (saysSize (r .size))
   pub start : (gap : ℕ) (b : Begun) → Opened gap b → (trace : RefT (List ℕ)) (r : Started) → Starts (b .store) trace r
-      → Decided (Is done) (runRules gap (now trace)) (saysBegun (r .begun))
+      → Decided (Is done) (runRules gap (now trace)) (saysOpeningWent (r .begun))
   -- a gap from 1 to 200: the store is good, and every record is treated with that gap
   pub everywhere : (gap : ℕ) (b : Begun) → Opened gap b → badGap gap ≡ false → Good (b .store) × (gapAt (b .store) ≡ (λ (odometer : ℕ). gap))

@@ -31,7 +31,7 @@ use Rattle.compaction.specs.Says.{saysSize}
 use Rattle.compaction.specs.declared.Waiting.{Waiting}
 use Rattle.compaction.specs.declared.Compacted.{Compacted}
 use Rattle.compaction.specs.declared.Block.{Block}
-use Rattle.viewer.specs.Says.{saysBegun as saysOpened, saysHow}
+use Rattle.viewer.specs.Says.{saysOpeningWent as saysOpened, saysCallWent}
 use Rattle.ride_text.specs.Says.{saysDone}
 use Rattle.ride_text.specs.Style.{Style}
 use Rattle.ride_text.specs.declared.Listed.{Listed}
@@ -119,7 +119,7 @@ pub record Untouched : Type 0 where
   pub asked : Bare saysAsked
   pub judged-under : Bare saysJudgedUnder
   pub viewer-opened : Bare saysOpened
-  pub viewer-moved : Bare saysHow
+  pub viewer-moved : Bare saysCallWent
   -- the functions that make a store of settings
   pub stores : StoresUntouched
   -- a viewer's calls

@@ -4,7 +4,7 @@
 mod page;
 mod strips;
 
-use console::CardsFound as Found;
+use console::CardsFound;
 use console::Given;
 use ride_text::REASONS;
 use settings::Store;
@@ -44,16 +44,16 @@ fn draw_cards(store: Store, first: usize) {
     let mut block = io::large_buffer();
     let found = console::go_over(first, &mut lengths, &mut block);
     match found {
-        Found::Cards => {
+        CardsFound::Cards => {
             let mut out = strips::room();
             draw_ride(store, first, &lengths, &mut block, &mut out);
         }
-        Found::BadLength(_) => draw_refused(),
-        Found::NoCard => usage(),
-        Found::TooMany => console::say_found(b"draw", found),
-        Found::CannotOpen(_) => console::say_found(b"draw", found),
-        Found::CannotRead(_) => console::say_found(b"draw", found),
-        Found::Once(_) => console::say_found(b"draw", found),
+        CardsFound::BadLength(_) => draw_refused(),
+        CardsFound::NoCard => usage(),
+        CardsFound::TooMany => console::say_found(b"draw", found),
+        CardsFound::CannotOpen(_) => console::say_found(b"draw", found),
+        CardsFound::CannotRead(_) => console::say_found(b"draw", found),
+        CardsFound::Once(_) => console::say_found(b"draw", found),
     }
 }
 

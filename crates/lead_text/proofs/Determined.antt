@@ -13,10 +13,10 @@ use Rattle.words.specs.Answer.{Outcome, gives, refuses, pick}
 use Rattle.words.proofs.Told.{Fixed}
 use Rattle.settings.specs.declared.Bad.{Bad}
 use Rattle.settings.proofs.Determined.{badOf}
-use Rattle.lead_text.specs.declared.How.{How}
+use Rattle.lead_text.specs.declared.HowFar.{HowFar}
 use Rattle.lead_text.specs.declared.Written.{Written}
 use Rattle.lead_text.specs.List.{Wrote, Telling}
-use Rattle.lead_text.specs.Says.{saysHow, saysWritten}
+use Rattle.lead_text.specs.Says.{saysHowFar, saysWritten}
 use Rattle.lead_text.proofs.fresh.Kinds as fresh-kinds
 use Rattle.lead_text.proofs.fresh.Reads as fresh-reads
 use Rattle.lead_text.proofs.list_frames.Kinds as frames-kinds
@@ -25,24 +25,24 @@ use Rattle.lead_text.proofs.list_end.Kinds as end-kinds
 use Rattle.lead_text.proofs.list_end.Reads as end-reads
 
 -- From what an answer says, the answer.
-abbrev howOf : Outcome Wrote → How
-howOf (gives w) = pick (w .all) (How.Over (w .bytes)) (How.Full (w .bytes))
-howOf (refuses n) = How.Settings (badOf n)
+abbrev howOf : Outcome Wrote → HowFar
+howOf (gives w) = pick (w .all) (HowFar.Over (w .bytes)) (HowFar.Full (w .bytes))
+howOf (refuses n) = HowFar.Settings (badOf n)
 
-how-back : (h : How) → howOf (saysHow h) ≡ h
-how-back (How.Over bytes) = refl
-how-back (How.Full bytes) = refl
-how-back (How.Settings Bad.Pair) = refl
-how-back (How.Settings Bad.Gap) = refl
-how-back (How.Settings Bad.TooHigh) = refl
-how-back (How.Settings Bad.NotAbove) = refl
-how-back (How.Settings Bad.Full) = refl
+how-back : (h : HowFar) → howOf (saysHowFar h) ≡ h
+how-back (HowFar.Over bytes) = refl
+how-back (HowFar.Full bytes) = refl
+how-back (HowFar.Settings Bad.Pair) = refl
+how-back (HowFar.Settings Bad.Gap) = refl
+how-back (HowFar.Settings Bad.TooHigh) = refl
+how-back (HowFar.Settings Bad.NotAbove) = refl
+how-back (HowFar.Settings Bad.Full) = refl
 
 abbrev writtenOf : Telling → Written
 writtenOf t = record { underway = t .underway; how = howOf (t .answer) }
 
 written-back : (r : Written) (out : List ℕ) → writtenOf (saysWritten r out) ≡ r
-written-back r out = ap (λ (h : How). record { underway = r .underway; how = h }) (how-back (r .how))
+written-back r out = ap (λ (h : HowFar). record { underway = r .underway; how = h }) (how-back (r .how))
 
 -- Answers and buffers that say the same are the same.
 same-written : (r r′ : Written) (out out′ : List ℕ) → saysWritten r out ≡ saysWritten r′ out′ → (r ≡ r′) × (out ≡ out′)

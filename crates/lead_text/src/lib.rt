@@ -29,7 +29,7 @@ pub struct Underway {
 
 // How far a call came, and how many bytes it wrote: all that was lent is used; the room is used, and the same is lent again; or the settings
 // are refused.
-pub enum How {
+pub enum HowFar {
     Over(usize),
     Full(usize),
     Settings(Bad),
@@ -38,7 +38,7 @@ pub enum How {
 // What a call answers: the ride then, and how far it came.
 pub struct Written {
     pub underway: Underway,
-    pub how: How,
+    pub how: HowFar,
 }
 
 // A ride at the beginning of a lead.
@@ -64,7 +64,7 @@ pub fn list_frames(underway: Underway, store: Store, frames: &[u8], out: &mut [u
     match settings::at(store, 0) {
         Asked::Refused(bad) => Written {
             underway,
-            how: How::Settings(bad),
+            how: HowFar::Settings(bad),
         },
         Asked::InForce(_) => pieces::over(underway, store, frames, out),
     }
@@ -77,7 +77,7 @@ pub fn list_end(underway: Underway, store: Store, out: &mut [u8]) -> Written
     match settings::at(store, 0) {
         Asked::Refused(bad) => Written {
             underway,
-            how: How::Settings(bad),
+            how: HowFar::Settings(bad),
         },
         Asked::InForce(_) => closing::over(underway, store, out),
     }

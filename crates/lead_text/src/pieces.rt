@@ -6,7 +6,7 @@ ghost use Rattle.settings.specs.Store.{judged};
 ghost use Rattle.settings.specs.At.{gapAt};
 ghost use Rattle.lead_text.specs.List.{ofFrames};
 ghost use Rattle.lead_text.specs.Says.{saysWritten};
-use crate::How;
+use crate::HowFar;
 use crate::Underway;
 use crate::Written;
 use crate::record_lines::list_one;
@@ -36,14 +36,14 @@ pub fn over(underway: Underway, store: Store, frames: &[u8], out: &mut [u8]) -> 
                     frame: 0,
                     bit: 0,
                 },
-                how: How::Over(at),
+                how: HowFar::Over(at),
             };
         };
         let one = list_one(ride, store, here.number, bytes, out, at);
         if !one.taken {
             return Written {
                 underway: here,
-                how: How::Full(at),
+                how: HowFar::Full(at),
             };
         }
         let then = one.ride;

@@ -16,11 +16,11 @@ use Rattle.settings.proofs.Determined.{badOf}
 use Rattle.ride_text.specs.Style.{withReasons}
 use Rattle.ride_text.specs.Told.{tellOver}
 use Rattle.ride_text.specs.List.{taken}
-use Rattle.lead_text.specs.declared.How.{How}
+use Rattle.lead_text.specs.declared.HowFar.{HowFar}
 use Rattle.lead_text.specs.declared.Underway.{Underway}
 use Rattle.lead_text.specs.Places.{Place}
 use Rattle.lead_text.specs.List.{Wrote, Telling, noneLeft, listOf, ofFrames, ofEnd, judgedFirst, listFrames, listEnd}
-use Rattle.lead_text.specs.Says.{saysHow}
+use Rattle.lead_text.specs.Says.{saysHowFar}
 use Rattle.demands.specs.Rules.{Decided, Given}
 use Rattle.demands.specs.Stores.{storeRules}
 use Rattle.demands.proofs.Demand1.StoreRules.{store-so}
@@ -64,18 +64,18 @@ end-so u store out =
     (judged-so u out (ofEnd store u out) g store, judged-left u out (ofEnd store u out) g (judged store))
 
 -- From what an answer says, the answer.
-abbrev howOf : Outcome Wrote → How
-howOf (gives w) = pick (w .all) (How.Over (w .bytes)) (How.Full (w .bytes))
-howOf (refuses n) = How.Settings (badOf n)
+abbrev howOf : Outcome Wrote → HowFar
+howOf (gives w) = pick (w .all) (HowFar.Over (w .bytes)) (HowFar.Full (w .bytes))
+howOf (refuses n) = HowFar.Settings (badOf n)
 
-how-back : (h : How) → howOf (saysHow h) ≡ h
-how-back (How.Over bytes) = refl
-how-back (How.Full bytes) = refl
-how-back (How.Settings Bad.Pair) = refl
-how-back (How.Settings Bad.Gap) = refl
-how-back (How.Settings Bad.TooHigh) = refl
-how-back (How.Settings Bad.NotAbove) = refl
-how-back (How.Settings Bad.Full) = refl
+how-back : (h : HowFar) → howOf (saysHowFar h) ≡ h
+how-back (HowFar.Over bytes) = refl
+how-back (HowFar.Full bytes) = refl
+how-back (HowFar.Settings Bad.Pair) = refl
+how-back (HowFar.Settings Bad.Gap) = refl
+how-back (HowFar.Settings Bad.TooHigh) = refl
+how-back (HowFar.Settings Bad.NotAbove) = refl
+how-back (HowFar.Settings Bad.Full) = refl
 
 pub lines-decided : LinesDecided
 lines-decided = record {
@@ -95,5 +95,5 @@ lines-decided = record {
       let is = c .5 ∙ ap (listEnd u store) (c .3) in
       let kept = end-so u store before .1 n (sym (ap (λ (t : Telling). t .answer) is) ∙ e) in
       (ap (λ (t : Telling). t .underway) is ∙ kept .0, sym (c .4) ∙ ap (λ (t : Telling). t .out) is ∙ kept .1);
-  how = λ n r r′ p q. once saysHow howOf how-back r r′ p q;
+  how = λ n r r′ p q. once saysHowFar howOf how-back r r′ p q;
 }

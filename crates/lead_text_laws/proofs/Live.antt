@@ -17,7 +17,7 @@ use Rattle.recording.specs.Recording as recording
 use Rattle.recording.specs.Recording.{Taped, andThen, overLead, theEnd, recorded}
 use Rattle.ride_text.specs.Style.{withReasons}
 use Rattle.ride_text.specs.Told.{Told, tellOver, endText}
-use Rattle.lead_text.specs.declared.How.{How}
+use Rattle.lead_text.specs.declared.HowFar.{HowFar}
 use Rattle.lead_text.specs.declared.Underway.{Underway}
 use Rattle.lead_text.specs.declared.Written.{Written}
 use Rattle.lead_text.specs.Places.{Place, toCome, after, afterEnds}
@@ -159,7 +159,7 @@ module _ (store : Store) (good : Good store) where
       ap₂ _++_ (all .text-is) (end-put e ∙ ap (endText withReasons) (all .ride-is))
 
   goes-on : (u : Underway) (frames before after′ : List ℕ) (r : Written) (n : ℕ) → 320 ≤ length before → u .number < largest64
-      → ListFrames u store frames before r after′ → r .how ≡ How.Full n → u .number < r .underway .number
+      → ListFrames u store frames before r after′ → r .how ≡ HowFar.Full n → u .number < r .underway .number
   goes-on u frames before after′ r n wide low c e =
       let p : Place = placeOf u in
       let x : Taped = toCome store frames p in

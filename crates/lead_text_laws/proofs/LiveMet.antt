@@ -29,7 +29,7 @@ use Rattle.ride_text.specs.Style.{withReasons}
 use Rattle.ride_text.specs.Told.{stepText, Told, tellOver, endText}
 use Rattle.ride_text.specs.List.{taken}
 use Rattle.ride_text.proofs.Taken.{end-short}
-use Rattle.lead_text.specs.declared.How.{How}
+use Rattle.lead_text.specs.declared.HowFar.{HowFar}
 use Rattle.lead_text.specs.declared.Underway.{Underway}
 use Rattle.lead_text.specs.declared.Written.{Written}
 use Rattle.lead_text.specs.Places.{Place, toCome, after, afterEnds}
@@ -74,7 +74,7 @@ module _ (gaps : ℕ → ℕ) (u : Underway) (rs : List (List ℕ)) (last : Plac
   written = placed (told .text) before 0
 
   abbrev answer : Written
-  answer = record { underway = standing last (told .ride) (u .number + length rs); how = How.Over (length (told .text)) }
+  answer = record { underway = standing last (told .ride) (u .number + length rs); how = HowFar.Over (length (told .text)) }
 
   -- The listing of the first records a, where b are left.
   abbrev listingOf : ℕ → List (List ℕ) → List (List ℕ) → Telling

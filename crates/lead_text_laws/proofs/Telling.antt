@@ -21,12 +21,12 @@ use Rattle.ride_text.specs.Style.{withReasons}
 use Rattle.ride_text.specs.Told.{stepText, Told, tellOver}
 use Rattle.ride_text.specs.List.{taken}
 use Rattle.ride_text.proofs.Taken.{few-taken}
-use Rattle.lead_text.specs.declared.How.{How}
+use Rattle.lead_text.specs.declared.HowFar.{HowFar}
 use Rattle.lead_text.specs.declared.Underway.{Underway}
 use Rattle.lead_text.specs.declared.Written.{Written}
 use Rattle.lead_text.specs.Places.{Place}
 use Rattle.lead_text.specs.List.{standing, Wrote, Telling, noneLeft, listOf}
-use Rattle.lead_text.specs.Says.{saysHow, saysWritten}
+use Rattle.lead_text.specs.Says.{saysHowFar, saysWritten}
 
 -- ---- a ride told on
 
@@ -92,18 +92,18 @@ module _ (gaps : ℕ → ℕ) (u : Underway) (rs : List (List ℕ)) (last : Plac
   counted = length-take-le count rs enough
 
   -- The text written is that of these records.
-  text-by : (bytesIn (saysHow (r .how)) ≡ n) → take n after ≡ told .text
+  text-by : (bytesIn (saysHowFar (r .how)) ≡ n) → take n after ≡ told .text
   unfolding listOf
   text-by e =
       let t : List ℕ = told .text in
       let size : n ≡ 0 + length t = sym e ∙ ap (λ (x : Telling). bytesIn (x .answer)) says ∙ (omega arith) in
       ap₂ take size (ap (λ (x : Telling). x .out) says) ∙ placed-start t before
 
-  left-by : (b : Bool) → allIn (saysHow (r .how)) ≡ b → noneLeft (drop count rs) ≡ b
+  left-by : (b : Bool) → allIn (saysHowFar (r .how)) ≡ b → noneLeft (drop count rs) ≡ b
   unfolding listOf
   left-by b e = sym (ap (λ (x : Telling). allIn (x .answer)) says) ∙ e
 
-  stands-by : (b : Bool) → allIn (saysHow (r .how)) ≡ b → r .underway ≡ standing (pick b last (upTo count)) (told .ride) (u .number + count)
+  stands-by : (b : Bool) → allIn (saysHowFar (r .how)) ≡ b → r .underway ≡ standing (pick b last (upTo count)) (told .ride) (u .number + count)
   unfolding listOf
   stands-by b e =
       ap (λ (x : Telling). x .underway) says
@@ -114,14 +114,14 @@ module _ (gaps : ℕ → ℕ) (u : Underway) (rs : List (List ℕ)) (last : Plac
     pub text : take n after ≡ tellOver withReasons gaps (u .ride) (u .number) rs .text
     pub then : r .underway ≡ standing last (tellOver withReasons gaps (u .ride) (u .number) rs .ride) (u .number + length rs)
 
-  pub over-all : r .how ≡ How.Over n → Over
+  pub over-all : r .how ≡ HowFar.Over n → Over
   over-all e =
-      let none = none-left (drop count rs) (left-by true (ap (λ (h : How). allIn (saysHow h)) e)) in
+      let none = none-left (drop count rs) (left-by true (ap (λ (h : HowFar). allIn (saysHowFar h)) e)) in
       let whole : take count rs ≡ rs = all-of none in
       let number : count ≡ length rs = sym counted ∙ ap length whole in
       record {
-        text = text-by (ap (λ (h : How). bytesIn (saysHow h)) e) ∙ ap (λ (x : List (List ℕ)). tellOver withReasons gaps (u .ride) (u .number) x .text) whole;
-        then = stands-by true (ap (λ (h : How). allIn (saysHow h)) e)
+        text = text-by (ap (λ (h : HowFar). bytesIn (saysHowFar h)) e) ∙ ap (λ (x : List (List ℕ)). tellOver withReasons gaps (u .ride) (u .number) x .text) whole;
+        then = stands-by true (ap (λ (h : HowFar). allIn (saysHowFar h)) e)
             ∙ ap₂ (λ (x : List (List ℕ)) (k : ℕ). standing last (tellOver withReasons gaps (u .ride) (u .number) x .ride) (u .number + k)) whole number;
       }
     where
@@ -134,10 +134,10 @@ module _ (gaps : ℕ → ℕ) (u : Underway) (rs : List (List ℕ)) (last : Plac
     pub then : r .underway ≡ standing (upTo count) (told .ride) (u .number + count)
     pub left : noneLeft (drop count rs) ≡ false
 
-  pub full-some : r .how ≡ How.Full n → Full
+  pub full-some : r .how ≡ HowFar.Full n → Full
   full-some e =
       record {
-        text = text-by (ap (λ (h : How). bytesIn (saysHow h)) e);
-        then = stands-by false (ap (λ (h : How). allIn (saysHow h)) e);
-        left = left-by false (ap (λ (h : How). allIn (saysHow h)) e);
+        text = text-by (ap (λ (h : HowFar). bytesIn (saysHowFar h)) e);
+        then = stands-by false (ap (λ (h : HowFar). allIn (saysHowFar h)) e);
+        left = left-by false (ap (λ (h : HowFar). allIn (saysHowFar h)) e);
       }

@@ -7,7 +7,7 @@ use mathlib.Core.Path.{_≡_}
 use mathlib.Core.List.{List, []}
 use Rattle.words.specs.Answer.{refuses}
 use Rattle.settings.specs.declared.Store.{Store}
-use Rattle.lead_text.specs.Says.{saysHow}
+use Rattle.lead_text.specs.Says.{saysHowFar}
 use Rattle.lead_text.specs.declared.Underway.{Underway}
 use Rattle.lead_text.specs.declared.Written.{Written}
 use Rattle.demands.specs.Rules.{Decided, Given}
@@ -21,12 +21,12 @@ Stayed u before r after = (r .underway ≡ u) × (after ≡ before)
 
 pub record LinesDecided : Type 0 where
   pub list-frames : (u : Underway) (store : Store) (piece before : List ℕ) (r : Written) (after : List ℕ) → ListFrames u store piece before r after
-      → Decided Given (storeRules store []) (saysHow (r .how))
+      → Decided Given (storeRules store []) (saysHowFar (r .how))
   pub list-end : (u : Underway) (store : Store) (before : List ℕ) (r : Written) (after : List ℕ) → ListEnd u store before r after
-      → Decided Given (storeRules store []) (saysHow (r .how))
+      → Decided Given (storeRules store []) (saysHowFar (r .how))
   -- what is refused stays as it was, and no refusal carries a figure
   pub frames-untouched : (u : Underway) (store : Store) (piece before : List ℕ) (r : Written) (after : List ℕ) (n : ℕ) → ListFrames u store piece before r after
-      → saysHow (r .how) ≡ refuses n → Stayed u before r after
+      → saysHowFar (r .how) ≡ refuses n → Stayed u before r after
   pub end-untouched : (u : Underway) (store : Store) (before : List ℕ) (r : Written) (after : List ℕ) (n : ℕ) → ListEnd u store before r after
-      → saysHow (r .how) ≡ refuses n → Stayed u before r after
-  pub how : Bare saysHow
+      → saysHowFar (r .how) ≡ refuses n → Stayed u before r after
+  pub how : Bare saysHowFar

@@ -17,7 +17,7 @@ use Rattle.ride.specs.State.{freshRide}
 use Rattle.recording.specs.Recording.{recorded}
 use Rattle.ride_text.specs.Style.{withReasons}
 use Rattle.ride_text.specs.Told.{Told, tellOver, endText}
-use Rattle.lead_text.specs.declared.How.{How}
+use Rattle.lead_text.specs.declared.HowFar.{HowFar}
 use Rattle.lead_text.specs.declared.Underway.{Underway}
 use Rattle.lead_text.specs.declared.Written.{Written}
 use Rattle.lead_text_laws.specs.Calls.{Fresh, ListFrames, ListEnd, PutEnd}
@@ -35,18 +35,18 @@ Good store = judged store ≡ gives kept
 pub data Heard (store : Store) : Underway → List (List ℕ) → List ℕ → Underway → Type 0 where
   none : {u : Underway} → Heard store u [] [] u
   again : {u last : Underway} {piece text : List ℕ} {pieces : List (List ℕ)} (before after : List ℕ) (r : Written) (n : ℕ)
-      → ListFrames u store piece before r after → r .how ≡ How.Full n → Heard store (r .underway) (piece ∷ pieces) text last
+      → ListFrames u store piece before r after → r .how ≡ HowFar.Full n → Heard store (r .underway) (piece ∷ pieces) text last
       → Heard store u (piece ∷ pieces) (take n after ++ text) last
   next : {u last : Underway} {piece text : List ℕ} {pieces : List (List ℕ)} (before after : List ℕ) (r : Written) (n : ℕ)
-      → ListFrames u store piece before r after → r .how ≡ How.Over n → Heard store (r .underway) pieces text last
+      → ListFrames u store piece before r after → r .how ≡ HowFar.Over n → Heard store (r .underway) pieces text last
       → Heard store u (piece ∷ pieces) (take n after ++ text) last
 
 -- `list_end` is called until all is written.
 pub data Closed (store : Store) : Underway → List ℕ → Underway → Type 0 where
   again : {u last : Underway} {text : List ℕ} (before after : List ℕ) (r : Written) (n : ℕ)
-      → ListEnd u store before r after → r .how ≡ How.Full n → Closed store (r .underway) text last → Closed store u (take n after ++ text) last
+      → ListEnd u store before r after → r .how ≡ HowFar.Full n → Closed store (r .underway) text last → Closed store u (take n after ++ text) last
   over : {u : Underway} (before after : List ℕ) (r : Written) (n : ℕ)
-      → ListEnd u store before r after → r .how ≡ How.Over n → Closed store u (take n after) (r .underway)
+      → ListEnd u store before r after → r .how ≡ HowFar.Over n → Closed store u (take n after) (r .underway)
 
 -- `put_end` writes the end of the ride into a buffer with room for it.
 pub data Ended : Ride → List ℕ → Type 0 where
@@ -88,4 +88,4 @@ pub record Live : Type 0 where
   -- So long as there is room for the lines of one record, a call that uses up its room has taken
   -- one, so that the calls come to an end.
   pub goes-on : (store : Store) (u : Underway) (frames before after : List ℕ) (r : Written) (n : ℕ) → Good store → 320 ≤ length before → u .number < largest64
-      → ListFrames u store frames before r after → r .how ≡ How.Full n → u .number < r .underway .number
+      → ListFrames u store frames before r after → r .how ≡ HowFar.Full n → u .number < r .underway .number

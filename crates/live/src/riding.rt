@@ -1,7 +1,7 @@
 // The leads, piece by piece: in through `list_frames`, out to standard output.
 ghost use Prim.Native.Nat.{_≤_};
 ghost use lib.ListN.{length};
-use lead_text::How;
+use lead_text::HowFar;
 use lead_text::Underway;
 use ride::Ride;
 use ride_text::REASONS;
@@ -31,16 +31,16 @@ fn piece(from: Underway, store: Store, block: &[u8], count: usize, out: &mut [u8
         underway = then;
         let how = written.how;
         match how {
-            How::Over(bytes) => {
+            HowFar::Over(bytes) => {
                 let is_good = write(out, bytes);
                 return Stand { underway, is_good };
             }
-            How::Full(bytes) => {
+            HowFar::Full(bytes) => {
                 if !write(out, bytes) {
                     break;
                 }
             }
-            How::Settings(_) => {
+            HowFar::Settings(_) => {
                 break;
             }
         }
@@ -63,7 +63,7 @@ fn end(from: Underway, store: Store, out: &mut [u8]) {
     let written = lead_text::list_end(from, store, out);
     let underway = written.underway;
     let how = written.how;
-    let How::Over(bytes) = how else {
+    let HowFar::Over(bytes) = how else {
         return;
     };
     if write(out, bytes) {

@@ -35,7 +35,7 @@ pub fn room() -> [u8; 1048576]
 }
 
 // Where the ride stands: the state, the next record's number, and whether all reads and writes so far succeeded.
-pub struct Stand {
+pub struct Listing {
     ride: Ride,
     number: u64,
     is_good: bool,
@@ -46,10 +46,10 @@ fn write_records(
     program: &[u8],
     reasons: bool,
     store: Store,
-    from: Stand,
+    from: Listing,
     records: &[u8],
     out: &mut [u8],
-) -> Stand {
+) -> Listing {
     let ride = from.ride;
     let listed = ride_text::list(reasons, ride, store, from.number, records, out);
     let done = listed.done;
@@ -60,14 +60,14 @@ fn write_records(
         bytes,
     } = done
     else {
-        return Stand {
+        return Listing {
             ride: after,
             number,
             is_good: false,
         };
     };
     let is_written = write(program, reasons, out, bytes);
-    Stand {
+    Listing {
         ride: after,
         number,
         is_good: is_written & (count == records.len() / 8),
@@ -82,7 +82,7 @@ fn write_end(program: &[u8], reasons: bool, ride: Ride) {
 }
 
 // What comes after the last block: the end's line where all cards were read, or what failed.
-fn finish(program: &[u8], reasons: bool, how: Goes, stand: Stand) {
+fn finish(program: &[u8], reasons: bool, how: Goes, stand: Listing) {
     let ride = stand.ride;
     match how {
         Goes::End => write_end(program, reasons, ride),
@@ -105,7 +105,7 @@ pub fn over(
     out: &mut [u8],
 ) {
     let ride = ride::fresh();
-    let mut stand = Stand {
+    let mut stand = Listing {
         ride,
         number: 1,
         is_good: true,

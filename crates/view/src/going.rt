@@ -6,7 +6,7 @@ use ride_text::Done;
 use ride_text::REASONS;
 use settings::Store;
 use viewer::Moved;
-use viewer::Stand;
+use viewer::Standing;
 
 // The smaller of two.
 fn smaller(a: usize, b: usize) -> usize
@@ -42,7 +42,7 @@ fn write_block(ride: Ride, store: Store, number: u64, records: &[u8], out: &mut 
 }
 
 // Writes the lines of the records that were passed, from where a viewer stood.
-fn write_passed(trace: &[u8], from: Stand, number: usize) {
+fn write_passed(trace: &[u8], from: Standing, number: usize) {
     let to = smaller(number, trace.len() / 8);
     let store = from.settings;
     let mut out = io::large_buffer();
@@ -57,7 +57,7 @@ fn write_passed(trace: &[u8], from: Stand, number: usize) {
 }
 
 // Forward so often, and writes the lines of the records that are passed.
-pub fn forth(trace: &[u8], from: Stand, times: usize) -> Moved {
+pub fn forth(trace: &[u8], from: Standing, times: usize) -> Moved {
     let moved = viewer::forwards_at(trace, from, times);
     let stand = moved.stand;
     write_passed(trace, from, stand.number);
@@ -65,7 +65,7 @@ pub fn forth(trace: &[u8], from: Stand, times: usize) -> Moved {
 }
 
 // A fresh viewer that has gone so many records forward.
-fn afresh(trace: &[u8], from: Stand, times: usize) -> Moved {
+fn afresh(trace: &[u8], from: Standing, times: usize) -> Moved {
     let store = from.settings;
     let opened = viewer::start_at(store, trace);
     let stand = opened.stand;
@@ -73,7 +73,7 @@ fn afresh(trace: &[u8], from: Stand, times: usize) -> Moved {
 }
 
 // To where so many records lie before the viewer: forward; back as far as the history goes; or, further back, as a fresh viewer.
-pub fn to_number(trace: &[u8], from: Stand, before: usize) -> Moved {
+pub fn to_number(trace: &[u8], from: Standing, before: usize) -> Moved {
     let number = from.number;
     if before >= number {
         return forth(trace, from, before - number);
@@ -85,7 +85,7 @@ pub fn to_number(trace: &[u8], from: Stand, before: usize) -> Moved {
 }
 
 // To just before the first record at or past the place, but for those that will be refused.
-pub fn to_place(trace: &[u8], from: Stand, place: u64) -> Moved {
+pub fn to_place(trace: &[u8], from: Standing, place: u64) -> Moved {
     let before = viewer::times_to(trace, 0, place);
     to_number(trace, from, before)
 }

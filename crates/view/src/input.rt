@@ -4,7 +4,7 @@ ghost use lib.ListN.{length};
 use libc::STDIN_FILENO;
 
 // A line: how many bytes it has, and whether the input ended before it began. One that fills its room has no byte: no command is that long.
-pub struct Line {
+pub struct InputLine {
     pub count: usize,
     pub is_end: bool,
 }
@@ -38,23 +38,23 @@ fn keep(byte: u8, buf: &mut [u8], count: usize) -> usize
 }
 
 // The line of so many bytes in a room of so many.
-fn line_of(count: usize, room: usize) -> Line
+fn line_of(count: usize, room: usize) -> InputLine
     ensures { λ r. ⌜ r .count ≤ count ⌝ }
 {
     if count >= room {
-        return Line {
+        return InputLine {
             count: 0,
             is_end: false,
         };
     }
-    Line {
+    InputLine {
         count,
         is_end: false,
     }
 }
 
 // The next line, without its newline, into buf. The last one may lack its newline. No run uses up the turns.
-pub fn next(buf: &mut [u8]) -> Line
+pub fn next(buf: &mut [u8]) -> InputLine
     ensures { λ r. ⌜ r .count ≤ length (now (buf .entry)) ⌝ }
 {
     let mut count: usize = 0;
@@ -62,7 +62,7 @@ pub fn next(buf: &mut [u8]) -> Line
     while turns > 0 {
         let got = read_one();
         if got.is_end & (count == 0) {
-            return Line {
+            return InputLine {
                 count: 0,
                 is_end: true,
             };

@@ -7,7 +7,7 @@ mod out;
 mod reading;
 mod session;
 
-use console::CardsFound as Found;
+use console::CardsFound;
 use console::Given;
 use settings::Store;
 
@@ -21,13 +21,13 @@ fn look(store: Store, first: usize) {
     let mut block = io::large_buffer();
     let found = console::go_over(first, &mut lengths, &mut block);
     match found {
-        Found::Cards => reading::open(store, first, &lengths),
-        Found::BadLength(_) => out::refuse_trace(),
-        Found::NoCard => usage(),
-        Found::TooMany => console::say_found(b"view", found),
-        Found::CannotOpen(_) => console::say_found(b"view", found),
-        Found::CannotRead(_) => console::say_found(b"view", found),
-        Found::Once(_) => console::say_found(b"view", found),
+        CardsFound::Cards => reading::open(store, first, &lengths),
+        CardsFound::BadLength(_) => out::refuse_trace(),
+        CardsFound::NoCard => usage(),
+        CardsFound::TooMany => console::say_found(b"view", found),
+        CardsFound::CannotOpen(_) => console::say_found(b"view", found),
+        CardsFound::CannotRead(_) => console::say_found(b"view", found),
+        CardsFound::Once(_) => console::say_found(b"view", found),
     }
 }
 

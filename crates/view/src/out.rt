@@ -5,7 +5,7 @@ use libc::STDIN_FILENO;
 use libc::STDOUT_FILENO;
 use ride::Line;
 use viewer::Ending;
-use viewer::Stand;
+use viewer::Standing;
 
 // `trace refused 16`, alone.
 pub fn refuse_trace() {
@@ -34,7 +34,7 @@ pub fn tell(ending: Ending) {
 }
 
 // Where the viewer stands, and the record that comes next, if it can be written.
-pub fn show(trace: &[u8], stand: Stand) -> bool {
+pub fn show(trace: &[u8], stand: Standing) -> bool {
     let mut lines = [0u8; 512];
     let ride = stand.ride;
     let count = trace.len() / 8;

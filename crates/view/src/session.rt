@@ -6,13 +6,13 @@ use crate::going::to_place;
 use crate::input;
 use crate::out;
 use settings::Store;
-use viewer::Begun;
 use viewer::Moved;
-use viewer::Stand;
+use viewer::OpeningWent;
+use viewer::Standing;
 use viewer_text::Command;
 
 // Where a move ended, after the refusal that stopped it, if there was one.
-fn tell(moved: Moved) -> Stand {
+fn tell(moved: Moved) -> Standing {
     let stand = moved.stand;
     let ending = moved.ending;
     out::tell(ending);
@@ -20,7 +20,7 @@ fn tell(moved: Moved) -> Stand {
 }
 
 // One command but `q`: where the viewer stands after it.
-fn obey(trace: &[u8], stand: Stand, command: Command) -> Stand {
+fn obey(trace: &[u8], stand: Standing, command: Command) -> Standing {
     match command {
         Command::Forward(times) => tell(forth(trace, stand, times as usize)),
         Command::Back(times) => tell(viewer::backs_at(stand, times as usize)),
@@ -34,13 +34,13 @@ fn obey(trace: &[u8], stand: Stand, command: Command) -> Stand {
 }
 
 // The list of commands, and the viewer where it stands.
-fn help(stand: Stand) -> Stand {
+fn help(stand: Standing) -> Standing {
     out::help();
     stand
 }
 
 // The commands up to `q`, the end of the input, or where nothing can be written any more. No run uses up the turns.
-fn obey_all(trace: &[u8], first: Stand) {
+fn obey_all(trace: &[u8], first: Standing) {
     let mut stand = first;
     let mut line = [0u8; 256];
     let mut turns = u64::MAX;
@@ -82,7 +82,7 @@ pub fn hold(store: Store, trace: &[u8]) {
     let opened = viewer::start_at(store, trace);
     let stand = opened.stand;
     let begun = opened.begun;
-    let Begun::Open = begun else {
+    let OpeningWent::Open = begun else {
         out::refuse_trace();
         return;
     };

@@ -8,12 +8,12 @@ use denote.Struct.Laws as LL
 use Rattle.viewer.proofs.Walking.{Holds, URA, Lifetime, Ty, Tys, tyStruct, tcons, tnil, named, Val, WT, hasTy, ent, sep, Lft, Fml, fieldAt, Heap, Atoms, sem, Given, Is, u8, RefT, NamedLft, now, namedLft, ShrSlice, shr-slice-tells, shr-slice-copy}
 use Rattle.words.specs.Answer.{Outcome, gives, refuses}
 use Rattle.viewer.specs.Viewing.{Done, Start}
-use Rattle.viewer.specs.Says.{saysBegun, traceOf, saysOpened, Slice, very, lies, sliceOf, lentTo, Holding, holding, saysStarted}
+use Rattle.viewer.specs.Says.{saysOpeningWent, traceOf, saysOpened, Slice, very, lies, sliceOf, lentTo, Holding, holding, saysStarted}
 use Rattle.viewer.specs.declared.Opened.{Opened}
 use Rattle.viewer.specs.declared.Started.{Started}
-use Rattle.viewer.proofs.Begun.Laws as Begun′
-use Rattle.viewer.proofs.Stand as P
-use Rattle.viewer.proofs.Stand.Laws as P′
+use Rattle.viewer.proofs.OpeningWent.Laws as Begun′
+use Rattle.viewer.proofs.Standing as P
+use Rattle.viewer.proofs.Standing.Laws as P′
 use Rattle.viewer.proofs.Turning.{viewer, StandTy, ViewerTy, offset, slice, is-viewer}
 use Rattle.viewer.proofs.Opened as N
 use Rattle.viewer.proofs.Opened.Laws as N′
@@ -59,9 +59,9 @@ lent-bytes (refuses n) t = refl
 pub answered : (found : Start) (t s : RefT (List ℕ)) (m : Opened) → saysOpened m (now t) ≡ found → sliceOf (found .answer) s ≡ lentTo (found .answer) t
     → saysStarted (answer s m) ≡ holding t found
 answered found t s m e h =
-    let o : Outcome Done = saysBegun (m .begun) in
-    let same : saysBegun (m .begun) ≡ found .answer = ap (λ (x : Start). x .answer) e in
-    let held : sliceOf (saysBegun (m .begun)) s ≡ lentTo (saysBegun (m .begun)) t = subst (λ (x : Outcome Done). sliceOf x s ≡ lentTo x t) (sym same) h in
+    let o : Outcome Done = saysOpeningWent (m .begun) in
+    let same : saysOpeningWent (m .begun) ≡ found .answer = ap (λ (x : Start). x .answer) e in
+    let held : sliceOf (saysOpeningWent (m .begun)) s ≡ lentTo (saysOpeningWent (m .begun)) t = subst (λ (x : Outcome Done). sliceOf x s ≡ lentTo x t) (sym same) h in
     let bytes : now s ≡ traceOf o (now t) = sym (held-bytes o s) ∙ ap bytesOf held ∙ lent-bytes o t in
     ap {B = Holding} (λ (x : Slice). record { slice = x; start = record { answer = o; trace = now s; stand = m .stand } }) held
     ∙ ap {B = Holding} (λ (b : List ℕ). record { slice = lentTo o t; start = record { answer = o; trace = b; stand = m .stand } }) bytes

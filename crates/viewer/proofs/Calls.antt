@@ -12,7 +12,7 @@ use Rattle.settings.specs.declared.Store.{Store}
 use Rattle.settings.specs.Versions.{kept}
 use Rattle.settings.specs.Store.{judged}
 use Rattle.ride.specs.At.{recordAt}
-use Rattle.viewer.specs.declared.Stand.{Stand}
+use Rattle.viewer.specs.declared.Standing.{Standing}
 use Rattle.viewer.specs.Stand.{opened, returned}
 use Rattle.viewer.specs.Viewing.{done, Start, unopened, start, stays, byStep, stepOf, forward, Back, back}
 
@@ -29,23 +29,23 @@ pub open-done : (store : Store) (trace : List ℕ) → judged store ≡ gives ke
 unfolding start
 open-done store trace e h = rw (e, h)
 
-pub forward-end : (trace : List ℕ) (s : Stand) → length trace / 8 ≤ s .number → stays s 23 ≡ forward trace s
+pub forward-end : (trace : List ℕ) (s : Standing) → length trace / 8 ≤ s .number → stays s 23 ≡ forward trace s
 unfolding forward
 forward-end trace s h = rw (le-ltb (s .number) (length trace / 8) h)
 
-pub forward-refused : (trace : List ℕ) (s : Stand) (n : ℕ) → s .number < length trace / 8 → judged (s .settings) ≡ refuses n → stays s n ≡ forward trace s
+pub forward-refused : (trace : List ℕ) (s : Standing) (n : ℕ) → s .number < length trace / 8 → judged (s .settings) ≡ refuses n → stays s n ≡ forward trace s
 unfolding forward
 forward-refused trace s n h e = rw (lt-ltb (s .number) (length trace / 8) h, e)
 
-pub forward-step : (trace : List ℕ) (s : Stand) → s .number < length trace / 8 → judged (s .settings) ≡ gives kept
+pub forward-step : (trace : List ℕ) (s : Standing) → s .number < length trace / 8 → judged (s .settings) ≡ gives kept
     → byStep s (stepOf s (recordAt trace (s .number))) ≡ forward trace s
 unfolding forward
 forward-step trace s h e = rw (lt-ltb (s .number) (length trace / 8) h, e)
 
-pub back-none : (s : Stand) → eqb (s .kept) 0 ≡ true → _≡_ {A = Back} (record { answer = refuses 22; stand = s }) (back s)
+pub back-none : (s : Standing) → eqb (s .kept) 0 ≡ true → _≡_ {A = Back} (record { answer = refuses 22; stand = s }) (back s)
 unfolding back
 back-none s e = rw e
 
-pub back-done : (s : Stand) → eqb (s .kept) 0 ≡ false → _≡_ {A = Back} (record { answer = gives done; stand = returned s }) (back s)
+pub back-done : (s : Standing) → eqb (s .kept) 0 ≡ false → _≡_ {A = Back} (record { answer = gives done; stand = returned s }) (back s)
 unfolding back
 back-done s e = rw e

@@ -11,8 +11,8 @@ use Rattle.settings.specs.declared.Store.{Store}
 use Rattle.settings.proofs.Determined.{badOf}
 use Rattle.ride.specs.declared.Lines.{Lines}
 use Rattle.ride.proofs.Determined.{linesOf, lines-back}
-use Rattle.viewer.specs.declared.Begun.{Begun}
-use Rattle.viewer.specs.declared.How.{How}
+use Rattle.viewer.specs.declared.OpeningWent.{OpeningWent}
+use Rattle.viewer.specs.declared.CallWent.{CallWent}
 use Rattle.viewer.specs.declared.Opened.{Opened}
 use Rattle.viewer.specs.declared.Went.{Went}
 use Rattle.viewer.specs.declared.Came.{Came}
@@ -24,7 +24,7 @@ use Rattle.viewer.specs.declared.Forwarded.{Forwarded}
 use Rattle.viewer.specs.declared.Backed.{Backed}
 use Rattle.viewer.specs.Viewing.{Done, Start, Forward, Back}
 use Rattle.viewer.specs.Going.{Ending as Ends, all, refused, Moved as Moves}
-use Rattle.viewer.specs.Says.{saysBegun, saysHow, saysOpened, saysWent, saysCame, saysEnding, saysMoved, sliceOf, Holding, Over, saysForwarded, saysBacked, saysStarted}
+use Rattle.viewer.specs.Says.{saysOpeningWent, saysCallWent, saysOpened, saysWent, saysCame, saysEnding, saysMoved, sliceOf, Holding, Over, saysForwarded, saysBacked, saysStarted}
 use Rattle.viewer.specs.Laws.{Starts, Forwards, Backs}
 use Rattle.viewer.proofs.opening.start_at.Kinds as start-at-kinds
 use Rattle.viewer.proofs.opening.start_at.Reads as start-at-reads
@@ -41,52 +41,52 @@ use Rattle.viewer.proofs.going.backs_at.Reads as backs-at-reads
 use Rattle.words.proofs.Told.{Fixed}
 
 -- From what an answer says, the answer.
-abbrev pub begunOf : Outcome Done → Begun
-begunOf (gives d) = Begun.Open
-begunOf (refuses n) = pick (eqb n 16) Begun.Length (Begun.Settings (badOf n))
+abbrev pub begunOf : Outcome Done → OpeningWent
+begunOf (gives d) = OpeningWent.Open
+begunOf (refuses n) = pick (eqb n 16) OpeningWent.Length (OpeningWent.Settings (badOf n))
 
-pub begun-back : (b : Begun) → begunOf (saysBegun b) ≡ b
-begun-back Begun.Open = refl
-begun-back Begun.Length = refl
-begun-back (Begun.Settings Bad.Pair) = refl
-begun-back (Begun.Settings Bad.Gap) = refl
-begun-back (Begun.Settings Bad.TooHigh) = refl
-begun-back (Begun.Settings Bad.NotAbove) = refl
-begun-back (Begun.Settings Bad.Full) = refl
+pub begun-back : (b : OpeningWent) → begunOf (saysOpeningWent b) ≡ b
+begun-back OpeningWent.Open = refl
+begun-back OpeningWent.Length = refl
+begun-back (OpeningWent.Settings Bad.Pair) = refl
+begun-back (OpeningWent.Settings Bad.Gap) = refl
+begun-back (OpeningWent.Settings Bad.TooHigh) = refl
+begun-back (OpeningWent.Settings Bad.NotAbove) = refl
+begun-back (OpeningWent.Settings Bad.Full) = refl
 
-abbrev pub howOf : Outcome Done → How
-howOf (gives d) = How.Done
-howOf (refuses n) = pick (eqb n 22) How.NothingKept (pick (eqb n 23) How.AtEnd (How.Settings (badOf n)))
+abbrev pub howOf : Outcome Done → CallWent
+howOf (gives d) = CallWent.Done
+howOf (refuses n) = pick (eqb n 22) CallWent.NothingKept (pick (eqb n 23) CallWent.AtEnd (CallWent.Settings (badOf n)))
 
-pub how-back : (h : How) → howOf (saysHow h) ≡ h
-how-back How.Done = refl
-how-back How.NothingKept = refl
-how-back How.AtEnd = refl
-how-back (How.Settings Bad.Pair) = refl
-how-back (How.Settings Bad.Gap) = refl
-how-back (How.Settings Bad.TooHigh) = refl
-how-back (How.Settings Bad.NotAbove) = refl
-how-back (How.Settings Bad.Full) = refl
+pub how-back : (h : CallWent) → howOf (saysCallWent h) ≡ h
+how-back CallWent.Done = refl
+how-back CallWent.NothingKept = refl
+how-back CallWent.AtEnd = refl
+how-back (CallWent.Settings Bad.Pair) = refl
+how-back (CallWent.Settings Bad.Gap) = refl
+how-back (CallWent.Settings Bad.TooHigh) = refl
+how-back (CallWent.Settings Bad.NotAbove) = refl
+how-back (CallWent.Settings Bad.Full) = refl
 
 abbrev openedOf : Start → Opened
 openedOf s = record { stand = s .stand; begun = begunOf (s .answer) }
 
 opened-back : (trace : List ℕ) (o : Opened) → openedOf (saysOpened o trace) ≡ o
-opened-back trace o = ap (λ (b : Begun). record { stand = o .stand; begun = b }) (begun-back (o .begun))
+opened-back trace o = ap (λ (b : OpeningWent). record { stand = o .stand; begun = b }) (begun-back (o .begun))
 
 abbrev wentOf : Forward → Went
 wentOf f = record { stand = f .stand; lines = linesOf (f .lines); closed = f .closed; how = howOf (f .answer) }
 
 went-back : (w : Went) → wentOf (saysWent w) ≡ w
 went-back w =
-    ap (λ (ls : Lines). record { stand = w .stand; lines = ls; closed = w .closed; how = howOf (saysHow (w .how)) }) (lines-back (w .lines))
-    ∙ ap (λ (h : How). record { stand = w .stand; lines = w .lines; closed = w .closed; how = h }) (how-back (w .how))
+    ap (λ (ls : Lines). record { stand = w .stand; lines = ls; closed = w .closed; how = howOf (saysCallWent (w .how)) }) (lines-back (w .lines))
+    ∙ ap (λ (h : CallWent). record { stand = w .stand; lines = w .lines; closed = w .closed; how = h }) (how-back (w .how))
 
 abbrev cameOf : Back → Came
 cameOf b = record { stand = b .stand; how = howOf (b .answer) }
 
 came-back : (c : Came) → cameOf (saysCame c) ≡ c
-came-back c = ap (λ (h : How). record { stand = c .stand; how = h }) (how-back (c .how))
+came-back c = ap (λ (h : CallWent). record { stand = c .stand; how = h }) (how-back (c .how))
 
 abbrev endingOf : Ends → Ending
 endingOf all = Ending.All
@@ -135,7 +135,7 @@ backs-at-determined κs a r r′ x x′ p q = sym (moved-back r) ∙ ap movedOf 
 pub record Alike (r r′ : Started) : Type 0 where
   pub begun : r .begun ≡ r′ .begun
   pub stand : r .viewer .stand ≡ r′ .viewer .stand
-  pub slice : sliceOf (saysBegun (r .begun)) (r .viewer .trace) ≡ sliceOf (saysBegun (r′ .begun)) (r′ .viewer .trace)
+  pub slice : sliceOf (saysOpeningWent (r .begun)) (r .viewer .trace) ≡ sliceOf (saysOpeningWent (r′ .begun)) (r′ .viewer .trace)
 
 alike : (r r′ : Started) → saysStarted r ≡ saysStarted r′ → Alike r r′
 alike r r′ e = record {
@@ -153,8 +153,8 @@ forwardedOf o =
 
 forwarded-back : (f : Forwarded) → forwardedOf (saysForwarded f) ≡ f
 forwarded-back f =
-    ap (λ (ls : Lines). record { viewer = f .viewer; lines = ls; closed = f .closed; how = howOf (saysHow (f .how)) }) (lines-back (f .lines))
-    ∙ ap (λ (h : How). record { viewer = f .viewer; lines = f .lines; closed = f .closed; how = h }) (how-back (f .how))
+    ap (λ (ls : Lines). record { viewer = f .viewer; lines = ls; closed = f .closed; how = howOf (saysCallWent (f .how)) }) (lines-back (f .lines))
+    ∙ ap (λ (h : CallWent). record { viewer = f .viewer; lines = f .lines; closed = f .closed; how = h }) (how-back (f .how))
 
 pub forward-determined : (v : Viewer) (r r′ : Forwarded) → Forwards v r → Forwards v r′ → r ≡ r′
 forward-determined v r r′ p q = sym (forwarded-back r) ∙ ap forwardedOf (p ∙ sym q) ∙ forwarded-back r′
@@ -163,7 +163,7 @@ abbrev backedOf : Over Back → Backed
 backedOf o = record { viewer = record { trace = o .trace; stand = o .answer .stand }; how = howOf (o .answer .answer) }
 
 backed-back : (b : Backed) → backedOf (saysBacked b) ≡ b
-backed-back b = ap (λ (h : How). record { viewer = b .viewer; how = h }) (how-back (b .how))
+backed-back b = ap (λ (h : CallWent). record { viewer = b .viewer; how = h }) (how-back (b .how))
 
 pub back-determined : (v : Viewer) (r r′ : Backed) → Backs v r → Backs v r′ → r ≡ r′
 back-determined v r r′ p q = sym (backed-back r) ∙ ap backedOf (p ∙ sym q) ∙ backed-back r′

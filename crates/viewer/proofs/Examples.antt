@@ -21,9 +21,9 @@ use Rattle.ride.specs.Closing.{leave}
 use Rattle.ride.specs.Step.{closeBehind, missedLines, afterMissed, goOn, treat}
 use Rattle.ride.specs.At.{recordAt}
 use Rattle.ride.specs.Over.{records, linesFor, Ridden, rideOver}
-use Rattle.viewer.specs.declared.Begun.{Begun}
-use Rattle.viewer.specs.declared.How.{How}
-use Rattle.viewer.specs.declared.Stand.{Stand}
+use Rattle.viewer.specs.declared.OpeningWent.{OpeningWent}
+use Rattle.viewer.specs.declared.CallWent.{CallWent}
+use Rattle.viewer.specs.declared.Standing.{Standing}
 use Rattle.viewer.specs.declared.Viewer.{Viewer}
 use Rattle.viewer.specs.declared.Started.{Started}
 use Rattle.viewer.specs.declared.Forwarded.{Forwarded}
@@ -45,26 +45,26 @@ bytes = 0x00 ∷ 0x00 ∷ 0x03 ∷ 0xE8 ∷ 3 ∷ 0 ∷ 0 ∷ 0 ∷ 0x00 ∷ 0x0
 abbrev lent : RefT (List ℕ)
 lent = record { ptr = (0, 0); name = 0; now = bytes }
 
-abbrev at : Stand → Viewer
+abbrev at : Standing → Viewer
 at s = record { trace = lent; stand = s }
 
 -- Where it stands: opened with gap 40, after the first record, after the second, and back before the second.
-abbrev s0 : Stand
+abbrev s0 : Standing
 s0 = opened (plain 40)
 
-abbrev s1 : Stand
+abbrev s1 : Standing
 s1 = passed s0 (stepOf s0 (recordAt bytes 0) .ride)
 
-abbrev s2 : Stand
+abbrev s2 : Standing
 s2 = passed s1 (stepOf s1 (recordAt bytes 1) .ride)
 
-abbrev s3 : Stand
+abbrev s3 : Standing
 s3 = returned s2
 
 -- ---- opened
 
 abbrev started : Started
-started = record { viewer = at s0; begun = Begun.Open }
+started = record { viewer = at s0; begun = OpeningWent.Open }
 
 starts : Starts (plain 40) lent started
 starts = ap (holding lent) (open-done (plain 40) bytes (plain-good 40 refl) refl)
@@ -72,7 +72,7 @@ starts = ap (holding lent) (open-done (plain 40) bytes (plain-good 40 refl) refl
 -- ---- back: nothing is kept
 
 abbrev refused22 : Backed
-refused22 = record { viewer = at s0; how = How.NothingKept }
+refused22 = record { viewer = at s0; how = CallWent.NothingKept }
 
 none-kept : Backs (at s0) refused22
 unfolding opened
@@ -88,10 +88,10 @@ its-line : linesFor 2 (stepOf s1 (recordAt bytes 1) .lines) ≡ Line.Record 2 17
 unfolding opened passed freshRide noGroup nothingKnown odometerOf passedOf inOrder checkRecord join takeUp leave closeBehind missedLines afterMissed goOn treat
 its-line = refl
 
-abbrev forwarded : Stand → Lines → Group → Forwarded
-forwarded s lines closed = record { viewer = at s; lines = lines; closed = closed; how = How.Done }
+abbrev forwarded : Standing → Lines → Group → Forwarded
+forwarded s lines closed = record { viewer = at s; lines = lines; closed = closed; how = CallWent.Done }
 
-abbrev says : Stand → Group → List Line → Forward
+abbrev says : Standing → Group → List Line → Forward
 says s closed lines = record { answer = gives done; lines = lines; closed = closed; stand = s }
 
 abbrev went1 : Forwarded
@@ -115,7 +115,7 @@ second-passed =
 -- ---- forward: at the end
 
 abbrev refused23 : Forwarded
-refused23 = record { viewer = at s2; lines = Lines.None; closed = noGroup; how = How.AtEnd }
+refused23 = record { viewer = at s2; lines = Lines.None; closed = noGroup; how = CallWent.AtEnd }
 
 at-end : Forwards (at s2) refused23
 unfolding opened passed
@@ -124,7 +124,7 @@ at-end = ap (over lent) (forward-end bytes s2 (omega arith))
 -- ---- back, before the refused record
 
 abbrev came : Backed
-came = record { viewer = at s3; how = How.Done }
+came = record { viewer = at s3; how = CallWent.Done }
 
 went-back : Backs (at s2) came
 unfolding opened passed

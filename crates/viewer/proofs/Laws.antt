@@ -17,12 +17,12 @@ use Rattle.ride.specs.Record.{odometerOf}
 use Rattle.ride.specs.Step.{treat}
 use Rattle.ride.specs.At.{recordAt}
 use Rattle.ride.specs.Over.{records, Ridden}
-use Rattle.viewer.specs.declared.Begun.{Begun}
+use Rattle.viewer.specs.declared.OpeningWent.{OpeningWent}
 use Rattle.viewer.specs.declared.Viewer.{Viewer}
 use Rattle.viewer.specs.declared.Started.{Started}
 use Rattle.viewer.specs.Stand.{opened}
 use Rattle.viewer.specs.Viewing.{Done, done, start, Forward, forward, Back}
-use Rattle.viewer.specs.Says.{Holding, Over, saysBegun}
+use Rattle.viewer.specs.Says.{Holding, Over, saysOpeningWent}
 use Rattle.viewer.specs.History.{Plain, first, goForth, Call, forth, back, called, plainly, straight}
 use Rattle.viewer.specs.Laws.{Starts, Lead, Shows, Views, Viewing}
 use Rattle.viewer.proofs.Straight.{Held, first-held, plainly-held}
@@ -66,11 +66,11 @@ opens-by (gives k) true store trace e h o = record { good = e ∙ ap gives (one-
 opens-by (gives k) false store trace e h o = never _ 16 (rw (e, h) at o)
 opens-by (refuses n) d store trace e h o = never _ n (rw e at o)
 
-opens : (store : Store) (trace : RefT (List ℕ)) (r : Started) → Starts store trace r → r .begun ≡ Begun.Open → Opens store (now trace)
+opens : (store : Store) (trace : RefT (List ℕ)) (r : Started) → Starts store trace r → r .begun ≡ OpeningWent.Open → Opens store (now trace)
 opens store trace r s b =
-    opens-by (judged store) (eqb (length (now trace) % 8) 0) store (now trace) refl refl (ap saysBegun (sym b) ∙ ap (λ (x : Holding). x .start .answer) s)
+    opens-by (judged store) (eqb (length (now trace) % 8) 0) store (now trace) refl refl (ap saysOpeningWent (sym b) ∙ ap (λ (x : Holding). x .start .answer) s)
 
-views : (store : Store) (trace : RefT (List ℕ)) (r : Started) (cs : List Call) (w : Viewer) → Starts store trace r → r .begun ≡ Begun.Open → Lead cs (r .viewer) w
+views : (store : Store) (trace : RefT (List ℕ)) (r : Started) (cs : List Call) (w : Viewer) → Starts store trace r → r .begun ≡ OpeningWent.Open → Lead cs (r .viewer) w
     → Views (gapAt store) (now trace) cs w
 views store trace r cs w s b l =
     let o = opens store trace r s b in

@@ -19,7 +19,7 @@ use Rattle.ride.specs.State.{freshRide}
 use Rattle.ride.specs.Record.{odometerOf}
 use Rattle.ride.specs.Step.{Step, treat}
 use Rattle.ride.specs.At.{recordAt}
-use Rattle.viewer.specs.declared.Stand.{Stand}
+use Rattle.viewer.specs.declared.Standing.{Standing}
 use Rattle.viewer.specs.Stand.{opened, oneMore, passed, returned}
 use Rattle.viewer.specs.Viewing.{stepOf, forward, back as goesBack}
 use Rattle.viewer.specs.History.{Plain, first, goForth, backTo, goBack, Call, forth, back, called, plainly}
@@ -27,7 +27,7 @@ use Rattle.viewer.proofs.Calls.{forward-end, forward-step, back-none, b
 use Rattle.viewer.proofs.Straight.{taken-at}
 
 -- where a viewer stands that shows what the plain definition says
-pub record Alike (store : Store) (s : Stand) (p : Plain) : Type 0 where
+pub record Alike (store : Store) (s : Standing) (p : Plain) : Type 0 where
   pub set-to : s .settings ≡ store
   pub number : s .number ≡ p .number
   pub kept : s .kept ≡ length (p .history)
@@ -86,7 +86,7 @@ bounds-by : (b : Bool) (n : ℕ) → ltb n 256 ≡ b → n ≤ 256 → (pick b (
 bounds-by true n e h = let l : n < 256 = ltb-true n 256 e in (omega arith, omega arith)
 bounds-by false n e h = (omega arith, h)
 
-module _ (store : Store) (s : Stand) (p : Plain) (h : Alike store s p) where
+module _ (store : Store) (s : Standing) (p : Plain) (h : Alike store s p) where
   abbrev ringOn : List Ride
   ringOn = set (s .last) (s .number % 256) (s .ride)
 
@@ -123,7 +123,7 @@ module _ (store : Store) (s : Stand) (p : Plain) (h : Alike store s p) where
             ring-on k old near ∙ sym (taken-at 256 k (p .ride ∷ p .history) near);
       }
 
-forth-by : (b : Bool) (store : Store) (trace : List ℕ) (s : Stand) (p : Plain) → ltb (p .number) (length trace / 8) ≡ b → judged store ≡ gives kept → Alike store s p
+forth-by : (b : Bool) (store : Store) (trace : List ℕ) (s : Standing) (p : Plain) → ltb (p .number) (length trace / 8) ≡ b → judged store ≡ gives kept → Alike store s p
     → Alike store (forward trace s .stand) (goForth (gapAt store) trace p)
 unfolding goForth
 forth-by true store trace s p e good h =
@@ -142,7 +142,7 @@ forth-by false store trace s p e good h =
 
 -- ---- back
 
-back-by : (history : List Ride) (store : Store) (s : Stand) (p : Plain) → p .history ≡ history → Alike store s p → Alike store (goesBack s .stand) (backTo p history)
+back-by : (history : List Ride) (store : Store) (s : Standing) (p : Plain) → p .history ≡ history → Alike store s p → Alike store (goesBack s .stand) (backTo p history)
 unfolding returned
 back-by [] store s p e h =
     let none : s .kept ≡ 0 = h .kept ∙ ap length e in
@@ -167,11 +167,11 @@ back-by (y ∷ history) store s p e h =
 
 -- ---- any call
 
-abbrev pub stands : List ℕ → Call → Stand → Stand
+abbrev pub stands : List ℕ → Call → Standing → Standing
 stands trace forth s = forward trace s .stand
 stands trace back s = goesBack s .stand
 
-pub called-alike : (store : Store) (trace : List ℕ) (c : Call) (s : Stand) (p : Plain) → judged store ≡ gives kept → Alike store s p
+pub called-alike : (store : Store) (trace : List ℕ) (c : Call) (s : Standing) (p : Plain) → judged store ≡ gives kept → Alike store s p
     → Alike store (stands trace c s) (called (gapAt store) trace c p)
 called-alike store trace forth s p good h = forth-by (ltb (p .number) (length trace / 8)) store trace s p refl good h
 called-alike store trace back s p good h = back-by (p .history) store s p refl h

@@ -32,15 +32,15 @@ use denote.Steps.{nothing}
 use denote.Struct.Laws as LL
 use denote.Struct.Rest.{all-own, own-open, own-shut}
 use denote.Struct.Values.{Values}
-use Rattle.viewer.specs.declared.Stand.{Stand}
+use Rattle.viewer.specs.declared.Standing.{Standing}
 use Rattle.viewer.specs.declared.Viewer.{Viewer}
-use Rattle.viewer.proofs.Stand as P
-use Rattle.viewer.proofs.Stand.Laws as P′
+use Rattle.viewer.proofs.Standing as P
+use Rattle.viewer.proofs.Standing.Laws as P′
 use Rattle.viewer.proofs.Viewer as T
 use Rattle.viewer.proofs.Viewer.Laws as T′
 
 -- a viewer of a slice
-abbrev pub viewer : RefT (List ℕ) → Stand → Viewer
+abbrev pub viewer : RefT (List ℕ) → Standing → Viewer
 viewer s stand = record { trace = s; stand = stand }
 
 -- the types of a viewer and of its parts, by name
@@ -75,7 +75,7 @@ Own α d = T.the-row α .own d (mach α d ∷ [])
 abbrev pub Trace : NamedLft → RefT (List ℕ) → Fml
 Trace α s = ShrSlice (α .mir) (α .lft) u8 .own s (slice s ∷ [])
 
-abbrev pub Standing : Stand → Fml
+abbrev pub Standing : Standing → Fml
 Standing s = P.the-row .own s (LL.val P.the-type P′.the-laws s ∷ [])
 
 abbrev pub Parts : NamedLft → Viewer → Fml
@@ -104,14 +104,14 @@ module _ {M : Type 1} (𝓤 : URA M) (H : Heap 𝓤) (A : Atoms 𝓤) (W : Given
   trace d = qed W (‵ (Own α d) ∷ []) ∵ use1 W (‵ (Parts α d)) (opened d) $ fsplit ! $ move ! (1 ∷ []) $ drop ! $ done !
 
   -- a viewer of the slice and of where it stands; the rest of the answer is kept
-  pub made : (s : RefT (List ℕ)) (stand : Stand) (rest : Fml) → ent 𝓤 (⋆ 𝓤 H A (‵ (Standing stand) ∷ ‵ rest ∷ ‵ (Trace α s) ∷ [])) (sep 𝓤 (sem 𝓤 H A (Own α (viewer s stand))) (sem 𝓤 H A rest))
+  pub made : (s : RefT (List ℕ)) (stand : Standing) (rest : Fml) → ent 𝓤 (⋆ 𝓤 H A (‵ (Standing stand) ∷ ‵ rest ∷ ‵ (Trace α s) ∷ [])) (sep 𝓤 (sem 𝓤 H A (Own α (viewer s stand))) (sem 𝓤 H A rest))
   made s stand rest =
       qed W (‵ (Standing stand) ∷ ‵ rest ∷ ‵ (Trace α s) ∷ []) ∵
       nothing ! $ move ! (1 ∷ 0 ∷ []) $ fjoin ! $ move ! (2 ∷ 0 ∷ []) $ fjoin ! $
       use1 W (‵ (Own α (viewer s stand))) (own-shut 𝓤 H A W (T.the-type α) (T′.the-laws α) (parts α (viewer s stand))) $ frame ! $ done !
 
   -- a viewer that is made has its type, under any name l of the lifetime
-  module _ (l : Lifetime) (s : RefT (List ℕ)) (stand : Stand) (g : Is (ShrSlice (α .mir) (α .lft) u8) s (slice s ∷ [])) (is : Is P.the-row stand (LL.val P.the-type P′.the-laws stand ∷ [])) where
+  module _ (l : Lifetime) (s : RefT (List ℕ)) (stand : Standing) (g : Is (ShrSlice (α .mir) (α .lft) u8) s (slice s ∷ [])) (is : Is P.the-row stand (LL.val P.the-type P′.the-laws stand ∷ [])) where
     abbrev β : NamedLft
     β = record { mir = l; lft = α .lft }
 

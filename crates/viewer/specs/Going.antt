@@ -8,7 +8,7 @@ use lib.Dec.{leb}
 use Rattle.words.specs.Answer.{Outcome, gives, refuses, pick}
 use Rattle.ride.specs.declared.Line.{Line}
 use Rattle.ride.specs.Record.{Entry, checkRecord}
-use Rattle.viewer.specs.declared.Stand.{Stand}
+use Rattle.viewer.specs.declared.Standing.{Standing}
 use Rattle.viewer.specs.Viewing.{Done, done, Forward, forward, Back, back}
 
 -- Why no further call was made: all that were asked for were made, or the next one was refused with this number.
@@ -25,10 +25,10 @@ answerOf (refused n) = refuses n
 pub record Moved : Type 0 where
   pub steps : ℕ
   pub ending : Ending
-  pub stand : Stand
+  pub stand : Standing
 
 -- No call is made.
-abbrev pub stopped : Ending → Stand → Moved
+abbrev pub stopped : Ending → Standing → Moved
 stopped why s = record { steps = 0; ending = why; stand = s }
 
 -- So many calls were made before.
@@ -36,26 +36,26 @@ abbrev pub after : ℕ → Moved → Moved
 after n m = record { steps = n + m .steps; ending = m .ending; stand = m .stand }
 
 -- A call that is done is one more, with the others after it; one that is refused is not made.
-abbrev pub further : Outcome Done → Stand → Moved → Moved
+abbrev pub further : Outcome Done → Standing → Moved → Moved
 further (gives d) s others = after 1 others
 further (refuses n) s others = stopped (refused n) s
 
 -- Forward so many times.
-unfoldable pub forwards : ℕ → List ℕ → Stand → Moved
+unfoldable pub forwards : ℕ → List ℕ → Standing → Moved
 forwards zero trace s = stopped all s
 forwards (suc n) trace s =
     let f : Forward = forward trace s in
     further (f .answer) s (forwards n trace (f .stand))
 
 -- The lines of the records that so many forwards pass.
-unfoldable pub linesPassed : ℕ → List ℕ → Stand → List Line
+unfoldable pub linesPassed : ℕ → List ℕ → Standing → List Line
 linesPassed zero trace s = []
 linesPassed (suc n) trace s =
     let f : Forward = forward trace s in
     f .lines ++ linesPassed n trace (f .stand)
 
 -- Back so many times.
-unfoldable pub backs : ℕ → Stand → Moved
+unfoldable pub backs : ℕ → Standing → Moved
 backs zero s = stopped all s
 backs (suc n) s =
     let b : Back = back s in

@@ -12,14 +12,14 @@ use Rattle.settings.specs.Versions.{kept}
 use Rattle.settings.specs.Store.{judged}
 use Rattle.settings.specs.At.{gapAt}
 use Rattle.ride.specs.Over.{records, Ridden, rideOver}
-use Rattle.viewer.specs.declared.Begun.{Begun}
-use Rattle.viewer.specs.declared.Stand.{Stand}
+use Rattle.viewer.specs.declared.OpeningWent.{OpeningWent}
+use Rattle.viewer.specs.declared.Standing.{Standing}
 use Rattle.viewer.specs.declared.Viewer.{Viewer}
 use Rattle.viewer.specs.declared.Started.{Started}
 use Rattle.viewer.specs.declared.Forwarded.{Forwarded}
 use Rattle.viewer.specs.declared.Backed.{Backed}
 use Rattle.viewer.specs.Viewing.{done, start, forward, back as goesBack}
-use Rattle.viewer.specs.Says.{holding, over, saysHow, saysStarted, saysForwarded, saysBacked}
+use Rattle.viewer.specs.Says.{holding, over, saysCallWent, saysStarted, saysForwarded, saysBacked}
 use Rattle.viewer.specs.Going.{forwards, linesPassed}
 use Rattle.viewer.specs.History.{Plain, first, Call, forth, back, plainly, straight}
 
@@ -57,21 +57,21 @@ pub record Views (gaps : ℕ → ℕ) (trace : List ℕ) (cs : List Call) (w : V
 pub record Viewing : Type 0 where
   -- after any calls, under one fixed store (M-111): each record with the gap in force at its own odometer
   pub after-any : (store : Store) (trace : RefT (List ℕ)) (r : Started) (cs : List Call) (w : Viewer)
-      → Starts store trace r → r .begun ≡ Begun.Open → Lead cs (r .viewer) w → Views (gapAt store) (now trace) cs w
+      → Starts store trace r → r .begun ≡ OpeningWent.Open → Lead cs (r .viewer) w → Views (gapAt store) (now trace) cs w
 
 -- When a call is refused, and what that leaves: "22 for back exactly if the kept count is 0; 23 for forward exactly at the end; both leave the
 -- viewer unchanged." The conditions stand here a second time. A viewer whose settings are good is refused nothing else.
 pub record Refusing : Type 0 where
-  pub back-refused : (v : Viewer) (r : Backed) → Backs v r → v .stand .kept ≡ 0 → (saysHow (r .how) ≡ refuses 22) × (r .viewer ≡ v)
-  pub back-done : (v : Viewer) (r : Backed) → Backs v r → 0 < v .stand .kept → saysHow (r .how) ≡ gives done
+  pub back-refused : (v : Viewer) (r : Backed) → Backs v r → v .stand .kept ≡ 0 → (saysCallWent (r .how) ≡ refuses 22) × (r .viewer ≡ v)
+  pub back-done : (v : Viewer) (r : Backed) → Backs v r → 0 < v .stand .kept → saysCallWent (r .how) ≡ gives done
   pub forward-refused : (v : Viewer) (r : Forwarded) → Forwards v r → length (now (v .trace)) / 8 ≤ v .stand .number
-      → (saysHow (r .how) ≡ refuses 23) × (r .viewer ≡ v)
+      → (saysCallWent (r .how) ≡ refuses 23) × (r .viewer ≡ v)
   pub forward-done : (v : Viewer) (r : Forwarded) → Forwards v r → v .stand .number < length (now (v .trace)) / 8 → judged (v .stand .settings) ≡ gives kept
-      → saysHow (r .how) ≡ gives done
+      → saysCallWent (r .how) ≡ gives done
 
 -- The records that many forwards pass, as `f 20` of the program `view` asks: they give the lines of a ride over them from the state before them,
 -- and the viewer has that ride's state.
 pub record ManyAtOnce : Type 0 where
-  pub lines : (n : ℕ) (trace : List ℕ) (s : Stand) → judged (s .settings) ≡ gives kept → s .number + n ≤ length trace / 8
+  pub lines : (n : ℕ) (trace : List ℕ) (s : Standing) → judged (s .settings) ≡ gives kept → s .number + n ≤ length trace / 8
       → _≡_ {A = Ridden} (record { lines = linesPassed n trace s; ride = forwards n trace s .stand .ride })
       (rideOver (gapAt (s .settings)) (s .ride) (s .number + 1) (take n (drop (s .number) (records trace))))

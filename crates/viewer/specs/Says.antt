@@ -6,8 +6,8 @@ use Prim.Native.Nat.{ℕ}
 use Rattle.words.specs.Answer.{Outcome, gives, refuses}
 use Rattle.settings.specs.Says.{saysBad}
 use Rattle.ride.specs.Says.{saysLines}
-use Rattle.viewer.specs.declared.Begun.{Begun}
-use Rattle.viewer.specs.declared.How.{How}
+use Rattle.viewer.specs.declared.OpeningWent.{OpeningWent}
+use Rattle.viewer.specs.declared.CallWent.{CallWent}
 use Rattle.viewer.specs.declared.Opened.{Opened}
 use Rattle.viewer.specs.declared.Went.{Went}
 use Rattle.viewer.specs.declared.Came.{Came}
@@ -21,17 +21,17 @@ use Rattle.viewer.specs.Viewing.{Done, done, Start, Forward, Back}
 use Rattle.viewer.specs.Going.{Ending as Ends, all, refused, Moved as Moves}
 
 -- Settings that are refused have their own number ("gap outside 1 to 200" is 19); "trace length not a multiple of 8" is 16.
-abbrev pub saysBegun : Begun → Outcome Done
-saysBegun Begun.Open = gives done
-saysBegun (Begun.Settings bad) = refuses (saysBad bad)
-saysBegun Begun.Length = refuses 16
+abbrev pub saysOpeningWent : OpeningWent → Outcome Done
+saysOpeningWent OpeningWent.Open = gives done
+saysOpeningWent (OpeningWent.Settings bad) = refuses (saysBad bad)
+saysOpeningWent OpeningWent.Length = refuses 16
 
 -- "22 for back exactly if the kept count is 0; 23 for forward exactly at the end"; settings that are refused have their own number.
-abbrev pub saysHow : How → Outcome Done
-saysHow How.Done = gives done
-saysHow How.NothingKept = refuses 22
-saysHow How.AtEnd = refuses 23
-saysHow (How.Settings bad) = refuses (saysBad bad)
+abbrev pub saysCallWent : CallWent → Outcome Done
+saysCallWent CallWent.Done = gives done
+saysCallWent CallWent.NothingKept = refuses 22
+saysCallWent CallWent.AtEnd = refuses 23
+saysCallWent (CallWent.Settings bad) = refuses (saysBad bad)
 
 -- The trace that an opened viewer holds: the lent one, or an empty one where it was refused.
 abbrev pub traceOf : Outcome Done → List ℕ → List ℕ
@@ -40,15 +40,15 @@ traceOf (refuses n) trace = []
 
 -- Opening over a lent trace.
 abbrev pub saysOpened : Opened → List ℕ → Start
-saysOpened o trace = record { answer = saysBegun (o .begun); trace = traceOf (saysBegun (o .begun)) trace; stand = o .stand }
+saysOpened o trace = record { answer = saysOpeningWent (o .begun); trace = traceOf (saysOpeningWent (o .begun)) trace; stand = o .stand }
 
 -- Going forward over a lent trace, from where a viewer stands.
 abbrev pub saysWent : Went → Forward
-saysWent w = record { answer = saysHow (w .how); lines = saysLines (w .lines); closed = w .closed; stand = w .stand }
+saysWent w = record { answer = saysCallWent (w .how); lines = saysLines (w .lines); closed = w .closed; stand = w .stand }
 
 -- Going back.
 abbrev pub saysCame : Came → Back
-saysCame c = record { answer = saysHow (c .how); stand = c .stand }
+saysCame c = record { answer = saysCallWent (c .how); stand = c .stand }
 
 -- Why many calls made no further step, by the same numbers.
 abbrev pub saysEnding : Ending → Ends
@@ -84,8 +84,8 @@ pub record Holding : Type 0 where
 abbrev pub saysStarted : Started → Holding
 saysStarted s =
     record {
-      slice = sliceOf (saysBegun (s .begun)) (s .viewer .trace);
-      start = record { answer = saysBegun (s .begun); trace = now (s .viewer .trace); stand = s .viewer .stand };
+      slice = sliceOf (saysOpeningWent (s .begun)) (s .viewer .trace);
+      start = record { answer = saysOpeningWent (s .begun); trace = now (s .viewer .trace); stand = s .viewer .stand };
     }
 
 -- What it is to be, over a lent trace.
@@ -103,8 +103,8 @@ over trace answer = record { trace = trace; answer = answer }
 -- Forward.
 abbrev pub saysForwarded : Forwarded → Over Forward
 saysForwarded f =
-    over (f .viewer .trace) (record { answer = saysHow (f .how); lines = saysLines (f .lines); closed = f .closed; stand = f .viewer .stand })
+    over (f .viewer .trace) (record { answer = saysCallWent (f .how); lines = saysLines (f .lines); closed = f .closed; stand = f .viewer .stand })
 
 -- Back.
 abbrev pub saysBacked : Backed → Over Back
-saysBacked b = over (b .viewer .trace) (record { answer = saysHow (b .how); stand = b .viewer .stand })
+saysBacked b = over (b .viewer .trace) (record { answer = saysCallWent (b .how); stand = b .viewer .stand })

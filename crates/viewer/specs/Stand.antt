@@ -8,10 +8,10 @@ use Rattle.words.specs.Answer.{pick}
 use Rattle.settings.specs.declared.Store.{Store}
 use Rattle.ride.specs.declared.Ride.{Ride}
 use Rattle.ride.specs.State.{freshRide}
-use Rattle.viewer.specs.declared.Stand.{Stand}
+use Rattle.viewer.specs.declared.Standing.{Standing}
 
 -- "A viewer opens at the first record with a fresh ride"; "opening a viewer starts [the kept count] at 0".
-unfoldable pub opened : Store → Stand
+unfoldable pub opened : Store → Standing
 opened store = record { number = 0; kept = 0; ride = freshRide; last = replicate 256 freshRide; settings = store }
 
 -- "The kept count rises by one with a forward, up to 256".
@@ -19,7 +19,7 @@ abbrev pub oneMore : ℕ → ℕ
 oneMore kept = pick (ltb kept 256) (kept + 1) kept
 
 -- One record is passed, and leaves this state: the state before it is kept.
-unfoldable pub passed : Stand → Ride → Stand
+unfoldable pub passed : Standing → Ride → Standing
 passed s next =
     record {
       number = s .number + 1;
@@ -30,7 +30,7 @@ passed s next =
     }
 
 -- One record back, to the state that was kept last; the kept count "falls by one with a back".
-unfoldable pub returned : Stand → Stand
+unfoldable pub returned : Standing → Standing
 returned s =
     record {
       number = s .number - 1;

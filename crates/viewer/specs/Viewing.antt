@@ -16,7 +16,7 @@ use Rattle.ride.specs.Record.{odometerOf}
 use Rattle.ride.specs.Step.{Step, treat}
 use Rattle.ride.specs.At.{recordAt}
 use Rattle.ride.specs.Over.{linesFor}
-use Rattle.viewer.specs.declared.Stand.{Stand}
+use Rattle.viewer.specs.declared.Standing.{Standing}
 use Rattle.viewer.specs.Stand.{opened, passed, returned}
 
 -- What is said of a call that is not refused: that it was done.
@@ -27,7 +27,7 @@ pub data Done : Type 0 where
 pub record Start : Type 0 where
   pub answer : Outcome Done
   pub trace : List ℕ
-  pub stand : Stand
+  pub stand : Standing
 
 -- A refused viewer holds an empty trace.
 abbrev pub unopened : Store → ℕ → Start
@@ -52,28 +52,28 @@ pub record Forward : Type 0 where
   pub answer : Outcome Done
   pub lines : List Line
   pub closed : Group
-  pub stand : Stand
+  pub stand : Standing
 
 -- A refused forward leaves the viewer unchanged.
-abbrev pub stays : Stand → ℕ → Forward
+abbrev pub stays : Standing → ℕ → Forward
 stays s n = record { answer = refuses n; lines = []; closed = noGroup; stand = s }
 
 -- A record is passed by its step: "A refused record counts as a step", and its line says so.
-abbrev pub byStep : Stand → Step → Forward
+abbrev pub byStep : Standing → Step → Forward
 byStep s t =
     record { answer = gives done; lines = linesFor (s .number + 1) (t .lines); closed = t .closed; stand = passed s (t .ride) }
 
 -- A viewer that no call made may hold settings that are refused: then forward is refused with their number.
-abbrev pub under : Stand → Outcome Kept → Forward → Forward
+abbrev pub under : Standing → Outcome Kept → Forward → Forward
 under s (gives k) f = f
 under s (refuses n) f = stays s n
 
 -- The step of a record, with the gap in force at its own odometer.
-abbrev pub stepOf : Stand → List ℕ → Step
+abbrev pub stepOf : Standing → List ℕ → Step
 stepOf s r = treat (s .ride) (gapAt (s .settings) (odometerOf r)) r
 
 -- Forward: "23 for forward exactly at the end".
-unfoldable pub forward : List ℕ → Stand → Forward
+unfoldable pub forward : List ℕ → Standing → Forward
 forward trace s =
     pick (ltb (s .number) (length trace / 8))
     (under s (judged (s .settings)) (byStep s (stepOf s (recordAt trace (s .number)))))
@@ -82,10 +82,10 @@ forward trace s =
 -- What going back answers, and what going many times does: that it was done, or the number of its refusal; where the viewer stands then.
 pub record Back : Type 0 where
   pub answer : Outcome Done
-  pub stand : Stand
+  pub stand : Standing
 
 -- Back: "22 for back exactly if the kept count is 0"; it leaves the viewer unchanged.
-unfoldable pub back : Stand → Back
+unfoldable pub back : Standing → Back
 back s =
     pick (eqb (s .kept) 0)
     (record { answer = refuses 22; stand = s })

@@ -12,7 +12,7 @@ ghost use Rattle.viewer.specs.Going.{all, refused, forwards, backs};
 ghost use Rattle.viewer.specs.Says.{saysEnding, saysMoved};
 use crate::Ending;
 use crate::Moved;
-use crate::Stand;
+use crate::Standing;
 use crate::moving::one_more;
 use settings::Asked;
 use settings::Bad;
@@ -29,7 +29,7 @@ fn ended(left: usize) -> Ending
 }
 
 // Forward so many times, or to the end. What is held at first is what is in force at place 0.
-fn over(trace: &[u8], from: Stand, first: Held, times: usize) -> Moved
+fn over(trace: &[u8], from: Standing, first: Held, times: usize) -> Moved
     requires { ⌜ (judged (from .settings) ≡ gives kept) × (first ≡ heldAt (from .settings) 0) ⌝ }
     ensures { λ r. ⌜ saysMoved r ≡ forwards times (now (trace .entry)) from ⌝ }
 {
@@ -51,7 +51,7 @@ fn over(trace: &[u8], from: Stand, first: Held, times: usize) -> Moved
         number += 1;
         left -= 1;
     }
-    let stand = Stand {
+    let stand = Standing {
         number,
         kept,
         ride: now,
@@ -76,7 +76,7 @@ fn refusal(number: usize, count: usize, bad: Bad) -> Ending
 }
 
 // `forward_at` so many times, or until the next one is refused: where the viewer then stands, how many steps were made, and why no further one.
-pub fn forwards_at(trace: &[u8], stand: Stand, times: usize) -> Moved
+pub fn forwards_at(trace: &[u8], stand: Standing, times: usize) -> Moved
     ensures { λ r. ⌜ saysMoved r ≡ forwards times (now (trace .entry)) stand ⌝ }
 {
     if times == 0 {
@@ -129,7 +129,7 @@ fn less(number: usize, by: usize) -> usize
 }
 
 // `back_at` so many times, or until the next one is refused: where the viewer then stands, how many steps were made, and why no further one.
-pub fn backs_at(stand: Stand, times: usize) -> Moved
+pub fn backs_at(stand: Standing, times: usize) -> Moved
     ensures { λ r. ⌜ saysMoved r ≡ backs times stand ⌝ }
 {
     let ending = kept_for(times, stand.kept);
@@ -147,7 +147,7 @@ pub fn backs_at(stand: Stand, times: usize) -> Moved
     let at = number % 256;
     let ride = last[at];
     Moved {
-        stand: Stand {
+        stand: Standing {
             number,
             kept: stand.kept - far,
             ride,

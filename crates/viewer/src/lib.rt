@@ -27,7 +27,7 @@ use settings::Store;
 
 // Where a viewer stands: how many records lie before it, how many states are kept, the state there, the last states (that before record n,
 // the first with 0, at n % 256), and the settings.
-pub struct Stand {
+pub struct Standing {
     pub number: usize,
     pub kept: usize,
     pub ride: Ride,
@@ -36,14 +36,14 @@ pub struct Stand {
 }
 
 // How opening went: done, or refused for the settings (their number) or the trace's length (16).
-pub enum Begun {
+pub enum OpeningWent {
     Open,
     Settings(Bad),
     Length,
 }
 
 // How a call went: done, or refused since nothing is kept (22), at the end (23), or for settings that no opening lets in (their number).
-pub enum How {
+pub enum CallWent {
     Done,
     NothingKept,
     AtEnd,
@@ -52,22 +52,22 @@ pub enum How {
 
 // What opening answers over a lent trace.
 pub struct Opened {
-    pub stand: Stand,
-    pub begun: Begun,
+    pub stand: Standing,
+    pub begun: OpeningWent,
 }
 
 // What going forward over a lent trace answers: where the viewer stands, the lines that the record gave, and the group that closed.
 pub struct Went {
-    pub stand: Stand,
+    pub stand: Standing,
     pub lines: Lines,
     pub closed: Group,
-    pub how: How,
+    pub how: CallWent,
 }
 
 // What going back answers.
 pub struct Came {
-    pub stand: Stand,
-    pub how: How,
+    pub stand: Standing,
+    pub how: CallWent,
 }
 
 // Why many calls made no further step: all that were asked for were made, or the next one is refused: nothing is kept (22), at the end (23), or for
@@ -81,7 +81,7 @@ pub enum Ending {
 
 // What going many times answers: where the viewer stands, how many steps were made, none of which was refused, and why no further one.
 pub struct Moved {
-    pub stand: Stand,
+    pub stand: Standing,
     pub steps: usize,
     pub ending: Ending,
 }
@@ -89,13 +89,13 @@ pub struct Moved {
 // A viewer: the lent trace, and where it stands.
 pub struct Viewer<'a> {
     pub trace: &'a [u8],
-    pub stand: Stand,
+    pub stand: Standing,
 }
 
 // A viewer that was opened. A refused one holds an empty trace.
 pub struct Started<'a> {
     pub viewer: Viewer<'a>,
-    pub begun: Begun,
+    pub begun: OpeningWent,
 }
 
 // A viewer after a forward: the lines that the record gave, and the group that closed.
@@ -103,13 +103,13 @@ pub struct Forwarded<'a> {
     pub viewer: Viewer<'a>,
     pub lines: Lines,
     pub closed: Group,
-    pub how: How,
+    pub how: CallWent,
 }
 
 // A viewer after a back.
 pub struct Backed<'a> {
     pub viewer: Viewer<'a>,
-    pub how: How,
+    pub how: CallWent,
 }
 
 // A viewer at the first record of the very trace that is lent, with a fresh ride and nothing kept; or the settings' own refusal, then 16, and a viewer of

@@ -13,11 +13,11 @@ ghost use Rattle.ride.specs.State.{noGroup};
 ghost use Rattle.viewer.specs.Stand.{oneMore, passed};
 ghost use Rattle.viewer.specs.Viewing.{byStep, forward, back};
 ghost use Rattle.viewer.specs.Going.{answerOf};
-ghost use Rattle.viewer.specs.Says.{saysHow, saysEnding, saysWent, saysCame};
+ghost use Rattle.viewer.specs.Says.{saysCallWent, saysEnding, saysWent, saysCame};
+use crate::CallWent;
 use crate::Came;
 use crate::Ending;
-use crate::How;
-use crate::Stand;
+use crate::Standing;
 use crate::Went;
 use crate::going::backs_at;
 use ride::Given;
@@ -40,7 +40,7 @@ pub fn one_more(kept: usize) -> usize
 }
 
 // One record passed, which leaves this state.
-fn pass(stand: Stand, next: Ride) -> Stand
+fn pass(stand: Standing, next: Ride) -> Standing
     requires { ⌜ stand .number < 18446744073709551615 ⌝ }
     ensures { λ r. ⌜ r ≡ passed stand next ⌝ }
 {
@@ -50,7 +50,7 @@ fn pass(stand: Stand, next: Ride) -> Stand
     let mut last = stand.last;
     let at = number % 256;
     last[at] = before;
-    Stand {
+    Standing {
         number: number + 1,
         kept: one_more(stand.kept),
         ride: next,
@@ -81,8 +81,8 @@ fn lines_of(number: u64, given: Given) -> Lines
 }
 
 // A refused forward.
-fn unmoved(stand: Stand, how: How) -> Went
-    ensures { λ r. ⌜ saysWent r ≡ record { answer = saysHow how; lines = []; closed = noGroup; stand = stand } ⌝ }
+fn unmoved(stand: Standing, how: CallWent) -> Went
+    ensures { λ r. ⌜ saysWent r ≡ record { answer = saysCallWent how; lines = []; closed = noGroup; stand = stand } ⌝ }
 {
     let fresh = ride::fresh();
     let closed = fresh.group;
@@ -95,7 +95,7 @@ fn unmoved(stand: Stand, how: How) -> Went
 }
 
 // The record that comes next, with the settings held for it.
-fn step_at(trace: &[u8], stand: Stand, held: Held) -> Went
+fn step_at(trace: &[u8], stand: Standing, held: Held) -> Went
     requires { ⌜ (stand .number < length (now trace) / 8) × (allowed (held .gap) ≡ true) ⌝ }
     ensures { λ r. ⌜ saysWent r ≡ byStep stand (treat (stand .ride) (held .gap) (recordAt (now (trace .entry)) (stand .number))) ⌝ }
 {
@@ -104,7 +104,7 @@ fn step_at(trace: &[u8], stand: Stand, held: Held) -> Went
     let treated = ride::treat_at(ride, held.gap, trace, number);
     let reply = treated.reply;
     let Reply::Record(given) = reply else {
-        return unmoved(stand, How::AtEnd);
+        return unmoved(stand, CallWent::AtEnd);
     };
     let next = treated.ride;
     let closed = treated.closed;
@@ -114,22 +114,22 @@ fn step_at(trace: &[u8], stand: Stand, held: Held) -> Went
         stand: after,
         lines,
         closed,
-        how: How::Done,
+        how: CallWent::Done,
     }
 }
 
 // As `forward`, for a stand over the lent trace: one record forward, or 23 at the end.
-pub fn forward_at(trace: &[u8], stand: Stand) -> Went
+pub fn forward_at(trace: &[u8], stand: Standing) -> Went
     ensures { λ r. ⌜ saysWent r ≡ forward (now (trace .entry)) stand ⌝ }
 {
     let number = stand.number;
     if number >= trace.len() / 8 {
-        return unmoved(stand, How::AtEnd);
+        return unmoved(stand, CallWent::AtEnd);
     }
     let store = stand.settings;
     let asked = settings::at(store, 0);
     match asked {
-        Asked::Refused(bad) => unmoved(stand, How::Settings(bad)),
+        Asked::Refused(bad) => unmoved(stand, CallWent::Settings(bad)),
         Asked::InForce(first) => {
             let held = ride::held_at(store, first, trace, number);
             step_at(trace, stand, held)
@@ -138,19 +138,19 @@ pub fn forward_at(trace: &[u8], stand: Stand) -> Went
 }
 
 // How a single call went, by why it made no further step.
-fn how_of(ending: Ending) -> How
-    ensures { λ r. ⌜ saysHow r ≡ answerOf (saysEnding ending) ⌝ }
+fn how_of(ending: Ending) -> CallWent
+    ensures { λ r. ⌜ saysCallWent r ≡ answerOf (saysEnding ending) ⌝ }
 {
     match ending {
-        Ending::All => How::Done,
-        Ending::NothingKept => How::NothingKept,
-        Ending::AtEnd => How::AtEnd,
-        Ending::Settings(bad) => How::Settings(bad),
+        Ending::All => CallWent::Done,
+        Ending::NothingKept => CallWent::NothingKept,
+        Ending::AtEnd => CallWent::AtEnd,
+        Ending::Settings(bad) => CallWent::Settings(bad),
     }
 }
 
 // As `back`, for a stand: one record back, or 22 where no state is kept.
-pub fn back_at(stand: Stand) -> Came
+pub fn back_at(stand: Standing) -> Came
     ensures { λ r. ⌜ saysCame r ≡ back stand ⌝ }
 {
     let moved = backs_at(stand, 1);

@@ -2,20 +2,20 @@
 ghost use mathlib.Core.Path.{_≡_};
 ghost use Rattle.viewer.specs.Stand.{opened};
 ghost use Rattle.viewer.specs.Viewing.{start};
-ghost use Rattle.viewer.specs.Says.{saysBegun, saysOpened, sliceOf, lentTo};
-use crate::Begun;
+ghost use Rattle.viewer.specs.Says.{saysOpeningWent, saysOpened, sliceOf, lentTo};
 use crate::Opened;
-use crate::Stand;
+use crate::OpeningWent;
+use crate::Standing;
 use settings::Asked;
 use settings::Store;
 
 // A stand at the first record, with a fresh ride and nothing kept.
-fn fresh(store: Store) -> Stand
+fn fresh(store: Store) -> Standing
     ensures { λ r. ⌜ r ≡ opened store ⌝ }
 {
     let ride = ride::fresh();
     let last = [ride; 256];
-    Stand {
+    Standing {
         number: 0,
         kept: 0,
         ride,
@@ -25,17 +25,17 @@ fn fresh(store: Store) -> Stand
 }
 
 // Whether a viewer opens: the settings' own refusal, then 16.
-fn begins(store: Store, trace: &[u8]) -> Begun
-    ensures { λ r. ⌜ saysBegun r ≡ start store (now (trace .entry)) .answer ⌝ }
+fn begins(store: Store, trace: &[u8]) -> OpeningWent
+    ensures { λ r. ⌜ saysOpeningWent r ≡ start store (now (trace .entry)) .answer ⌝ }
 {
     let asked = settings::at(store, 0);
     match asked {
-        Asked::Refused(bad) => Begun::Settings(bad),
+        Asked::Refused(bad) => OpeningWent::Settings(bad),
         Asked::InForce(_) => {
             if trace.len() % 8 != 0 {
-                return Begun::Length;
+                return OpeningWent::Length;
             }
-            Begun::Open
+            OpeningWent::Open
         }
     }
 }

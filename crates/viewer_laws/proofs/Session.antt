@@ -19,14 +19,14 @@ use Rattle.ride.specs.declared.Ran.{Ran}
 use Rattle.ride.specs.State.{freshRide}
 use Rattle.ride.specs.Over.{firstRecords, records, rideOver, Run, run}
 use Rattle.ride.proofs.Cutting.{take-records, front-records}
-use Rattle.viewer.specs.declared.Begun.{Begun}
-use Rattle.viewer.specs.declared.Stand.{Stand}
+use Rattle.viewer.specs.declared.OpeningWent.{OpeningWent}
+use Rattle.viewer.specs.declared.Standing.{Standing}
 use Rattle.viewer.specs.declared.Opened.{Opened}
 use Rattle.viewer.specs.declared.Moved.{Moved}
 use Rattle.viewer.specs.Stand.{opened}
 use Rattle.viewer.specs.Viewing.{Done, done, Start, start, forward as forwardOf, back as backOf}
 use Rattle.viewer.specs.Going.{refused, further, Moved as Moves, forwards, backs}
-use Rattle.viewer.specs.Says.{saysBegun}
+use Rattle.viewer.specs.Says.{saysOpeningWent}
 use Rattle.viewer.specs.History.{Plain, first, goForth, goBack, Call, forth, back as backCall, straight}
 use Rattle.viewer.proofs.Straight.{Held, first-held, plainly-held}
 use Rattle.viewer.proofs.Ring.{Alike, opened-alike, called-alike}
@@ -40,32 +40,32 @@ module _ (store : Store) (trace : List ℕ) (good : judged store ≡ gives kept)
   abbrev on : Plain → Plain
   on = goForth (gapAt store) trace
 
-  stuck : (n k : ℕ) (s : Stand) (p : Plain) → forwardOf trace s .answer ≡ refuses k → Alike store s p → Alike store s (often n on p)
+  stuck : (n k : ℕ) (s : Standing) (p : Plain) → forwardOf trace s .answer ≡ refuses k → Alike store s p → Alike store s (often n on p)
   stuck zero k s p e h = h
-  stuck (suc n) k s p e h = stuck n k s (on p) e (subst (λ (t : Stand). Alike store t (on p)) (forward-stays trace s k e) (called-alike store trace forth s p good h))
+  stuck (suc n) k s p e h = stuck n k s (on p) e (subst (λ (t : Standing). Alike store t (on p)) (forward-stays trace s k e) (called-alike store trace forth s p good h))
 
-  forward-by : (o : Outcome Done) (n : ℕ) (s : Stand) (p : Plain) → forwardOf trace s .answer ≡ o
-      → ((t : Stand) (q : Plain) → Alike store t q → Alike store (forwards n trace t .stand) (often n on q))
+  forward-by : (o : Outcome Done) (n : ℕ) (s : Standing) (p : Plain) → forwardOf trace s .answer ≡ o
+      → ((t : Standing) (q : Plain) → Alike store t q → Alike store (forwards n trace t .stand) (often n on q))
       → Alike store s p → Alike store (further o s (forwards n trace (forwardOf trace s .stand)) .stand) (often n on (on p))
   forward-by (gives d) n s p e rest h = rest (forwardOf trace s .stand) (on p) (called-alike store trace forth s p good h)
   forward-by (refuses k) n s p e rest h = stuck (suc n) k s p e h
 
-  pub forwards-alike : (n : ℕ) (s : Stand) (p : Plain) → Alike store s p → Alike store (forwards n trace s .stand) (often n on p)
+  pub forwards-alike : (n : ℕ) (s : Standing) (p : Plain) → Alike store s p → Alike store (forwards n trace s .stand) (often n on p)
   unfolding forwards
   forwards-alike zero s p h = h
   forwards-alike (suc n) s p h = forward-by (forwardOf trace s .answer) n s p refl (λ t q a. forwards-alike n t q a) h
 
-  back-stuck : (n k : ℕ) (s : Stand) (p : Plain) → backOf s .answer ≡ refuses k → Alike store s p → Alike store s (often n goBack p)
+  back-stuck : (n k : ℕ) (s : Standing) (p : Plain) → backOf s .answer ≡ refuses k → Alike store s p → Alike store s (often n goBack p)
   back-stuck zero k s p e h = h
-  back-stuck (suc n) k s p e h = back-stuck n k s (goBack p) e (subst (λ (t : Stand). Alike store t (goBack p)) (back-stays s k e) (called-alike store trace backCall s p good h))
+  back-stuck (suc n) k s p e h = back-stuck n k s (goBack p) e (subst (λ (t : Standing). Alike store t (goBack p)) (back-stays s k e) (called-alike store trace backCall s p good h))
 
-  back-by : (o : Outcome Done) (n : ℕ) (s : Stand) (p : Plain) → backOf s .answer ≡ o
-      → ((t : Stand) (q : Plain) → Alike store t q → Alike store (backs n t .stand) (often n goBack q))
+  back-by : (o : Outcome Done) (n : ℕ) (s : Standing) (p : Plain) → backOf s .answer ≡ o
+      → ((t : Standing) (q : Plain) → Alike store t q → Alike store (backs n t .stand) (often n goBack q))
       → Alike store s p → Alike store (further o s (backs n (backOf s .stand)) .stand) (often n goBack (goBack p))
   back-by (gives d) n s p e rest h = rest (backOf s .stand) (goBack p) (called-alike store trace backCall s p good h)
   back-by (refuses k) n s p e rest h = back-stuck (suc n) k s p e h
 
-  pub backs-alike : (n : ℕ) (s : Stand) (p : Plain) → Alike store s p → Alike store (backs n s .stand) (often n goBack p)
+  pub backs-alike : (n : ℕ) (s : Standing) (p : Plain) → Alike store s p → Alike store (backs n s .stand) (often n goBack p)
   unfolding backs
   backs-alike zero s p h = h
   backs-alike (suc n) s p h = back-by (backOf s .answer) n s p refl (λ t q a. backs-alike n t q a) h
@@ -101,20 +101,20 @@ stands-by (refuses n) d store trace e h = rw e
 stands : (store : Store) (trace : List ℕ) (r : Opened) → StartAt store trace r → r .stand ≡ opened store
 stands store trace r c = ap (λ (x : Start). x .stand) (c .4 ∙ ap (start store) (c .3)) ∙ stands-by (judged store) (eqb (length trace % 8) 0) store trace refl refl
 
-lead-alike : (store : Store) (trace : List ℕ) (ms : List Move) (s t : Stand) (p : Plain) → judged store ≡ gives kept → Alike store s p → Lead trace ms s t
+lead-alike : (store : Store) (trace : List ℕ) (ms : List Move) (s t : Standing) (p : Plain) → judged store ≡ gives kept → Alike store s p → Lead trace ms s t
     → Alike store t (session (gapAt store) trace ms p)
-lead-alike store trace [] s t p good h l = subst (λ (x : Stand). Alike store x p) l h
+lead-alike store trace [] s t p good h l = subst (λ (x : Standing). Alike store x p) l h
 lead-alike store trace (forward n ∷ ms) s t p good h l =
     let is : l .0 .stand ≡ forwards n trace s .stand = ap (λ (m : Moves). m .stand) (l .1 .4 ∙ ap (λ (x : List ℕ). forwards n x s) (l .1 .3)) in
     let next : Plain = often n (goForth (gapAt store) trace) p in
-    lead-alike store trace ms (l .0 .stand) t next good (subst (λ (x : Stand). Alike store x next) (sym is) (forwards-alike store trace good n s p h)) (l .2)
+    lead-alike store trace ms (l .0 .stand) t next good (subst (λ (x : Standing). Alike store x next) (sym is) (forwards-alike store trace good n s p h)) (l .2)
 lead-alike store trace (back n ∷ ms) s t p good h l =
     let is : l .0 .stand ≡ backs n s .stand = ap (λ (m : Moves). m .stand) (l .1 .1) in
     let next : Plain = often n goBack p in
-    lead-alike store trace ms (l .0 .stand) t next good (subst (λ (x : Stand). Alike store x next) (sym is) (backs-alike store trace good n s p h)) (l .2)
+    lead-alike store trace ms (l .0 .stand) t next good (subst (λ (x : Standing). Alike store x next) (sym is) (backs-alike store trace good n s p h)) (l .2)
 lead-alike store trace (afresh ∷ ms) s t p good h l =
     let is : l .0 .stand ≡ opened store = stands (s .settings) trace (l .0) (l .1) ∙ ap opened (h .set-to) in
-    lead-alike store trace ms (l .0 .stand) t first good (subst (λ (x : Stand). Alike store x first) (sym is) (opened-alike store)) (l .2)
+    lead-alike store trace ms (l .0 .stand) t first good (subst (λ (x : Standing). Alike store x first) (sym is) (opened-alike store)) (l .2)
 
 -- ---- as `run` over the records before the number
 
@@ -138,12 +138,12 @@ run-is store trace n good h =
     rw (good, eq-eqb (length (take (n * 8) trace) % 8) 0 whole)
     (ap (λ (rs : List (List ℕ)). rideOver (gapAt store) freshRide 1 rs .ride) (front n trace h))
 
-views : (store : Store) (trace : List ℕ) (r : Opened) (ms : List Move) (t : Stand) → StartAt store trace r → r .begun ≡ Begun.Open → Lead trace ms (r .stand) t
+views : (store : Store) (trace : List ℕ) (r : Opened) (ms : List Move) (t : Standing) → StartAt store trace r → r .begun ≡ OpeningWent.Open → Lead trace ms (r .stand) t
     → Views store trace (session (gapAt store) trace ms first) t
 views store trace r ms t c b l =
-    let answer : gives done ≡ start store trace .answer = ap saysBegun (sym b) ∙ ap (λ (x : Start). x .answer) (c .4 ∙ ap (start store) (c .3)) in
+    let answer : gives done ≡ start store trace .answer = ap saysOpeningWent (sym b) ∙ ap (λ (x : Start). x .answer) (c .4 ∙ ap (start store) (c .3)) in
     let good : judged store ≡ gives kept = opens-by (judged store) (eqb (length trace % 8) 0) store trace refl refl answer .good in
-    let a = lead-alike store trace ms (r .stand) t first good (subst (λ (x : Stand). Alike store x first) (sym (stands store trace r c)) (opened-alike store)) l in
+    let a = lead-alike store trace ms (r .stand) t first good (subst (λ (x : Standing). Alike store x first) (sym (stands store trace r c)) (opened-alike store)) l in
     let h = session-held (gapAt store) trace ms first (first-held (gapAt store) trace) in
     let within : t .number ≤ length trace / 8 = subst (λ (k : ℕ). k ≤ length trace / 8) (sym (a .number)) (h .within) in
     record {
@@ -166,10 +166,10 @@ stopping = record {
   forwards = λ trace s n k r c e.
       let is = c .4 ∙ ap (λ (x : List ℕ). forwards n x s) (c .3) in
       let there : r .stand ≡ forwards n trace s .stand = ap (λ (m : Moves). m .stand) is in
-      let answer = ap (λ (x : Stand). forwardOf trace x .answer) there ∙ forwards-stopped n k trace s (sym (ap (λ (m : Moves). m .ending) is) ∙ e) in
+      let answer = ap (λ (x : Standing). forwardOf trace x .answer) there ∙ forwards-stopped n k trace s (sym (ap (λ (m : Moves). m .ending) is) ∙ e) in
       (answer, forward-stays trace (r .stand) k answer);
   backs = λ s n k r c e.
       let there : r .stand ≡ backs n s .stand = ap (λ (m : Moves). m .stand) (c .1) in
-      let answer = ap (λ (x : Stand). backOf x .answer) there ∙ backs-stopped n k s (sym (ap (λ (m : Moves). m .ending) (c .1)) ∙ e) in
+      let answer = ap (λ (x : Standing). backOf x .answer) there ∙ backs-stopped n k s (sym (ap (λ (m : Moves). m .ending) (c .1)) ∙ e) in
       (answer, back-stays (r .stand) k answer);
 }

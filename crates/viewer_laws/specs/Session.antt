@@ -18,8 +18,8 @@ use Rattle.ride.specs.declared.Ran.{Ran}
 use Rattle.ride.specs.State.{freshRide}
 use Rattle.ride.proofs.run.Kinds as run-kinds
 use Rattle.ride.proofs.run.Reads as run-reads
-use Rattle.viewer.specs.declared.Begun.{Begun}
-use Rattle.viewer.specs.declared.Stand.{Stand}
+use Rattle.viewer.specs.declared.OpeningWent.{OpeningWent}
+use Rattle.viewer.specs.declared.Standing.{Standing}
 use Rattle.viewer.specs.declared.Opened.{Opened}
 use Rattle.viewer.specs.declared.Moved.{Moved}
 use Rattle.viewer.specs.Going.{refused}
@@ -42,13 +42,13 @@ StartAt store trace r =
     × (now lent ≡ trace) × start-reads.Post κs (store, (lent, tt)) r e
 
 -- The contract of `forwards_at` allows the answer r for this trace, from where a viewer stands, for so many times.
-abbrev pub ForwardsAt : List ℕ → Stand → ℕ → Moved → Type 0
+abbrev pub ForwardsAt : List ℕ → Standing → ℕ → Moved → Type 0
 ForwardsAt trace s times r =
     (κs : Lfts 1) × (lent : RefT (List ℕ)) × (e : AtExit (endedOf 1 forwards-kinds.ps forwards-kinds.r) κs)
     × (now lent ≡ trace) × forwards-reads.Post κs (lent, (s, (times, tt))) r e
 
 -- The contract of `backs_at` allows the answer r, from where a viewer stands, for so many times.
-abbrev pub BacksAt : Stand → ℕ → Moved → Type 0
+abbrev pub BacksAt : Standing → ℕ → Moved → Type 0
 BacksAt s times r = (e : AtExit (endedOf 0 backs-kinds.ps backs-kinds.r) tt) × backs-reads.Post tt (s, (times, tt)) r e
 
 -- The contract of `run` allows the answer r for this trace after this ride, under this store.
@@ -66,7 +66,7 @@ pub data Move : Type 0 where
   afresh : Move
 
 -- Some moves, one after the other, lead from where a viewer stands to where it stands then.
-abbrev pub Lead : List ℕ → List Move → Stand → Stand → Type 0
+abbrev pub Lead : List ℕ → List Move → Standing → Standing → Type 0
 Lead trace [] s t = s ≡ t
 Lead trace (forward n ∷ ms) s t = (r : Moved) × ForwardsAt trace s n r × Lead trace ms (r .stand) t
 Lead trace (back n ∷ ms) s t = (r : Moved) × BacksAt s n r × Lead trace ms (r .stand) t
@@ -89,7 +89,7 @@ session gaps trace (m ∷ ms) p = session gaps trace ms (moved gaps trace m p)
 -- ---- what is claimed
 
 -- Where a viewer stands after a session under a store.
-pub record Views (store : Store) (trace : List ℕ) (p : Plain) (t : Stand) : Type 0 where
+pub record Views (store : Store) (trace : List ℕ) (p : Plain) (t : Standing) : Type 0 where
   -- its number and its kept count are those of the plain definition ..
   pub number : t .number ≡ p .number
   pub kept : t .kept ≡ length (p .history)
@@ -100,12 +100,12 @@ pub record Views (store : Store) (trace : List ℕ) (p : Plain) (t : Stand) : Ty
 
 -- After any session the viewer stands so.
 pub record Sessions : Type 0 where
-  pub after-any : (store : Store) (trace : List ℕ) (r : Opened) (ms : List Move) (t : Stand) → StartAt store trace r → r .begun ≡ Begun.Open → Lead trace ms (r .stand) t
+  pub after-any : (store : Store) (trace : List ℕ) (r : Opened) (ms : List Move) (t : Standing) → StartAt store trace r → r .begun ≡ OpeningWent.Open → Lead trace ms (r .stand) t
       → Views store trace (session (gapAt store) trace ms first) t
 
 -- Where many calls stop, the next one is refused with the number that they name, and leaves the viewer there.
 pub record Stopping : Type 0 where
-  pub forwards : (trace : List ℕ) (s : Stand) (n k : ℕ) (r : Moved) → ForwardsAt trace s n r → saysEnding (r .ending) ≡ refused k
+  pub forwards : (trace : List ℕ) (s : Standing) (n k : ℕ) (r : Moved) → ForwardsAt trace s n r → saysEnding (r .ending) ≡ refused k
       → (forwardOf trace (r .stand) .answer ≡ refuses k) × (forwardOf trace (r .stand) .stand ≡ r .stand)
-  pub backs : (s : Stand) (n k : ℕ) (r : Moved) → BacksAt s n r → saysEnding (r .ending) ≡ refused k
+  pub backs : (s : Standing) (n k : ℕ) (r : Moved) → BacksAt s n r → saysEnding (r .ending) ≡ refused k
       → (backOf (r .stand) .answer ≡ refuses k) × (backOf (r .stand) .stand ≡ r .stand)

@@ -10,7 +10,7 @@ use Rattle.ride.specs.Says.{saysRan}
 use Rattle.ride_text.specs.Says.{saysDone}
 use Rattle.compaction.specs.Says.{saysSize}
 use Rattle.viewer.specs.Viewing.{done}
-use Rattle.viewer.specs.Says.{saysBegun}
+use Rattle.viewer.specs.Says.{saysOpeningWent}
 use Rattle.demands.specs.Table.{badLength}
 use Rattle.demands.specs.Rules.{row, Given, Is}
 use Rattle.demands.specs.PlainGap.{PlainGap}
@@ -29,6 +29,6 @@ plain-gap = record {
   compact = λ gap b c ride before r after d.
       nineteen gap (c .s) (c .t) (c .pair) b (c .begun) Given (row 16 (badLength before) ∷ []) (saysSize (r .size)) (demand1 .compact ride (b .store) before r after d);
   start = λ gap b c trace r d.
-      nineteen gap (c .s) (c .t) (c .pair) b (c .begun) (Is done) (row 16 (badLength (now trace)) ∷ []) (saysBegun (r .begun)) (demand1 .viewers .start (b .store) trace r d);
+      nineteen gap (c .s) (c .t) (c .pair) b (c .begun) (Is done) (row 16 (badLength (now trace)) ∷ []) (saysOpeningWent (r .begun)) (demand1 .viewers .start (b .store) trace r d);
   everywhere = λ gap b c good. one-good gap (c .s) (c .t) (c .pair) b (c .begun) (not-false (allowed gap) (sym (bad-gap gap) ∙ good));
 }

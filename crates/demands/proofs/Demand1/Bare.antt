@@ -36,7 +36,7 @@ use Rattle.compaction.specs.Says.{saysSize}
 use Rattle.compaction.specs.Compact.{Compaction, compact, Settling, compactBlock}
 use Rattle.compaction.proofs.Determined as compaction-is
 use Rattle.demands.proofs.Demand1.Stores.{stores-untouched}
-use Rattle.viewer.specs.Says.{saysBegun as saysOpened, saysHow}
+use Rattle.viewer.specs.Says.{saysOpeningWent as saysOpened, saysCallWent}
 use Rattle.viewer.proofs.Determined as viewer-is
 use Rattle.demands.proofs.Demand1.Viewing.{viewers-untouched}
 use Rattle.demands.proofs.Demand1.Plans.{plans-untouched}
@@ -90,7 +90,7 @@ untouched = record {
   asked = λ n r r′ p q. told saysAsked settings-are.askedOf settings-are.asked-back r r′ p q;
   judged-under = λ n r r′ p q. told saysJudgedUnder contact-is.judgedUnderOf contact-is.judged-under-back r r′ p q;
   viewer-opened = λ n r r′ p q. told saysOpened viewer-is.begunOf viewer-is.begun-back r r′ p q;
-  viewer-moved = λ n r r′ p q. told saysHow viewer-is.howOf viewer-is.how-back r r′ p q;
+  viewer-moved = λ n r r′ p q. told saysCallWent viewer-is.howOf viewer-is.how-back r r′ p q;
   stores = stores-untouched;
   viewers = viewers-untouched;
   plans = plans-untouched;

@@ -17,7 +17,7 @@ use Rattle.ride.specs.declared.Lines.{Lines}
 use Rattle.ride.specs.At.{recordAt}
 use Rattle.ride.specs.Says.{saysLines}
 use Rattle.ride.proofs.Determined.{linesOf, lines-back}
-use Rattle.viewer.specs.declared.Stand.{Stand}
+use Rattle.viewer.specs.declared.Standing.{Standing}
 use Rattle.viewer.specs.declared.Viewer.{Viewer}
 use Rattle.viewer.specs.Stand.{opened, returned}
 use Rattle.viewer.specs.Viewing.{Done, done, Start, unopened, opens, start, Forward, stays, byStep, under, stepOf, forward, Back, back}
@@ -63,16 +63,16 @@ past a b = go (leb a b) refl
     go true e = ap not (sym (le-ltb b a (leb-true a b e)))
     go false e = ap not (sym (lt-ltb b a (leb-false a b e)))
 
-under-then : (s : Stand) (o : Outcome Kept) (f : Forward) → then o (λ k. f .answer) ≡ under s o f .answer
+under-then : (s : Standing) (o : Outcome Kept) (f : Forward) → then o (λ k. f .answer) ≡ under s o f .answer
 under-then s (gives k) f = refl
 under-then s (refuses n) f = refl
 
-end-so : (rules : List (Rule (Outcome Done))) (s : Stand) (f : Forward) (t : Bool) → Decided (Is done) rules (f .answer)
+end-so : (rules : List (Rule (Outcome Done))) (s : Standing) (f : Forward) (t : Bool) → Decided (Is done) rules (f .answer)
     → Decided (Is done) (row 23 (not t) ∷ rules) (pick t f (stays s 23) .answer)
 end-so rules s f true rest = (λ e. absurd (true-not-false (sym e)), λ e. rest)
 end-so rules s f false rest = (λ e. refl, λ e. absurd (true-not-false e))
 
-forward-so : (trace : List ℕ) (s : Stand) → Decided (Is done) (forwardRules trace (s .number) (storeRules (s .settings) [])) (forward trace s .answer)
+forward-so : (trace : List ℕ) (s : Standing) → Decided (Is done) (forwardRules trace (s .number) (storeRules (s .settings) [])) (forward trace s .answer)
 unfolding forward atEnd
 forward-so trace s =
     let step : Forward = byStep s (stepOf s (recordAt trace (s .number))) in
@@ -82,7 +82,7 @@ forward-so trace s =
     (subst (λ (o : Outcome Done). Decided (Is done) rules o) (under-then s (judged (s .settings)) step)
     (store-so (Is done) (λ k. gives done) [] (s .settings) refl)))
 
-back-so : (s : Stand) → Decided (Is done) (backRules (s .kept)) (back s .answer)
+back-so : (s : Standing) → Decided (Is done) (backRules (s .kept)) (back s .answer)
 unfolding back nothingKept
 back-so s = go (eqb (s .kept) 0)
   where
@@ -116,18 +116,18 @@ start-left : (store : Store) (trace : List ℕ) (n : ℕ) → start store trace 
 unfolding start
 start-left store trace n e = opens-none store trace (judged store) (eqb (length trace % 8) 0) n refl e
 
-forward-none : (s : Stand) (o : Outcome Kept) (step : Forward) (t : Bool) (n : ℕ) → step .answer ≡ gives done
+forward-none : (s : Standing) (o : Outcome Kept) (step : Forward) (t : Bool) (n : ℕ) → step .answer ≡ gives done
     → pick t (under s o step) (stays s 23) .answer ≡ refuses n → pick t (under s o step) (stays s 23) ≡ stays s n
 forward-none s (gives k) step true n d e = absurd (gives-not (sym d ∙ e))
 forward-none s (refuses m) step true n d e = let same : m ≡ n = cc in ap (stays s) same
 forward-none s o step false n d e = let same : 23 ≡ n = cc in ap (stays s) same
 
-forward-left : (trace : List ℕ) (s : Stand) (n : ℕ) → forward trace s .answer ≡ refuses n → forward trace s ≡ stays s n
+forward-left : (trace : List ℕ) (s : Standing) (n : ℕ) → forward trace s .answer ≡ refuses n → forward trace s ≡ stays s n
 unfolding forward
 forward-left trace s n e =
     forward-none s (judged (s .settings)) (byStep s (stepOf s (recordAt trace (s .number)))) (ltb (s .number) (length trace / 8)) n refl e
 
-back-left : (s : Stand) (n : ℕ) → back s .answer ≡ refuses n → back s .stand ≡ s
+back-left : (s : Standing) (n : ℕ) → back s .answer ≡ refuses n → back s .stand ≡ s
 unfolding back
 back-left s n e = go (eqb (s .kept) 0) e
   where
@@ -154,7 +154,7 @@ viewers-untouched = record {
       (ap viewerOf left, no-lines (r .lines) (ap (λ (o : Over Forward). o .answer .lines) left), ap (λ (o : Over Forward). o .answer .closed) left);
   back = λ v r n c e.
       let stand = ap (λ (o : Over Back). o .answer .stand) c ∙ back-left (v .stand) n (sym (ap (λ (o : Over Back). o .answer .answer) c) ∙ e) in
-      ap (λ (o : Over Back). record { trace = o .trace; stand = r .viewer .stand }) c ∙ ap (λ (s : Stand). record { trace = v .trace; stand = s }) stand;
+      ap (λ (o : Over Back). record { trace = o .trace; stand = r .viewer .stand }) c ∙ ap (λ (s : Standing). record { trace = v .trace; stand = s }) stand;
   start-at = λ store trace r n c e.
       let is = c .4 ∙ ap (start store) (c .3) in
       let left = is ∙ start-left store trace n (sym (ap (λ (x : Start). x .answer) is) ∙ e) in

@@ -10,14 +10,14 @@ use denote.Struct.Rest.{rest}
 use Rattle.viewer.proofs.Walking.{Holds, URA, Lifetime, Ty, Tys, tyStruct, tcons, tnil, Local, local, valueLocal, Fn, named, erased, Val, WT, hasTy, SProp, ent, sep, snd∗, exE, id⊢, Lft, Share, Fml, ftrue, flft, fat, fullShare, Memory, fieldAt, Routine, Heap, Calls, Loops, WpFn, Tables, Atoms, sem, Fun, fact, givenOf, tables, tablesOf, Given, ‵, raw, _⊛_, given, ⋆, later, _$_, _∵_, !, qed, by, move, drop, use1, use2, use3, split, join, learn, pick, rewrite, fsplit, fjoin, suffices, frame, await, done, whole, sub, look-in, agg, look, init, forget, stop, fld, from, load, of-opd, and-then, no-more, assigns, land, returns, enter, alloc1, alloc0, params1, pass1, pass0, free1, free0, FmC, fmOf, owns, Is, shows, u8, RefT, NamedLft, namedLft, ShrSlice, only, peeks, heard, nothing, all-own, own-open, own-shut, Contract, Triple, calls-at, Vals, Meets, tripleOf, entered, cited, says, ends-at, ensured, lasts}
 use Rattle.viewer.specs.Viewing.{Back, back as goesBack}
 use Rattle.viewer.specs.Says.{over, saysCame}
-use Rattle.viewer.specs.declared.Stand.{Stand}
+use Rattle.viewer.specs.declared.Standing.{Standing}
 use Rattle.viewer.specs.declared.Viewer.{Viewer}
 use Rattle.viewer.specs.declared.Came.{Came}
 use Rattle.viewer.specs.declared.Backed.{Backed}
-use Rattle.viewer.proofs.Stand as P
-use Rattle.viewer.proofs.Stand.Laws as P′
+use Rattle.viewer.proofs.Standing as P
+use Rattle.viewer.proofs.Standing.Laws as P′
 use Rattle.viewer.proofs.Turning.{viewer, StandTy, SliceTy, ViewerTy, offset, stand-in, slice, mach, Own, Trace, Parts, twice, opened, trace, made, is-viewer, typed-viewer, Known, Taken, stayed, Before, After, turned}
-use Rattle.viewer.proofs.How.Laws as How′
+use Rattle.viewer.proofs.CallWent.Laws as How′
 use Rattle.viewer.proofs.Came as N
 use Rattle.viewer.proofs.Came.Laws as N′
 use Rattle.viewer.proofs.Backed as R
@@ -85,7 +85,7 @@ module _ {M : Type 1} (𝓤 : URA M) (H : Heap 𝓤) (A : Atoms 𝓤) (W : Given
   found = goesBack (d .stand)
 
   -- what the callee is passed
-  abbrev vd : Stand × Unit {0}
+  abbrev vd : Standing × Unit {0}
   vd = (d .stand, tt)
 
   abbrev passed : Vals at.signature tt

@@ -13,13 +13,13 @@ use Rattle.viewer.specs.Says.{over, saysWent}
 use Rattle.viewer.specs.declared.Viewer.{Viewer}
 use Rattle.viewer.specs.declared.Went.{Went}
 use Rattle.viewer.specs.declared.Forwarded.{Forwarded}
-use Rattle.viewer.proofs.Stand as P
-use Rattle.viewer.proofs.Stand.Laws as P′
+use Rattle.viewer.proofs.Standing as P
+use Rattle.viewer.proofs.Standing.Laws as P′
 use Rattle.viewer.proofs.Viewer as T
 use Rattle.viewer.proofs.Turning.{viewer, StandTy, SliceTy, ViewerTy, offset, stand-in, slice, mach, parts, Own, Trace, Parts, twice, opened, trace, made, is-viewer, typed-viewer, Known, Taken, stayed, Before, After, turned}
 use Rattle.ride.proofs.Lines.Laws as Lines′
 use Rattle.group.proofs.Group.Laws as Group′
-use Rattle.viewer.proofs.How.Laws as How′
+use Rattle.viewer.proofs.CallWent.Laws as How′
 use Rattle.viewer.proofs.Went as N
 use Rattle.viewer.proofs.Went.Laws as N′
 use Rattle.viewer.proofs.Forwarded as R

@@ -11,8 +11,8 @@ use Rattle.viewer.specs.Viewing.{Start, start as starts}
 use Rattle.viewer.specs.Says.{saysOpened, sliceOf, lentTo}
 use Rattle.viewer.specs.declared.Opened.{Opened}
 use Rattle.viewer.specs.declared.Started.{Started}
-use Rattle.viewer.proofs.Stand as P
-use Rattle.viewer.proofs.Stand.Laws as P′
+use Rattle.viewer.proofs.Standing as P
+use Rattle.viewer.proofs.Standing.Laws as P′
 use Rattle.viewer.proofs.Viewer as T
 use Rattle.viewer.proofs.Viewer.Laws as T′
 use Rattle.viewer.proofs.Turning.{viewer, StandTy, SliceTy, ViewerTy, offset, slice, mach, parts, Own, Trace, is-viewer, typed-viewer}

@@ -10,13 +10,13 @@ use lib.ListN.{length, getD, length-map}
 use Rattle.words.specs.Answer.{pick}
 use Rattle.ride.specs.declared.Ride.{Ride}
 use Rattle.ride.specs.State.{freshRide}
-use Rattle.viewer.specs.declared.Stand.{Stand}
+use Rattle.viewer.specs.declared.Standing.{Standing}
 use Rattle.viewer.specs.Going.{Ending, all, refused, Moved, stopped}
 use Rattle.viewer.specs.Says.{saysEnding}
 use Rattle.viewer.proofs.Many.{farBack, backs-stay, backs-move}
 use denote.Struct.Laws as LL
-use Rattle.viewer.proofs.Stand as P
-use Rattle.viewer.proofs.Stand.Laws as P′
+use Rattle.viewer.proofs.Standing as P
+use Rattle.viewer.proofs.Standing.Laws as P′
 use borrow.Author.Needs.{needs}
 use Rattle.viewer.proofs.going.backs_at.Statement.{statement}
 use Rattle.viewer.proofs.going.backs_at.Tie as tie
@@ -60,7 +60,7 @@ returns-2 c =
     let same : m .smaller .result ≡ far = m .smaller .ensures in
     let number : l .less .result ≡ s .number - far = l .less .ensures ∙ ap (λ (n : ℕ). s .number - n) same in
     let why : Ending = pick (leb (a .times) (s .kept)) all (refused 22) in
-    let there : ℕ → ℕ → Stand = λ n f. record { number = n; kept = s .kept - f; ride = getD (s .last) (n % 256) freshRide; last = s .last; settings = s .settings } in
+    let there : ℕ → ℕ → Standing = λ n f. record { number = n; kept = s .kept - f; ride = getD (s .last) (n % 256) freshRide; last = s .last; settings = s .settings } in
     let at : l .less .result % 256 < length (s .last) = omega (arith, ring (m .before .before)) in
     ap {B = Moved}
     (λ (r : Ride). record {

@@ -12,7 +12,7 @@ use Rattle.ride.specs.declared.Ride.{Ride}
 use Rattle.ride.proofs.Under.{turned-on}
 use mathlib.Core.List.{List}
 use Rattle.words.specs.Answer.{pick}
-use Rattle.viewer.specs.declared.Stand.{Stand}
+use Rattle.viewer.specs.declared.Standing.{Standing}
 use Rattle.viewer.specs.Stand.{passed}
 use Rattle.viewer.specs.Going.{Ending, all, refused, Moved, after, forwards}
 use Rattle.viewer.proofs.Many.{after-after, after-none, forwards-next, forwards-stop}
@@ -22,7 +22,7 @@ use Rattle.viewer.proofs.going.over.Tie as tie
 use Rattle.words.proofs.Linear.{and-parts as both}
 
 -- where the loop has come
-abbrev here : ℕ → ℕ → Ride → List Ride → Store → Stand
+abbrev here : ℕ → ℕ → Ride → List Ride → Store → Standing
 here number kept ride last store = record { number = number; kept = kept; ride = ride; last = last; settings = store }
 
 abbrev Inv-loop : tie.InvT-loop
@@ -76,7 +76,7 @@ loop-again c =
     let on = turned-on store (l .loop .held) (h .held-at .result) (l .loop .now) trace (l .loop .number) (r .treat-at .result)
     (record { good = s .pre .0; holding = l .loop .inv .0; next-is = h .held-at .ensures; says = r .treat-at .ensures }) (left .1) in
     let most : l .loop .left ≤ a .times = l .loop .inv .1 in
-    let passes : ℕ → Stand = λ k. here (l .loop .number + 1) k (r .treat-at .result .ride) (set (l .loop .last) (l .loop .number % 256) (l .loop .now)) store in
+    let passes : ℕ → Standing = λ k. here (l .loop .number + 1) k (r .treat-at .result .ride) (set (l .loop .last) (l .loop .number % 256) (l .loop .now)) store in
     let steps : a .times - (l .loop .left - 1) ≡ a .times - l .loop .left + 1 = omega (arith, left .0) in (
       on .0,
       omega arith,

@@ -5,7 +5,7 @@ use native.Mathlib.Omega.{arith}
 use mathlib.Core.List.{List}
 use Rattle.words.specs.Answer.{gives}
 use Rattle.ride.specs.declared.Line.{Line}
-use Rattle.viewer.specs.declared.Stand.{Stand}
+use Rattle.viewer.specs.declared.Standing.{Standing}
 use Rattle.ride.specs.Step.{Step}
 use Rattle.ride.specs.Over.{linesFor}
 use Rattle.ride.specs.Says.{saysGiven}
@@ -34,7 +34,7 @@ returns-2 c =
     let a = s .args in
     let one = took (a .stand .ride) (a .held .gap) (a .trace .now) (a .stand .number) (t .treat-at .result) (k .reply .given .0 .0) (s .pre .1) (t .treat-at .ensures) (k .reply .given .1) in
     ap {B = Forward} (λ (ls : List Line). record { answer = gives done; lines = ls; closed = t .treat-at .result .closed; stand = c .pass .result }) (l .lines-of .ensures)
-    ∙ ap {B = Forward} (λ (x : Stand). record { answer = gives done; lines = linesFor (a .stand .number + 1) (saysGiven (k .reply .given .0 .0)); closed = t .treat-at .result .closed; stand = x }) (c .pass .ensures)
+    ∙ ap {B = Forward} (λ (x : Standing). record { answer = gives done; lines = linesFor (a .stand .number + 1) (saysGiven (k .reply .given .0 .0)); closed = t .treat-at .result .closed; stand = x }) (c .pass .ensures)
     ∙ ap (byStep (a .stand)) (one .step)
 
 pub step-at-spec : {M : Type 1} → statement M

@@ -12,7 +12,7 @@ use Rattle.settings.specs.Store.{judged}
 use Rattle.viewer.specs.Stand.{opened}
 use Rattle.viewer.specs.Viewing.{Done, Start, start}
 use Rattle.viewer.specs.Says.{traceOf}
-use Rattle.viewer.specs.declared.Stand.{Stand}
+use Rattle.viewer.specs.declared.Standing.{Standing}
 use borrow.Author.Needs.{needs}
 use Rattle.viewer.proofs.opening.start_at.Statement.{statement}
 use Rattle.viewer.proofs.opening.start_at.Tie as tie
@@ -31,7 +31,7 @@ returns c =
     let a = b .before .before .args in
     let trace = a .trace .now in
     ap {B = Start} (λ (o : Outcome Done). record { answer = o; trace = traceOf o trace; stand = c .fresh .result }) (b .begins .ensures)
-    ∙ ap {B = Start} (λ (s : Stand). record { answer = start (a .store) trace .answer; trace = traceOf (start (a .store) trace .answer) trace; stand = s }) (c .fresh .ensures)
+    ∙ ap {B = Start} (λ (s : Standing). record { answer = start (a .store) trace .answer; trace = traceOf (start (a .store) trace .answer) trace; stand = s }) (c .fresh .ensures)
     ∙ held-by (judged (a .store)) (eqb (length trace % 8) 0) (a .store) trace refl refl
 
 pub start-at-spec : {M : Type 1} → statement M
