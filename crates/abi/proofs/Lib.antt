@@ -4,4 +4,6 @@ pub mod Smaller
 pub mod TableDF
 pub mod Minus
 pub mod Stored
+pub mod Listed
+pub mod Ends
 pub mod Determined
