@@ -3,3 +3,5 @@ pub mod Demand1
 pub mod Settings
 pub mod Handed
 pub mod Sent
+pub mod RideCalls
+pub mod Rides
