@@ -182,7 +182,8 @@ int32_t atc2_ride_begin(uint8_t *ride);
  * The store's own refusal (-25, -19, -24, -4, -18), then -16: n is no multiple of 8. */
 int32_t atc2_ride_list(uint8_t *ride, const uint8_t *store, const uint8_t *trace, uint64_t n, uint64_t number, uint8_t style, uint8_t *text, uint64_t room, uint64_t out[2]);
 
-/* The line of the group that the end of the ride closes, in a style, into text (room bytes): its bytes, 0 where no group is open; the ride stays as it is.
+/* The line of the group that the end of the ride closes, in a style, into text (room bytes): its bytes, 0 where no group is open. The ride stays as it is, so that
+ * this may be asked between two listings too: with reasons it explains the open group as it stands.
  * -21: it has more bytes than there is room. ATC2_ROOM, or with reasons ATC2_ROOM_REASONS, is always enough. */
 int32_t atc2_ride_end(const uint8_t *ride, uint8_t style, uint8_t *text, uint64_t room);
 

@@ -3,5 +3,9 @@ pub mod Demand1
 pub mod Settings
 pub mod Handed
 pub mod Sent
+pub mod RideFaced
 pub mod Rides
+pub mod RidesLeft
+pub mod RidesHeld
 pub mod RidePieces
+pub mod RidesMet

@@ -35,7 +35,7 @@ use Rattle.demands.specs.Stores.{Good}
 use Rattle.abi_laws.specs.RideCalls.{RideList, RideEnd, InPieces, none, more}
 use Rattle.abi_laws.specs.Rides.{RidesInPieces}
 use Rattle.abi_laws.proofs.Carried.{never-below}
-use Rattle.abi_laws.proofs.Rides.{holds-is, after-is, counts-is, end-is, ended-is, rides-held}
+use Rattle.abi_laws.proofs.RideFaced.{holds-is, after-is, counts-is, end-is, ended-is}
 
 -- ---- a ride told on
 
@@ -167,7 +167,7 @@ pub rides-in-pieces : RidesInPieces
 rides-in-pieces = record {
   on = λ store ride number style trace text last good calls. all-pieces store style good calls;
   whole = λ store lent fresh style trace text last before after n good begun calls ended.
-      let afresh : rideIn fresh ≡ freshRide = rides-held .begin lent (pos 0) fresh begun in
+      let afresh : rideIn fresh ≡ freshRide = ap rideIn (sym (begun .4)) ∙ begun .5 .1 .1 in
       let tells : Ride → Told = λ (x : Ride). tellOver (styleOf style) (gapAt (storeIn store)) x 1 (records trace) in
       let all = all-pieces store style good calls in
       ap₂ _++_ (all .0 ∙ ap (λ (x : Ride). tells x .text) afresh)
