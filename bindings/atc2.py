@@ -13,6 +13,7 @@ REFUSALS = {
     24: "place not above the last one", 25: "more than 32 versions", 100: "line unreadable", 101: "text too long", 102: "first place not 0",
 }
 STORE = 1032
+RIDE, ROOM, NONE = 144, 32768, 2**64 - 1
 
 
 class Refused(Exception):
@@ -43,6 +44,8 @@ _SIGNATURES = {
     "atc2_write_balise": (ctypes.c_int32, _u8, _u16, _u8, _u8, _u8, _u32, _bytes, _u64), "atc2_distance": (ctypes.c_int32, _u8, _u8),
     "atc2_settings_begin": (ctypes.c_int32, _u32, _u8, _u8, _bytes), "atc2_settings_add": (ctypes.c_int32, _bytes, _u32, _u32, _u8, _u8),
     "atc2_settings_read": (ctypes.c_int32, _bytes, _u64, _bytes), "atc2_settings_line": (ctypes.c_int64, _bytes, _u64), "atc2_compact": (ctypes.c_int64, _u32, _bytes, _u64),
+    "atc2_ride_begin": (ctypes.c_int32, _bytes), "atc2_ride_list": (ctypes.c_int32, _bytes, _bytes, _bytes, _u64, _u64, _u8, _bytes, _u64, _out),
+    "atc2_ride_end": (ctypes.c_int32, _bytes, _u8, _bytes, _u64), "atc2_ride_known": (ctypes.c_int32, _bytes, _out),
 }
 _library = _load()
 for _name, (_result, *_arguments) in _SIGNATURES.items():
@@ -158,3 +161,41 @@ class Settings:
 
     def __bytes__(self):
         return bytes(self._store)
+
+
+class Ride:
+    """A ride over the records of a trace under some settings: its lines, and what is known on the way."""
+
+    def __init__(self, settings):
+        self._settings, self._ride, self._text = settings, (ctypes.c_uint8 * RIDE)(), (ctypes.c_uint8 * ROOM)()
+        self.begin()
+
+    def begin(self):
+        """A fresh ride; the next record is number 1."""
+        self.number = 1
+        _given(_library.atc2_ride_begin(self._ride))
+
+    def list(self, records, reasons=False):
+        """The lines of some whole records, as text; the ride moves on past them."""
+        lent, out, lines, at = _lent(records), (_u64 * 2)(), b"", 0
+        while True:
+            rest = ctypes.cast(ctypes.byref(lent, at), _bytes) if at < len(records) else lent
+            _given(_library.atc2_ride_list(self._ride, self._settings._store, rest, len(records) - at, self.number, 1 if reasons else 0, self._text, ROOM, out))
+            lines += bytes(self._text[: out[1]])
+            self.number, at = self.number + out[0], at + 8 * out[0]
+            if at >= len(records):
+                return lines.decode("ascii")
+
+    def end(self, reasons=False):
+        """The line of the group that the end closes, or no text; the ride stays as it is."""
+        return bytes(self._text[: _given(_library.atc2_ride_end(self._ride, 1 if reasons else 0, self._text, ROOM))]).decode("ascii")
+
+    def known(self):
+        """What is known: odometer, linking (distance and place), main, target and number; None for what is not set."""
+        out = (_u64 * 6)()
+        _given(_library.atc2_ride_known(self._ride, out))
+        odometer, distance, place, main, target, number = (None if figure == NONE else figure for figure in out)
+        return {"odometer": odometer, "linking": None if distance is None else (distance, place), "main": main, "target": target, "number": number}
+
+    def __bytes__(self):
+        return bytes(self._ride)

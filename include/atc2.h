@@ -1,6 +1,6 @@
 /*
  * The balise bench checker's libraries for C and C++, by what one wants to do: words, telegrams,
- * contacts, test balises, settings, traces.
+ * contacts, test balises, settings, traces, rides.
  *
  * Link with target/staticlib/libabi.a (rt staticlib abi; x86-64 Linux), or with what ./install puts
  * down; port/README.md has other processors, with the code and stack of each call. Each function is
@@ -12,9 +12,9 @@
  *
  * A store of settings is ATC2_STORE bytes that the caller lends and keeps; what stands in them is
  * ours. Any other bytes are some store too, and are refused as a store that is not in order: 25, 19,
- * 24, 4 or 18. Groups, rides and their lines are not here: for those there is the program checker.
- * samples/settings.c, samples/balise.cpp and bindings/atc2.py show how it is used;
- * tests/abi/calls.c calls every function.
+ * 24, 4 or 18. A ride is ATC2_RIDE bytes likewise; any bytes at all are some ride.
+ * samples/settings.c, samples/ride.c, samples/balise.cpp and bindings/atc2.py show how it is used;
+ * tests/abi/calls.c and tests/abi/rides.c call every function.
  */
 #ifndef ATC2_H
 #define ATC2_H
@@ -41,7 +41,7 @@ enum {
     ATC2_TOO_HIGH = -18,     /* place above 4,000,000,000 */
     ATC2_GAP = -19,          /* gap outside 1 to 200, or no version at all */
     ATC2_COUNT = -20,        /* number of telegrams to write outside 2 to 1,000 */
-    ATC2_SHORT = -21,        /* buffer too short for them */
+    ATC2_SHORT = -21,        /* buffer too short for what is to be written */
     ATC2_NOT_ABOVE = -24,    /* place of a version not above the last one */
     ATC2_FULL = -25,         /* more than 32 versions */
     ATC2_UNREADABLE = -100,  /* ours: a line of a text that is no line of settings */
@@ -72,6 +72,12 @@ enum {
 
 /* The size of a store of settings in bytes. */
 enum { ATC2_STORE = 1032 };
+
+/* The size of a ride in bytes, and the room that the lines of a record may need, without and with reasons. */
+enum { ATC2_RIDE = 144, ATC2_ROOM = 128, ATC2_ROOM_REASONS = 320 };
+
+/* What atc2_ride_known puts where nothing is set. */
+#define ATC2_NONE UINT64_MAX
 
 /* A search for contacts, as atc2_begin makes it and atc2_next_contact moves it on: the next bit, the bits left, the latest sixteen bits. */
 struct atc2_search {
@@ -164,6 +170,26 @@ int64_t atc2_settings_line(const uint8_t *text, uint64_t n);
  * accepted, gave no line, are not the last and have an accepted record after them; bytes beyond the new length stay.
  * -19: the gap; -16: n is no multiple of 8; in this order. */
 int64_t atc2_compact(uint32_t gap, uint8_t *trace, uint64_t n);
+
+/* ---- Rides: the lines of a trace as text, and what is known on the way */
+
+/* A fresh ride: 0, and ride (ATC2_RIDE bytes) holds it.
+ * It is what the others below are handed, and what atc2_ride_list moves on. */
+int32_t atc2_ride_begin(uint8_t *ride);
+
+/* The lines of a trace's records (n bytes, the first record with this number) under the settings in store, into text (room bytes): 0, and out = records taken, bytes written.
+ * A record is taken while ATC2_ROOM bytes are left, with reasons (style not 0) ATC2_ROOM_REASONS; then go on behind what was taken, with number + records taken.
+ * The store's own refusal (-25, -19, -24, -4, -18), then -16: n is no multiple of 8. */
+int32_t atc2_ride_list(uint8_t *ride, const uint8_t *store, const uint8_t *trace, uint64_t n, uint64_t number, uint8_t style, uint8_t *text, uint64_t room, uint64_t out[2]);
+
+/* The line of the group that the end of the ride closes, in a style, into text (room bytes): its bytes, 0 where no group is open. The ride stays as it is, so that
+ * this may be asked between two listings too: with reasons it explains the open group as it stands.
+ * -21: it has more bytes than there is room. ATC2_ROOM, or with reasons ATC2_ROOM_REASONS, is always enough. */
+int32_t atc2_ride_end(const uint8_t *ride, uint8_t style, uint8_t *text, uint64_t room);
+
+/* What is known: 0, and out = odometer in dm, linking's distance and the place from which it is in dm, main speed and target in km/h, number of the last present signal;
+ * ATC2_NONE for what is not set. */
+int32_t atc2_ride_known(const uint8_t *ride, uint64_t out[6]);
 
 #ifdef __cplusplus
 }

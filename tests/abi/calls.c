@@ -375,8 +375,51 @@ static void any_store(void)
     same("settings_add to any bytes answers", kept, 2000);
 }
 
+/* ---- Rides: a present signal, a position, and a group that the end closes */
+
+static void rides(void)
+{
+    static const uint8_t trace[32] = {0, 0, 3, 0xE8, 0, 0x17, 0x8E, 0x5A, 0, 0, 4, 6, 0, 0x99, 0x2B, 0x4D, 0, 0, 7, 0xD0, 3, 0, 0, 0, 0, 0, 0x0B, 0xB8, 2, 0, 0, 0};
+    static const char first[] = "1000 present signal first\n", last[] = "3000 fault 10\n", reason[] = "3000 fault 10: 1 balise\n";
+    uint8_t ride[ATC2_RIDE], store[ATC2_STORE], text[1000];
+    uint64_t out[2] = {7, 7}, known[6];
+    for (int i = 0; i < 1000; i++) text[i] = 0xEE;
+    for (int i = 0; i < ATC2_RIDE; i++) ride[i] = (uint8_t)(i * 7 + 1);
+    for (int i = 0; i < ATC2_STORE; i++) store[i] = 0xEE;
+    same("ride_begin", atc2_ride_begin(ride), 0);
+    same("ride_known", atc2_ride_known(ride, known), 0);
+    same("a fresh ride at 0", (int64_t)known[0], 0);
+    for (int i = 1; i < 6; i++) same("a fresh ride knows nothing", known[i] == ATC2_NONE, 1);
+    same("ride_list with bytes that are no store", atc2_ride_list(ride, store, trace, 31, 1, 0, text, 1000, out), ATC2_FULL);
+    same("settings_begin for it", atc2_settings_begin(40, 0x72, 0x0D, store), 0);
+    same("ride_list of half a record", atc2_ride_list(ride, store, trace, 31, 1, 0, text, 1000, out), ATC2_LENGTH);
+    same("ride_list refused leaves out and text", (int64_t)(out[0] + out[1] + text[0]), 14 + 0xEE);
+    same("ride_list without room", atc2_ride_list(ride, store, trace, 24, 1, 0, text, ATC2_ROOM - 1, out), 0);
+    same("ride_list without room takes none", (int64_t)(out[0] + out[1]), 0);
+    same("ride_list of two records", atc2_ride_list(ride, store, trace, 16, 1, 0, text, 1000, out), 0);
+    same("ride_list takes two, without a line", (int64_t)(out[0] * 100 + out[1]), 200);
+    same("ride_end while the group is open", atc2_ride_end(ride, 0, text + 500, 100), sizeof first - 1);
+    same("ride_list of the third", atc2_ride_list(ride, store, trace + 16, 8, 3, 0, text, 1000, out), 0);
+    same("ride_list's bytes", (int64_t)out[1], sizeof first - 1);
+    for (unsigned i = 0; i < sizeof first - 1; i++) same("ride_list's text", text[i], first[i]);
+    same("ride_list's text ends", text[sizeof first - 1], 0xEE);
+    same("ride_end with no open group", atc2_ride_end(ride, 1, text, 0), 0);
+    same("ride_known after it", atc2_ride_known(ride, known), 0);
+    same("the odometer", (int64_t)known[0], 2000);
+    same("linking", (int64_t)(known[1] * 10000 + known[2]), 4000 * 10000 + 1000);
+    same("main speed, target", (int64_t)(known[3] * 1000 + known[4]), 130080);
+    same("no number", known[5] == ATC2_NONE, 1);
+    same("ride_list of the fourth", atc2_ride_list(ride, store, trace + 24, 8, 4, 1, text, 1000, out), 0);
+    same("ride_end without room", atc2_ride_end(ride, 0, text, sizeof last - 2), ATC2_SHORT);
+    same("ride_end", atc2_ride_end(ride, 0, text, sizeof last - 1), sizeof last - 1);
+    for (unsigned i = 0; i < sizeof last - 1; i++) same("ride_end's text", text[i], last[i]);
+    same("ride_end with reasons", atc2_ride_end(ride, 1, text, 1000), sizeof reason - 1);
+    for (unsigned i = 0; i < sizeof reason - 1; i++) same("ride_end's reason", text[i], reason[i]);
+}
+
 int main(void)
 {
+    rides();
     why_words();
     settings();
     any_store();

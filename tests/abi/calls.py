@@ -66,6 +66,32 @@ smaller = atc2.compact(trace, 40)
 same("a trace made smaller", len(smaller) < len(trace) and atc2.compact(smaller, 40) == smaller, True)
 same("a trace of half a record", refusal(atc2.compact, trace[:-4], 40), (16, 0, "refused 16: trace length not a multiple of 8"))
 
+with open(os.path.join(root, "samples", "every-line.trace"), "rb") as card:
+    trace = card.read()
+settings = atc2.Settings(40, 0x72, 0x0D)
+wholes = {}
+for reasons in (False, True):
+    ride = atc2.Ride(settings)
+    wholes[reasons] = ride.list(trace, reasons) + ride.end(reasons)
+    same("records listed", ride.number, 1 + len(trace) // 8)
+    for records in range(1, 40):
+        other = atc2.Ride(settings)
+        text = "".join(other.list(trace[at : at + 8 * records], reasons) for at in range(0, len(trace), 8 * records))
+        same("a card in pieces of %d records" % records, (text + other.end(reasons), bytes(other), other.known()), (wholes[reasons], bytes(ride), ride.known()))
+same("a card's first and last line", (wholes[False].split("\n")[0], wholes[True].split("\n")[-2]), ("1000 present signal first", "22100 fault 12: balise 1 at 22100 unreadable"))
+ride = atc2.Ride(settings)
+same("no records", (ride.list(b""), ride.end(), ride.number), ("", "", 1))
+same("a fresh ride knows nothing", ride.known(), {"odometer": 0, "linking": None, "main": None, "target": None, "number": None})
+ride.list(trace[:24])
+same("what a signal sets", ride.known(), {"odometer": 3000, "linking": (4000, 1000), "main": 130, "target": 80, "number": None})
+kept = bytes(ride)
+same("half a record", refusal(ride.list, trace[:12]), (16, 0, "refused 16: trace length not a multiple of 8"))
+same("a refusal leaves the ride", (bytes(ride), ride.number), (kept, 4))
+ride.begin()
+same("begun afresh", (bytes(ride), ride.number), (bytes(atc2.Ride(settings)), 1))
+ran = subprocess.run([sys.executable, os.path.join(root, "samples", "ride.py"), os.path.join(root, "samples", "every-line.trace")], capture_output=True, text=True)
+same("the sample of a ride", ran.stdout.startswith(wholes[True] + "known: {'odometer': 22130, "), True)
+
 with tempfile.NamedTemporaryFile() as file:
     file.write(line)
     file.flush()

@@ -42,6 +42,14 @@ use Rattle.abi.proofs.stores.atc2_settings_read.Kinds as settings-read-
 use Rattle.abi.proofs.stores.atc2_settings_read.Reads as settings-read-reads
 use Rattle.abi.proofs.stores.atc2_settings_line.Kinds as settings-line-kinds
 use Rattle.abi.proofs.stores.atc2_settings_line.Reads as settings-line-reads
+use Rattle.abi.proofs.rides.atc2_ride_begin.Kinds as ride-begin-kinds
+use Rattle.abi.proofs.rides.atc2_ride_begin.Reads as ride-begin-reads
+use Rattle.abi.proofs.rides.atc2_ride_list.Kinds as ride-list-kinds
+use Rattle.abi.proofs.rides.atc2_ride_list.Reads as ride-list-reads
+use Rattle.abi.proofs.rides.atc2_ride_end.Kinds as ride-end-kinds
+use Rattle.abi.proofs.rides.atc2_ride_end.Reads as ride-end-reads
+use Rattle.abi.proofs.rides.atc2_ride_known.Kinds as ride-known-kinds
+use Rattle.abi.proofs.rides.atc2_ride_known.Reads as ride-known-reads
 use Rattle.words.proofs.Told.{Fixed}
 
 pub atc2-read-short-determined : Fixed 0 read-short-kinds.ps read-short-kinds.r read-short-reads.Post
@@ -126,3 +134,26 @@ atc2-settings-read-determined κs a r r′ x x′ p q = (p .0 ∙ sym (q .0), p 
 
 pub atc2-settings-line-determined : Fixed 1 settings-line-kinds.ps settings-line-kinds.r settings-line-reads.Post
 atc2-settings-line-determined κs a r r′ x x′ p q = p ∙ sym q
+
+-- `state` is the first of the arguments of `atc2_ride_begin` and of `atc2_ride_list`, `text` and `out` the sixth and the seventh of the latter.
+pub atc2-ride-begin-determined : (κs : Lfts 1) (a : Dens κs ride-begin-kinds.ps) (r r′ : ℤ)
+    (x x′ : AtExit (endedOf 1 ride-begin-kinds.ps ride-begin-kinds.r) κs)
+    → ride-begin-reads.Post κs a r x → ride-begin-reads.Post κs a r′ x′ → (r ≡ r′) × (x .0 .now ≡ x′ .0 .now)
+atc2-ride-begin-determined κs a r r′ x x′ p q = (p .0 ∙ sym (q .0), p .1 .0 ∙ sym (q .1 .0))
+
+pub atc2-ride-list-determined : (κs : Lfts 5) (a : Dens κs ride-list-kinds.ps) (r r′ : ℤ)
+    (x x′ : AtExit (endedOf 5 ride-list-kinds.ps ride-list-kinds.r) κs)
+    → ride-list-reads.Post κs a r x → ride-list-reads.Post κs a r′ x′
+    → (r ≡ r′) × (x .0 .now ≡ x′ .0 .now) × (x .1 .1 .1 .1 .1 .0 .now ≡ x′ .1 .1 .1 .1 .1 .0 .now) × (x .1 .1 .1 .1 .1 .1 .0 .now ≡ x′ .1 .1 .1 .1 .1 .1 .0 .now)
+atc2-ride-list-determined κs a r r′ x x′ p q = (p .0 ∙ sym (q .0), p .1 .0 ∙ sym (q .1 .0), p .1 .1 .1 .0 ∙ sym (q .1 .1 .1 .0), p .1 .1 .1 .1 ∙ sym (q .1 .1 .1 .1))
+
+-- `text` is the third of the arguments of `atc2_ride_end`, `out` the second of `atc2_ride_known`.
+pub atc2-ride-end-determined : (κs : Lfts 2) (a : Dens κs ride-end-kinds.ps) (r r′ : ℤ)
+    (x x′ : AtExit (endedOf 2 ride-end-kinds.ps ride-end-kinds.r) κs)
+    → ride-end-reads.Post κs a r x → ride-end-reads.Post κs a r′ x′ → (r ≡ r′) × (x .1 .1 .0 .now ≡ x′ .1 .1 .0 .now)
+atc2-ride-end-determined κs a r r′ x x′ p q = (p .0 ∙ sym (q .0), p .1 ∙ sym (q .1))
+
+pub atc2-ride-known-determined : (κs : Lfts 2) (a : Dens κs ride-known-kinds.ps) (r r′ : ℤ)
+    (x x′ : AtExit (endedOf 2 ride-known-kinds.ps ride-known-kinds.r) κs)
+    → ride-known-reads.Post κs a r x → ride-known-reads.Post κs a r′ x′ → (r ≡ r′) × (x .1 .0 .now ≡ x′ .1 .0 .now)
+atc2-ride-known-determined κs a r r′ x x′ p q = (p .0 ∙ sym (q .0), p .1 ∙ sym (q .1))

@@ -3,4 +3,6 @@ pub mod Carried
 pub mod Smaller
 pub mod Minus
 pub mod Stored
+pub mod Listed
+pub mod Ends
 pub mod Determined

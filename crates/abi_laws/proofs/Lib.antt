@@ -4,3 +4,9 @@ pub mod Settings
 pub mod Handed
 pub mod Sent
 pub mod SettingsText
+pub mod RideFaced
+pub mod Rides
+pub mod RidesLeft
+pub mod RidesHeld
+pub mod RidePieces
+pub mod RidesMet

@@ -4,3 +4,5 @@ pub mod Settings
 pub mod Handed
 pub mod Sent
 pub mod SettingsText
+pub mod RideCalls
+pub mod Rides

@@ -8,9 +8,10 @@ use lib.Dec.{ltb}
 use mathlib.Core.Logic.{_≢_}
 use lib.ListN.{length, getD, set, take, drop, length-append, List·getD-append, drop-of-length-le}
 use lib.Seq.{getD-at, ext-getD, getD-set-same, getD-set-other, set-split, length-take-le, getD-take}
-use borrow.Author.Tests.{ltb-true, ltb-false}
+use borrow.Author.Tests.{ltb-true, ltb-false, lt-ltb}
 use mathlib.Core.Bool.{Bool, true, false}
-use Rattle.state_bytes.specs.Figures.{each, byteOf, bytesOf, highFirst, figureAt}
+use Rattle.words.specs.Answer.{pick}
+use Rattle.state_bytes.specs.Figures.{each, byteOf, byteAmong, spread, highFirst, eightAt, figureAt}
 
 -- ---- what holds below a number
 
@@ -112,27 +113,27 @@ digits n h = rw (high n h, last-byte n, low n) (whole n)
 
 -- ---- the bytes of some figures
 
-module _ (fs : List ℕ) where
-  pub bytes-length : length (bytesOf fs) ≡ 8 * length fs
-  unfolding bytesOf
-  bytes-length = each-length (λ (j : ℕ). byteOf (getD fs (j / 8) 0) (j % 8)) (8 * length fs)
+module _ (fs : List ℕ) (n : ℕ) where
+  pub spread-length : length (spread n fs) ≡ n
+  unfolding spread
+  spread-length = each-length (byteAmong fs) n
 
-  pub byte-at : (j : ℕ) → j < 8 * length fs → getD (bytesOf fs) j 0 ≡ byteOf (getD fs (j / 8) 0) (j % 8)
-  unfolding bytesOf
-  byte-at j h = each-at (λ (j : ℕ). byteOf (getD fs (j / 8) 0) (j % 8)) (8 * length fs) j 0 h
+  pub byte-at : (j : ℕ) → j < n → getD (spread n fs) j 0 ≡ byteAmong fs j
+  unfolding spread
+  byte-at j h = each-at (byteAmong fs) n j 0 h
 
   -- byte k of figure i
-  byte-of-figure : (i k : ℕ) → i < length fs → k < 8 → getD (bytesOf fs) (8 * i + k) 0 ≡ byteOf (getD fs i 0) k
+  byte-of-figure : (i k : ℕ) → i < n / 8 → k < 8 → getD (spread n fs) (8 * i + k) 0 ≡ byteOf (getD fs i 0) k
   byte-of-figure i k h l =
       let q : (8 * i + k) / 8 ≡ i = omega arith in
       let m : (8 * i + k) % 8 ≡ k = omega arith in
       byte-at (8 * i + k) (omega arith) ∙ ap₂ (λ (a b : ℕ). byteOf (getD fs a 0) b) q m
 
-  pub reads-back : (i : ℕ) → i < length fs → getD fs i 0 < 18446744073709551616 → figureAt (bytesOf fs) i ≡ getD fs i 0
-  unfolding figureAt
-  reads-back i h small =
-      let n : ℕ = getD fs i 0 in
-      let zeroth : getD (bytesOf fs) (8 * i) 0 ≡ byteOf n 0 = subst (λ (p : ℕ). getD (bytesOf fs) p 0 ≡ byteOf n 0) (omega arith) (byte-of-figure i 0 h (omega arith)) in
+  eight-back : (i : ℕ) → i < n / 8 → getD fs i 0 < 18446744073709551616 → eightAt (spread n fs) i ≡ getD fs i 0
+  unfolding eightAt
+  eight-back i h small =
+      let m : ℕ = getD fs i 0 in
+      let zeroth : getD (spread n fs) (8 * i) 0 ≡ byteOf m 0 = subst (λ (p : ℕ). getD (spread n fs) p 0 ≡ byteOf m 0) (omega arith) (byte-of-figure i 0 h (omega arith)) in
       let one = byte-of-figure i 1 h (omega arith) in
       let two = byte-of-figure i 2 h (omega arith) in
       let three = byte-of-figure i 3 h (omega arith) in
@@ -140,4 +141,10 @@ module _ (fs : List ℕ) where
       let five = byte-of-figure i 5 h (omega arith) in
       let six = byte-of-figure i 6 h (omega arith) in
       let seven = byte-of-figure i 7 h (omega arith) in
-      rw (zeroth, one, two, three, four, five, six, seven) (digits n small)
+      rw (zeroth, one, two, three, four, five, six, seven) (digits m small)
+
+  pub reads-back : (i : ℕ) → i < n / 8 → getD fs i 0 < 18446744073709551616 → figureAt (spread n fs) i ≡ getD fs i 0
+  unfolding figureAt
+  reads-back i h small =
+      let inside : i < length (spread n fs) / 8 = subst (λ (m : ℕ). i < m / 8) (sym spread-length) h in
+      ap (λ (b : Bool). pick b (eightAt (spread n fs) i) 0) (lt-ltb i (length (spread n fs) / 8) inside) ∙ eight-back i h small

@@ -6,7 +6,7 @@ use lib.ListN.{getD}
 use Rattle.settings.specs.declared.Version.{Version}
 use Rattle.settings.specs.declared.Store.{Store}
 use Rattle.settings.specs.Store.{noVersion}
-use Rattle.state_bytes.specs.Figures.{each, bytesOf, figureAt}
+use Rattle.state_bytes.specs.Figures.{each, spread, figureAt}
 
 -- Figure k of a version's four.
 abbrev pub versionFigure : Version → ℕ → ℕ
@@ -21,7 +21,7 @@ figuresOf versions count = each 128 (λ j. versionFigure (getD versions (j / 4) 
 
 -- A store as bytes.
 unfoldable pub storeBytes : Store → List ℕ
-storeBytes store = bytesOf (figuresOf (store .versions) (store .count))
+storeBytes store = spread 1032 (figuresOf (store .versions) (store .count))
 
 -- Version i of the store in some bytes: the low bits of its figures count, as many as a place, a gap and a sync word have.
 abbrev pub versionAt : List ℕ → ℕ → Version

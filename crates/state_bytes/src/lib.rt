@@ -1,4 +1,4 @@
-// A store of settings as bytes that a caller lends and keeps: every figure of a store is eight bytes, the highest first.
+// A store of settings as bytes that a caller lends and keeps, and figures as bytes for any other state: every figure is eight bytes, the highest first.
 // Promises: what is made of a store reads back as that store; any bytes at all read as some store.
 // Specification: specs/Figures.antt (figures and bytes), Stores.antt (the figures of a store, and the store in some bytes).
 ghost use mathlib.Core.Path.{_≡_};
@@ -7,6 +7,11 @@ ghost use Rattle.state_bytes.specs.Stores.{storeBytes, storeIn};
 mod figures;
 mod stores;
 
+pub use figures::figure_at;
+pub use figures::low8;
+pub use figures::low16;
+pub use figures::low32;
+pub use figures::spread;
 use settings::Store;
 
 // A store as bytes.

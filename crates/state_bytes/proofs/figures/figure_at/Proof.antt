@@ -1,7 +1,7 @@
--- The eight bytes of the figure, in two halves.
+-- The eight bytes where they are there, 0 beyond.
 -- Assumes nothing.
-use mathlib.Core.Path.{_≡_, ap₂, _∙_}
-use Prim.Native.Nat.{ℕ, _+_, _*_}
+use mathlib.Core.Path.{_≡_, sym, ap, _∙_}
+use borrow.Author.Tests.{lt-ltb, le-ltb}
 use borrow.Author.Needs.{needs}
 use Rattle.state_bytes.specs.Figures.{figureAt}
 use Rattle.state_bytes.proofs.figures.figure_at.Statement.{statement}
@@ -9,13 +9,11 @@ use Rattle.state_bytes.proofs.figures.figure_at.Tie as tie
 
 returns : tie.Need-returns
 unfolding figureAt
-returns c = ap₂ (λ (h l : ℕ). h * 4294967296 + l) (c .before .before .before .before .before .high-first .ensures .0) (c .high-first2 .ensures .0)
+returns c = rw (lt-ltb _ _ (c .before .if1 .taken)) (c .eight-at .ensures)
+
+returns-2 : tie.Need-returns-2
+unfolding figureAt
+returns-2 c = rw (le-ltb _ _ (c .if1 .left))
 
 pub figure-at-spec : {M : Type 1} → statement M
-figure-at-spec =
-    tie.close
-    (tie.spec
-    (λ c. search needs) (λ c. search needs) (λ c. search needs) (λ c. search needs) (λ c. search needs) (λ c. search needs)
-    (λ c. search needs) (λ c. search needs) (λ c κs. search needs) (λ c. search needs) (λ c. search needs) (λ c. search needs)
-    (λ c. search needs) (λ c. search needs) (λ c. search needs) (λ c. search needs) (λ c. search needs) (λ c κs. search needs)
-    (λ c. search needs) (λ c. search needs) returns)
+figure-at-spec = tie.close (tie.spec (λ c κs. search needs) returns returns-2)

@@ -1,0 +1,23 @@
+-- By its size.
+-- Assumes nothing.
+use mathlib.Core.Path.{_≡_, refl, sym, ap, ap₂, _∙_}
+use borrow.Author.Tests.{lt-ltb, le-ltb}
+use Rattle.ride_bytes.specs.Things.{toldOf}
+use borrow.Author.Needs.{needs}
+use Rattle.ride_bytes.proofs.known.told_of.Statement.{statement}
+use Rattle.ride_bytes.proofs.known.told_of.Tie as tie
+
+returns : tie.Need-returns
+unfolding toldOf
+returns c = rw (lt-ltb _ _ (c .if1 .taken))
+
+returns-2 : tie.Need-returns-2
+unfolding toldOf
+returns-2 c = rw (le-ltb _ _ (c .if1 .left))
+
+pub told-of-spec : {M : Type 1} → statement M
+told-of-spec =
+    tie.close
+    (tie.spec
+    (λ c. search needs) returns
+    returns-2)
