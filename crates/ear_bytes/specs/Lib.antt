@@ -1,0 +1,4 @@
+pub mod Ears
+pub mod Sizes
+pub mod Hearing
+pub mod Says
