@@ -1,0 +1,4 @@
+pub mod Rows
+pub mod Read
+pub mod EarBack
+pub mod Filled

@@ -1,5 +1,7 @@
 // Records into a lent buffer, one after the other, while there is room.
 ghost use mathlib.Core.Path.{_≡_};
+ghost use lib.ListN.{length};
+ghost use Rattle.text.specs.Put.{put, came};
 ghost use Rattle.ear_bytes.specs.Hearing.{hear, end};
 ghost use Rattle.ear_bytes.specs.Says.{says};
 use crate::Hearing;
@@ -17,6 +19,14 @@ fn wrote(tape: Tape, frames: usize, bit: usize, bytes: usize) -> Wrote
         frames,
         bytes,
     }
+}
+
+// A record into the buffer from `at` on, and the place after it.
+fn put_one(bytes: [u8; 8], buffer: &mut [u8], at: usize) -> usize
+    ensures { λ r. ⌜ came r (now (buffer .exit)) ≡ put bytes (now (buffer .entry)) at ⌝ }
+    ensures { λ _. ⌜ length bytes ≡ 8 ⌝ }
+{
+    text::put(&bytes, buffer, at)
 }
 
 // Those of a piece of the lead.
@@ -38,7 +48,7 @@ pub fn of_frames(hearing: Hearing, store: Store, lead: &[u8], buffer: &mut [u8])
         let Came::Record = came else {
             return wrote(tape, frame, bit, at);
         };
-        at = text::put(&bytes, buffer, at);
+        at = put_one(bytes, buffer, at);
     }
     wrote(tape, frame, bit, at)
 }
@@ -59,7 +69,7 @@ pub fn of_end(hearing: Hearing, buffer: &mut [u8]) -> Wrote
         let Came::Record = came else {
             return wrote(tape, 0, bit, at);
         };
-        at = text::put(&bytes, buffer, at);
+        at = put_one(bytes, buffer, at);
     }
     wrote(tape, 0, bit, at)
 }
