@@ -2,3 +2,5 @@ pub mod Rows
 pub mod Read
 pub mod EarBack
 pub mod Filled
+pub mod Within
+pub mod Determined

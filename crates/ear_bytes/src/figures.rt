@@ -36,7 +36,16 @@ fn of_places(places: Places) -> [u64; 10]
         } => {
             let m = of_telegram(telegram);
             [
-                1, x as u64, y as u64, z as u64, first as u64, count as u64, m[0], m[1], m[2], m[3],
+                1,
+                x as u64,
+                y as u64,
+                z as u64,
+                first as u64,
+                count as u64,
+                m[0],
+                m[1],
+                m[2],
+                m[3],
             ]
         }
         Places::Differ => [2, 0, 0, 0, 0, 0, 0, 0, 0, 0],
@@ -62,8 +71,23 @@ fn of_stand(stand: Stand) -> [u64; 17]
             let p = of_places(places);
             let plain = as_figure(sound.plain);
             [
-                1, sound.s as u64, sound.t as u64, sound.length as u64, sound.forty, sound.ones as u64, plain,
-                p[0], p[1], p[2], p[3], p[4], p[5], p[6], p[7], p[8], p[9],
+                1,
+                sound.s as u64,
+                sound.t as u64,
+                sound.length as u64,
+                sound.forty,
+                sound.ones as u64,
+                plain,
+                p[0],
+                p[1],
+                p[2],
+                p[3],
+                p[4],
+                p[5],
+                p[6],
+                p[7],
+                p[8],
+                p[9],
             ]
         }
     }
@@ -102,7 +126,28 @@ pub fn of_hearing(hearing: Hearing) -> [u64; 23]
     let kind = last_kind(last);
     let place = last_place(last);
     [
-        ear.history as u64, tape.odometer as u64, tape.opened as u64, hearing.bit as u64, kind, place,
-        f[0], f[1], f[2], f[3], f[4], f[5], f[6], f[7], f[8], f[9], f[10], f[11], f[12], f[13], f[14], f[15], f[16],
+        ear.history as u64,
+        tape.odometer as u64,
+        tape.opened as u64,
+        hearing.bit as u64,
+        kind,
+        place,
+        f[0],
+        f[1],
+        f[2],
+        f[3],
+        f[4],
+        f[5],
+        f[6],
+        f[7],
+        f[8],
+        f[9],
+        f[10],
+        f[11],
+        f[12],
+        f[13],
+        f[14],
+        f[15],
+        f[16],
     ]
 }

@@ -62,12 +62,13 @@ loop-again c =
     let room = g .before .loop-test .taken in
     let then = o .put-one .last .1 .0 in
     let puts = o .put-one .ensures .0 in
-    let long = o .put-one .ensures .1 in
-    (next-place (g .go-on .result .bytes) (l .loop .buffer) then (l .loop .at) (o .put-one .result) long room puts,
-    keeps-length (g .go-on .result .bytes) (l .loop .buffer) then (l .loop .at) (o .put-one .result) long room puts ∙ l .loop .inv .1,
-    frames-on (a .store) (a .lead .now) (l .loop .tape) (l .loop .frame) (l .loop .bit) (l .loop .at) (l .loop .buffer) (g .go-on .result) (g .go-on .ensures) room
-    (e .enum-told .given .1) long (o .put-one .result) then puts
-    ∙ l .loop .inv .2)
+    let long = o .put-one .ensures .1 in (
+      next-place (g .go-on .result .bytes) (l .loop .buffer) then (l .loop .at) (o .put-one .result) long room puts,
+      keeps-length (g .go-on .result .bytes) (l .loop .buffer) then (l .loop .at) (o .put-one .result) long room puts ∙ l .loop .inv .1,
+      frames-on (a .store) (a .lead .now) (l .loop .tape) (l .loop .frame) (l .loop .bit) (l .loop .at) (l .loop .buffer) (g .go-on .result) (g .go-on .ensures) room
+          (e .enum-told .given .1) long (o .put-one .result) then puts
+          ∙ l .loop .inv .2,
+    )
 
 same-length-2 : tie.Need-same-length-2 Inv-loop μ-loop
 same-length-2 c = c .before .before .loop .inv .1
