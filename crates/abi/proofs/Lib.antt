@@ -4,4 +4,5 @@ pub mod Smaller
 pub mod TableDF
 pub mod Minus
 pub mod Stored
+pub mod Heard
 pub mod Determined

@@ -1,3 +1,4 @@
 pub mod Face
 pub mod Contacts
 pub mod Stores
+pub mod Leads
