@@ -3,4 +3,5 @@ pub mod Read
 pub mod EarBack
 pub mod Filled
 pub mod Within
+pub mod Pieces
 pub mod Determined

@@ -2,3 +2,4 @@ pub mod Ears
 pub mod Sizes
 pub mod Hearing
 pub mod Says
+pub mod Laws
