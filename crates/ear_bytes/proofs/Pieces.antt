@@ -23,7 +23,7 @@ use Rattle.recording.specs.Laws.{thenTaped, thenEnded}
 use Rattle.recording.proofs.Asking.{asked-on, end-asked}
 use Rattle.ear_bytes.specs.declared.Hearing.{Hearing}
 use Rattle.ear_bytes.specs.Hearing.{joined, Stood, stands, afterGoing, someOf, afterEnding, someOfEnd, Written, roomFor, hear, end}
-use Rattle.ear_bytes.specs.Laws.{toCome, wroteOf, AnyRoom, AnyRoomAtEnd}
+use Rattle.ear_bytes.specs.Laws.{toCome, wroteOf, AnyRoom, AnyRoomAtEnd, NoneLeft}
 use Rattle.ear_bytes.proofs.Within.{Within, goes-to, stands-at}
 
 -- Some records, and then what comes.
@@ -179,7 +179,7 @@ module _ (store : Store) (piece rest : List ℕ) where
 
 -- ---- as bytes
 
-joined-two : (a b : List (List ℕ)) → joined (a ++ b) ≡ joined a ++ joined b
+pub joined-two : (a b : List (List ℕ)) → joined (a ++ b) ≡ joined a ++ joined b
 joined-two [] b = refl
 joined-two (r ∷ a) b = ap (λ (l : List ℕ). r ++ l) (joined-two a b) ∙ sym (append-assoc r (joined a) (joined b))
 
@@ -237,3 +237,36 @@ any-room-at-end hearing buffer =
     let on : List (List ℕ) = theEnd (s .tape) .records in
     ap joined (some-ends (roomFor buffer) (hearing .bit) (hearing .tape)) ∙ joined-two (s .records) on
     ∙ ap (λ (l : List ℕ). l ++ joined on) (sym (wrote-so (joined (s .records)) buffer))
+
+-- ---- none left
+
+bytes-in : Ending → List ℕ
+bytes-in (one t bytes) = bytes
+bytes-in (none t) = []
+
+eight-by : (tape t : Tape) (bytes : List ℕ) (b : Bool) → pick b (one (positioned tape) (bytesOf (tape .odometer) (blank 3))) (none tape) ≡ one t bytes → length bytes ≡ 8
+unfolding bytes-in
+eight-by tape t bytes true e = sym (ap (λ (x : Ending). length (bytes-in x)) e)
+eight-by tape t bytes false e = cannot-be cc
+
+eight-in : (tape t : Tape) (bytes : List ℕ) (stand : Stand) → finishIn stand tape ≡ one t bytes → length bytes ≡ 8
+unfolding bytes-in
+eight-in tape t bytes (Stand.Inside sound) e = sym (ap (λ (x : Ending). length (bytes-in x)) e)
+eight-in tape t bytes Stand.Outside e = eight-by tape t bytes (isAbove (tape .last) (tape .odometer)) e
+
+eight : (tape t : Tape) (bytes : List ℕ) → finish tape ≡ one t bytes → length bytes ≡ 8
+unfolding finish
+eight tape t bytes e = eight-in tape t bytes (tape .ear .stand) e
+
+left-by : (m i : ℕ) (tape : Tape) (g : Ending) → finish tape ≡ g → length (joined (afterEnding 0 i g (someOfEnd m 0 i) .records)) ≡ 0 → theEnd tape .records ≡ []
+left-by m i tape (one t bytes) e few = absurd (omega (arith, length-append bytes (joined (someOfEnd m 0 i t .records)), eight tape t bytes e))
+left-by m i tape (none t) e few = ap (λ (x : Taped). x .records) (end-asked tape ∙ ap thenEnded e)
+
+none-of : (n i : ℕ) (tape : Tape) → 1 ≤ n → length (joined (someOfEnd n 0 i tape .records)) ≡ 0 → theEnd tape .records ≡ []
+unfolding someOfEnd
+none-of zero i tape some few = absurd (omega arith)
+none-of (suc m) i tape some few = left-by m i tape (finish tape) refl few
+
+pub none-left : NoneLeft
+unfolding end
+none-left hearing buffer room few = none-of (roomFor buffer) (hearing .bit) (hearing .tape) (omega arith) few

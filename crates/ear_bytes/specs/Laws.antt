@@ -1,9 +1,9 @@
 -- What is promised of pieces and rooms: they make no difference.
 -- Assumes nothing.
-use Prim.Native.Nat.{ℕ, _*_}
+use Prim.Native.Nat.{ℕ, _*_, _≤_}
 use mathlib.Core.Path.{_≡_}
-use mathlib.Core.List.{List, _++_}
-use lib.ListN.{take, drop}
+use mathlib.Core.List.{List, [], _++_}
+use lib.ListN.{length, take, drop}
 use Rattle.settings.specs.declared.Store.{Store}
 use Rattle.recording.specs.Recording.{Taped, overFrames, framesOf, theEnd}
 use Rattle.ear_bytes.specs.declared.Hearing.{Hearing}
@@ -32,3 +32,7 @@ AnyRoomAtEnd =
     (hearing : Hearing) (buffer : List ℕ) →
     let w : Written = end hearing buffer in
     joined (theEnd (hearing .tape) .records) ≡ wroteOf w ++ joined (theEnd (w .wrote .hearing .tape) .records)
+
+-- A call at the end that has room for a record and writes none: there is no further one.
+abbrev pub NoneLeft : Type 0
+NoneLeft = (hearing : Hearing) (buffer : List ℕ) → 8 ≤ length buffer → end hearing buffer .wrote .bytes ≡ 0 → theEnd (hearing .tape) .records ≡ []
