@@ -136,7 +136,7 @@ all-heard {store} {lead} {ear} good (no-frame few) =
     let is : toCome (earIn ear) (storeIn store) lead ≡ silent (earIn ear .tape) =
     ap (λ (n : ℕ). overFrames (storeIn store) lead (earIn ear .tape) 0 (earIn ear .bit) n) none in
     (sym (ap (λ (x : Taped). joined (x .records)) is), sym (ap (λ (x : Taped). x .tape) is))
-all-heard {store} {ear = ear} {last = last} good (call {next = next} {piece = piece} {rest = rest} {room = room} {out = out} {records = records} {later = later} {used = used} {bytes = bytes} {r = r} c on) =
+all-heard {store} {ear = ear} {last = last} good (call {next = next} {piece = piece} {room = room} {out = out} {records = records} {later = later} {used = used} {bytes = bytes} {r = r} rest c on) =
     let d = done ear store piece room out r next records used bytes good c in
     let w : Written = hear (earIn ear) (storeIn store) piece room in
     let law = any-room (earIn ear) (storeIn store) piece rest room in

@@ -48,7 +48,7 @@ pub record EarReadsBack : Type 0 where
 -- ear when no whole frame is left.
 pub data Heard (store : List ℕ) : List ℕ → List ℕ → List ℕ → List ℕ → Type 0 where
   no-frame : {lead ear : List ℕ} → length lead < 16 → Heard store lead ear [] ear
-  call : {ear next last piece rest room out records later : List ℕ} {used bytes : ℕ} {r : ℤ}
+  call : {ear next last piece room out records later : List ℕ} {used bytes : ℕ} {r : ℤ} (rest : List ℕ)
       → Record ear store piece room out r next records (used ∷ bytes ∷ []) → Heard store (drop used (piece ++ rest)) next later last
       → Heard store (piece ++ rest) ear (take bytes records ++ later) last
 
