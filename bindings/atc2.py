@@ -14,6 +14,7 @@ REFUSALS = {
 }
 STORE = 1032
 RIDE, ROOM, NONE = 144, 32768, 2**64 - 1
+EAR = 184
 
 
 class Refused(Exception):
@@ -47,6 +48,10 @@ _SIGNATURES = {
     "atc2_ride_begin": (ctypes.c_int32, _bytes), "atc2_ride_list": (ctypes.c_int32, _bytes, _bytes, _bytes, _u64, _u64, _u8, _bytes, _u64, _out),
     "atc2_ride_end": (ctypes.c_int32, _bytes, _u8, _bytes, _u64), "atc2_ride_known": (ctypes.c_int32, _bytes, _out),
 }
+_SIGNATURES.update({
+    "atc2_record_begin": (ctypes.c_int32, _bytes), "atc2_record": (ctypes.c_int32, _bytes, _bytes, _bytes, _u64, _bytes, _u64, _out),
+    "atc2_record_end": (ctypes.c_int32, _bytes, _bytes, _u64, _out),
+})
 _library = _load()
 for _name, (_result, *_arguments) in _SIGNATURES.items():
     getattr(_library, _name).restype = _result
@@ -199,3 +204,33 @@ class Ride:
 
     def __bytes__(self):
         return bytes(self._ride)
+
+
+class Ear:
+    """An ear at a lead: frames in, records of a trace out, 8 bytes each, as they come. Bytes after the last whole frame wait for what follows them."""
+
+    def __init__(self, settings):
+        self._ear, self._settings, self._rest = (ctypes.c_uint8 * EAR)(), settings, b""
+        _given(_library.atc2_record_begin(self._ear))
+
+    def hear(self, frames):
+        """The records that come of these bytes of the lead."""
+        lead, at, records = self._rest + bytes(frames), 0, []
+        room, out = (ctypes.c_uint8 * 4096)(), (_u64 * 2)()
+        while len(lead) - at >= 16:
+            piece = lead[at : at + 65536]
+            _given(_library.atc2_record(self._ear, self._settings._store, _lent(piece), len(piece), room, len(room), out))
+            records.append(bytes(room[: out[1]]))
+            at += out[0]
+        self._rest = lead[at:]
+        return b"".join(records)
+
+    def end(self):
+        """The records of the lead's end: that of a contact which it cuts, and that of the last position."""
+        records, room, out = b"", (ctypes.c_uint8 * 16)(), (_u64 * 1)()
+        while _given(_library.atc2_record_end(self._ear, room, len(room), out)) == 0 and out[0] > 0:
+            records += bytes(room[: out[0]])
+        return records
+
+    def __bytes__(self):
+        return bytes(self._ear)

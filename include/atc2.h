@@ -1,6 +1,6 @@
 /*
  * The balise bench checker's libraries for C and C++, by what one wants to do: words, telegrams,
- * contacts, test balises, settings, traces, rides.
+ * contacts, test balises, settings, leads, rides, traces.
  *
  * Link with target/staticlib/libabi.a (rt staticlib abi; x86-64 Linux), or with what ./install puts
  * down; port/README.md has other processors, with the code and stack of each call. Each function is
@@ -12,9 +12,9 @@
  *
  * A store of settings is ATC2_STORE bytes that the caller lends and keeps; what stands in them is
  * ours. Any other bytes are some store too, and are refused as a store that is not in order: 25, 19,
- * 24, 4 or 18. A ride is ATC2_RIDE bytes likewise; any bytes at all are some ride.
- * samples/settings.c, samples/ride.c, samples/balise.cpp and bindings/atc2.py show how it is used;
- * tests/abi/calls.c and tests/abi/rides.c call every function.
+ * 24, 4 or 18. A ride is ATC2_RIDE bytes and an ear at a lead ATC2_EAR bytes likewise; any bytes
+ * at all are some ride and some ear. samples/settings.c, ride.c, hear.c and balise.cpp and
+ * bindings/atc2.py show how it is used; tests/abi/calls.c, rides.c and leads.c call every function.
  */
 #ifndef ATC2_H
 #define ATC2_H
@@ -78,6 +78,9 @@ enum { ATC2_RIDE = 144, ATC2_ROOM = 128, ATC2_ROOM_REASONS = 320 };
 
 /* What atc2_ride_known puts where nothing is set. */
 #define ATC2_NONE UINT64_MAX
+
+/* The size of an ear at a lead in bytes. */
+enum { ATC2_EAR = 184 };
 
 /* A search for contacts, as atc2_begin makes it and atc2_next_contact moves it on: the next bit, the bits left, the latest sixteen bits. */
 struct atc2_search {
@@ -163,6 +166,21 @@ int32_t atc2_settings_read(const uint8_t *text, uint64_t n, uint8_t *store);
 
 /* The number of the first bad line of such a text, counted from 1; 0 where all are fine or none is to be named. */
 int64_t atc2_settings_line(const uint8_t *text, uint64_t n);
+
+/* ---- Leads: frames of odometer and line in, records of a trace out, as they come (docs/LEAD.md); an ear is ATC2_EAR bytes that the caller lends and keeps */
+
+/* An ear at the beginning of a lead: 0, and ear holds it. Never refused.
+ * Any other bytes are some ear too: whatever is lent, the calls below answer. */
+int32_t atc2_record_begin(uint8_t *ear);
+
+/* The whole frames of lead (n bytes), 16 bytes each, heard under the settings of store: 0, and their records, 8 bytes each, at the start of records (room
+ * bytes), as many as have room; out = bytes of the lead that are used, bytes of records. What is not used is lent again, before what follows it: a frame is
+ * used when its last record is written. A frame refused with 18 or 17 keeps its bits and has the last accepted odometer. -25, -19, -24, -4, -18: the store. */
+int32_t atc2_record(uint8_t *ear, const uint8_t *store, const uint8_t *lead, uint64_t n, uint8_t *records, uint64_t room, uint64_t out[2]);
+
+/* The records of the lead's end, that of a contact which it cuts and that of the last position, as many as have room: 0, and out = bytes of records.
+ * Never refused. Where there was room for one and none is written, there is no further one. */
+int32_t atc2_record_end(uint8_t *ear, uint8_t *records, uint64_t room, uint64_t out[1]);
 
 /* ---- Traces */
 

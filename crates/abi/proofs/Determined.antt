@@ -50,6 +50,12 @@ use Rattle.abi.proofs.rides.atc2_ride_end.Kinds as ride-end-kinds
 use Rattle.abi.proofs.rides.atc2_ride_end.Reads as ride-end-reads
 use Rattle.abi.proofs.rides.atc2_ride_known.Kinds as ride-known-kinds
 use Rattle.abi.proofs.rides.atc2_ride_known.Reads as ride-known-reads
+use Rattle.abi.proofs.leads.atc2_record_begin.Kinds as record-begin-kinds
+use Rattle.abi.proofs.leads.atc2_record_begin.Reads as record-begin-reads
+use Rattle.abi.proofs.leads.atc2_record.Kinds as record-kinds
+use Rattle.abi.proofs.leads.atc2_record.Reads as record-reads
+use Rattle.abi.proofs.leads.atc2_record_end.Kinds as record-end-kinds
+use Rattle.abi.proofs.leads.atc2_record_end.Reads as record-end-reads
 use Rattle.words.proofs.Told.{Fixed}
 
 pub atc2-read-short-determined : Fixed 0 read-short-kinds.ps read-short-kinds.r read-short-reads.Post
@@ -157,3 +163,23 @@ pub atc2-ride-known-determined : (κs : Lfts 2) (a : Dens κs ride-known-kinds.p
     (x x′ : AtExit (endedOf 2 ride-known-kinds.ps ride-known-kinds.r) κs)
     → ride-known-reads.Post κs a r x → ride-known-reads.Post κs a r′ x′ → (r ≡ r′) × (x .1 .0 .now ≡ x′ .1 .0 .now)
 atc2-ride-known-determined κs a r r′ x x′ p q = (p .0 ∙ sym (q .0), p .1 ∙ sym (q .1))
+
+-- `ear` is the first of the arguments, `records` the fourth of `atc2_record` and the second of `atc2_record_end`, `out` comes after it.
+pub atc2-record-begin-determined : (κs : Lfts 1) (a : Dens κs record-begin-kinds.ps) (r r′ : ℤ)
+    (x x′ : AtExit (endedOf 1 record-begin-kinds.ps record-begin-kinds.r) κs)
+    → record-begin-reads.Post κs a r x → record-begin-reads.Post κs a r′ x′ → (r ≡ r′) × (x .0 .now ≡ x′ .0 .now)
+atc2-record-begin-determined κs a r r′ x x′ p q = (p .0 ∙ sym (q .0), p .1 .0 ∙ sym (q .1 .0))
+
+pub atc2-record-determined : (κs : Lfts 5) (a : Dens κs record-kinds.ps) (r r′ : ℤ)
+    (x x′ : AtExit (endedOf 5 record-kinds.ps record-kinds.r) κs)
+    → record-reads.Post κs a r x → record-reads.Post κs a r′ x′
+    → (r ≡ r′) × (x .0 .now ≡ x′ .0 .now) × (x .1 .1 .1 .0 .now ≡ x′ .1 .1 .1 .0 .now) × (x .1 .1 .1 .1 .0 .now ≡ x′ .1 .1 .1 .1 .0 .now)
+atc2-record-determined κs a r r′ x x′ p q =
+    (p .0 ∙ sym (q .0), p .1 .0 ∙ sym (q .1 .0), p .1 .1 .0 ∙ sym (q .1 .1 .0), p .1 .1 .1 .0 ∙ sym (q .1 .1 .1 .0))
+
+pub atc2-record-end-determined : (κs : Lfts 3) (a : Dens κs record-end-kinds.ps) (r r′ : ℤ)
+    (x x′ : AtExit (endedOf 3 record-end-kinds.ps record-end-kinds.r) κs)
+    → record-end-reads.Post κs a r x → record-end-reads.Post κs a r′ x′
+    → (r ≡ r′) × (x .0 .now ≡ x′ .0 .now) × (x .1 .0 .now ≡ x′ .1 .0 .now) × (x .1 .1 .0 .now ≡ x′ .1 .1 .0 .now)
+atc2-record-end-determined κs a r r′ x x′ p q =
+    (p .0 ∙ sym (q .0), p .1 .0 ∙ sym (q .1 .0), p .1 .1 .0 ∙ sym (q .1 .1 .0), p .1 .1 .1 .0 ∙ sym (q .1 .1 .1 .0))

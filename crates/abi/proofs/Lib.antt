@@ -5,4 +5,5 @@ pub mod Minus
 pub mod Stored
 pub mod Listed
 pub mod Ends
+pub mod Heard
 pub mod Determined

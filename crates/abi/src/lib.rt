@@ -5,6 +5,7 @@ pub mod balises;
 pub mod codes;
 pub mod contacts;
 pub mod distances;
+pub mod leads;
 mod number;
 mod refusal;
 pub mod rides;

@@ -1,0 +1,5 @@
+pub mod Ears
+pub mod Sizes
+pub mod Hearing
+pub mod Says
+pub mod Laws
