@@ -2,7 +2,6 @@
    that listing in pieces of 3 records. tests/abi/run builds it, and compares the listing with what checker and explain write. Its last line is 'N passed, M failed'. */
 #include "atc2.h"
 #include <stdio.h>
-#include <stdlib.h>
 #include <string.h>
 
 enum { MOST = 65536 };
@@ -131,7 +130,7 @@ int main(int argc, char **argv)
     if (argc == 4) {
         uint64_t n = load(argv[3], text, MOST);
         if (atc2_settings_read(text, n, store) != 0) return 2;
-        int64_t m = list((uint8_t)atoi(argv[2]), 3, 4096, ride, whole);
+        int64_t m = list(argv[2][0] != '0', 3, 4096, ride, whole);
         return m < 0 ? 1 : fwrite(whole, 1, (size_t)m, stdout) != (size_t)m;
     }
     if (size == 0 || atc2_settings_begin(40, 0x72, 0x0D, store) != 0) return 2;
