@@ -122,10 +122,10 @@ static int make(void)
     uint32_t odometer = 100;
     for (int k = 0; k < 120; k++) {
         uint8_t frame[16];
-        odometer += any() % 4;
+        odometer += any() % 9;
         uint32_t o = k % 17 == 5 ? 4000000001u : k % 17 == 9 ? odometer - 20 : odometer;
         for (int i = 0; i < 4; i++) frame[i] = (uint8_t)(o >> (24 - 8 * i));
-        for (int i = 4; i < 16; i++) frame[i] = any() % 3 ? 0xFF : (uint8_t)(any() % 2 ? 0 : any());
+        for (int i = 4; i < 16; i++) frame[i] = k % 11 == 3 ? 0 : k % 11 == 4 || any() % 3 ? 0xFF : (uint8_t)(any() % 2 ? 0 : any());
         fwrite(frame, 1, 16, stdout);
     }
     fwrite("rest", 1, 4, stdout);
