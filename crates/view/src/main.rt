@@ -7,6 +7,7 @@ mod going;
 mod input;
 mod memory;
 mod moving;
+mod opening;
 mod out;
 mod reading;
 mod screen;
@@ -28,7 +29,7 @@ fn look(store: Store, start: Start, first: usize) {
     let mut block = io::large_buffer();
     let found = console::go_over(first, &mut lengths, &mut block);
     match found {
-        Found::Cards => reading::open(store, start, first, &lengths),
+        Found::Cards => opening::open(store, start, first, &lengths),
         Found::BadLength(_) => console::refuse_trace(b"view"),
         Found::NoCard => usage(),
         Found::TooMany => console::say_found(b"view", found),

@@ -4,11 +4,8 @@ ghost use Prim.Native.Nat.{_≤_};
 ghost use lib.ListN.{length};
 use crate::going::smaller;
 use crate::moving::to_start;
-use crate::out::Note;
-use crate::session;
 use console::Goes;
 use console::Pass;
-use settings::Store;
 
 // Where a ride begins: with the first record, or with the first at or past the place that an argument names.
 pub enum Start {
@@ -17,7 +14,7 @@ pub enum Start {
 }
 
 // How filling the buffer goes on: more may come; all was read; there is more than it has room for; or a card failed, and that was said.
-enum Filling {
+pub enum Filling {
     More,
     Whole,
     TooLong,
@@ -25,15 +22,15 @@ enum Filling {
 }
 
 // Where filling the buffer stands: the pass over the cards, how many bytes the buffer has, how many records were passed over before them, and how it goes on.
-struct Step {
+pub struct Step {
     pass: Pass,
-    have: usize,
-    before: u64,
-    how: Filling,
+    pub have: usize,
+    pub before: u64,
+    pub how: Filling,
 }
 
 // Room for the longest trace.
-fn room() -> [u8; 4194304]
+pub fn room() -> [u8; 4194304]
     ensures { λ r. ⌜ 4194304 ≡ length r ⌝ }
 {
     [0; 4194304]
@@ -146,7 +143,7 @@ fn fill(begun: Step, lengths: &[u64], trace: &mut [u8]) -> Step
 }
 
 // The buffer filled from where the ride begins.
-fn read(start: Start, first: usize, lengths: &[u64], trace: &mut [u8]) -> Step
+pub fn read(start: Start, first: usize, lengths: &[u64], trace: &mut [u8]) -> Step
     ensures { λ r. ⌜ r .have ≤ length (now (trace .entry)) ⌝ }
 {
     match start {
@@ -155,50 +152,5 @@ fn read(start: Start, first: usize, lengths: &[u64], trace: &mut [u8]) -> Step
             let begun = begin_at(first, place, lengths, trace);
             fill(begun, lengths, trace)
         }
-    }
-}
-
-// Says that there is more than the buffer has room for, and what can be done.
-fn say_too_long(start: Start) {
-    match start {
-        Start::First => console::fail(
-            b"view",
-            b"the cards have more than 4 MiB together: compact them first, or look from a place on: -from PLACE",
-        ),
-        Start::At { place: _, argument } => console::fail_of(
-            b"view",
-            b"the cards have more than 4 MiB: compact them first, or look from a later place than",
-            argument,
-        ),
-    }
-}
-
-// Looks at the records that were read, so many being passed over before them.
-fn look(store: Store, start: Start, before: u64, trace: &[u8]) {
-    match start {
-        Start::First => session::hold(store, trace, Note::Nothing),
-        Start::At { place: _, argument } => {
-            if trace.len() == 0 {
-                console::fail_of(b"view", b"no record at or past", argument);
-                return;
-            }
-            let record = std::num::wrapping_add_u64(before, 1);
-            let place = ride::odometer_at(trace, 0);
-            session::hold(store, trace, Note::From { record, place });
-        }
-    }
-}
-
-// Reads the cards from this argument on, whose lengths were kept, and looks at them.
-pub fn open(store: Store, start: Start, first: usize, lengths: &[u64]) {
-    let mut trace = room();
-    let step = read(start, first, lengths, &mut trace);
-    let bytes = step.have;
-    let how = step.how;
-    match how {
-        Filling::More => {}
-        Filling::Whole => look(store, start, step.before, &trace[..bytes]),
-        Filling::TooLong => say_too_long(start),
-        Filling::Failed => {}
     }
 }

@@ -13,6 +13,7 @@ use viewer::Stand;
 
 // How many lines of the ride are shown, and how many records.
 const LINES: usize = 12;
+
 const RECORDS: usize = 6;
 
 // A ride with its last lines at the start of a buffer: its state, and how many bytes they have.
@@ -22,14 +23,7 @@ struct Told {
 }
 
 // The lines of some records, the first with this number, after those that the buffer has; of them all the last are kept.
-fn go_on(
-    ride: Ride,
-    store: Store,
-    number: u64,
-    records: &[u8],
-    buf: &mut [u8],
-    have: usize,
-) -> Told
+fn go_on(ride: Ride, store: Store, number: u64, records: &[u8], buf: &mut [u8], have: usize) -> Told
     requires { ⌜ have ≤ length (now buf) ⌝ }
     ensures { λ r. ⌜ r .have ≤ length (now (buf .entry)) ⌝ }
 {
@@ -88,7 +82,14 @@ fn put_around(trace: &[u8], number: usize, page: &mut [u8], at: usize) -> usize 
 }
 
 // The record so many after the first of them.
-fn put_one(trace: &[u8], first: usize, k: usize, number: usize, page: &mut [u8], at: usize) -> usize {
+fn put_one(
+    trace: &[u8],
+    first: usize,
+    k: usize,
+    number: usize,
+    page: &mut [u8],
+    at: usize,
+) -> usize {
     if first >= trace.len() {
         return at;
     }

@@ -107,6 +107,14 @@ fn first_note(note: Note, on_screen: bool) -> Note {
     note
 }
 
+// What a line asks for; one that is too long is no command.
+fn asked(line: &[u8], is_long: bool) -> Command {
+    if is_long {
+        return Command::Unknown;
+    }
+    viewer_text::read(line)
+}
+
 // The commands up to `q`, the end of the input, or where nothing can be written any more. No run uses up the turns.
 fn obey_all(trace: &[u8], first: Stand, begun: Note, on_screen: bool) {
     let mut stand = first;
@@ -114,10 +122,10 @@ fn obey_all(trace: &[u8], first: Stand, begun: Note, on_screen: bool) {
     let mut last = Command::Unknown;
     let mut line = [0u8; 256];
     let mut word = [0u8; 256];
-    let mut length: usize = 0;
+    let mut letters: usize = 0;
     let mut turns = u64::MAX;
     while turns > 0 {
-        if !show(trace, stand, note, &word[..length], on_screen) {
+        if !show(trace, stand, note, &word[..letters], on_screen) {
             return;
         }
         out::prompt();
@@ -127,13 +135,13 @@ fn obey_all(trace: &[u8], first: Stand, begun: Note, on_screen: bool) {
             out::unprompt();
             return;
         }
-        let command = meant(viewer_text::read(&line[..count]), last);
+        let command = meant(asked(&line[..count], got.is_long), last);
         if is_quit(command) {
             return;
         }
-        length = keep_word(command, &line, &mut word, length);
+        letters = keep_word(command, &line, &mut word, letters);
         last = remembered(command, last);
-        let came = obey(trace, stand, command, &word[..length], on_screen);
+        let came = obey(trace, stand, command, &word[..letters], on_screen);
         stand = came.stand;
         note = came.note;
         turns -= 1;

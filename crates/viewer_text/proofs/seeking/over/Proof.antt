@@ -28,7 +28,7 @@ Inv-loop trace number store word count text₀ now₀ i₀ times₀ text now i t
     × (times ≤ length trace / 8)
     × (length text ≡ 320)
     × (further times (seekIn word (gapAt store) now (i + 1) (records (drop (i * 8) trace)))
-        ≡ seekIn word (gapAt store) now₀ (number + 1) (records (drop (number * 8) trace)))
+    ≡ seekIn word (gapAt store) now₀ (number + 1) (records (drop (number * 8) trace)))
 
 abbrev μ-loop : tie.MeasureT-loop
 μ-loop trace number store word count text₀ now₀ i₀ times₀ text now i times = length trace / 8 - i
@@ -87,8 +87,7 @@ loop-again c =
     let rest : List (List ℕ) = records (drop ((t .loop .i + 1) * 8) (a .trace .now)) in
     let r = recordAt (a .trace .now) (t .loop .i) in
     let then : Ride = treat (t .loop .now) (gapAt (a .store) (odometerOf r)) r .ride in
-    let there = i .loop-test .taken in
-    (
+    let there = i .loop-test .taken in (
       omega (arith, t .loop .inv .0),
       omega (arith, t .loop .inv .0),
       listed b .long,
