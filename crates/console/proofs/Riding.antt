@@ -3,7 +3,7 @@
 use mathlib.Core.Path.{_≡_, refl, sym, ap, subst, _∙_}
 use mathlib.Core.Bool.{Bool, true}
 use mathlib.Core.List.{List}
-use Prim.Native.Nat.{ℕ}
+use Prim.Native.Nat.{ℕ, _+_}
 use Rattle.words.specs.Answer.{gives}
 use Rattle.words.proofs.Never.{cannot-be}
 use Rattle.settings.specs.declared.Store.{Store}
@@ -17,10 +17,10 @@ use Rattle.console.specs.declared.before.AskedFor.{AskedFor}
 use Rattle.console.specs.declared.before.Given.{Given}
 use Rattle.console.specs.Asked.{cardsFrom, Ridden}
 
-pub nothing-ridden : (r : AskedFor) (how : Given) → (r .how ≡ how) × (r .first ≡ 3) × (r .store ≡ noStore) → 3 ≡ cardsFrom how → Ridden how noStore
-    → (r .first ≡ cardsFrom (r .how)) × Ridden (r .how) (r .store)
-nothing-ridden r how e f g = (
-  e .1 ∙ f ∙ ap cardsFrom (sym (e .0)),
+pub nothing-ridden : (at : ℕ) (r : AskedFor) (how : Given) → (r .how ≡ how) × (r .first ≡ at + 2) × (r .store ≡ noStore) → at + 2 ≡ cardsFrom at how → Ridden how noStore
+    → (r .first ≡ cardsFrom at (r .how)) × Ridden (r .how) (r .store)
+nothing-ridden at r how e f g = (
+  e .1 ∙ f ∙ ap (cardsFrom at) (sym (e .0)),
   subst (λ (h : Given). Ridden h (r .store)) (sym (e .0)) (subst (λ (s : Store). Ridden how s) (sym (e .2)) g),
 )
 

@@ -1,5 +1,6 @@
-// What the arguments ask for before the cards, for the programs that ride: `-s SETTINGS`.
+// What the arguments ask for before the cards, for the programs that ride: `-s SETTINGS`, from one argument on.
 ghost use mathlib.Core.Path.{_≡_};
+ghost use Prim.Native.Nat.{_+_};
 ghost use lib.ListN.{length};
 ghost use Rattle.settings.specs.Store.{noStore};
 ghost use Rattle.console.specs.Asked.{cardsFrom, Ridden};
@@ -19,9 +20,6 @@ use settings_text::no_store;
 
 // The gap of a program that is given no settings, in dm.
 const GAP: u32 = 40;
-
-// The argument of the settings' file.
-const FILE: usize = 2;
 
 // How asking for the settings went.
 pub enum Given {
@@ -45,10 +43,10 @@ fn room() -> [u8; 1048577]
     [0; 1048577]
 }
 
-// Whether the first argument is `-s`.
-fn is_option() -> bool {
+// Whether this argument is `-s`.
+fn is_option(at: u8) -> bool {
     let mut text = io::buffer();
-    let length = os::arg(1, &mut text);
+    let length = os::arg(at as usize, &mut text);
     if os::errno() != 0 {
         return false;
     }
@@ -94,19 +92,19 @@ fn is_too_long(how: Condition) -> bool {
 }
 
 // Nothing is ridden.
-fn none(how: Given) -> AskedFor
-    ensures { λ r. ⌜ (r .how ≡ how) × (r .first ≡ 3) × (r .store ≡ noStore) ⌝ }
+fn none(at: u8, how: Given) -> AskedFor
+    ensures { λ r. ⌜ (r .how ≡ how) × (r .first ≡ at + 2) × (r .store ≡ noStore) ⌝ }
 {
     AskedFor {
         store: no_store(),
-        first: FILE + 1,
+        first: at as usize + 2,
         how,
     }
 }
 
 // What a text of settings comes to; where it is bad that is said.
-fn judged(program: &[u8], aside: bool, text: &[u8]) -> AskedFor
-    ensures { λ r. ⌜ (r .first ≡ cardsFrom (r .how)) × Ridden (r .how) (r .store) ⌝ }
+fn judged(program: &[u8], aside: bool, at: u8, text: &[u8]) -> AskedFor
+    ensures { λ r. ⌜ (r .first ≡ cardsFrom at (r .how)) × Ridden (r .how) (r .store) ⌝ }
 {
     let sheet = settings_text::read(text);
     let store = sheet.store;
@@ -115,50 +113,58 @@ fn judged(program: &[u8], aside: bool, text: &[u8]) -> AskedFor
     if settings_text::is_fine(how) {
         return AskedFor {
             store,
-            first: FILE + 1,
+            first: at as usize + 2,
             how: Given::Settings,
         };
     }
     tell_of(program, aside, line, how);
-    none(Given::Said)
+    none(at, Given::Said)
 }
 
 // The settings of the open file, or what is said of it.
-fn from_file(program: &[u8], aside: bool, fd: i32) -> AskedFor
-    ensures { λ r. ⌜ (r .first ≡ cardsFrom (r .how)) × Ridden (r .how) (r .store) ⌝ }
+fn from_file(program: &[u8], aside: bool, at: u8, fd: i32) -> AskedFor
+    ensures { λ r. ⌜ (r .first ≡ cardsFrom at (r .how)) × Ridden (r .how) (r .store) ⌝ }
 {
     let mut text = room();
     let got = fill(fd, &mut text);
     let count = got.count;
     if got.failed {
-        cannot_read(program, FILE);
-        return none(Given::Said);
+        cannot_read(program, at as usize + 1);
+        return none(at, Given::Said);
     }
-    judged(program, aside, &text[..count])
+    judged(program, aside, at, &text[..count])
 }
 
-// What the arguments ask for before the cards.
-pub fn options(program: &[u8], aside: bool) -> AskedFor
-    ensures { λ r. ⌜ (r .first ≡ cardsFrom (r .how)) × Ridden (r .how) (r .store) ⌝ }
+// What the arguments ask for before the cards, from this one on, where another option stands before them.
+pub fn options_at(program: &[u8], aside: bool, at: u8) -> AskedFor
+    ensures { λ r. ⌜ (r .first ≡ cardsFrom at (r .how)) × Ridden (r .how) (r .store) ⌝ }
 {
-    if !is_option() {
+    if !is_option(at) {
         let begun = settings::begin(GAP, 0x00, 0x7F);
         let store = begun.store;
         return AskedFor {
             store,
-            first: 1,
+            first: at as usize,
             how: Given::Plain,
         };
     }
-    if os::arg_count() <= FILE {
-        return none(Given::Usage);
+    let file = at as usize + 1;
+    if os::arg_count() <= file {
+        return none(at, Given::Usage);
     }
-    let fd = open_card(FILE);
+    let fd = open_card(file);
     if fd < 0 {
-        cannot_open(program, FILE);
-        return none(Given::Said);
+        cannot_open(program, file);
+        return none(at, Given::Said);
     }
-    let asked = from_file(program, aside, fd);
+    let asked = from_file(program, aside, at, fd);
     libc::close(fd);
     asked
+}
+
+// What the arguments ask for before the cards.
+pub fn options(program: &[u8], aside: bool) -> AskedFor
+    ensures { λ r. ⌜ (r .first ≡ cardsFrom 1 (r .how)) × Ridden (r .how) (r .store) ⌝ }
+{
+    options_at(program, aside, 1)
 }

@@ -9,7 +9,7 @@ use viewer::Moved;
 use viewer::Standing;
 
 // The smaller of two.
-fn smaller(a: usize, b: usize) -> usize
+pub fn smaller(a: usize, b: usize) -> usize
     ensures { λ r. ⌜ (r ≤ a) × (r ≤ b) ⌝ }
 {
     if a < b {
@@ -18,13 +18,13 @@ fn smaller(a: usize, b: usize) -> usize
     b
 }
 
-// Where a block ends: 200 records on, for whose lines the buffer surely has room, or at the last.
-fn end_of(number: usize, to: usize) -> usize
+// Where a block ends: 192 records on, for whose lines a large buffer surely has room, and 4,096 bytes more; or at the last.
+pub fn end_of(number: usize, to: usize) -> usize
     requires { ⌜ number < to ⌝ }
     ensures { λ r. ⌜ (number < r) × (r ≤ to) ⌝ }
 {
-    if to - number > 200 {
-        return number + 200;
+    if to - number > 192 {
+        return number + 192;
     }
     to
 }
@@ -56,11 +56,13 @@ fn write_passed(trace: &[u8], from: Standing, number: usize) {
     }
 }
 
-// Forward so often, and writes the lines of the records that are passed.
-pub fn forth(trace: &[u8], from: Standing, times: usize) -> Moved {
+// Forward so often, and writes the lines of the records that are passed; on a screen they stand anyway.
+pub fn forth(trace: &[u8], from: Standing, times: usize, on_screen: bool) -> Moved {
     let moved = viewer::forwards_at(trace, from, times);
     let stand = moved.stand;
-    write_passed(trace, from, stand.number);
+    if !on_screen {
+        write_passed(trace, from, stand.number);
+    }
     moved
 }
 
@@ -73,10 +75,10 @@ fn afresh(trace: &[u8], from: Standing, times: usize) -> Moved {
 }
 
 // To where so many records lie before the viewer: forward; back as far as the history goes; or, further back, as a fresh viewer.
-pub fn to_number(trace: &[u8], from: Standing, before: usize) -> Moved {
+pub fn to_number(trace: &[u8], from: Standing, before: usize, on_screen: bool) -> Moved {
     let number = from.number;
     if before >= number {
-        return forth(trace, from, before - number);
+        return forth(trace, from, before - number, on_screen);
     }
     if number - before <= from.kept {
         return viewer::backs_at(from, number - before);
@@ -85,7 +87,7 @@ pub fn to_number(trace: &[u8], from: Standing, before: usize) -> Moved {
 }
 
 // To just before the first record at or past the place, but for those that will be refused.
-pub fn to_place(trace: &[u8], from: Standing, place: u64) -> Moved {
+pub fn to_place(trace: &[u8], from: Standing, place: u64, on_screen: bool) -> Moved {
     let before = viewer::times_to(trace, 0, place);
-    to_number(trace, from, before)
+    to_number(trace, from, before, on_screen)
 }

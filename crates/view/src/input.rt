@@ -3,10 +3,11 @@ ghost use Prim.Native.Nat.{_≤_};
 ghost use lib.ListN.{length};
 use libc::STDIN_FILENO;
 
-// A line: how many bytes it has, and whether the input ended before it began. One that fills its room has no byte: no command is that long.
+// A line: how many bytes it has, whether the input ended before it began, and whether it filled its room: no command is that long.
 pub struct InputLine {
     pub count: usize,
     pub is_end: bool,
+    pub is_long: bool,
 }
 
 // A byte, or the end of the input.
@@ -41,15 +42,10 @@ fn keep(byte: u8, buf: &mut [u8], count: usize) -> usize
 fn line_of(count: usize, room: usize) -> InputLine
     ensures { λ r. ⌜ r .count ≤ count ⌝ }
 {
-    if count >= room {
-        return InputLine {
-            count: 0,
-            is_end: false,
-        };
-    }
     InputLine {
         count,
         is_end: false,
+        is_long: count >= room,
     }
 }
 
@@ -65,6 +61,7 @@ pub fn next(buf: &mut [u8]) -> InputLine
             return InputLine {
                 count: 0,
                 is_end: true,
+                is_long: false,
             };
         }
         if got.is_end | (got.byte == b'\n') {

@@ -1,90 +1,162 @@
 // A session: where the viewer stands is shown at the start and after each command.
 ghost use mathlib.Core.Path.{_≡_};
+ghost use Prim.Native.Nat.{_≤_};
+ghost use lib.ListN.{length};
 use crate::going::forth;
 use crate::going::to_number;
 use crate::going::to_place;
 use crate::input;
+use crate::memory::is_quit;
+use crate::memory::keep_word;
+use crate::memory::meant;
+use crate::memory::remembered;
 use crate::out;
+use crate::out::Note;
+use crate::screen;
+use libc::STDOUT_FILENO;
 use settings::Store;
+use viewer::Ending;
 use viewer::Moved;
 use viewer::OpeningWent;
 use viewer::Standing;
 use viewer_text::Command;
+use viewer_text::Sought;
 
-// Where a move ended, after the refusal that stopped it, if there was one.
-fn tell(moved: Moved) -> Standing {
-    let stand = moved.stand;
-    let ending = moved.ending;
-    out::tell(ending);
-    stand
+// What a command comes to: where the viewer then stands, and what is noted.
+struct Came {
+    stand: Standing,
+    note: Note,
 }
 
-// One command but `q`: where the viewer stands after it.
-fn obey(trace: &[u8], stand: Standing, command: Command) -> Standing {
+// Why a move ended: the refusal of the next step, if it would be refused. An opened viewer's settings are good, so 22 or 23.
+fn noted(ending: Ending) -> Note {
+    match ending {
+        Ending::All => Note::Nothing,
+        Ending::NothingKept => Note::Refused(22),
+        Ending::AtEnd => Note::Refused(23),
+        Ending::Settings(_) => Note::Nothing,
+    }
+}
+
+// Where a move ended, and why.
+fn moved_to(moved: Moved) -> Came {
+    let stand = moved.stand;
+    let ending = moved.ending;
+    let note = noted(ending);
+    Came { stand, note }
+}
+
+// The viewer where it stands, and the list of commands.
+fn help(stand: Standing) -> Came {
+    Came {
+        stand,
+        note: Note::Help,
+    }
+}
+
+// Forward to just after the next record that gives a line with the word; where there is none the viewer stays. Without a word, the list of commands.
+fn find(trace: &[u8], stand: Standing, word: &[u8], on_screen: bool) -> Came {
+    if word.len() == 0 {
+        return help(stand);
+    }
+    let ride = stand.ride;
+    let store = stand.settings;
+    let sought = viewer_text::seek(trace, stand.number, ride, store, word);
+    match sought {
+        Sought::After(times) => moved_to(forth(trace, stand, times, on_screen)),
+        Sought::Nowhere => Came {
+            stand,
+            note: Note::NoLine,
+        },
+    }
+}
+
+// One command but `q`, with the last word that was asked for.
+fn obey(trace: &[u8], stand: Standing, command: Command, word: &[u8], on_screen: bool) -> Came {
     match command {
-        Command::Forward(times) => tell(forth(trace, stand, times as usize)),
-        Command::Back(times) => tell(viewer::backs_at(stand, times as usize)),
-        Command::Go(before) => tell(to_number(trace, stand, before as usize)),
-        Command::Place(place) => tell(to_place(trace, stand, place)),
-        Command::Quit => stand,
-        Command::Find { from: _, to: _ } => help(stand),
+        Command::Forward(times) => moved_to(forth(trace, stand, times as usize, on_screen)),
+        Command::Back(times) => moved_to(viewer::backs_at(stand, times as usize)),
+        Command::Go(before) => moved_to(to_number(trace, stand, before as usize, on_screen)),
+        Command::Place(place) => moved_to(to_place(trace, stand, place, on_screen)),
+        Command::Find { from: _, to: _ } => find(trace, stand, word, on_screen),
+        Command::Quit => help(stand),
         Command::Again => help(stand),
         Command::Unknown => help(stand),
     }
 }
 
-// The list of commands, and the viewer where it stands.
-fn help(stand: Standing) -> Standing {
-    out::help();
-    stand
+// Where the viewer stands and what is noted, if it can be written: on a screen in place of what was shown before, and the note below.
+fn show(trace: &[u8], stand: Standing, note: Note, word: &[u8], on_screen: bool) -> bool {
+    if on_screen {
+        let is_written = screen::show(trace, stand);
+        out::tell(note, word);
+        return is_written;
+    }
+    out::tell(note, word);
+    out::show(trace, stand)
+}
+
+// What is noted at the start: what there is to say of it, or on a screen the list of commands.
+fn first_note(note: Note, on_screen: bool) -> Note {
+    let Note::Nothing = note else {
+        return note;
+    };
+    if on_screen {
+        return Note::Help;
+    }
+    note
+}
+
+// What a line asks for; one that is too long is no command.
+fn asked(line: &[u8], is_long: bool) -> Command {
+    if is_long {
+        return Command::Unknown;
+    }
+    viewer_text::read(line)
 }
 
 // The commands up to `q`, the end of the input, or where nothing can be written any more. No run uses up the turns.
-fn obey_all(trace: &[u8], first: Standing) {
+fn obey_all(trace: &[u8], first: Standing, begun: Note, on_screen: bool) {
     let mut stand = first;
+    let mut note = first_note(begun, on_screen);
+    let mut last = Command::Unknown;
     let mut line = [0u8; 256];
+    let mut word = [0u8; 256];
+    let mut letters: usize = 0;
     let mut turns = u64::MAX;
     while turns > 0 {
-        if !out::show(trace, stand) {
+        if !show(trace, stand, note, &word[..letters], on_screen) {
             return;
         }
         out::prompt();
         let got = input::next(&mut line);
         let count = got.count;
         if got.is_end {
+            out::unprompt();
             return;
         }
-        let command = viewer_text::read(&line[..count]);
+        let command = meant(asked(&line[..count], got.is_long), last);
         if is_quit(command) {
             return;
         }
-        stand = obey(trace, stand, command);
+        letters = keep_word(command, &line, &mut word, letters);
+        last = remembered(command, last);
+        let came = obey(trace, stand, command, &word[..letters], on_screen);
+        stand = came.stand;
+        note = came.note;
         turns -= 1;
     }
 }
 
-// Whether a command is `q`.
-fn is_quit(command: Command) -> bool {
-    match command {
-        Command::Quit => true,
-        Command::Forward(_) => false,
-        Command::Back(_) => false,
-        Command::Go(_) => false,
-        Command::Place(_) => false,
-        Command::Find { from: _, to: _ } => false,
-        Command::Again => false,
-        Command::Unknown => false,
-    }
-}
-
-// A viewer of the trace under these settings.
-pub fn hold(store: Store, trace: &[u8]) {
+// A viewer of the trace under these settings, and what there is to say of its start.
+pub fn hold(store: Store, trace: &[u8], begun: Note) {
     let opened = viewer::start_at(store, trace);
     let stand = opened.stand;
-    let begun = opened.begun;
-    let OpeningWent::Open = begun else {
-        out::refuse_trace();
+    let how = opened.begun;
+    let OpeningWent::Open = how else {
+        console::refuse_trace(b"view");
         return;
     };
-    obey_all(trace, stand);
+    let on_screen = libc::isatty(STDOUT_FILENO) == 1;
+    obey_all(trace, stand, begun, on_screen);
 }

@@ -1,2 +1,4 @@
 pub mod Session
+pub mod Stopping
 pub mod Witness
+pub mod SessionMet

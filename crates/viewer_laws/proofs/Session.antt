@@ -25,14 +25,14 @@ use Rattle.viewer.specs.declared.Opened.{Opened}
 use Rattle.viewer.specs.declared.Moved.{Moved}
 use Rattle.viewer.specs.Stand.{opened}
 use Rattle.viewer.specs.Viewing.{Done, done, Start, start, forward as forwardOf, back as backOf}
-use Rattle.viewer.specs.Going.{refused, further, Moved as Moves, forwards, backs}
+use Rattle.viewer.specs.Going.{further, Moved as Moves, forwards, backs}
 use Rattle.viewer.specs.Says.{saysOpeningWent}
 use Rattle.viewer.specs.History.{Plain, first, goForth, goBack, Call, forth, back as backCall, straight}
 use Rattle.viewer.proofs.Straight.{Held, first-held, plainly-held}
 use Rattle.viewer.proofs.Ring.{Alike, opened-alike, called-alike}
-use Rattle.viewer.proofs.Often.{forward-stays, back-stays, forwards-stopped, backs-stopped}
+use Rattle.viewer.proofs.Often.{forward-stays, back-stays}
 use Rattle.viewer.proofs.Laws.{opens-by}
-use Rattle.viewer_laws.specs.Session.{StartAt, RunOver, Move, forward, back, afresh, Lead, often, moved, session, Views, Sessions, Stopping}
+use Rattle.viewer_laws.specs.Session.{StartAt, RunOver, Move, forward, back, afresh, Lead, often, moved, session, Views, Sessions}
 
 -- ---- many calls
 
@@ -158,18 +158,3 @@ views store trace r ms t c b l =
 
 pub sessions : Sessions
 sessions = record { after-any = views }
-
--- ---- where many calls stop
-
-pub stopping : Stopping
-stopping = record {
-  forwards = λ trace s n k r c e.
-      let is = c .4 ∙ ap (λ (x : List ℕ). forwards n x s) (c .3) in
-      let there : r .stand ≡ forwards n trace s .stand = ap (λ (m : Moves). m .stand) is in
-      let answer = ap (λ (x : Standing). forwardOf trace x .answer) there ∙ forwards-stopped n k trace s (sym (ap (λ (m : Moves). m .ending) is) ∙ e) in
-      (answer, forward-stays trace (r .stand) k answer);
-  backs = λ s n k r c e.
-      let there : r .stand ≡ backs n s .stand = ap (λ (m : Moves). m .stand) (c .1) in
-      let answer = ap (λ (x : Standing). backOf x .answer) there ∙ backs-stopped n k s (sym (ap (λ (m : Moves). m .ending) (c .1)) ∙ e) in
-      (answer, back-stays (r .stand) k answer);
-}

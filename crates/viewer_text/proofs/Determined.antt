@@ -22,6 +22,8 @@ use Rattle.viewer_text.proofs.screen.first_around.Kinds as first-around
 use Rattle.viewer_text.proofs.screen.first_around.Reads as first-around-reads
 use Rattle.viewer_text.proofs.finding.has.Kinds as has-kinds
 use Rattle.viewer_text.proofs.finding.has.Reads as has-reads
+use Rattle.viewer_text.proofs.seeking.seek.Kinds as seek-kinds
+use Rattle.viewer_text.proofs.seeking.seek.Reads as seek-reads
 use Rattle.words.proofs.Told.{Fixed}
 
 pub put-state-determined : (κs : Lfts 1) (a : Dens κs put-state-kinds.ps) (r r′ : ℕ)
@@ -42,6 +44,9 @@ first-around-determined κs a r r′ x x′ p q = p ∙ sym q
 
 pub has-determined : Fixed 2 has-kinds.ps has-kinds.r has-reads.Post
 has-determined κs a r r′ x x′ p q = p ∙ sym q
+
+pub seek-determined : Fixed 2 seek-kinds.ps seek-kinds.r seek-reads.Post
+seek-determined κs a r r′ x x′ p q = p ∙ sym q
 
 pub put-next-determined : (κs : Lfts 2) (a : Dens κs put-next-kinds.ps) (r r′ : ℕ)
     (x x′ : AtExit (endedOf 2 put-next-kinds.ps put-next-kinds.r) κs)

@@ -34,6 +34,6 @@ unfolding command commandIn leading endsAt small by alone figures allDigits cont
 loosely = (refl, refl, refl)
 
 -- a word
-pub finds : (command (codes "/fault") ≡ Command.Find 1 6) × (has (codes "1000 fault 12: no row\n") (codes "FAULT") ≡ true) × (has (codes "1000 present line\n") (codes "fault") ≡ false)
+pub finds : (command (codes "/fault") ≡ Command.Find 1 6) × (command (codes " /\r") ≡ Command.Find 2 2) × (has (codes "1000 fault 12: no row\n") (codes "FAULT") ≡ true) × (has (codes "1000 present line\n") (codes "fault") ≡ false)
 unfolding command commandIn leading endsAt small has standsBefore standsAt
-finds = (refl, refl, refl)
+finds = (refl, refl, refl, refl)

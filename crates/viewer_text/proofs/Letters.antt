@@ -32,20 +32,20 @@ pub again-is : (line : List ℕ) (from to : ℕ) → to ≤ from → Command.Aga
 unfolding commandIn
 again-is line from to h = rw (le-leb to from h)
 
-pub alone-is : (line : List ℕ) (from to : ℕ) → from < to → to - from ≡ 1 → alone (small (getD line from 0)) ≡ commandIn line from to
+pub find-is : (line : List ℕ) (from to : ℕ) → from < to → small (getD line from 0) ≡ 47 → Command.Find (from + 1) to ≡ commandIn line from to
 unfolding commandIn
-alone-is line from to h e = rw (lt-leb to from h, eq-eqb (to - from) 1 e)
+find-is line from to h s = rw (lt-leb to from h, eq-eqb (small (getD line from 0)) 47 s)
 
-pub find-is : (line : List ℕ) (from to : ℕ) → from < to → (to - from ≡ 1 → ⊥) → small (getD line from 0) ≡ 47 → Command.Find (from + 1) to ≡ commandIn line from to
+pub alone-is : (line : List ℕ) (from to : ℕ) → from < to → (small (getD line from 0) ≡ 47 → ⊥) → to - from ≡ 1 → alone (small (getD line from 0)) ≡ commandIn line from to
 unfolding commandIn
-find-is line from to h e s = rw (lt-leb to from h, ne-eqb (to - from) 1 e, eq-eqb (small (getD line from 0)) 47 s)
+alone-is line from to h s e = rw (lt-leb to from h, ne-eqb (small (getD line from 0)) 47 s, eq-eqb (to - from) 1 e)
 
-pub unknown-is : (line : List ℕ) (from to : ℕ) → from < to → (to - from ≡ 1 → ⊥) → (small (getD line from 0) ≡ 47 → ⊥) → blank (getD line (from + 1) 0) ≡ false
+pub unknown-is : (line : List ℕ) (from to : ℕ) → from < to → (small (getD line from 0) ≡ 47 → ⊥) → (to - from ≡ 1 → ⊥) → blank (getD line (from + 1) 0) ≡ false
     → Command.Unknown ≡ commandIn line from to
 unfolding commandIn
-unknown-is line from to h e s b = rw (lt-leb to from h, ne-eqb (to - from) 1 e, ne-eqb (small (getD line from 0)) 47 s, b)
+unknown-is line from to h s e b = rw (lt-leb to from h, ne-eqb (small (getD line from 0)) 47 s, ne-eqb (to - from) 1 e, b)
 
-pub number-is : (line : List ℕ) (from to : ℕ) → from < to → (to - from ≡ 1 → ⊥) → (small (getD line from 0) ≡ 47 → ⊥) → blank (getD line (from + 1) 0) ≡ true
+pub number-is : (line : List ℕ) (from to : ℕ) → from < to → (small (getD line from 0) ≡ 47 → ⊥) → (to - from ≡ 1 → ⊥) → blank (getD line (from + 1) 0) ≡ true
     → numbered (small (getD line from 0)) (decimal (take (to - (from + 2)) (drop (from + 2) line)) largest) ≡ commandIn line from to
 unfolding commandIn
-number-is line from to h e s b = rw (lt-leb to from h, ne-eqb (to - from) 1 e, ne-eqb (small (getD line from 0)) 47 s, b)
+number-is line from to h s e b = rw (lt-leb to from h, ne-eqb (small (getD line from 0)) 47 s, ne-eqb (to - from) 1 e, b)

@@ -51,12 +51,13 @@ unfoldable pub endsAt : ℕ → List ℕ → ℕ
 endsAt zero line = 0
 endsAt (suc n) line = pick (blank (getD line n 0)) (endsAt n line) (suc n)
 
--- What stands in a line from one place up to another: nothing asks for the same again; a letter alone; a slash and a word; a letter, a blank and a number.
+-- What stands in a line from one place up to another: nothing asks for the same again; a slash and a word, where no letter means the word before; a letter alone; a
+-- letter, a blank and a number.
 unfoldable pub commandIn : List ℕ → ℕ → ℕ → Command
 commandIn line from to =
     pick (leb to from) Command.Again
-    (pick (eqb (to - from) 1) (alone (small (getD line from 0)))
     (pick (eqb (small (getD line from 0)) 47) (Command.Find (from + 1) to)
+    (pick (eqb (to - from) 1) (alone (small (getD line from 0)))
     (pick (blank (getD line (from + 1) 0)) (numbered (small (getD line from 0)) (decimal (take (to - (from + 2)) (drop (from + 2) line)) largest))
     Command.Unknown)))
 

@@ -7,7 +7,7 @@ use crate::trimming::is_blank;
 use figures::Figure;
 
 // What a line asks for: so many records forward or back, to where so many lie before, to a place, to the next line of the ride that has a word (which stands
-// in the line, from one place up to another), the same again, the end, or nothing that is known.
+// in the line, from one place up to another; one without a letter means the word before), the same again, the end, or nothing that is known.
 pub enum Command {
     Forward(u64),
     Back(u64),
@@ -58,7 +58,8 @@ fn alone(letter: u8) -> Command
 }
 
 // What a line asks for, whatever blanks are around it and whether its letter is a capital: a letter alone, or a letter, a blank and a number (`g N`: to
-// where N - 1 records lie before); a slash and a word; a number that is too large is the largest; nothing asks for the same again; anything else is unknown.
+// where N - 1 records lie before); a slash and a word, or a slash alone; a number that is too large is the largest; nothing asks for the same again; anything
+// else is unknown.
 pub fn read(line: &[u8]) -> Command
     ensures { λ r. ⌜ r ≡ command (now (line .entry)) ⌝ }
 {
@@ -68,11 +69,11 @@ pub fn read(line: &[u8]) -> Command
         return Command::Again;
     }
     let letter = small(line[from]);
-    if to - from == 1 {
-        return alone(letter);
-    }
     if letter == b'/' {
         return Command::Find { from: from + 1, to };
+    }
+    if to - from == 1 {
+        return alone(letter);
     }
     if !is_blank(line[from + 1]) {
         return Command::Unknown;

@@ -9,7 +9,7 @@ use Rattle.console.proofs.before.from_file.Statement.{statement}
 use Rattle.console.proofs.before.from_file.Tie as tie
 
 returns : tie.Need-returns
-returns c = nothing-ridden (c .none .result) Given.Said (c .none .ensures) refl refl
+returns c = nothing-ridden _ (c .none .result) Given.Said (c .none .ensures) refl refl
 
 slice-aggregate-judged : tie.Need-slice-aggregate-judged
 slice-aggregate-judged c = sym (length-take-le _ _ (omega arith))
@@ -18,6 +18,6 @@ pub from-file-spec : {M : Type 1} → statement M
 from-file-spec =
     tie.close
     (tie.spec
-    (λ c κs. search needs) (λ c. search needs) (λ c κs. search needs) (λ c κs. search needs) (λ c κs. search needs) returns
+    (λ c κs. search needs) (λ c. search needs) (λ c κs. search needs) (λ c. search needs) (λ c κs. search needs) (λ c κs. search needs) returns
     (λ c. search needs) slice-aggregate-judged
     (λ c κs. search needs) (λ c. search needs))

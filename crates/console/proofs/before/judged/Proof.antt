@@ -14,7 +14,7 @@ returns c =
     (refl, good t (r .read .result) (r .read .ensures) (sym (f .is-fine .ensures) ∙ c .if1 .taken))
 
 returns-2 : tie.Need-returns-2
-returns-2 c = nothing-ridden (c .none .result) Given.Said (c .none .ensures) refl refl
+returns-2 c = nothing-ridden _ (c .none .result) Given.Said (c .none .ensures) refl refl
 
 pub judged-spec : {M : Type 1} → statement M
 judged-spec =

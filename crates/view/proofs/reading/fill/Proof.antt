@@ -1,17 +1,18 @@
 -- `fill` stays within the buffer, and counts its turns down.
 use mathlib.Core.Path.{_≡_, refl, sym, ap, _∙_}
-use Prim.Native.Nat.{ℕ, _+_, _-_, _<_, _≤_}
+use Prim.Native.Nat.{ℕ, _+_, _-_, _*_, _/_, _<_, _≤_}
 use native.Mathlib.Omega.{arith}
 use lib.ListN.{length}
+use lib.Seq.{length-take-le}
 use borrow.Author.Needs.{needs}
 use Rattle.view.proofs.reading.fill.Statement.{statement}
 use Rattle.view.proofs.reading.fill.Tie as tie
 
 abbrev Inv-loop : tie.InvT-loop
-Inv-loop first lengths trace₀ pass₀ have₀ turns₀ t11 t12 trace pass have turns = (have ≤ length trace) × (length trace ≡ length trace₀)
+Inv-loop lengths trace₀ step₀ turns₀ trace step turns = (step .have ≤ length trace) × (length trace ≡ length trace₀)
 
 abbrev μ-loop : tie.MeasureT-loop
-μ-loop first lengths trace₀ pass₀ have₀ turns₀ t11 t12 trace pass have turns = turns
+μ-loop lengths trace₀ step₀ turns₀ trace step turns = turns
 
 pub fill-spec : {M : Type 1} → statement M
 fill-spec =
@@ -19,8 +20,5 @@ fill-spec =
     (tie.spec
     Inv-loop
     μ-loop
-    (λ c κs. search needs) (λ c. search needs) (λ c κs. search needs) (λ c. search needs) (λ c. search needs) (λ c. search needs)
-    (λ c. search needs) (λ c. search needs) (λ c. search needs) (λ c κs. search needs) (λ c. search needs) (λ c. search needs)
-    (λ c κs. search needs) (λ c. search needs) (λ c. search needs) (λ c. search needs) (λ c. search needs) (λ c. search needs)
-    (λ c. search needs) (λ c. search needs) (λ c. search needs) (λ c. search needs) (λ c. search needs) (λ c. search needs)
-    (λ c. search needs))
+    (λ c. search needs) (λ c κs. search needs) (λ c. search needs) (λ c. search needs) (λ c κs. search needs) (λ c. search needs)
+    (λ c. search needs) (λ c. search needs) (λ c. search needs) (λ c. search needs))

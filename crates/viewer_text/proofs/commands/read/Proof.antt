@@ -41,22 +41,22 @@ read-letter c =
 
 returns-2 : tie.Need-returns-2
 returns-2 c =
-    let i = c .before in
+    let s = c .before in
+    let x = s .before .before in
+    let e = x .before in
+    find-is (line e) (from e) (to e) (x .if1 .left) (sym (s .small .ensures) ∙ c .if2 .taken)
+    ∙ trimmed (line e) (from e) (to e) (e .before .begin .ensures) (e .end .ensures)
+
+returns-3 : tie.Need-returns-3
+returns-3 c =
+    let j = c .before in
+    let i = j .before in
     let s = i .before in
     let x = s .before .before in
     let e = x .before in
     c .alone .ensures
     ∙ ap alone (s .small .ensures)
-    ∙ alone-is (line e) (from e) (to e) (x .if1 .left) (i .if2 .taken)
-    ∙ trimmed (line e) (from e) (to e) (e .before .begin .ensures) (e .end .ensures)
-
-returns-3 : tie.Need-returns-3
-returns-3 c =
-    let i = c .before in
-    let s = i .before in
-    let x = s .before .before in
-    let e = x .before in
-    find-is (line e) (from e) (to e) (x .if1 .left) (i .if2 .left) (sym (s .small .ensures) ∙ c .if3 .taken)
+    ∙ alone-is (line e) (from e) (to e) (x .if1 .left) (λ z. i .if2 .left (s .small .ensures ∙ z)) (j .if3 .taken)
     ∙ trimmed (line e) (from e) (to e) (e .before .begin .ensures) (e .end .ensures)
 
 read-blank : tie.Need-shared-slice-read-is-blank
@@ -65,7 +65,7 @@ read-blank c =
     let x = i .before .before .before in
     let e = x .before in
     let some = x .if1 .left in
-    let more = i .if2 .left in
+    let more = c .before .if3 .left in
     let most = within e in
     omega arith
 
@@ -77,7 +77,7 @@ returns-4 c =
     let s = i .before in
     let x = s .before .before in
     let e = x .before in
-    unknown-is (line e) (from e) (to e) (x .if1 .left) (i .if2 .left) (λ z. j .if3 .left (s .small .ensures ∙ z)) (sym (k .is-blank .ensures) ∙ not-true _ (c .if4 .taken))
+    unknown-is (line e) (from e) (to e) (x .if1 .left) (λ z. i .if2 .left (s .small .ensures ∙ z)) (j .if3 .left) (sym (k .is-blank .ensures) ∙ not-true _ (c .if4 .taken))
     ∙ trimmed (line e) (from e) (to e) (e .before .begin .ensures) (e .end .ensures)
 
 part-end : tie.Need-part-decimal-end
@@ -98,7 +98,7 @@ figured d =
     let e = x .before in
     ap (numbered (s .small .result)) (d .decimal .ensures)
     ∙ ap (λ (n : ℕ). numbered n (decimal (take (to e - (from e + 2)) (drop (from e + 2) (line e))) largest)) (s .small .ensures)
-    ∙ number-is (line e) (from e) (to e) (x .if1 .left) (i .if2 .left) (λ z. j .if3 .left (s .small .ensures ∙ z)) (sym (k .is-blank .ensures) ∙ not-false _ (q .if4 .left))
+    ∙ number-is (line e) (from e) (to e) (x .if1 .left) (λ z. i .if2 .left (s .small .ensures ∙ z)) (j .if3 .left) (sym (k .is-blank .ensures) ∙ not-false _ (q .if4 .left))
     ∙ trimmed (line e) (from e) (to e) (e .before .begin .ensures) (e .end .ensures)
 
 returns-5 : tie.Need-returns-5
@@ -127,8 +127,8 @@ read-spec =
     (tie.spec
     (λ c κs. search needs) (λ c κs. search needs) returns
     read-letter
-    (λ c κs. search needs) (λ c. search needs) (λ c κs. search needs) returns-2
-    (λ c. search needs) returns-3
+    (λ c κs. search needs) (λ c. search needs) returns-2
+    (λ c. search needs) (λ c κs. search needs) returns-3
     (λ c. search needs) read-blank
     (λ c κs. search needs) returns-4
     (λ c. search needs) (λ c. search needs) (λ c. search needs) part-end
