@@ -96,16 +96,10 @@ Survey b start len s t r =
     (κs : Lfts 1) × (buf : RefT (List ℕ)) × (e : AtExit (endedOf 1 survey-kinds.ps survey-kinds.r) κs)
     × (now buf ≡ b) × survey-reads.Post κs (buf, (start, (len, (s, (t, tt))))) r e
 
-<<<<<<< HEAD
 -- What lies in the buffer that was lent to `write`, the last of its seven arguments, when the call
 -- has ended.
-abbrev pub written : {κs : Lfts 1} → AtExit (endedOf 1 write-kinds.ps write-kinds.r) κs → List ℕ
-written e = now (e .1 .1 .1 .1 .1 .1 .0)
-=======
--- What lies in the buffer that was lent to `write`, the last of its seven arguments, when the call has ended.
 abbrev pub written : (κs : Lfts 1) → AtExit (endedOf 1 write-kinds.ps write-kinds.r) κs → List ℕ
 written κs e = now (e .1 .1 .1 .1 .1 .1 .0)
->>>>>>> names
 
 -- The contract of `write` allows the answer r for these figures, sync words and this number, and
 -- that the lent buffer, which held `before`, holds `after` then.
