@@ -1,6 +1,7 @@
 """The balise bench checker's library for Python: ctypes over libatc2.so, nothing else.
 
-The library is looked for at $ATC2_LIBRARY, beside this file as ./install lays it, and in target/. A refusal is a Refused with the documents' number and words.
+The library is looked for at $ATC2_LIBRARY and beside this file, as ./install lays it. A refusal is a Refused with the documents' number and words;
+a figure that C would cut short is a ValueError.
 """
 import ctypes
 import os
@@ -13,8 +14,8 @@ REFUSALS = {
     24: "place not above the last one", 25: "more than 32 versions", 100: "line unreadable", 101: "text too long", 102: "first place not 0",
 }
 STORE = 1032
-RIDE, ROOM, NONE = 144, 32768, 2**64 - 1
-EAR = 184
+RIDE, EAR, NONE = 144, 184, 2**64 - 1
+_TEXT = 32768
 
 
 class Refused(Exception):
@@ -28,7 +29,7 @@ class Refused(Exception):
 
 def _load():
     here = os.path.dirname(os.path.abspath(__file__))
-    places = [os.environ.get("ATC2_LIBRARY"), os.path.join(here, "libatc2.so"), os.path.join(here, "..", "lib", "libatc2.so"), os.path.join(here, "..", "target", "libatc2.so")]
+    places = [os.environ.get("ATC2_LIBRARY"), os.path.join(here, "libatc2.so"), os.path.join(here, "..", "lib", "libatc2.so")]
     for path in places:
         if path and os.path.exists(path):
             return ctypes.CDLL(path)
@@ -47,11 +48,9 @@ _SIGNATURES = {
     "atc2_settings_read": (ctypes.c_int32, _bytes, _u64, _bytes), "atc2_settings_line": (ctypes.c_int64, _bytes, _u64), "atc2_compact": (ctypes.c_int64, _u32, _bytes, _u64),
     "atc2_ride_begin": (ctypes.c_int32, _bytes), "atc2_ride_list": (ctypes.c_int32, _bytes, _bytes, _bytes, _u64, _u64, _u8, _bytes, _u64, _out),
     "atc2_ride_end": (ctypes.c_int32, _bytes, _u8, _bytes, _u64), "atc2_ride_known": (ctypes.c_int32, _bytes, _out),
-}
-_SIGNATURES.update({
     "atc2_record_begin": (ctypes.c_int32, _bytes), "atc2_record": (ctypes.c_int32, _bytes, _bytes, _bytes, _u64, _bytes, _u64, _out),
     "atc2_record_end": (ctypes.c_int32, _bytes, _bytes, _u64, _out),
-})
+}
 _library = _load()
 for _name, (_result, *_arguments) in _SIGNATURES.items():
     getattr(_library, _name).restype = _result
@@ -100,7 +99,7 @@ def write_long(figure):
 
 def parity(word, wide=False):
     """None for a code word, else "odd" or "even": the parity of its ones."""
-    return (None, "odd", "even")[_library.atc2_why_word(_small(word, 65535), 1 if wide else 0) // 256]
+    return (None, "odd", "even")[_library.atc2_why_word(_small(word, 65535 if wide else 255), 1 if wide else 0) // 256]
 
 
 def read_telegram(x, y, z):
@@ -110,20 +109,22 @@ def read_telegram(x, y, z):
 def find(data, start, length, s, t):
     """The first place of a stretch of bits, and its telegram."""
     out = (_u64 * 2)()
-    _given(_library.atc2_find(_lent(data), len(data), start, length, s, t, out))
+    _given(_library.atc2_find(_lent(data), len(data), _small(start, NONE), _small(length, NONE), _small(s, 255), _small(t, 255), out))
     return out[0], _telegram(out[1])
 
 
 def judge(data, start, length, s, t):
     """A contact's telegram, first place and number of places; None for a marker."""
     out = (_u64 * 3)()
-    return (_telegram(out[0]), out[1], out[2]) if _given(_library.atc2_judge(_lent(data), len(data), start, length, s, t, out)) == 1 else None
+    answer = _library.atc2_judge(_lent(data), len(data), _small(start, NONE), _small(length, NONE), _small(s, 255), _small(t, 255), out)
+    return (_telegram(out[0]), out[1], out[2]) if _given(answer) == 1 else None
 
 
 def contacts(data, start=0, length=None):
     """The contacts of a line, one after the other: start and length in bits."""
     lent, search, out = _lent(data), (_u64 * 3)(), (_u64 * 2)()
-    _given(_library.atc2_begin(lent, len(data), start, len(data) * 8 - start if length is None else length, search))
+    length = max(0, len(data) * 8 - start) if length is None else length
+    _given(_library.atc2_begin(lent, len(data), _small(start, NONE), _small(length, NONE), search))
     while _given(_library.atc2_next_contact(lent, len(data), search, out)) == 1:
         yield out[0], out[1]
 
@@ -131,7 +132,8 @@ def contacts(data, start=0, length=None):
 def write_balise(x, y, z, s, t, count):
     """The bits of a test balise of so many telegrams."""
     lent = (ctypes.c_uint8 * 4001)()
-    return bytes(lent[: _given(_library.atc2_write_balise(_small(x, 255), _small(y, 65535), _small(z, 255), s, t, count, lent, 4001))])
+    figures = _small(x, 255), _small(y, 65535), _small(z, 255), _small(s, 255), _small(t, 255), _small(count, 0xFFFFFFFF)
+    return bytes(lent[: _given(_library.atc2_write_balise(*figures, lent, 4001))])
 
 
 def distance(by, figure):
@@ -141,7 +143,7 @@ def distance(by, figure):
 def compact(trace, gap):
     """A trace made smaller, for a fresh ride with this gap."""
     lent = _lent(trace)
-    return bytes(lent[: _given(_library.atc2_compact(gap, lent, len(trace)))])
+    return bytes(lent[: _given(_library.atc2_compact(_small(gap, 0xFFFFFFFF), lent, len(trace)))])
 
 
 class Settings:
@@ -172,7 +174,7 @@ class Ride:
     """A ride over the records of a trace under some settings: its lines, and what is known on the way."""
 
     def __init__(self, settings):
-        self._settings, self._ride, self._text = settings, (ctypes.c_uint8 * RIDE)(), (ctypes.c_uint8 * ROOM)()
+        self._settings, self._ride, self._text = settings, (ctypes.c_uint8 * RIDE)(), (ctypes.c_uint8 * _TEXT)()
         self.begin()
 
     def begin(self):
@@ -185,7 +187,7 @@ class Ride:
         lent, out, lines, at = _lent(records), (_u64 * 2)(), b"", 0
         while True:
             rest = ctypes.cast(ctypes.byref(lent, at), _bytes) if at < len(records) else lent
-            _given(_library.atc2_ride_list(self._ride, self._settings._store, rest, len(records) - at, self.number, 1 if reasons else 0, self._text, ROOM, out))
+            _given(_library.atc2_ride_list(self._ride, self._settings._store, rest, len(records) - at, self.number, 1 if reasons else 0, self._text, _TEXT, out))
             lines += bytes(self._text[: out[1]])
             self.number, at = self.number + out[0], at + 8 * out[0]
             if at >= len(records):
@@ -193,7 +195,7 @@ class Ride:
 
     def end(self, reasons=False):
         """The line of the group that the end closes, or no text; the ride stays as it is."""
-        return bytes(self._text[: _given(_library.atc2_ride_end(self._ride, 1 if reasons else 0, self._text, ROOM))]).decode("ascii")
+        return bytes(self._text[: _given(_library.atc2_ride_end(self._ride, 1 if reasons else 0, self._text, _TEXT))]).decode("ascii")
 
     def known(self):
         """What is known: odometer, linking (distance and place), main, target and number; None for what is not set."""

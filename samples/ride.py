@@ -1,4 +1,7 @@
-"""Lists a card, each fault with its reason, then what is known at its end: ride.py FILE [SETTINGS]"""
+"""Lists a card, each fault with its reason, then what is known at its end: ride.py FILE [SETTINGS]
+
+It reads 65,536 bytes at a time: of a longer card whose length is refused, lines come before the refusal; `explain` writes none.
+"""
 import os
 import sys
 

@@ -28,6 +28,14 @@ def refusal(call, *arguments):
     return None
 
 
+def cut(call, *arguments):
+    try:
+        call(*arguments)
+    except ValueError as error:
+        return str(error)
+    return None
+
+
 for figure in range(16):
     same("a short word and back", atc2.read_short(atc2.write_short(figure)), figure)
 for figure in range(2048):
@@ -49,6 +57,24 @@ found = list(atc2.contacts(line))
 same("one contact of a line", len(found), 1)
 same("the contact's telegram", atc2.judge(line, found[0][0], found[0][1], 0x72, 0x0D)[0], (1, 8, 5))
 same("a contact cut", refusal(lambda: list(atc2.contacts(line[:20]))), (9, 0, "refused 9: contact cut by the end of the record"))
+
+# Figures that C would cut short: refused before the call.
+byte, word, long = "%d is not within 0 to 255", "%d is not within 0 to 4294967295", "%d is not within 0 to 18446744073709551615"
+whole = [0, len(bits) * 8, 0x72, 0x0D]
+for at, too_large, says in ((0, 2**64, long), (0, -1, long), (1, 2**64, long), (2, 256 + 0x72, byte), (3, 256 + 0x0D, byte), (3, -1, byte)):
+    given = whole[:at] + [too_large] + whole[at + 1 :]
+    same("find of a figure too large", cut(atc2.find, bits, *given), says % too_large)
+    same("judge of a figure too large", cut(atc2.judge, bits, *given), says % too_large)
+for start, length, wrong in ((2**64, 0, 2**64), (-1, None, -1), (0, 2**64 + 8, 2**64 + 8)):
+    same("contacts of a figure too large", cut(lambda: list(atc2.contacts(line, start, length))), long % wrong)
+same("contacts from beyond the line", refusal(lambda: list(atc2.contacts(line, len(line) * 8 + 1)))[0], 5)
+for at, too_large, says in ((3, 256 + 0x72, byte), (4, 256 + 0x0D, byte), (5, 2**32 + 10, word), (5, -1, word)):
+    given = [1, 8, 5, 0x72, 0x0D, 10]
+    given[at] = too_large
+    same("a balise of a figure too large", cut(atc2.write_balise, *given), says % too_large)
+same("compact with a gap too large", cut(atc2.compact, b"", 2**32 + 40), word % (2**32 + 40))
+same("parity of a short word above 255", cut(atc2.parity, 256), byte % 256)
+same("parity of a long word above 65535", cut(atc2.parity, 65536, True), "65536 is not within 0 to 65535")
 
 two = atc2.Settings(40, 0x72, 0x0D)
 two.add(5200, 60, 0x72, 0x0D)
