@@ -417,8 +417,48 @@ static void rides(void)
     for (unsigned i = 0; i < sizeof reason - 1; i++) same("ride_end's reason", text[i], reason[i]);
 }
 
+/* ---- Leads: a frame with a position, one without a record, and the end's position */
+
+static void leads(void)
+{
+    static const uint8_t lead[32] = {0, 0, 0, 100, 255, 255, 255, 255, 255, 255, 255, 255, 255, 255, 255, 255, 0, 0, 0, 105, 255, 255, 255, 255, 255, 255, 255, 255, 255, 255, 255, 255};
+    static const uint8_t first[8] = {0, 0, 0, 100, 3, 0, 0, 0}, last[8] = {0, 0, 0, 105, 3, 0, 0, 0};
+    uint8_t ear[ATC2_EAR], begun[ATC2_EAR], store[ATC2_STORE], records[24];
+    uint64_t out[2] = {7, 9};
+    for (int i = 0; i < ATC2_EAR; i++) ear[i] = (uint8_t)(i * 7 + 1);
+    for (int i = 0; i < 24; i++) records[i] = 0xEE;
+    same("record_begin", atc2_record_begin(ear), 0);
+    for (int i = 0; i < ATC2_EAR; i++) begun[i] = ear[i];
+    atc2_settings_begin(40, 0x72, 0x0D, store);
+    store[ATC2_STORE - 1] = 33;
+    same("record under bytes that are no store", atc2_record(ear, store, lead, 16, records, 24, out), ATC2_FULL);
+    same("record refused leaves out", (int64_t)(out[0] * 10 + out[1]), 79);
+    store[ATC2_STORE - 1] = 1;
+    for (uint64_t room = 0; room < 8; room += 7) {
+        same("record without room", atc2_record(ear, store, lead, 16, records, room, out), 0);
+        same("record without room uses and writes nothing", (int64_t)(out[0] + out[1]), 0);
+    }
+    for (int i = 0; i < ATC2_EAR; i++) same("refused or without room, the ear stays", ear[i], begun[i]);
+    for (int i = 0; i < 24; i++) same("refused or without room, the records stay", records[i], 0xEE);
+    same("record with room for one", atc2_record(ear, store, lead, 31, records, 8, out), 0);
+    same("record uses the frame and writes one", (int64_t)(out[0] * 100 + out[1]), 1608);
+    for (int i = 0; i < 8; i++) same("record's position", records[i], first[i]);
+    for (int i = 8; i < 24; i++) same("bytes after it stay", records[i], 0xEE);
+    same("record of a frame without a record", atc2_record(ear, store, lead + 16, 16, records, 24, out), 0);
+    same("record uses it", (int64_t)(out[0] * 100 + out[1]), 1600);
+    same("record_end without room", atc2_record_end(ear, records, 7, out), 0);
+    same("record_end without room writes nothing", (int64_t)out[0], 0);
+    same("record_end", atc2_record_end(ear, records, 24, out), 0);
+    same("record_end writes one", (int64_t)out[0], 8);
+    for (int i = 0; i < 8; i++) same("record_end's position", records[i], last[i]);
+    for (int i = 8; i < 24; i++) same("bytes after the end's stay", records[i], 0xEE);
+    same("record_end again", atc2_record_end(ear, records, 24, out), 0);
+    same("record_end has no further one", (int64_t)out[0], 0);
+}
+
 int main(void)
 {
+    leads();
     rides();
     why_words();
     settings();

@@ -78,6 +78,28 @@ static void rooms(void)
     }
 }
 
+/* The lead's end with each room from 0 up: as many of its records as have room, and no byte after them; without room for one the ear stays. */
+static void end_rooms(void)
+{
+    uint8_t heard[ATC2_EAR];
+    uint64_t out[2];
+    atc2_record_begin(heard);
+    same("the whole lead", 0, atc2_record(heard, store, lead, n, got, sizeof got, out), 0);
+    uint64_t before = out[1], last = wanted - before;
+    for (uint64_t room = 0; room <= 24; room++) {
+        uint8_t ear[ATC2_EAR];
+        uint64_t end[1] = {7}, left = 0, all = room / 8 * 8 < last ? room / 8 * 8 : last;
+        memcpy(ear, heard, sizeof ear);
+        memset(got, 0xA5, 64);
+        same("an end with so much room", room, atc2_record_end(ear, got, room, end), 0);
+        same("as many of its records as have room", room, (int64_t)end[0], (int64_t)all);
+        same("they are the trace's last", room, memcmp(got, trace + before, (size_t)all), 0);
+        for (uint64_t i = all; i < 64; i++) left += got[i] == 0xA5;
+        same("bytes after the end's records stay", room, (int64_t)left, (int64_t)(64 - all));
+        if (room < 8) same("without room the ear stays", room, memcmp(ear, heard, sizeof ear), 0);
+    }
+}
+
 /* Lent garbage as an ear: every call answers, and pieces and rooms make no difference from there on either. */
 static void garbage(void)
 {
@@ -100,11 +122,14 @@ static void garbage(void)
 /* A store that is not in order: its own number, and every lent array as it was. */
 static void refused(void)
 {
-    static const struct { int at; uint8_t byte; int32_t number; } bad[] = {{1031, 33, ATC2_FULL}, {1031, 0, ATC2_GAP}, {7, 1, ATC2_NOT_ABOVE}, {23, 0x0C, ATC2_NOT_SEVEN}, {15, 0, ATC2_GAP}};
+    static const struct { int at; uint8_t byte; int32_t number; } bad[] = {{1031, 33, ATC2_FULL}, {1031, 0, ATC2_GAP}, {7, 1, ATC2_NOT_ABOVE}, {23, 0x0C, ATC2_NOT_SEVEN}, {15, 0, ATC2_GAP}, {39, 1, ATC2_TOO_HIGH}};
+    uint8_t two[ATC2_STORE];
+    memcpy(two, store, sizeof two);
+    same("a second version", 0, atc2_settings_add(two, 4000000000u, 60, 0x72, 0x0D), 0);
     for (unsigned i = 0; i < sizeof bad / sizeof *bad; i++) {
         uint8_t ear[ATC2_EAR], kept[ATC2_EAR], broken[ATC2_STORE];
         uint64_t out[2] = {7, 9};
-        memcpy(broken, store, sizeof broken);
+        memcpy(broken, two, sizeof broken);
         broken[bad[i].at] = bad[i].byte;
         for (int k = 0; k < ATC2_EAR; k++) kept[k] = ear[k] = (uint8_t)any();
         memset(got, 0x5A, 4096);
@@ -128,6 +153,12 @@ static int make(void)
         for (int i = 4; i < 16; i++) frame[i] = k % 11 == 3 ? 0 : k % 11 == 4 || any() % 3 ? 0xFF : (uint8_t)(any() % 2 ? 0 : any());
         fwrite(frame, 1, 16, stdout);
     }
+    for (int k = 0; k < 2; k++) { /* a contact that the end cuts, and a position after it */
+        uint8_t frame[16] = {0};
+        odometer += 3;
+        for (int i = 0; i < 4; i++) frame[i] = (uint8_t)(odometer >> (24 - 8 * i));
+        fwrite(frame, 1, 16, stdout);
+    }
     fwrite("rest", 1, 4, stdout);
     return 0;
 }
@@ -140,14 +171,16 @@ int main(int argc, char **argv)
     wanted = read_file(argv[2], trace, sizeof trace);
     same("settings", 0, atc2_settings_begin(40, (uint8_t)strtoul(argv[3], NULL, 16), (uint8_t)strtoul(argv[4], NULL, 16), store), 0);
     for (uint64_t piece = 1; piece <= (n < 400 ? n : 400); piece++) {
-        whole("pieces of every length", piece, 8);
-        whole("pieces of every length, more room", piece, 37);
+        whole("pieces of every length up to 400 bytes", piece, 8);
+        whole("pieces of every length up to 400 bytes, more room", piece, 37);
     }
+    for (uint64_t piece = 401; piece <= n + 16; piece += 97) whole("longer pieces", piece, 8 + piece % 60);
     for (uint64_t room = 8; room <= 100; room++) {
         whole("every room, small pieces", 17, room);
         whole("every room, the whole lead", n, room);
     }
     rooms();
+    end_rooms();
     garbage();
     refused();
     printf("%u passed, %u failed\n", passed, failed);

@@ -93,6 +93,10 @@ static void refusals(void)
     for (int turn = 0; turn < 300; turn++) {
         for (int i = 0; i < ATC2_RIDE; i++) before[i] = ride[i] = any();
         for (int i = 0; i < ATC2_STORE; i++) bad[i] = any();
+        if (turn % 2) { /* a count that a store may have, so that its versions are looked at */
+            memset(bad + 1024, 0, 7);
+            bad[1031] %= 40;
+        }
         memset(text, 0xEE, MOST);
         int32_t r = atc2_ride_list(ride, bad, trace, size, 1, any(), text, MOST, out);
         same("a store of any bytes is refused", r == ATC2_FULL || r == ATC2_GAP || r == ATC2_NOT_ABOVE || r == ATC2_NOT_SEVEN || r == ATC2_TOO_HIGH, 1);
