@@ -1,7 +1,6 @@
 -- What the proofs of several functions use, and that the contracts fix every answer.
 pub mod Carried
 pub mod Smaller
-pub mod TableDF
 pub mod Minus
 pub mod Stored
 pub mod Determined

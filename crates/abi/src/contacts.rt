@@ -5,10 +5,10 @@ ghost use Rattle.contact.specs.Judge.{judge};
 ghost use Rattle.abi.specs.Face.{returned, left};
 ghost use Rattle.abi.specs.Contacts.{searchIn, begunNumber, begunPut, nextNumber, nextPut, nextMoved, judgedNumber, judgedPut};
 use crate::number::as_one;
-use contact::Begun;
 use contact::Judged;
 use contact::Next;
 use contact::Search;
+use contact::SearchBegun;
 
 // 0, with the beginning of a search over the stretch in `search`; -5.
 #[no_mangle]
@@ -17,11 +17,11 @@ pub extern "C" fn atc2_begin(buf: &[u8], start: usize, len: usize, search: &mut 
     ensures { λ _. ⌜ now (search .exit) ≡ left begunPut (begin (now (buf .entry)) start len) (now (search .entry)) ⌝ }
 {
     match contact::begin(buf, start, len) {
-        Begun::Search(begun) => {
+        SearchBegun::Search(begun) => {
             *search = [begun.next as u64, begun.left as u64, begun.history as u64];
             0
         }
-        Begun::Beyond => -5,
+        SearchBegun::Beyond => -5,
     }
 }
 

@@ -6,7 +6,7 @@ mod plans;
 mod riding;
 
 use acceptance::PlanJudged;
-use console::Found;
+use console::CardsFound;
 use console::Given;
 use plans::Tolerance;
 use settings::Store;
@@ -22,13 +22,13 @@ fn ride_over(store: Store, run: acceptance::Acceptance, cards: usize) {
     let mut block = io::large_buffer();
     let found = console::go_over(cards, &mut lengths, &mut block);
     match found {
-        Found::Cards => riding::accept(store, run, cards, &lengths, &mut block),
-        Found::BadLength(_) => out::refuse_trace(),
-        Found::NoCard => usage(),
-        Found::TooMany => console::say_found(b"accept", found),
-        Found::CannotOpen(_) => console::say_found(b"accept", found),
-        Found::CannotRead(_) => console::say_found(b"accept", found),
-        Found::Once(_) => console::say_found(b"accept", found),
+        CardsFound::Cards => riding::accept(store, run, cards, &lengths, &mut block),
+        CardsFound::BadLength(_) => out::refuse_trace(),
+        CardsFound::NoCard => usage(),
+        CardsFound::TooMany => console::say_found(b"accept", found),
+        CardsFound::CannotOpen(_) => console::say_found(b"accept", found),
+        CardsFound::CannotRead(_) => console::say_found(b"accept", found),
+        CardsFound::Once(_) => console::say_found(b"accept", found),
     }
 }
 

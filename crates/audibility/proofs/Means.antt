@@ -13,7 +13,7 @@ use Rattle.balise_line.specs.Line.{OneBalise, sentBit}
 use Rattle.balise_line.proofs.Places.{or-parts}
 use Rattle.contact_laws.specs.Zeroes.{zeroesSent, fewest, Audible, Broken}
 use Rattle.contact_laws.proofs.Either.{by-period}
-use Rattle.balise_writer.specs.Words.{Words}
+use Rattle.telegram.specs.Spelling.{Words}
 use Rattle.audibility.specs.Sound.{some, isBroken, sending, Heard, audible, broken, soundWith, soundOf}
 use Rattle.audibility.specs.Means.{Asked, Means}
 use Rattle.words.proofs.Never.{cannot-be}

@@ -10,7 +10,7 @@ use lib.ListN.{getD}
 use Rattle.telegram.specs.Stretch.{bitAt}
 use Rattle.balise_line.specs.Line.{OneBalise, repeated, sentBit}
 use Rattle.contact_laws.specs.Zeroes.{zeroesIn, zeroesSent, fewest}
-use Rattle.balise_writer.specs.Words.{Words}
+use Rattle.telegram.specs.Spelling.{Words}
 use Rattle.audibility.specs.Sound.{some, isBroken, sending}
 
 -- Tests that agree below n find one alike.

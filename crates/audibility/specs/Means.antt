@@ -4,7 +4,7 @@ use Prim.Native.Nat.{ℕ}
 use mathlib.Core.Path.{_≡_}
 use Rattle.words.specs.Answer.{gives}
 use Rattle.balise_line.specs.Line.{OneBalise}
-use Rattle.balise_writer.specs.Words.{Words, asked, spell}
+use Rattle.telegram.specs.Spelling.{Words, asked, spell}
 use Rattle.contact_laws.specs.Zeroes.{Audible, Broken}
 use Rattle.audibility.specs.Sound.{Heard, audible, broken, soundOf}
 

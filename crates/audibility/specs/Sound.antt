@@ -8,7 +8,7 @@ use Rattle.words.specs.Answer.{Outcome, gives, refuses, then, pick}
 use Rattle.telegram.specs.Sync.{isGood}
 use Rattle.telegram.specs.declared.Telegram.{Telegram}
 use Rattle.balise_line.specs.Line.{OneBalise}
-use Rattle.balise_writer.specs.Words.{Words, asked, spell}
+use Rattle.telegram.specs.Spelling.{Words, asked, spell}
 use Rattle.contact_laws.specs.Zeroes.{zeroesSent, fewest}
 
 -- Whether a test holds at some number below n.

@@ -2,7 +2,7 @@
 // Promises: a telegram is called broken exactly if some sixteen bits in a row of its line have four zeroes or fewer; texts are written whole or not at all.
 // Specification: specs/Sound.antt, specs/Lines.antt (the words), specs/Says.antt (the answers).
 ghost use mathlib.Core.Path.{_≡_};
-ghost use Rattle.balise_writer.specs.Words.{asked};
+ghost use Rattle.telegram.specs.Spelling.{asked};
 ghost use Rattle.text.specs.Put.{put, came};
 ghost use Rattle.audibility.specs.Sound.{soundOf};
 ghost use Rattle.audibility.specs.Lines.{telegramLine, countLine};
@@ -11,7 +11,7 @@ ghost use Rattle.audibility.specs.Says.{saysSound};
 mod lines;
 mod sixteen;
 
-use balise_writer::Spelt;
+use telegram::Spelt;
 
 // Whether a balise can be heard: audible, or broken; or why there is none, 2, 3 or 4.
 pub enum Sound {
@@ -26,7 +26,7 @@ pub enum Sound {
 pub fn sound_of(x: u8, y: u16, z: u8, s: u8, t: u8) -> Sound
     ensures { λ r. ⌜ saysSound r ≡ soundOf x y z s t ⌝ }
 {
-    let spelt = balise_writer::spell(x, y, z);
+    let spelt = telegram::spell(x, y, z);
     match spelt {
         Spelt::Words { x: a, y: b, z: c } => sixteen::sound(a, b, c, s, t),
         Spelt::TooLarge => Sound::TooLarge,

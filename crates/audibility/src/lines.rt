@@ -3,7 +3,7 @@ ghost use mathlib.Core.Path.{_≡_};
 ghost use Prim.Native.Nat.{_+_, _≤_};
 ghost use lib.ListN.{length};
 ghost use Rattle.text.specs.Put.{put, came};
-ghost use Rattle.balise_writer.specs.Words.{asked};
+ghost use Rattle.telegram.specs.Spelling.{asked};
 ghost use Rattle.audibility.specs.Lines.{telegramLine, countLine};
 use text::put;
 use text::put_number;

@@ -16,7 +16,7 @@ pub struct Call {
 }
 
 // What is asked for; that there are too few or too many arguments; or that one of them is wrong, which was said.
-pub enum Asked {
+pub enum Called {
     For(Call),
     Usage,
     Said,
@@ -76,22 +76,22 @@ fn idle(k: usize) -> Taken {
 }
 
 // The call with these figures, its sync words from argument k on.
-fn with_figures(x: u64, y: u64, z: u64, k: usize) -> Asked
+fn with_figures(x: u64, y: u64, z: u64, k: usize) -> Called
     requires { ⌜ k ≤ 4 ⌝ }
 {
     let Byte::Is(s) = sync_word(b"balise", b"S", k) else {
-        return Asked::Said;
+        return Called::Said;
     };
     let Byte::Is(t) = sync_word(b"balise", b"S*", k + 1) else {
-        return Asked::Said;
+        return Called::Said;
     };
     let Taken::Is(n) = figure(b"N", k + 2, 4294967295) else {
-        return Asked::Said;
+        return Called::Said;
     };
     let Taken::Is(idle) = idle(k + 3) else {
-        return Asked::Said;
+        return Called::Said;
     };
-    Asked::For(Call {
+    Called::For(Call {
         x: one_byte(x),
         y: two_bytes(y),
         z: one_byte(z),
@@ -111,34 +111,34 @@ fn are_there(words: usize, fewest: usize) -> bool {
 }
 
 // A call with three figures.
-fn by_figures(x: u64, y: u64) -> Asked {
+fn by_figures(x: u64, y: u64) -> Called {
     if !are_there(os::arg_count(), 7) {
-        return Asked::Usage;
+        return Called::Usage;
     }
     let Taken::Is(z) = figure(b"Z", 3, 255) else {
-        return Asked::Said;
+        return Called::Said;
     };
     with_figures(x, y, z, 4)
 }
 
 // A call with 12 and a number.
-fn by_number(number: u64) -> Asked {
+fn by_number(number: u64) -> Called {
     if !are_there(os::arg_count(), 6) {
-        return Asked::Usage;
+        return Called::Usage;
     }
     with_figures(12, number, 0, 3)
 }
 
 // The whole call: three figures, or 12 and a number.
-pub fn arguments() -> Asked {
+pub fn arguments() -> Called {
     if os::arg_count() < 6 {
-        return Asked::Usage;
+        return Called::Usage;
     }
     let Taken::Is(x) = figure(b"X", 1, 255) else {
-        return Asked::Said;
+        return Called::Said;
     };
     let Taken::Is(y) = figure(b"Y", 2, 65535) else {
-        return Asked::Said;
+        return Called::Said;
     };
     if x == 12 {
         return by_number(y);

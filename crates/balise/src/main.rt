@@ -6,8 +6,8 @@ ghost use lib.ListN.{length};
 
 mod asked;
 
-use asked::Asked;
 use asked::Call;
+use asked::Called;
 use balise_writer::Written;
 use libc::STDOUT_FILENO;
 
@@ -61,11 +61,11 @@ fn answer(call: Call) {
 
 fn main() {
     match asked::arguments() {
-        Asked::For(call) => answer(call),
-        Asked::Usage => console::usage(
+        Called::For(call) => answer(call),
+        Called::Usage => console::usage(
             b"balise",
             b"balise X Y Z S S* N [IDLE], or balise 12 NUMBER S S* N [IDLE]",
         ),
-        Asked::Said => {}
+        Called::Said => {}
     }
 }

@@ -1,19 +1,19 @@
 -- What a call that was not refused shows: which conditions held, and what was written.
 -- Assumes nothing.
 use mathlib.Core.Path.{_≡_, refl, ap, _∙_}
-use mathlib.Core.Bool.{Bool, true, false, _&&_}
+use mathlib.Core.Bool.{Bool, true, false, not, _&&_}
 use mathlib.Core.List.{List, _++_}
 use Prim.Native.Nat.{ℕ, _+_, _*_, _≤_}
 use native.Mathlib.Omega.{arith}
-use lib.Dec.{leb}
+use lib.Dec.{leb, ltb}
 use lib.ListN.{length, drop}
-use borrow.Author.Tests.{leb-true}
-use Rattle.words.specs.Answer.{Outcome, gives, refuses, pick}
+use borrow.Author.Tests.{leb-true, ltb-false}
+use Rattle.words.specs.Answer.{Outcome, gives, refuses, then, pick}
 use Rattle.telegram.specs.Sync.{isGood}
 use Rattle.telegram.specs.declared.Telegram.{Telegram}
 use Rattle.balise_line.proofs.Places.{and-parts}
-use Rattle.balise_writer.specs.Words.{asked, tooLarge, hasFifteen, wordsOf, spell}
-use Rattle.balise_writer.specs.Write.{telegrams, inRange, bytesOf, Writing, onto, withWords, write}
+use Rattle.telegram.specs.Spelling.{asked, tooLarge, hasFifteen, wordsOf, spell}
+use Rattle.balise_writer.specs.Write.{telegrams, inRange, bytesOf, Writing, onto, write}
 use Rattle.balise_writer.proofs.Bytes.{telegrams-length}
 use Rattle.words.proofs.Never.{cannot-be}
 
@@ -33,22 +33,22 @@ pub accepted : (x y z s t n : ℕ) (before : List ℕ) (bytes : ℕ) (after : Li
     → record { answer = gives bytes; buffer = after } ≡ write x y z s t n before → Accepted (asked x y z) s t n before bytes after
 unfolding write spell bytesOf inRange
 accepted x y z s t n before bytes after e =
-    go (tooLarge m) (hasFifteen m) (isGood s t) (leb 2 n && leb n 1000) (leb (4 * n + 1) (length before)) refl refl refl refl refl e
+    go (tooLarge m) (hasFifteen m) (isGood s t) (leb 2 n && leb n 1000) (ltb (length before) (4 * n + 1)) refl refl refl refl refl e
   where
     m : Telegram
     m = asked x y z
 
-    go : (a f g r l : Bool) → tooLarge m ≡ a → hasFifteen m ≡ f → isGood s t ≡ g → (leb 2 n && leb n 1000) ≡ r → leb (4 * n + 1) (length before) ≡ l
+    go : (a f g r l : Bool) → tooLarge m ≡ a → hasFifteen m ≡ f → isGood s t ≡ g → (leb 2 n && leb n 1000) ≡ r → ltb (length before) (4 * n + 1) ≡ l
         → record { answer = gives bytes; buffer = after }
-        ≡ onto before (withWords (pick a (refuses 2) (pick f (refuses 3) (gives (wordsOf m))))
-        (λ w. pick g (pick r (pick l (gives (telegrams s t w n)) (refuses 21)) (refuses 20)) (refuses 4)))
+        ≡ onto before (then (pick a (refuses 2) (pick f (refuses 3) (gives (wordsOf m))))
+        (λ w. pick (not g) (refuses 4) (pick (not r) (refuses 20) (pick l (refuses 21) (gives (telegrams s t w n))))))
         → Accepted m s t n before bytes after
     go true f g r l ia ifs ig ir il e = no (ap (λ (w : Writing). w .answer) e)
     go false true g r l ia ifs ig ir il e = no (ap (λ (w : Writing). w .answer) e)
     go false false false r l ia ifs ig ir il e = no (ap (λ (w : Writing). w .answer) e)
     go false false true false l ia ifs ig ir il e = no (ap (λ (w : Writing). w .answer) e)
-    go false false true true false ia ifs ig ir il e = no (ap (λ (w : Writing). w .answer) e)
-    go false false true true true ia ifs ig ir il e =
+    go false false true true true ia ifs ig ir il e = no (ap (λ (w : Writing). w .answer) e)
+    go false false true true false ia ifs ig ir il e =
         let given : gives bytes ≡ gives (length (telegrams s t (wordsOf m) n)) = ap (λ (w : Writing). w .answer) e in
         let many : bytes ≡ length (telegrams s t (wordsOf m) n) = cc in
         let range = and-parts (leb 2 n) (leb n 1000) ir in
@@ -56,7 +56,7 @@ accepted x y z s t n before bytes after e =
           figures = (ia, ifs);
           pair = ig;
           count = (leb-true 2 n (range .0), leb-true n 1000 (range .1));
-          room = leb-true (4 * n + 1) (length before) il;
+          room = ltb-false (length before) (4 * n + 1) il;
           bytes-are = many ∙ telegrams-length s t (wordsOf m) n;
           written = ap (λ (w : Writing). w .buffer) e;
         }

@@ -6,31 +6,12 @@ use mathlib.Core.List.{List, _++_}
 use Prim.Native.Nat.{ℕ, _+_, _*_, _≤_, _<_}
 use lib.Dec.{leb, ltb}
 use lib.ListN.{length, drop}
-use borrow.Author.Tests.{ltb-true, ltb-false, le-leb, lt-leb}
+use borrow.Author.Tests.{ltb-true, ltb-false, le-leb, lt-leb, le-ltb, lt-ltb}
 use Rattle.words.specs.Answer.{Outcome, gives, refuses, pick}
-use Rattle.telegram.specs.Sync.{isGood, Good, good, goodPair}
-use Rattle.balise_writer.specs.Words.{Words}
+use Rattle.telegram.specs.Sync.{isGood}
+use Rattle.telegram.specs.Spelling.{Words}
 use Rattle.balise_writer.specs.Write.{telegrams, inRange, bytesOf, onto}
 use Rattle.balise_writer.proofs.Bytes.{telegrams-length}
-
-module _ (s t : ℕ) where
-  -- A pair that is called good is good,
-  pub is-good : gives good ≡ goodPair s t → isGood s t ≡ true
-  unfolding goodPair
-  is-good e = go (isGood s t) e
-    where
-      go : (b : Bool) → _≡_ {A = Outcome Good} (gives good) (pick b (gives good) (refuses 4)) → b ≡ true
-      go true e = refl
-      go false e = cc
-
-  -- and one that is refused is not.
-  pub not-good : refuses 4 ≡ goodPair s t → isGood s t ≡ false
-  unfolding goodPair
-  not-good e = go (isGood s t) e
-    where
-      go : (b : Bool) → _≡_ {A = Outcome Good} (refuses 4) (pick b (gives good) (refuses 4)) → b ≡ false
-      go false e = refl
-      go true e = cc
 
 -- The number of telegrams is in range exactly if it is neither below 2 nor above 1,000.
 pub range : (n : ℕ) → inRange n ≡ not (ltb n 2 || ltb 1000 n)
@@ -55,13 +36,13 @@ module _ (s t n : ℕ) (w : Words) (old : List ℕ) where
 
     pub answers-21 : inRange n ≡ true → length old < 4 * n + 1 → record { answer = refuses 21; buffer = old } ≡ onto old (bytesOf s t n (length old) w)
     unfolding bytesOf
-    answers-21 r short = simp (g, r, lt-leb _ _ short)
+    answers-21 r short = simp (g, r, lt-ltb _ _ short)
 
     pub answers-bytes : inRange n ≡ true → 4 * n + 1 ≤ length old → (end : ℕ) → end ≡ 4 * n + 1
         → (new : List ℕ) → new ≡ telegrams s t w n ++ drop (length (telegrams s t w n)) old
         → record { answer = gives end; buffer = new } ≡ onto old (bytesOf s t n (length old) w)
     unfolding bytesOf
     answers-bytes r room end end-is new new-is =
-        let bytes : bytesOf s t n (length old) w ≡ gives (telegrams s t w n) = simp (g, r, le-leb _ _ room) in
+        let bytes : bytesOf s t n (length old) w ≡ gives (telegrams s t w n) = simp (g, r, le-ltb _ _ room) in
         ap₂ (λ (k : ℕ) (b : List ℕ). record { answer = gives k; buffer = b }) (end-is ∙ sym (telegrams-length s t w n)) new-is
         ∙ ap (onto old) (sym bytes)

@@ -10,7 +10,7 @@ use lib.ListN.{length, drop, getD, set, length-append, length-drop, List·getD-a
 use lib.Seq.{ext-getD, getD-append-add, getD-drop, getD-set-same, getD-set-other}
 use borrow.Author.Count.{below-more}
 use borrow.Author.Tests.{ltb-true, ltb-false}
-use Rattle.balise_writer.specs.Words.{Words}
+use Rattle.telegram.specs.Spelling.{Words}
 use Rattle.balise_writer.specs.Write.{telegrams}
 
 -- The eight bytes that the balise repeats.

@@ -9,12 +9,8 @@ use borrow.Fn.Kinds.{Dens, endedOf}
 use denote.Triple.Clauses.{AtExit}
 use Rattle.words.specs.Answer.{Outcome, gives, refuses, pick}
 use Rattle.balise_writer.specs.Write.{Writing}
-use Rattle.balise_writer.specs.Words.{Words}
-use Rattle.balise_writer.specs.Says.{saysAnswer, saysWritten, saysSpelt}
+use Rattle.balise_writer.specs.Says.{saysAnswer, saysWritten}
 use Rattle.balise_writer.specs.declared.Written.{Written}
-use Rattle.balise_writer.specs.declared.spelling.Spelt.{Spelt}
-use Rattle.balise_writer.proofs.spelling.spell.Kinds as spell-kinds
-use Rattle.balise_writer.proofs.spelling.spell.Reads as spell-reads
 use Rattle.balise_writer.proofs.write.Kinds as write-kinds
 use Rattle.balise_writer.proofs.write.Reads as write-reads
 
@@ -39,16 +35,3 @@ pub write-determined : (κs : Lfts 1) (a : Dens κs write-kinds.ps) (r r′ : Wr
 write-determined κs a r r′ x x′ p q =
     let same : saysWritten r (now (x .1 .1 .1 .1 .1 .1 .0)) ≡ saysWritten r′ (now (x′ .1 .1 .1 .1 .1 .1 .0)) = p ∙ sym q in
     (sym (written-back r) ∙ ap (λ (w : Writing). writtenOf (w .answer)) same ∙ written-back r′, ap (λ (w : Writing). w .buffer) same)
-
-abbrev pub speltOf : Outcome Words → Spelt
-speltOf (gives w) = Spelt.Words (w .x) (w .y) (w .z)
-speltOf (refuses n) = pick (eqb n 2) Spelt.TooLarge Spelt.Fifteen
-
-pub spelt-back : (r : Spelt) → speltOf (saysSpelt r) ≡ r
-spelt-back (Spelt.Words x y z) = refl
-spelt-back Spelt.TooLarge = refl
-spelt-back Spelt.Fifteen = refl
-
-pub spell-determined : (κs : Lfts 0) (a : Dens κs spell-kinds.ps) (r r′ : Spelt) (x x′ : AtExit (endedOf 0 spell-kinds.ps spell-kinds.r) κs)
-    → spell-reads.Post κs a r x → spell-reads.Post κs a r′ x′ → r ≡ r′
-spell-determined κs a r r′ x x′ p q = sym (spelt-back r) ∙ ap speltOf (p ∙ sym q) ∙ spelt-back r′

@@ -8,7 +8,7 @@ use Rattle.words.specs.Bits.{word}
 use Rattle.words.specs.Plain.{isCheck, covers, count, carriers, carried, madeEven, plainWord}
 use Rattle.words.specs.Code.{other, exchanged, sent}
 use Rattle.telegram.specs.Sync.{differing, isGood}
-use Rattle.balise_writer.specs.Words.{asked, tooLarge, hasFifteen, wordsOf, spell}
+use Rattle.telegram.specs.Spelling.{asked, tooLarge, hasFifteen, wordsOf, spell}
 use Rattle.balise_writer.specs.Write.{telegrams, inRange, bytesOf, write}
 
 -- A buffer of ten bytes.

@@ -17,7 +17,7 @@ use Rattle.balise_line.proofs.Sums.{unequal-same}
 use Rattle.balise_line.proofs.Places.{and-parts}
 use Rattle.balise_line.proofs.Sent.{sent-parts, parts-sent}
 use Rattle.balise_line.proofs.Clean.{true-places}
-use Rattle.balise_writer.specs.Words.{wordsOf}
+use Rattle.telegram.specs.Spelling.{wordsOf}
 use Rattle.balise_writer.specs.Write.{telegrams}
 use Rattle.balise_writer.specs.Sender.{sender, WritesTheLine}
 use Rattle.balise_writer.proofs.Bytes.{telegrams-length, telegrams-byte}

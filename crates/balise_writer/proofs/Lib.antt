@@ -1,4 +1,3 @@
-pub mod Spelt
 pub mod Bytes
 pub mod Answers
 pub mod Accepted

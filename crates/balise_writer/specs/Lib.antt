@@ -1,4 +1,3 @@
-pub mod Words
 pub mod Write
 pub mod Sender
 pub mod Says

@@ -3,10 +3,8 @@
 use Prim.Native.Nat.{ℕ}
 use mathlib.Core.List.{List}
 use Rattle.words.specs.Answer.{Outcome, gives, refuses}
-use Rattle.balise_writer.specs.Words.{Words}
 use Rattle.balise_writer.specs.Write.{Writing}
 use Rattle.balise_writer.specs.declared.Written.{Written}
-use Rattle.balise_writer.specs.declared.spelling.Spelt.{Spelt}
 
 -- How many bytes were written; "figure to write above 15 or above 2,047" is 2, "a short word of a telegram reads 15" is 3, "sync pair
 -- doesn't differ in seven bits" is 4, n out of range is 20, a short buffer is 21.
@@ -21,9 +19,3 @@ saysAnswer Written.Short = refuses 21
 -- The answer, and the buffer then.
 abbrev pub saysWritten : Written → List ℕ → Writing
 saysWritten r out = record { answer = saysAnswer r; buffer = out }
-
--- The three words to send, 2, or 3.
-abbrev pub saysSpelt : Spelt → Outcome Words
-saysSpelt (Spelt.Words x y z) = gives (record { x = x; y = y; z = z })
-saysSpelt Spelt.TooLarge = refuses 2
-saysSpelt Spelt.Fifteen = refuses 3

@@ -6,7 +6,7 @@ use mathlib.Core.List.{List, _++_}
 use Rattle.telegram.specs.Stretch.{bitAt}
 use Rattle.telegram.specs.declared.Telegram.{Telegram}
 use Rattle.balise_line.specs.Line.{OneBalise, sentBit}
-use Rattle.balise_writer.specs.Words.{Words, wordsOf}
+use Rattle.telegram.specs.Spelling.{Words, wordsOf}
 use Rattle.balise_writer.specs.Write.{telegrams}
 
 -- The balise that says m with the sync words s and t, heard over the bits of n telegrams and the closing sync word, from bit 0 of a buffer on.

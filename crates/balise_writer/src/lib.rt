@@ -1,16 +1,14 @@
 // The test balise of document 02: what a balise sends, written as packed bits into a lent buffer.
 // Promises: what is written is the balise's line, S first, for n telegrams and a closing sync word; a refusal leaves the buffer as it was.
-// Specification: specs/Words.antt (the words), specs/Write.antt (the bytes and the refusals), specs/Says.antt (the answers).
+// Specification: specs/Write.antt (the bytes and the refusals), specs/Says.antt (the answers).
 // Laws: bit j of what is written is the bit that the balise sends as line bit j (`WritesTheLine` of specs/Sender.antt).
 ghost use mathlib.Core.Path.{_≡_};
 ghost use Rattle.balise_writer.specs.Write.{write};
 ghost use Rattle.balise_writer.specs.Says.{saysWritten};
 
 mod filling;
-mod spelling;
 
-pub use spelling::Spelt;
-pub use spelling::spell;
+use telegram::Spelt;
 
 // What writing a test balise answers: so many bytes written, or why none.
 pub enum Written {
@@ -27,7 +25,7 @@ pub enum Written {
 pub fn write(x: u8, y: u16, z: u8, s: u8, t: u8, n: u32, out: &mut [u8]) -> Written
     ensures { λ r. ⌜ saysWritten r (now (out .exit)) ≡ write x y z s t n (now (out .entry)) ⌝ }
 {
-    let spelt = spelling::spell(x, y, z);
+    let spelt = telegram::spell(x, y, z);
     match spelt {
         Spelt::Words { x: a, y: b, z: c } => filling::write_words(a, b, c, s, t, n, out),
         Spelt::TooLarge => Written::TooLarge,

@@ -17,7 +17,7 @@ use Rattle.contact.specs.History.{after, zeroesOf, zeroes, opens, closes}
 use Rattle.contact.specs.Contacts.{contact, quiet, contacts, contactsFrom, fromStart}
 use Rattle.contact.specs.Judge.{onesAtEnd, allZero, isMarker, read, judgement, judge as judge-contact}
 use Rattle.contact.specs.declared.Judged.{Judged}
-use Rattle.balise_writer.specs.Words.{asked, tooLarge, hasFifteen, wordsOf, spell}
+use Rattle.telegram.specs.Spelling.{asked, tooLarge, hasFifteen, wordsOf, spell}
 use Rattle.balise_writer.specs.Write.{telegrams, inRange, bytesOf, write}
 use Rattle.recorder.specs.Record.{contentOf, atOdometer, recordOf}
 use Rattle.group.specs.Balise.{balises, readAll}

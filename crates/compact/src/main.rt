@@ -5,7 +5,7 @@
 mod blocks;
 mod counts;
 
-use console::Found;
+use console::CardsFound;
 use console::Given;
 use settings::Store;
 
@@ -20,17 +20,17 @@ fn go_over(store: Store, first: usize) {
     let mut block = io::large_buffer();
     let found = console::go_over(first, &mut lengths, &mut block);
     match found {
-        Found::Cards => {
+        CardsFound::Cards => {
             if !console::to_terminal(b"compact") {
                 blocks::write_cards(store, first, &lengths, &mut block);
             }
         }
-        Found::BadLength(_) => console::refuse(b"compact", 16),
-        Found::NoCard => usage(),
-        Found::TooMany => console::say_found(b"compact", found),
-        Found::CannotOpen(_) => console::say_found(b"compact", found),
-        Found::CannotRead(_) => console::say_found(b"compact", found),
-        Found::Once(_) => console::say_found(b"compact", found),
+        CardsFound::BadLength(_) => console::refuse(b"compact", 16),
+        CardsFound::NoCard => usage(),
+        CardsFound::TooMany => console::say_found(b"compact", found),
+        CardsFound::CannotOpen(_) => console::say_found(b"compact", found),
+        CardsFound::CannotRead(_) => console::say_found(b"compact", found),
+        CardsFound::Once(_) => console::say_found(b"compact", found),
     }
 }
 

@@ -13,11 +13,11 @@ use Rattle.settings_text.specs.declared.Condition.{Condition}
 use Rattle.settings_text.specs.declared.Sheet.{Sheet}
 use Rattle.settings_text.specs.Sheet.{isFine, sheet}
 use Rattle.settings_text.proofs.Good.{fine-is-good}
-use Rattle.console.specs.declared.before.Asked.{Asked}
+use Rattle.console.specs.declared.before.AskedFor.{AskedFor}
 use Rattle.console.specs.declared.before.Given.{Given}
 use Rattle.console.specs.Asked.{cardsFrom, Ridden}
 
-pub nothing-ridden : (r : Asked) (how : Given) → (r .how ≡ how) × (r .first ≡ 3) × (r .store ≡ noStore) → 3 ≡ cardsFrom how → Ridden how noStore
+pub nothing-ridden : (r : AskedFor) (how : Given) → (r .how ≡ how) × (r .first ≡ 3) × (r .store ≡ noStore) → 3 ≡ cardsFrom how → Ridden how noStore
     → (r .first ≡ cardsFrom (r .how)) × Ridden (r .how) (r .store)
 nothing-ridden r how e f g = (
   e .1 ∙ f ∙ ap cardsFrom (sym (e .0)),

@@ -32,7 +32,7 @@ pub enum Given {
 }
 
 // What the arguments ask for: the settings, the first argument after them, and how it went.
-pub struct Asked {
+pub struct AskedFor {
     pub store: Store,
     pub first: usize,
     pub how: Given,
@@ -94,10 +94,10 @@ fn is_too_long(how: Condition) -> bool {
 }
 
 // Nothing is ridden.
-fn none(how: Given) -> Asked
+fn none(how: Given) -> AskedFor
     ensures { λ r. ⌜ (r .how ≡ how) × (r .first ≡ 3) × (r .store ≡ noStore) ⌝ }
 {
-    Asked {
+    AskedFor {
         store: no_store(),
         first: FILE + 1,
         how,
@@ -105,7 +105,7 @@ fn none(how: Given) -> Asked
 }
 
 // What a text of settings comes to; where it is bad that is said.
-fn judged(program: &[u8], aside: bool, text: &[u8]) -> Asked
+fn judged(program: &[u8], aside: bool, text: &[u8]) -> AskedFor
     ensures { λ r. ⌜ (r .first ≡ cardsFrom (r .how)) × Ridden (r .how) (r .store) ⌝ }
 {
     let sheet = settings_text::read(text);
@@ -113,7 +113,7 @@ fn judged(program: &[u8], aside: bool, text: &[u8]) -> Asked
     let line = sheet.line;
     let how = sheet.how;
     if settings_text::is_fine(how) {
-        return Asked {
+        return AskedFor {
             store,
             first: FILE + 1,
             how: Given::Settings,
@@ -124,7 +124,7 @@ fn judged(program: &[u8], aside: bool, text: &[u8]) -> Asked
 }
 
 // The settings of the open file, or what is said of it.
-fn from_file(program: &[u8], aside: bool, fd: i32) -> Asked
+fn from_file(program: &[u8], aside: bool, fd: i32) -> AskedFor
     ensures { λ r. ⌜ (r .first ≡ cardsFrom (r .how)) × Ridden (r .how) (r .store) ⌝ }
 {
     let mut text = room();
@@ -138,13 +138,13 @@ fn from_file(program: &[u8], aside: bool, fd: i32) -> Asked
 }
 
 // What the arguments ask for before the cards.
-pub fn options(program: &[u8], aside: bool) -> Asked
+pub fn options(program: &[u8], aside: bool) -> AskedFor
     ensures { λ r. ⌜ (r .first ≡ cardsFrom (r .how)) × Ridden (r .how) (r .store) ⌝ }
 {
     if !is_option() {
         let begun = settings::begin(GAP, 0x00, 0x7F);
         let store = begun.store;
-        return Asked {
+        return AskedFor {
             store,
             first: 1,
             how: Given::Plain,

@@ -10,7 +10,7 @@ use libc::SEEK_SET;
 
 // What going over the cards finds: cards of whole records; no card; more of them than lengths are kept; or the number of the argument whose
 // card cannot be opened, cannot be read, has a length that is no multiple of 8, or cannot be gone over a second time.
-pub enum Found {
+pub enum CardsFound {
     Cards,
     NoCard,
     TooMany,
@@ -31,7 +31,7 @@ struct Card {
 
 // What going over comes to, and how far the work is then.
 struct Gone {
-    found: Found,
+    found: CardsFound,
     far: Far,
 }
 
@@ -92,11 +92,11 @@ pub fn named(first: usize, most: usize) -> usize
 }
 
 // Why no card is gone over: none is named, or too many are.
-fn none_named(first: usize) -> Found {
+fn none_named(first: usize) -> CardsFound {
     if os::arg_count() <= first {
-        return Found::NoCard;
+        return CardsFound::NoCard;
     }
-    Found::TooMany
+    CardsFound::TooMany
 }
 
 // The number of the first card of which something is so; 0 while there is none.
@@ -111,14 +111,14 @@ fn noted(before: usize, number: usize, is_so: bool) -> usize {
 }
 
 // What cards come to that could all be read.
-fn judged(bad: usize, once: usize) -> Found {
+fn judged(bad: usize, once: usize) -> CardsFound {
     if bad > 0 {
-        return Found::BadLength(bad);
+        return CardsFound::BadLength(bad);
     }
     if once > 0 {
-        return Found::Once(once);
+        return CardsFound::Once(once);
     }
-    Found::Cards
+    CardsFound::Cards
 }
 
 // Goes over so many cards for their lengths, and keeps them.
@@ -135,13 +135,13 @@ fn go_over_all(first: usize, count: usize, lengths: &mut [u64], block: &mut [u8]
         far = card.far;
         if !card.is_open {
             return Gone {
-                found: Found::CannotOpen(number),
+                found: CardsFound::CannotOpen(number),
                 far,
             };
         }
         if !card.is_read {
             return Gone {
-                found: Found::CannotRead(number),
+                found: CardsFound::CannotRead(number),
                 far,
             };
         }
@@ -158,7 +158,7 @@ fn go_over_all(first: usize, count: usize, lengths: &mut [u64], block: &mut [u8]
 
 // Goes over all cards for their lengths, and keeps them. One that cannot be opened or read decides before one of a bad length, and that
 // before one that cannot be gone over again; among equals the first.
-pub fn go_over(first: usize, lengths: &mut [u64], block: &mut [u8]) -> Found {
+pub fn go_over(first: usize, lengths: &mut [u64], block: &mut [u8]) -> CardsFound {
     let count = named(first, lengths.len());
     if count == 0 {
         return none_named(first);

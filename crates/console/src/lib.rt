@@ -7,12 +7,12 @@
 // 3. `write`: the first bytes of a buffer to either stream; `put`: to standard output, and a failure is said and told; `refuse_here`: a refusal there;
 //    `refuse_trace`: `trace refused 16`, in document 01's words.
 // 4. `number`, `word`, `sync_word`, `is_input`: an argument as a figure, as a word of two hex digits, as standard input (`-`).
-// 5. `options(program, aside)` takes `-s SETTINGS` and answers an `Asked`: the store of the settings; the first argument after them (1, or 3); and how it went: `Plain` (no `-s`:
+// 5. `options(program, aside)` takes `-s SETTINGS` and answers an `AskedFor`: the store of the settings; the first argument after them (1, or 3); and how it went: `Plain` (no `-s`:
 //    the store of document 01's gap, 40), `Settings` (the good store of the file), `Usage` (`-s` without a file: the program says its usage), or `Said`: the settings are bad, and it was
 //    said and told. Then there is no store, and the program ends, before any card is opened. Said are, on standard output, `settings line 3 refused 24: WORDS`, `settings line 3 unreadable`,
 //    `settings refused 19: WORDS`; for a program whose result is bytes (`aside`) the same after its name on standard error; there, for every program, `PROGRAM: cannot open FILE`,
 //    `PROGRAM: cannot read FILE`, `PROGRAM: settings too long`.
-// 6. `go_over(first, lengths, block)` goes over all cards for their lengths, from argument `first` on (1 is the first after the program's name), and answers a `Found`: cards of whole
+// 6. `go_over(first, lengths, block)` goes over all cards for their lengths, from argument `first` on (1 is the first after the program's name), and answers `CardsFound`: cards of whole
 //    records, or which argument failed and how. `lengths` has room for the most cards, `block` is any buffer.
 // 7. `begin(first)` and `next_block(pass, lengths, block)` read them again, block by block of whole records, card after card: `block[..read]` holds the next records, `how` says whether
 //    more may come (`More`; an empty block too), all were read (`End`), or what failed. No more is read than `go_over` counted.
@@ -36,7 +36,7 @@ pub use arguments::is_input;
 pub use arguments::number;
 pub use arguments::sync_word;
 pub use arguments::word;
-pub use before::Asked;
+pub use before::AskedFor;
 pub use before::Given;
 pub use before::options;
 pub use blocks::Block;
@@ -44,7 +44,7 @@ pub use blocks::Goes;
 pub use blocks::Pass;
 pub use blocks::begin;
 pub use blocks::next_block;
-pub use lengths::Found;
+pub use lengths::CardsFound;
 pub use lengths::go_over;
 pub use lengths::open_card;
 pub use progress::Far;

@@ -1,6 +1,6 @@
 // What a program says of its cards, on standard error.
 use crate::arguments::is_input;
-use crate::lengths::Found;
+use crate::lengths::CardsFound;
 use crate::saying::fail;
 use crate::saying::fail_of;
 use crate::saying::fail_with;
@@ -29,14 +29,14 @@ pub fn only_once(program: &[u8], number: usize) {
 
 // What is wrong with the cards, where document 01 has no words for it. Of no card, and of a bad length, nothing: the one is usage, the other
 // `trace refused 16`.
-pub fn say_found(program: &[u8], found: Found) {
+pub fn say_found(program: &[u8], found: CardsFound) {
     match found {
-        Found::Cards => {}
-        Found::NoCard => {}
-        Found::TooMany => fail(program, b"too many cards"),
-        Found::CannotOpen(number) => cannot_open(program, number),
-        Found::CannotRead(number) => cannot_read(program, number),
-        Found::BadLength(_) => {}
-        Found::Once(number) => only_once(program, number),
+        CardsFound::Cards => {}
+        CardsFound::NoCard => {}
+        CardsFound::TooMany => fail(program, b"too many cards"),
+        CardsFound::CannotOpen(number) => cannot_open(program, number),
+        CardsFound::CannotRead(number) => cannot_read(program, number),
+        CardsFound::BadLength(_) => {}
+        CardsFound::Once(number) => only_once(program, number),
     }
 }

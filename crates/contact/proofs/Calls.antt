@@ -13,7 +13,7 @@ use Rattle.telegram.specs.Stretch.{inside}
 use Rattle.contact.specs.Contacts.{Contacts, contactsFrom, Handed, nextContact, fromStart, begin}
 use Rattle.contact.specs.Says.{saysNext}
 use Rattle.contact.specs.declared.Search.{Search}
-use Rattle.contact.specs.declared.Begun.{Begun}
+use Rattle.contact.specs.declared.SearchBegun.{SearchBegun}
 use Rattle.contact.specs.declared.Next.{Next}
 use Rattle.contact.proofs.Law.{Comes, further, ends, refuses-with, Specified, law, only}
 use Rattle.contact.proofs.begin.Kinds as begin-kinds
@@ -22,7 +22,7 @@ use Rattle.contact.proofs.next_contact.Kinds as next-kinds
 use Rattle.contact.proofs.next_contact.Reads as next-reads
 
 -- A call of `begin` with the buffer b and a stretch, which its contract allows to answer r.
-pub record Begins (b : List ℕ) (start len : ℕ) (r : Begun) : Type 0 where
+pub record Begins (b : List ℕ) (start len : ℕ) (r : SearchBegun) : Type 0 where
   pub κs : Lfts 1
   pub given : Dens κs begin-kinds.ps
   pub left : AtExit (endedOf 1 begin-kinds.ps begin-kinds.r) κs
@@ -81,7 +81,7 @@ begun-start b start len s e = go (inside b start len) e
 
 -- Begun by `begin`, that is the contacts of the whole stretch.
 pub called-from-begin : (b : List ℕ) (start len : ℕ) (s : Search) (w : Contacts)
-    → Begins b start len (Begun.Search s) → Comes (Called b) s w → w ≡ contactsFrom b (fromStart start len)
+    → Begins b start len (SearchBegun.Search s) → Comes (Called b) s w → w ≡ contactsFrom b (fromStart start len)
 called-from-begin b start len s w k p =
     let same : begin (k .given .0 .now) (k .given .1 .0) (k .given .1 .1 .0) ≡ begin b start len = simp (k .buffer, k .first, k .bits) in
     called-on b s w p ∙ ap (contactsFrom b) (begun-start b start len s (sym same ∙ sym (k .kept)))

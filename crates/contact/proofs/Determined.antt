@@ -6,9 +6,9 @@ use Rattle.words.specs.Answer.{Outcome, gives, refuses, pick}
 use Rattle.contact.specs.Contacts.{Handed, handed, noFurther}
 use Rattle.telegram.proofs.Determined.{told}
 use Rattle.contact.specs.Judge.{Contact, read, marker}
-use Rattle.contact.specs.Says.{saysBegun, saysNext, saysJudged, saysJudgedUnder}
+use Rattle.contact.specs.Says.{saysSearchBegun, saysNext, saysJudged, saysJudgedUnder}
 use Rattle.contact.specs.declared.Search.{Search}
-use Rattle.contact.specs.declared.Begun.{Begun}
+use Rattle.contact.specs.declared.SearchBegun.{SearchBegun}
 use Rattle.contact.specs.declared.Next.{Next}
 use Rattle.contact.specs.declared.Judged.{Judged}
 use Rattle.contact.specs.declared.JudgedUnder.{JudgedUnder}
@@ -25,13 +25,13 @@ use Rattle.contact.proofs.judge_under.Reads as judge-under-reads
 use Rattle.words.proofs.Told.{Fixed}
 
 -- From what an answer says, the answer.
-abbrev pub begunOf : Outcome Search → Begun
-begunOf (gives s) = Begun.Search s
-begunOf (refuses n) = Begun.Beyond
+abbrev pub begunOf : Outcome Search → SearchBegun
+begunOf (gives s) = SearchBegun.Search s
+begunOf (refuses n) = SearchBegun.Beyond
 
-pub begun-back : (r : Begun) → begunOf (saysBegun r) ≡ r
-begun-back (Begun.Search s) = refl
-begun-back Begun.Beyond = refl
+pub begun-back : (r : SearchBegun) → begunOf (saysSearchBegun r) ≡ r
+begun-back (SearchBegun.Search s) = refl
+begun-back SearchBegun.Beyond = refl
 
 abbrev pub nextOf : Outcome Handed → Next
 nextOf (gives (handed start length then)) = Next.Contact start length then

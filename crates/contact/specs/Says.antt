@@ -5,15 +5,15 @@ use Rattle.contact.specs.Contacts.{Handed, handed, noFurther}
 use Rattle.contact.specs.Judge.{Contact, read, marker}
 use Rattle.settings.specs.Says.{saysBad}
 use Rattle.contact.specs.declared.Search.{Search}
-use Rattle.contact.specs.declared.Begun.{Begun}
+use Rattle.contact.specs.declared.SearchBegun.{SearchBegun}
 use Rattle.contact.specs.declared.Next.{Next}
 use Rattle.contact.specs.declared.Judged.{Judged}
 use Rattle.contact.specs.declared.JudgedUnder.{JudgedUnder}
 
 -- The search that begins a stretch; "stretch beyond the buffer, or above 16,777,216 bits" is 5.
-abbrev pub saysBegun : Begun → Outcome Search
-saysBegun (Begun.Search s) = gives s
-saysBegun Begun.Beyond = refuses 5
+abbrev pub saysSearchBegun : SearchBegun → Outcome Search
+saysSearchBegun (SearchBegun.Search s) = gives s
+saysSearchBegun SearchBegun.Beyond = refuses 5
 
 -- A contact by its start, its length and the search after it, or that no further one opens; "contact cut by the end of the
 -- record" is 9, "stretch beyond the buffer, or above 16,777,216 bits" is 5.

@@ -12,6 +12,9 @@ use crate::Search;
 use crate::count::closing;
 use crate::count::opening;
 
+// 2 ^ 48: what is left of a division by it are the lowest 48 bits.
+const TWO_TO_THE_48: u64 = 281474976710656;
+
 // Outside a contact, from bit `from` to bit `end`: the first one that opens, or none.
 pub fn outside(buf: &[u8], from: usize, end: usize, history: u32) -> Next
     requires { ⌜ (from ≤ end) × (history < 65536) ⌝ }
@@ -82,8 +85,8 @@ fn line(buf: &[u8], i: usize, history: u32) -> u64
     requires { ⌜ history < 65536 ⌝ }
     ensures { λ r. ⌜ r ≡ history * 2 ^ 48 + bitsAt (now (buf .entry)) i 48 ⌝ }
 {
-    history as u64 * 281474976710656
-        + (telegram::eight_bytes(buf, i / 8) >> (16 - i % 8)) % 281474976710656
+    history as u64 * TWO_TO_THE_48
+        + (telegram::eight_bytes(buf, i / 8) >> (16 - i % 8)) % TWO_TO_THE_48
 }
 
 // The latest sixteen bits after n of those 48.
@@ -98,7 +101,7 @@ fn latest(w: u64, n: usize) -> u32
 fn before_first(m: u64) -> usize
     ensures { λ r. ⌜ (r ≤ 48) × ((j : ℕ) → j < r → bit m (47 - j) ≡ 0) ⌝ }
 {
-    u64::leading_zeros(m % 281474976710656) as usize - 16
+    u64::leading_zeros(m % TWO_TO_THE_48) as usize - 16
 }
 
 // The zeroes among the latest sixteen bits.

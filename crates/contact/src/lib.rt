@@ -7,7 +7,7 @@ ghost use mathlib.Core.Path.{_≡_};
 ghost use Rattle.contact.specs.Contacts.{begin, nextContact};
 ghost use Rattle.contact.specs.Judge.{judge};
 ghost use Rattle.contact.specs.Under.{judgeUnder};
-ghost use Rattle.contact.specs.Says.{saysBegun, saysNext, saysJudged, saysJudgedUnder};
+ghost use Rattle.contact.specs.Says.{saysSearchBegun, saysNext, saysJudged, saysJudgedUnder};
 
 mod count;
 mod detector;
@@ -29,7 +29,7 @@ pub struct Search {
 }
 
 // What beginning a search answers.
-pub enum Begun {
+pub enum SearchBegun {
     Search(Search),
     Beyond,
 }
@@ -77,17 +77,17 @@ pub enum JudgedUnder {
 }
 
 // The search over a stretch, with sixteen ones as history; or refusal 5.
-pub fn begin(buf: &[u8], start: usize, len: usize) -> Begun
-    ensures { λ r. ⌜ saysBegun r ≡ begin (now (buf .entry)) start len ⌝ }
+pub fn begin(buf: &[u8], start: usize, len: usize) -> SearchBegun
+    ensures { λ r. ⌜ saysSearchBegun r ≡ begin (now (buf .entry)) start len ⌝ }
 {
     let reach = telegram::inside(buf, start, len);
     match reach {
-        Reach::Inside => Begun::Search(Search {
+        Reach::Inside => SearchBegun::Search(Search {
             next: start,
             left: len,
             history: 65535,
         }),
-        Reach::Beyond => Begun::Beyond,
+        Reach::Beyond => SearchBegun::Beyond,
     }
 }
 

@@ -50,10 +50,19 @@ module _ (o : OneBalise) (from to : ℕ) (pass : Pass o from to) (broken : Broke
           let low : Low (q + d) = omega arith in
           absurd (held (q + d) (omega arith) (omega arith) low)
 
+  -- What is known inside a contact since bit s, at the k-th bit: it is the q-th that opened it, inside the balise's bits, and the k-th is not far behind them.
+  record Since (s k : ℕ) : Type 0 where
+    pub q : ℕ
+    pub opened : s ≡ from + q
+    pub before : q < k
+    pub held : Held q k
+    pub not-behind : from + k ≤ o .start + o .len + 11
+    pub not-ahead : o .start ≤ from + q
+
   -- What is known of where the detector stands, at the k-th bit.
   abbrev Stands : Mode → ℕ → Type 0
   Stands outside k = Unit
-  Stands (since s) k = (q : ℕ) × (s ≡ from + q) × (q < k) × Held q k × (from + k ≤ o .start + o .len + 11) × (o .start ≤ from + q)
+  Stands (since s) k = Since s k
 
   one-more : (k h i : ℕ) → i ≡ from + k → h ≡ heard b from k → after h (bitAt b i) ≡ heard b from (suc k)
   unfolding heard
@@ -82,7 +91,8 @@ module _ (o : OneBalise) (from to : ℕ) (pass : Pass o from to) (broken : Broke
   short zero (since s) k h i e same end st = tt
   short (suc n) outside k h i e same end st =
       go (leb 8 (zeroes now)) refl
-      (λ not-k inside-it over. short n (since i) (suc k) now (i + 1) (omega arith) more (omega arith) (k, e, omega arith, held-on k k (λ j up down low. omega arith) not-k, inside-it, over))
+      (λ not-k inside-it over. short n (since i) (suc k) now (i + 1) (omega arith) more (omega arith)
+      (record { q = k; opened = e; before = omega arith; held = held-on k k (λ j up down low. omega arith) not-k; not-behind = inside-it; not-ahead = over }))
       (short n outside (suc k) now (i + 1) (omega arith) more (omega arith) tt)
     where
       now : ℕ
@@ -112,7 +122,7 @@ module _ (o : OneBalise) (from to : ℕ) (pass : Pass o from to) (broken : Broke
       go (leb (zeroes now) 4) refl
       (short n outside (suc k) now (i + 1) (omega arith) more (omega arith) tt)
       (λ not-k inside-it. short n (since s) (suc k) now (i + 1) (omega arith) more (omega arith)
-      (st .0, st .1, omega (arith, st .2), held-on (st .0) k (st .3) not-k, inside-it, st .5))
+      (record { q = st .q; opened = st .opened; before = omega (arith, st .before); held = held-on (st .q) k (st .held) not-k; not-behind = inside-it; not-ahead = st .not-ahead }))
     where
       now : ℕ
       now = after h (bitAt b i)
@@ -125,8 +135,12 @@ module _ (o : OneBalise) (from to : ℕ) (pass : Pass o from to) (broken : Broke
 
       go : (t : Bool) → leb (zeroes now) 4 ≡ t → AllShort o (contacts b outside now (i + 1) n) → ((Low k → ⊥) → from + suc k ≤ o .start + o .len + 11 → AllShort o (contacts b (since s) now (i + 1) n))
           → AllShort o (pick t (contact s (i - s) then (contacts b outside now (i + 1) n)) (contacts b (since s) now (i + 1) n))
-      go true q rest on =
-          (omega (arith, not-long (st .0) k (st .3), st .1), omega (arith, st .1, st .5), omega (arith, st .1, st .2, st .4, e), rest)
+      go true q rest on = (
+        omega (arith, not-long (st .q) k (st .held), st .opened),
+        omega (arith, st .opened, st .not-ahead),
+        omega (arith, st .opened, st .before, st .not-behind, e),
+        rest,
+      )
       go false q rest on =
           let five = leb-false (zeroes now) 4 q in
           let same-count = ap zeroes more in

@@ -9,7 +9,7 @@ use borrow.Fn.Kinds.{endedOf}
 use denote.Triple.Clauses.{AtExit}
 use Rattle.contact.specs.Contacts.{Contacts}
 use Rattle.contact.specs.declared.Search.{Search}
-use Rattle.contact.specs.declared.Begun.{Begun}
+use Rattle.contact.specs.declared.SearchBegun.{SearchBegun}
 use Rattle.contact.specs.declared.Judged.{Judged}
 use Rattle.contact.proofs.Law.{Comes}
 use Rattle.contact.proofs.Calls.{Begins, Called}
@@ -20,7 +20,7 @@ use Rattle.contact.proofs.judge.Reads as judge-reads
 -- contacts w come, where every answer is one that its contract allows.
 pub record Listened (b : List ℕ) (from to : ℕ) (w : Contacts) : Type 0 where
   pub search : Search
-  pub begins : Begins b from (to - from) (Begun.Search search)
+  pub begins : Begins b from (to - from) (SearchBegun.Search search)
   pub comes : Comes (Called b) search w
 
 -- The contract of `judge` allows the answer r for this stretch of the buffer and these sync words.

@@ -20,7 +20,7 @@ use Rattle.telegram.specs.declared.Found.{Found}
 use Rattle.telegram.specs.declared.Surveyed.{Surveyed}
 use Rattle.balise_writer.specs.declared.Written.{Written}
 use Rattle.contact.specs.declared.Search.{Search}
-use Rattle.contact.specs.declared.Begun.{Begun}
+use Rattle.contact.specs.declared.SearchBegun.{SearchBegun}
 use Rattle.contact.specs.declared.Next.{Next}
 use Rattle.contact.specs.declared.Judged.{Judged}
 use Rattle.words.proofs.read_short.Kinds as read-short-kinds
@@ -93,15 +93,19 @@ Survey b start len s t r =
     (κs : Lfts 1) × (buf : RefT (List ℕ)) × (e : AtExit (endedOf 1 survey-kinds.ps survey-kinds.r) κs)
     × (now buf ≡ b) × survey-reads.Post κs (buf, (start, (len, (s, (t, tt))))) r e
 
+-- What lies in the buffer that was lent to `write`, the last of its seven arguments, when the call has ended.
+abbrev pub written : {κs : Lfts 1} → AtExit (endedOf 1 write-kinds.ps write-kinds.r) κs → List ℕ
+written e = now (e .1 .1 .1 .1 .1 .1 .0)
+
 -- The contract of `write` allows the answer r for these figures, sync words and this number, and that the lent buffer, which held `before`,
 -- holds `after` then.
 abbrev pub Write : ℕ → ℕ → ℕ → ℕ → ℕ → ℕ → List ℕ → Written → List ℕ → Type 0
 Write x y z s t n before r after =
     (κs : Lfts 1) × (out : RefT (List ℕ)) × (e : AtExit (endedOf 1 write-kinds.ps write-kinds.r) κs)
-    × (now out ≡ before) × (now (e .1 .1 .1 .1 .1 .1 .0) ≡ after) × write-reads.Post κs (x, (y, (z, (s, (t, (n, (out, tt))))))) r e
+    × (now out ≡ before) × (written e ≡ after) × write-reads.Post κs (x, (y, (z, (s, (t, (n, (out, tt))))))) r e
 
 -- The contract of `begin` allows the answer r for this stretch of the buffer.
-abbrev pub Begin : List ℕ → ℕ → ℕ → Begun → Type 0
+abbrev pub Begin : List ℕ → ℕ → ℕ → SearchBegun → Type 0
 Begin b start len r =
     (κs : Lfts 1) × (buf : RefT (List ℕ)) × (e : AtExit (endedOf 1 begin-kinds.ps begin-kinds.r) κs)
     × (now buf ≡ b) × begin-reads.Post κs (buf, (start, (len, tt))) r e

@@ -5,7 +5,7 @@
 -- lists specs/Lists.antt and, for a store, Stores.antt; what the contracts allow is specs/Contracts.antt. That every call ends is the kit's own check of each
 -- function, and no theorem here. Of the crates whose functions have one, those without a list give no number: `fresh`, `speed` and `end` always answer; `put_line`
 -- says that a line has no room, for which document 01 has no number; `settings::allowed` says whether row 19's condition does not hold; what M-111 added
--- without a number is named in specs/Stores.antt; but `balise_writer::spell` gives the first two of `write`'s. Where
+-- without a number is named in specs/Stores.antt; but `telegram::spell` gives the first two of `write`'s. Where
 -- the other crates say when they refuse, the face for C among them (crates/abi_laws), is in docs/DEMANDS.md.
 -- Assumes nothing.
 use Prim.Native.Nat.{ℕ, _+_, _*_}
@@ -30,9 +30,9 @@ use Rattle.telegram.specs.declared.Surveyed.{Surveyed}
 use Rattle.balise_writer.specs.Says.{saysAnswer}
 use Rattle.balise_writer.specs.declared.Written.{Written}
 use Rattle.contact.specs.Contacts.{fromStart}
-use Rattle.contact.specs.Says.{saysBegun, saysNext, saysJudged}
+use Rattle.contact.specs.Says.{saysSearchBegun, saysNext, saysJudged}
 use Rattle.contact.specs.declared.Search.{Search}
-use Rattle.contact.specs.declared.Begun.{Begun}
+use Rattle.contact.specs.declared.SearchBegun.{SearchBegun}
 use Rattle.contact.specs.declared.Next.{Next}
 use Rattle.contact.specs.declared.Judged.{Judged}
 use Rattle.group.specs.Says.{saysMeasured, saysGroupJudged as saysGroup}
@@ -84,8 +84,8 @@ pub record Demand1 : Type 0 where
       → Decided (Is (surveyReads b start len s t)) (surveyRules b start len s t) (saysSurveyed r)
   pub write : (x y z s t n : ℕ) (before : List ℕ) (r : Written) (after : List ℕ) → Write x y z s t n before r after
       → Decided (Is (4 * n + 1)) (writeRules x y z s t n before) (saysAnswer r)
-  pub begin : (b : List ℕ) (start len : ℕ) (r : Begun) → Begin b start len r
-      → Decided (Is (fromStart start len)) (row 5 (beyond b start len) ∷ []) (saysBegun r)
+  pub begin : (b : List ℕ) (start len : ℕ) (r : SearchBegun) → Begin b start len r
+      → Decided (Is (fromStart start len)) (row 5 (beyond b start len) ∷ []) (saysSearchBegun r)
   pub next-contact : (b : List ℕ) (search : Search) (r : Next) → NextContact b search r → Decided (NextReads b search) (nextRules b search) (saysNext r)
   pub judge-contact : (b : List ℕ) (start len s t : ℕ) (r : Judged) → JudgeContact b start len s t r
       → Decided (JudgeReads b start len s t) (judgeRules b start len s t) (saysJudged r)

@@ -59,9 +59,9 @@ abbrev pub WrittenBack : {A R : Type 0} → ℕ → (ℕ → A → Type 0) → (
 WrittenBack {A} {R} largest Writes word Reads figure =
     (x : ℕ) (a : A) → x ≤ largest → Writes x a → (w : ℕ) × (a ≡ word w) × ((r : R) → Reads w r → r ≡ figure x)
 
--- "reading an accepted word and writing it gives the word", of a code with so many words.
+-- "reading an accepted word and writing it gives the word", of a code whose words are received as numbers below this one.
 abbrev pub ReadBack : {A R : Type 0} → ℕ → (ℕ → A → Type 0) → (ℕ → A) → (ℕ → R → Type 0) → (ℕ → R) → Type 0
-ReadBack {A} {R} many Writes word Reads figure = (w x : ℕ) (a : A) → w < many → Reads w (figure x) → Writes x a → a ≡ word w
+ReadBack {A} {R} bound Writes word Reads figure = (w x : ℕ) (a : A) → w < bound → Reads w (figure x) → Writes x a → a ≡ word w
 
 -- Both codes.
 pub record Words : Type 0 where

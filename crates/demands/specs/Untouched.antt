@@ -12,7 +12,7 @@ use Rattle.telegram.specs.Says.{saysPair, saysReach, saysTelegramRead, saysFoun
 use Rattle.settings.specs.Says.{saysVerdict, saysAsked}
 use Rattle.balise_writer.specs.Says.{saysAnswer}
 use Rattle.balise_writer.specs.declared.Written.{Written}
-use Rattle.contact.specs.Says.{saysBegun, saysNext, saysJudged, saysJudgedUnder}
+use Rattle.contact.specs.Says.{saysSearchBegun, saysNext, saysJudged, saysJudgedUnder}
 use Rattle.group.specs.Says.{saysMeasured, saysGroupJudged as saysGroup}
 use Rattle.group_rows.specs.Fitting.{saysFitted}
 use Rattle.group.specs.declared.GroupJudged.{GroupJudged}
@@ -98,7 +98,7 @@ pub record Untouched : Type 0 where
   pub found : Bare saysFound
   pub surveyed : Bare saysSurveyed
   pub written : Bare saysAnswer
-  pub begun : Bare saysBegun
+  pub begun : Bare saysSearchBegun
   pub next : Bare saysNext
   pub contact-judged : Bare saysJudged
   pub measured : Bare saysMeasured

@@ -8,7 +8,7 @@ use Rattle.telegram.specs.Place.{from}
 use Rattle.telegram.specs.declared.Telegram.{Telegram}
 use Rattle.telegram.specs.declared.Found.{Found}
 use Rattle.contact.specs.declared.Judged.{Judged}
-use Rattle.balise_writer.specs.Words.{asked}
+use Rattle.telegram.specs.Spelling.{asked}
 use Rattle.balise_writer.specs.declared.Written.{Written}
 use Rattle.demands.specs.Contracts.{Write, JudgeContact}
 use Rattle.demands.specs.Calls.{Comes}

@@ -4,7 +4,7 @@
 mod page;
 mod strips;
 
-use console::Found;
+use console::CardsFound as Found;
 use console::Given;
 use ride_text::REASONS;
 use settings::Store;

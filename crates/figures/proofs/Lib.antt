@@ -2,3 +2,4 @@ pub mod Characters
 pub mod Determined
 pub mod Examples
 pub mod Largest
+pub mod Signs

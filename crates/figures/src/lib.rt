@@ -1,10 +1,16 @@
-// Figures from a command line: numbers in decimal, words as two hex digits.
-// Promises: every text is answered; an odd one or one that is too large is told apart, and nothing is wrapped round.
-// Specification: specs/Figures.antt.
+// Figures from a command line: numbers in decimal, words as two hex digits; and the fields of a line, for the programs that compare tables.
+// Promises: every text is answered; an odd one or one that is too large is told apart, and nothing is wrapped round; a field that a text has not is empty.
+// Specification: specs/Figures.antt, specs/Fields.antt.
 ghost use mathlib.Core.Path.{_≡_};
 ghost use Rattle.figures.specs.Figures.{decimal, hex};
 
 mod digits;
+mod fields;
+
+pub use fields::field;
+pub use fields::has;
+pub use fields::more;
+pub use fields::place_of;
 
 // What a text is as a decimal number: a number, one above the largest asked for, or none.
 pub enum Figure {

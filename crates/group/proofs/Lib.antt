@@ -1,4 +1,5 @@
 pub mod Grid
+pub mod TableDF
 pub mod Lists
 pub mod Looking
 pub mod Entries

@@ -12,26 +12,26 @@ use Rattle.words.specs.Why.{why, are, unsaid}
 use Rattle.words.proofs.Told.{Fixed, told}
 use Rattle.text.specs.Put.{Put, came}
 use Rattle.telegram.specs.Telegram.{badWord}
-use Rattle.group_reason.specs.declared.Bad.{Bad as Badly}
+use Rattle.group_reason.specs.declared.BadBalise.{BadBalise}
 use Rattle.group_reason.specs.declared.Reason.{Reason}
-use Rattle.group_reason.specs.Reason.{Bad, unreadable, word, balises, bad, opens, figure, Explained, noReason, because}
-use Rattle.group_reason.specs.Says.{saysBad, saysReason}
+use Rattle.group_reason.specs.Reason.{Amiss, unreadable, word, balises, bad, opens, figure, Explained, noReason, because}
+use Rattle.group_reason.specs.Says.{saysBadBalise, saysReason}
 use Rattle.group_reason.proofs.explain.Kinds as explain-kinds
 use Rattle.group_reason.proofs.explain.Reads as explain-reads
 use Rattle.group_reason.proofs.put_reason.Kinds as put-reason-kinds
 use Rattle.group_reason.proofs.put_reason.Reads as put-reason-reads
 
 -- From what an answer says, the answer.
-pub badly : Bad → Badly
-badly unreadable = Badly.Unreadable
-badly (word (badWord w (why n (are p)))) = Badly.NotCode w p
-badly (word (badWord w (why n unsaid))) = Badly.Fifteen w
+pub badly : Amiss → BadBalise
+badly unreadable = BadBalise.Unreadable
+badly (word (badWord w (why n (are p)))) = BadBalise.NotCode w p
+badly (word (badWord w (why n unsaid))) = BadBalise.Fifteen w
 
-pub badly-back : (r : Badly) → badly (saysBad r) ≡ r
+pub badly-back : (r : BadBalise) → badly (saysBadBalise r) ≡ r
 unfolding badly
-badly-back Badly.Unreadable = refl
-badly-back (Badly.NotCode w p) = refl
-badly-back (Badly.Fifteen w) = refl
+badly-back BadBalise.Unreadable = refl
+badly-back (BadBalise.NotCode w p) = refl
+badly-back (BadBalise.Fifteen w) = refl
 
 pub reason : Explained → Reason
 reason noReason = Reason.None

@@ -12,7 +12,7 @@ use Rattle.group_rows.specs.declared.Placed.{Placed}
 use Rattle.group.specs.declared.Heard.{Heard}
 use Rattle.group.specs.declared.Balise.{Balise}
 use Rattle.group.specs.Balise.{partOf, partHeard, readAll}
-use Rattle.group_reason.specs.Reason.{Bad, unreadable, word, Cause, bad}
+use Rattle.group_reason.specs.Reason.{Amiss, unreadable, word, Cause, bad}
 use Rattle.group_reason.specs.Explain.{partOrWord, partOrBad, named, readFrom}
 use Rattle.group_reason.specs.Truths.{BadAs, was-unreadable, bad-word, FirstBad}
 
@@ -35,14 +35,14 @@ unfolding readFrom readAll
 read-unnamed i [] = refl
 read-unnamed i (b ∷ bs) = rw (← part-unnamed (b .heard)) (go (partOrBad (b .heard)) (readFrom (suc i) bs) (readAll bs) (read-unnamed (suc i) bs))
   where
-    go : (o : Answer Bad Part) (l : Answer Cause (List Placed)) (m : Outcome (List Placed)) → unnamed l ≡ m
+    go : (o : Answer Amiss Part) (l : Answer Cause (List Placed)) (m : Outcome (List Placed)) → unnamed l ≡ m
         → unnamed (then (named i (b .place) o) λ p. then l λ ps. gives (record { place = b .place; part = p } ∷ ps))
         ≡ (then (unnamed o) λ p. then m λ ps. gives (record { place = b .place; part = p } ∷ ps))
     go (refuses w) l m e = refl
     go (gives p) (gives ps) m e = rw (sym e)
     go (gives p) (refuses c) m e = rw (sym e)
 
-bad-as : (h : Heard) (w : Bad) → partOrBad h ≡ refuses w → BadAs h w
+bad-as : (h : Heard) (w : Amiss) → partOrBad h ≡ refuses w → BadAs h w
 bad-as (Heard.Words x y z) w e = go (telegram x y z) refl e
   where
     go : (t : Received) → telegram x y z ≡ t → partOrWord t ≡ refuses w → BadAs (Heard.Words x y z) w
@@ -55,12 +55,12 @@ bad-as Heard.Unreadable w e = let same : unreadable ≡ w = cc in rw (← same) 
 pub record Names (i : ℕ) (bs : List Balise) (c : Cause) : Type 0 where
   pub index : ℕ
   pub place : ℕ
-  pub what : Bad
+  pub what : Amiss
   pub is : c ≡ bad (i + index) place what
   pub first : FirstBad bs index place what
 
 -- The bad balise is the first.
-here : (i : ℕ) (b : Balise) (bs : List Balise) (w : Bad) (c : Cause) → partOrBad (b .heard) ≡ refuses w → bad i (b .place) w ≡ c → Names i (b ∷ bs) c
+here : (i : ℕ) (b : Balise) (bs : List Balise) (w : Amiss) (c : Cause) → partOrBad (b .heard) ≡ refuses w → bad i (b .place) w ≡ c → Names i (b ∷ bs) c
 here i b bs w c e q =
     record {
       index = 0;
@@ -110,7 +110,7 @@ unfolding readFrom
 names-first i [] c e = absurd (let n : _≡_ {A = ℕ} 0 1 = cc in omega arith)
 names-first i (b ∷ bs) c e = go (partOrBad (b .heard)) refl (readFrom (suc i) bs) refl e (names-first (suc i) bs)
   where
-    go : (o : Answer Bad Part) → partOrBad (b .heard) ≡ o → (l : Answer Cause (List Placed)) → readFrom (suc i) bs ≡ l
+    go : (o : Answer Amiss Part) → partOrBad (b .heard) ≡ o → (l : Answer Cause (List Placed)) → readFrom (suc i) bs ≡ l
         → (then (named i (b .place) o) λ p. then l λ ps. gives (record { place = b .place; part = p } ∷ ps)) ≡ refuses c
         → ((d : Cause) → readFrom (suc i) bs ≡ refuses d → Names (suc i) bs d) → Names i (b ∷ bs) c
     go (refuses w) q l s r on = here i b bs w c q (let same : bad i (b .place) w ≡ c = cc in same)

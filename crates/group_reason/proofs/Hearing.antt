@@ -13,7 +13,7 @@ use Rattle.group_rows.specs.declared.Placed.{Placed}
 use Rattle.group.specs.declared.Balise.{Balise}
 use Rattle.group.proofs.Hearing.{unheard, placed}
 use Rattle.group.proofs.Lists.{from-next, from-end, long-take}
-use Rattle.group_reason.specs.Reason.{Bad, Cause, bad}
+use Rattle.group_reason.specs.Reason.{Amiss, Cause, bad}
 use Rattle.group_reason.specs.Explain.{partOrBad, named, readFrom}
 
 -- Those read so far, before what is left.
@@ -30,7 +30,7 @@ after-one done x (gives ps) = ap gives (sym (append-assoc done (x ∷ []) ps))
 after-one done x (refuses c) = refl
 
 -- The reading of what is left, by the next balise.
-abbrev onwards : ℕ → Balise → List Balise → Answer Bad Part → Answer Cause (List Placed)
+abbrev onwards : ℕ → Balise → List Balise → Answer Amiss Part → Answer Cause (List Placed)
 onwards i b bs o = then (named i (b .place) o) λ p. then (readFrom (suc i) bs) λ ps. gives (placed b p ∷ ps)
 
 module _ (kept : List Balise) (n i : ℕ) (long : length kept ≡ 5) (few : n ≤ 5) where
@@ -53,7 +53,7 @@ module _ (kept : List Balise) (n i : ℕ) (long : length kept ≡ 5) (few : n �
       (sym (take-suc-set done i x room) ∙ ap (λ (m : ℕ). take m (set done i x)) (sym (add-one i)))
       ∙ ap (λ (k : ℕ). after (take (i + 1) (set done i x)) (readFrom k (drop (i + 1) (take n kept)))) (sym (add-one i))
 
-  pub read-bad : i < n → (w : Bad) → partOrBad (getD kept i unheard .heard) ≡ refuses w
+  pub read-bad : i < n → (w : Amiss) → partOrBad (getD kept i unheard .heard) ≡ refuses w
       → (done : List Placed) → refuses (bad i (getD kept i unheard .place) w) ≡ after done (readFrom i (drop i (take n kept)))
   read-bad h w e done = sym (ap (after done) (next-one h ∙ ap (onwards i (getD kept i unheard) (drop (i + 1) (take n kept))) e))
 

@@ -15,16 +15,16 @@ use Rattle.text.proofs.Decimal.{decimal-length}
 use Rattle.text.proofs.Standing.{numbered}
 use Rattle.telegram.specs.declared.Word.{Word}
 use Rattle.telegram.specs.Telegram.{badWord}
-use Rattle.group_reason.specs.declared.Bad.{Bad as Badly}
-use Rattle.group_reason.specs.Reason.{Bad, unreadable, word, balises, bad, opens, figure, Explained, noReason, because}
-use Rattle.group_reason.specs.Says.{saysBad}
+use Rattle.group_reason.specs.declared.BadBalise.{BadBalise}
+use Rattle.group_reason.specs.Reason.{Amiss, unreadable, word, balises, bad, opens, figure, Explained, noReason, because}
+use Rattle.group_reason.specs.Says.{saysBadBalise}
 use Rattle.group_reason.specs.Text.{letter, refusedAs, badly, baliseAt, soMany, reasonText}
 
-pub not-code-is : (w : Word) (p : Parity) → letter w ++ refusedAs (why 1 (are p)) ≡ badly (saysBad (Badly.NotCode w p))
+pub not-code-is : (w : Word) (p : Parity) → letter w ++ refusedAs (why 1 (are p)) ≡ badly (saysBadBalise (BadBalise.NotCode w p))
 unfolding badly
 not-code-is w p = refl
 
-pub fifteen-is : (w : Word) → letter w ++ codes " refused 3" ≡ badly (saysBad (Badly.Fifteen w))
+pub fifteen-is : (w : Word) → letter w ++ codes " refused 3" ≡ badly (saysBadBalise (BadBalise.Fifteen w))
 unfolding badly refusedAs decimal digits
 fifteen-is w = refl
 
@@ -40,7 +40,7 @@ pub one-is : (n : ℕ) → numbered "" n ++ codes " balise" ≡ reasonText (beca
 unfolding reasonText
 one-is n = refl
 
-pub unread-is : (i place : ℕ) (b : Bad) → baliseAt i place ++ badly b ≡ reasonText (because 12 (bad i place b))
+pub unread-is : (i place : ℕ) (b : Amiss) → baliseAt i place ++ badly b ≡ reasonText (because 12 (bad i place b))
 unfolding reasonText
 unread-is i place b = refl
 
@@ -61,7 +61,7 @@ refused-length (why n (are Parity.Odd)) = simp length-append (omega (arith, deci
 refused-length (why n (are Parity.Even)) = simp length-append (omega (arith, decimal-length n))
 refused-length (why n unsaid) = simp length-append (omega (arith, decimal-length n))
 
-bad-length : (b : Bad) → length (badly b) ≤ 42
+bad-length : (b : Amiss) → length (badly b) ≤ 42
 unfolding badly
 bad-length unreadable = omega arith
 bad-length (word (badWord w y)) = simp length-append (omega (arith, letter-length w, refused-length y))

@@ -4,7 +4,7 @@ use mathlib.Core.Path.{_≡_, refl}
 use Rattle.words.specs.declared.Parity.{Parity}
 use Rattle.text.specs.Text.{codes, digits, decimal}
 use Rattle.telegram.specs.declared.Word.{Word}
-use Rattle.group_reason.specs.declared.Bad.{Bad}
+use Rattle.group_reason.specs.declared.BadBalise.{BadBalise}
 use Rattle.group_reason.specs.declared.Reason.{Reason}
 use Rattle.group_reason.specs.Says.{saysReason}
 use Rattle.group_reason.specs.Text.{letter, refusedAs, badly, baliseAt, soMany, reasonText}
@@ -13,15 +13,15 @@ counts : (reasonText (saysReason (Reason.One 1)) ≡ codes "1 balise") × (reaso
 unfolding reasonText soMany decimal digits
 counts = (refl, refl, refl)
 
-unreadable : reasonText (saysReason (Reason.Unread 1 1030 Bad.Unreadable)) ≡ codes "balise 2 at 1030 unreadable"
+unreadable : reasonText (saysReason (Reason.Unread 1 1030 BadBalise.Unreadable)) ≡ codes "balise 2 at 1030 unreadable"
 unfolding reasonText baliseAt badly decimal digits
 unreadable = refl
 
-odd-y : reasonText (saysReason (Reason.Unread 1 1030 (Bad.NotCode Word.Y Parity.Odd))) ≡ codes "balise 2 at 1030 word Y refused 1 odd"
+odd-y : reasonText (saysReason (Reason.Unread 1 1030 (BadBalise.NotCode Word.Y Parity.Odd))) ≡ codes "balise 2 at 1030 word Y refused 1 odd"
 unfolding reasonText baliseAt badly letter refusedAs decimal digits
 odd-y = refl
 
-fifteen-x : reasonText (saysReason (Reason.Unread 0 1000 (Bad.Fifteen Word.X))) ≡ codes "balise 1 at 1000 word X refused 3"
+fifteen-x : reasonText (saysReason (Reason.Unread 0 1000 (BadBalise.Fifteen Word.X))) ≡ codes "balise 1 at 1000 word X refused 3"
 unfolding reasonText baliseAt badly letter refusedAs decimal digits
 fifteen-x = refl
 

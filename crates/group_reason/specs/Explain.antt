@@ -23,23 +23,23 @@ use Rattle.group.specs.Balise as heard
 use Rattle.group.specs.Distance.{isPreset, noIncrease}
 use Rattle.group.specs.Judge.{yOf, zOf, B, C}
 use Rattle.group_reason.specs.Opening.{openingRun}
-use Rattle.group_reason.specs.Reason.{Bad, unreadable, word, Cause, balises, bad, opens, figure, Explained, noReason, because}
+use Rattle.group_reason.specs.Reason.{Amiss, unreadable, word, Cause, balises, bad, opens, figure, Explained, noReason, because}
 
 -- ---- 12
 
 -- The words of a balise as a part of a group, or its first bad word.
-abbrev pub partOrWord : Received → Answer Bad Part
+abbrev pub partOrWord : Received → Answer Amiss Part
 partOrWord (gives t) = gives (heard.partSaid t)
 partOrWord (refuses w) = refuses (word w)
 
 -- What was heard, read, or what is bad about it.
-abbrev pub partOrBad : Heard → Answer Bad Part
+abbrev pub partOrBad : Heard → Answer Amiss Part
 partOrBad (Heard.Words x y z) = partOrWord (telegram x y z)
 partOrBad Heard.Marker = gives Part.Marker
 partOrBad Heard.Unreadable = refuses unreadable
 
 -- The bad balise is named by its index and its place.
-abbrev pub named : ℕ → ℕ → Answer Bad Part → Answer Cause Part
+abbrev pub named : ℕ → ℕ → Answer Amiss Part → Answer Cause Part
 named i place (gives p) = gives p
 named i place (refuses w) = refuses (bad i place w)
 

@@ -11,18 +11,18 @@ use Rattle.group_rows.specs.Row.{isCategory, Y, Z}
 use Rattle.group_reason.specs.declared.reading.PartRead.{PartRead}
 use Rattle.group_reason.specs.declared.reading.AllRead.{AllRead}
 use Rattle.group_reason.specs.declared.figures.Sought.{Sought}
-use Rattle.group_reason.specs.Reason.{Bad, Cause, bad, figure, Explained, noReason, because}
+use Rattle.group_reason.specs.Reason.{Amiss, Cause, bad, figure, Explained, noReason, because}
 use Rattle.group_reason.specs.Explain.{bBreaks, cBreaks}
-use Rattle.group_reason.specs.Says.{saysBad}
+use Rattle.group_reason.specs.Says.{saysBadBalise}
 
 -- A balise read, or what is bad about it.
-abbrev pub saysPartRead : PartRead → Answer Bad Part
+abbrev pub saysPartRead : PartRead → Answer Amiss Part
 saysPartRead (PartRead.Is p) = gives p
-saysPartRead (PartRead.Refused b) = refuses (saysBad b)
+saysPartRead (PartRead.Refused b) = refuses (saysBadBalise b)
 
 -- The first n balises read, or the first bad one.
 abbrev pub saysAllRead : ℕ → AllRead → Answer Cause (List Placed)
-saysAllRead n r = pick (r .good) (gives (take n (r .parts))) (refuses (bad (r .balise) (r .place) (saysBad (r .bad))))
+saysAllRead n r = pick (r .good) (gives (take n (r .parts))) (refuses (bad (r .balise) (r .place) (saysBadBalise (r .bad))))
 
 -- The first balise of category c, with its index and its figures, the first of all having the index i.
 unfoldable pub soughtFrom : ℕ → ℕ → List Placed → Sought

@@ -11,7 +11,7 @@ use Rattle.words.specs.Why.{Why, why, are, unsaid}
 use Rattle.text.specs.Text.{codes, decimal}
 use Rattle.telegram.specs.declared.Word.{Word}
 use Rattle.telegram.specs.Telegram.{badWord}
-use Rattle.group_reason.specs.Reason.{Bad, unreadable, word, balises, bad, opens, figure, Explained, noReason, because}
+use Rattle.group_reason.specs.Reason.{Amiss, unreadable, word, balises, bad, opens, figure, Explained, noReason, because}
 
 -- Which word is bad.
 unfoldable pub letter : Word → List ℕ
@@ -27,7 +27,7 @@ refusedAs (why n (are Parity.Even)) = codes " refused " ++ decimal n ++ codes " 
 refusedAs (why n unsaid) = codes " refused " ++ decimal n
 
 -- What is bad about a balise.
-unfoldable pub badly : Bad → List ℕ
+unfoldable pub badly : Amiss → List ℕ
 badly unreadable = codes " unreadable"
 badly (word (badWord w y)) = letter w ++ refusedAs y
 

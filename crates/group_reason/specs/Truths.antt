@@ -27,7 +27,7 @@ use Rattle.group.specs.declared.Message.{Message}
 use Rattle.group.specs.Judge.{B, C, judge}
 use Rattle.group.specs.Says.{saysGroupJudged}
 use Rattle.group_reason.specs.declared.Reason.{Reason}
-use Rattle.group_reason.specs.Reason.{Bad, unreadable, word, balises, bad, opens, figure, Explained, noReason, because}
+use Rattle.group_reason.specs.Reason.{Amiss, unreadable, word, balises, bad, opens, figure, Explained, noReason, because}
 use Rattle.group_reason.specs.Explain.{explain}
 use Rattle.group_reason.specs.Says.{saysReason}
 
@@ -48,12 +48,12 @@ pub record At {A : Type 0} (bs : List A) (i : ℕ) (b : A) : Type 0 where
 -- ---- 12: "a balise unreadable, or its words refused"
 
 -- What was heard is bad as said: it was unreadable, or its first bad word is this one, refused so.
-pub data BadAs : Heard → Bad → Type 0 where
+pub data BadAs : Heard → Amiss → Type 0 where
   was-unreadable : BadAs Heard.Unreadable unreadable
   bad-word : (x y z : ℕ) (w : BadWord) → telegram x y z ≡ refuses w → BadAs (Heard.Words x y z) (word w)
 
 -- "the first bad balise in passing order": the balise at i is bad, and none before it is.
-pub record FirstBad (bs : List Balise) (i place : ℕ) (what : Bad) : Type 0 where
+pub record FirstBad (bs : List Balise) (i place : ℕ) (what : Amiss) : Type 0 where
   pub balise : Balise
   pub at : At bs i balise
   pub place-is : balise .place ≡ place
@@ -109,7 +109,7 @@ pub record BreaksRule (g : Group) (i place : ℕ) : Type 0 where
 pub data Why (g : Group) : ℕ → Explained → Type 0 where
   why-10 : g .count ≡ 1 → Why g 10 (because 10 (balises 1))
   why-11 : 5 < g .count → Why g 11 (because 11 (balises (g .count)))
-  why-12 : (i place : ℕ) (what : Bad) → FirstBad (received.balises g) i place what → Why g 12 (because 12 (bad i place what))
+  why-12 : (i place : ℕ) (what : Amiss) → FirstBad (received.balises g) i place what → Why g 12 (because 12 (bad i place what))
   why-13 : (run many : ℕ) → OpensSoFar g run many → Why g 13 (because 13 (opens run many))
   why-15 : (i place : ℕ) → BreaksRule g i place → Why g 15 (because 15 (figure i place))
 

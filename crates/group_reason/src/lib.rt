@@ -18,7 +18,7 @@ use telegram::Word;
 use words::Parity;
 
 // What is bad about a balise: it was unreadable, or a word of it is no code word (1), with the parity of its ones, or reads 15 (3).
-pub enum Bad {
+pub enum BadBalise {
     Unreadable,
     NotCode(Word, Parity),
     Fifteen(Word),
@@ -31,9 +31,19 @@ pub enum Reason {
     None,
     One(u8),
     Many(u8),
-    Unread { balise: u8, place: u32, bad: Bad },
-    NoRow { run: u8, of: u8 },
-    NoDistance { balise: u8, place: u32 },
+    Unread {
+        balise: u8,
+        place: u32,
+        bad: BadBalise,
+    },
+    NoRow {
+        run: u8,
+        of: u8,
+    },
+    NoDistance {
+        balise: u8,
+        place: u32,
+    },
 }
 
 // Why a closed group was refused: no reason if it was accepted; for 10 and 11 the number of balises; for 12 the first bad balise, its place, and that it

@@ -5,9 +5,9 @@ ghost use lib.ListN.{length};
 ghost use Rattle.text.specs.Put.{put, came};
 ghost use Rattle.words.specs.Why.{why, are};
 ghost use Rattle.group_reason.specs.Reason.{opens, because};
-ghost use Rattle.group_reason.specs.Says.{saysBad, saysReason};
+ghost use Rattle.group_reason.specs.Says.{saysBadBalise, saysReason};
 ghost use Rattle.group_reason.specs.Text.{letter, refusedAs, badly, baliseAt, soMany, reasonText};
-use crate::Bad;
+use crate::BadBalise;
 use crate::Reason;
 use telegram::Word;
 use text::put;
@@ -37,17 +37,17 @@ fn put_parity(parity: Parity, buf: &mut [u8], at: usize) -> usize
 }
 
 // What is bad about a balise.
-fn put_bad(bad: Bad, buf: &mut [u8], at: usize) -> usize
-    requires { ⌜ at + length (badly (saysBad bad)) ≤ length (now buf) ⌝ }
-    ensures { λ r. ⌜ came r (now (buf .exit)) ≡ put (badly (saysBad bad)) (now (buf .entry)) at ⌝ }
+fn put_bad(bad: BadBalise, buf: &mut [u8], at: usize) -> usize
+    requires { ⌜ at + length (badly (saysBadBalise bad)) ≤ length (now buf) ⌝ }
+    ensures { λ r. ⌜ came r (now (buf .exit)) ≡ put (badly (saysBadBalise bad)) (now (buf .entry)) at ⌝ }
 {
     match bad {
-        Bad::Unreadable => put(b" unreadable", buf, at),
-        Bad::NotCode(word, parity) => {
+        BadBalise::Unreadable => put(b" unreadable", buf, at),
+        BadBalise::NotCode(word, parity) => {
             let a = put_letter(word, buf, at);
             put_parity(parity, buf, a)
         }
-        Bad::Fifteen(word) => {
+        BadBalise::Fifteen(word) => {
             let a = put_letter(word, buf, at);
             put(b" refused 3", buf, a)
         }

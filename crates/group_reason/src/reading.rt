@@ -5,7 +5,7 @@ ghost use lib.ListN.{take};
 ghost use Rattle.group.specs.Balise.{partSaid};
 ghost use Rattle.group_reason.specs.Explain.{partOrBad, readFrom};
 ghost use Rattle.group_reason.specs.Inside.{saysPartRead, saysAllRead};
-use crate::Bad;
+use crate::BadBalise;
 use group::Balise;
 use group::Heard;
 use group_rows::Part;
@@ -16,7 +16,7 @@ use telegram::TelegramRead;
 // What reading a balise answers: it as read, or what is bad about it.
 pub enum PartRead {
     Is(Part),
-    Refused(Bad),
+    Refused(BadBalise),
 }
 
 // What reading the balises of a group answers: the balises and good, or the first bad one, its place and what is bad.
@@ -25,7 +25,7 @@ pub struct AllRead {
     pub parts: [Placed; 5],
     pub balise: u8,
     pub place: u32,
-    pub bad: Bad,
+    pub bad: BadBalise,
 }
 
 // A telegram as a part of a group.
@@ -45,11 +45,11 @@ fn part_heard(heard: Heard) -> PartRead
     match heard {
         Heard::Words(x, y, z) => match telegram::read(x, y, z) {
             TelegramRead::Is(t) => PartRead::Is(part_of(t)),
-            TelegramRead::NotCode(w, p) => PartRead::Refused(Bad::NotCode(w, p)),
-            TelegramRead::Fifteen(w) => PartRead::Refused(Bad::Fifteen(w)),
+            TelegramRead::NotCode(w, p) => PartRead::Refused(BadBalise::NotCode(w, p)),
+            TelegramRead::Fifteen(w) => PartRead::Refused(BadBalise::Fifteen(w)),
         },
         Heard::Marker => PartRead::Is(Part::Marker),
-        Heard::Unreadable => PartRead::Refused(Bad::Unreadable),
+        Heard::Unreadable => PartRead::Refused(BadBalise::Unreadable),
     }
 }
 
@@ -93,6 +93,6 @@ pub fn read_all(kept: [Balise; 5], n: usize) -> AllRead
         parts,
         balise: 0,
         place: 0,
-        bad: Bad::Unreadable,
+        bad: BadBalise::Unreadable,
     }
 }

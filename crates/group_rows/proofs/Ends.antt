@@ -12,7 +12,7 @@ use Rattle.group_rows.specs.declared.stands.Before.{Before}
 use Rattle.group_rows.specs.declared.stands.Must.{Must}
 use Rattle.group_rows.specs.declared.stands.May.{May}
 use Rattle.group_rows.specs.declared.stands.Tail.{Tail}
-use Rattle.group_rows.specs.declared.stands.Stand.{Stand}
+use Rattle.group_rows.specs.declared.stands.Walk.{Walk}
 use Rattle.group_rows.specs.Row.{Fit, misfit, fit}
 use Rattle.group_rows.specs.Rows.{fitIn}
 use Rattle.group_rows.specs.Fitting.{speedOf, rowsFor, fitting, saysFitted}
@@ -61,20 +61,20 @@ module _ (way : Direction) (p : Picked) where
   may-end May.Twelve = or-misfit (along way (p .direction) (fit (p .kind) (p .a)))
   may-end May.Nothing = or-misfit (along way (p .direction) (fit (p .kind) (p .a)))
 
-pub end-fits : (at : Stand) (way : Direction) → fitOf way (ended at) ≡ fitRest way (rowsOf at) []
-end-fits (Stand.Before passed) way = sym (before-end way passed)
-end-fits (Stand.After (Tail.Must next) p) way = sym (must-end way p next)
-end-fits (Stand.After (Tail.May next) p) way = sym (may-end way p next)
+pub end-fits : (at : Walk) (way : Direction) → fitOf way (ended at) ≡ fitRest way (rowsOf at) []
+end-fits (Walk.Before passed) way = sym (before-end way passed)
+end-fits (Walk.After (Tail.Must next) p) way = sym (must-end way p next)
+end-fits (Walk.After (Tail.May next) p) way = sym (may-end way p next)
 
 -- The speed of an answer is what its row gives.
 abbrev SpeedRight : Fitted → Type 0
 SpeedRight (Fitted.Is p) = p .speed ≡ speedOf (p .kind) (p .a)
 SpeedRight Fitted.NoRow = Unit {0}
 
-speed-right : (at : Stand) → Speeds (rowsOf at) → SpeedRight (ended at)
-speed-right (Stand.Before passed) s = tt
-speed-right (Stand.After (Tail.Must next) p) s = tt
-speed-right (Stand.After (Tail.May next) p) s = s .0
+speed-right : (at : Walk) → Speeds (rowsOf at) → SpeedRight (ended at)
+speed-right (Walk.Before passed) s = tt
+speed-right (Walk.After (Tail.Must next) p) s = tt
+speed-right (Walk.After (Tail.May next) p) s = s .0
 
 -- An answer that fits the rows of each direction as the balises do is the row's word.
 told : (bs : List Placed) (f : Fitted) → ((way : Direction) → fitOf way f ≡ fitIn (rowsFor way) bs) → SpeedRight f → saysFitted f ≡ fitting bs
@@ -94,7 +94,7 @@ told bs (Fitted.Is p) h s = go (p .direction) refl
         word Direction.Opposite e
         ∙ rw (fit-in Direction.Present Direction.Opposite e, fit-in Direction.Opposite Direction.Opposite e)
 
-pub ended-right : (bs : List Placed) (at : Stand) → Speeds (rowsOf at) → ((way : Direction) → fitRest way (rowsOf at) [] ≡ fitIn (rowsFor way) bs)
+pub ended-right : (bs : List Placed) (at : Walk) → Speeds (rowsOf at) → ((way : Direction) → fitRest way (rowsOf at) [] ≡ fitIn (rowsFor way) bs)
     → saysFitted (ended at) ≡ fitting bs
 ended-right bs at s h = told bs (ended at) (λ way. end-fits at way ∙ h way) (speed-right at s)
 

@@ -14,7 +14,7 @@ use Rattle.group_rows.specs.declared.stands.Before.{Before}
 use Rattle.group_rows.specs.declared.stands.Must.{Must}
 use Rattle.group_rows.specs.declared.stands.May.{May}
 use Rattle.group_rows.specs.declared.stands.Tail.{Tail}
-use Rattle.group_rows.specs.declared.stands.Stand.{Stand}
+use Rattle.group_rows.specs.declared.stands.Walk.{Walk}
 use Rattle.group_rows.specs.Row.{fit}
 use Rattle.group_rows.specs.Rows.{howMany}
 use Rattle.group_rows.specs.Open.{fitFrom, fitRest, fitMost}
@@ -45,30 +45,30 @@ finishBefore Before.BackNine = of 1 ∷ []
 finishBefore Before.BackMarker = of 2 ∷ []
 finishBefore Before.BackNumberMarker = of 2 ∷ []
 
-abbrev pub finish : Stand → List Placed
-finish (Stand.Before passed) = finishBefore passed
-finish (Stand.After (Tail.Must next) p) = finishMust next
-finish (Stand.After (Tail.May next) p) = []
+abbrev pub finish : Walk → List Placed
+finish (Walk.Before passed) = finishBefore passed
+finish (Walk.After (Tail.Must next) p) = finishMust next
+finish (Walk.After (Tail.May next) p) = []
 
 -- Balises can be so.
-pub finish-sendable : (at : Stand) → areSendable (finish at) ≡ true
-finish-sendable (Stand.Before Before.Nothing) = refl
-finish-sendable (Stand.Before Before.Number) = refl
-finish-sendable (Stand.Before Before.Eight) = refl
-finish-sendable (Stand.Before Before.NumberEight) = refl
-finish-sendable (Stand.Before Before.BackFourteen) = refl
-finish-sendable (Stand.Before Before.BackNine) = refl
-finish-sendable (Stand.Before Before.BackMarker) = refl
-finish-sendable (Stand.Before Before.BackNumberMarker) = refl
-finish-sendable (Stand.After (Tail.Must Must.Nine) p) = refl
-finish-sendable (Stand.After (Tail.Must Must.LowNine) p) = refl
-finish-sendable (Stand.After (Tail.Must Must.Five) p) = refl
-finish-sendable (Stand.After (Tail.Must Must.Marker) p) = refl
-finish-sendable (Stand.After (Tail.Must Must.ThreeFiveSeven) p) = refl
-finish-sendable (Stand.After (Tail.May next) p) = refl
+pub finish-sendable : (at : Walk) → areSendable (finish at) ≡ true
+finish-sendable (Walk.Before Before.Nothing) = refl
+finish-sendable (Walk.Before Before.Number) = refl
+finish-sendable (Walk.Before Before.Eight) = refl
+finish-sendable (Walk.Before Before.NumberEight) = refl
+finish-sendable (Walk.Before Before.BackFourteen) = refl
+finish-sendable (Walk.Before Before.BackNine) = refl
+finish-sendable (Walk.Before Before.BackMarker) = refl
+finish-sendable (Walk.Before Before.BackNumberMarker) = refl
+finish-sendable (Walk.After (Tail.Must Must.Nine) p) = refl
+finish-sendable (Walk.After (Tail.Must Must.LowNine) p) = refl
+finish-sendable (Walk.After (Tail.Must Must.Five) p) = refl
+finish-sendable (Walk.After (Tail.Must Must.Marker) p) = refl
+finish-sendable (Walk.After (Tail.Must Must.ThreeFiveSeven) p) = refl
+finish-sendable (Walk.After (Tail.May next) p) = refl
 
 -- They fit a row that is still open, with 12 at most m times.
-pub record Finishes (at : Stand) (m : ℕ) : Type 0 where
+pub record Finishes (at : Walk) (m : ℕ) : Type 0 where
   pub way : Direction
   pub kind : Kind
   pub a : Placed
@@ -90,15 +90,15 @@ module _ (m : ℕ) where
   may-fits May.Twelve p = rw (leb·zero m, along-self (p .direction) (fit (p .kind) (p .a)))
   may-fits May.Nothing p = rw (leb·zero m, along-self (p .direction) (fit (p .kind) (p .a)))
 
-  pub finishes : (at : Stand) → Finishes at m
+  pub finishes : (at : Walk) → Finishes at m
   unfolding fitMost fitRest fitFrom howMany
-  finishes (Stand.Before Before.Nothing) = record { way = Direction.Present; kind = Kind.Signal; a = of 1; fits = rw (leb·zero m) }
-  finishes (Stand.Before Before.Number) = record { way = Direction.Present; kind = Kind.Signal; a = of 1; fits = rw (leb·zero m) }
-  finishes (Stand.Before Before.Eight) = record { way = Direction.Present; kind = Kind.Signal; a = of 1; fits = rw (leb·zero m) }
-  finishes (Stand.Before Before.NumberEight) = record { way = Direction.Present; kind = Kind.Signal; a = of 1; fits = rw (leb·zero m) }
-  finishes (Stand.Before Before.BackFourteen) = record { way = Direction.Opposite; kind = Kind.Signal; a = of 1; fits = rw (leb·zero m) }
-  finishes (Stand.Before Before.BackNine) = record { way = Direction.Opposite; kind = Kind.Signal; a = of 1; fits = rw (leb·zero m) }
-  finishes (Stand.Before Before.BackMarker) = record { way = Direction.Opposite; kind = Kind.Warning; a = of 2; fits = rw (leb·zero m) }
-  finishes (Stand.Before Before.BackNumberMarker) = record { way = Direction.Opposite; kind = Kind.Warning; a = of 2; fits = rw (leb·zero m) }
-  finishes (Stand.After (Tail.Must next) p) = record { way = p .direction; kind = p .kind; a = p .a; fits = must-fits next p }
-  finishes (Stand.After (Tail.May next) p) = record { way = p .direction; kind = p .kind; a = p .a; fits = may-fits next p }
+  finishes (Walk.Before Before.Nothing) = record { way = Direction.Present; kind = Kind.Signal; a = of 1; fits = rw (leb·zero m) }
+  finishes (Walk.Before Before.Number) = record { way = Direction.Present; kind = Kind.Signal; a = of 1; fits = rw (leb·zero m) }
+  finishes (Walk.Before Before.Eight) = record { way = Direction.Present; kind = Kind.Signal; a = of 1; fits = rw (leb·zero m) }
+  finishes (Walk.Before Before.NumberEight) = record { way = Direction.Present; kind = Kind.Signal; a = of 1; fits = rw (leb·zero m) }
+  finishes (Walk.Before Before.BackFourteen) = record { way = Direction.Opposite; kind = Kind.Signal; a = of 1; fits = rw (leb·zero m) }
+  finishes (Walk.Before Before.BackNine) = record { way = Direction.Opposite; kind = Kind.Signal; a = of 1; fits = rw (leb·zero m) }
+  finishes (Walk.Before Before.BackMarker) = record { way = Direction.Opposite; kind = Kind.Warning; a = of 2; fits = rw (leb·zero m) }
+  finishes (Walk.Before Before.BackNumberMarker) = record { way = Direction.Opposite; kind = Kind.Warning; a = of 2; fits = rw (leb·zero m) }
+  finishes (Walk.After (Tail.Must next) p) = record { way = p .direction; kind = p .kind; a = p .a; fits = must-fits next p }
+  finishes (Walk.After (Tail.May next) p) = record { way = p .direction; kind = p .kind; a = p .a; fits = may-fits next p }

@@ -10,7 +10,7 @@ use Rattle.group_rows.specs.declared.stands.Before.{Before}
 use Rattle.group_rows.specs.declared.stands.Must.{Must}
 use Rattle.group_rows.specs.declared.stands.May.{May}
 use Rattle.group_rows.specs.declared.stands.Tail.{Tail}
-use Rattle.group_rows.specs.declared.stands.Stand.{Stand}
+use Rattle.group_rows.specs.declared.stands.Walk.{Walk}
 use Rattle.group_rows.specs.declared.stands.Step.{Step}
 use Rattle.group_rows.specs.Row.{all, _to_, category, any, oneOf, M, Member, A, must, may, none, found}
 use Rattle.group_rows.specs.Rows.{present, opposite}
@@ -85,10 +85,10 @@ abbrev pub withRest : Picked → List Member → Rest
 withRest p ms = rest (p .direction) (p .kind) (p .speed) (found (p .a)) ms
 
 -- What a stand leaves of the rows.
-abbrev pub rowsOf : Stand → List Rest
-rowsOf (Stand.Before passed) = rowsBefore passed
-rowsOf (Stand.After (Tail.Must next) p) = withRest p (mustBe next) ∷ []
-rowsOf (Stand.After (Tail.May next) p) = withRest p (mayBe next) ∷ []
+abbrev pub rowsOf : Walk → List Rest
+rowsOf (Walk.Before passed) = rowsBefore passed
+rowsOf (Walk.After (Tail.Must next) p) = withRest p (mustBe next) ∷ []
+rowsOf (Walk.After (Tail.May next) p) = withRest p (mayBe next) ∷ []
 
 -- What a step leaves open.
 abbrev pub openAfter : Step → List Rest
@@ -96,7 +96,7 @@ openAfter (Step.To at) = rowsOf at
 openAfter Step.Shut = []
 
 -- The row of a group that ends here.
-abbrev pub ended : Stand → Fitted
-ended (Stand.Before passed) = Fitted.NoRow
-ended (Stand.After (Tail.Must next) p) = Fitted.NoRow
-ended (Stand.After (Tail.May next) p) = Fitted.Is p
+abbrev pub ended : Walk → Fitted
+ended (Walk.Before passed) = Fitted.NoRow
+ended (Walk.After (Tail.Must next) p) = Fitted.NoRow
+ended (Walk.After (Tail.May next) p) = Fitted.Is p

@@ -12,16 +12,16 @@ use crate::Placed;
 use crate::stands::Before;
 use crate::stands::May;
 use crate::stands::Must;
-use crate::stands::Stand;
 use crate::stands::Step;
 use crate::stands::Tail;
+use crate::stands::Walk;
 
 // The balise is A of a present row of this kind and speed, with this to come.
 pub fn present(kind: Kind, speed: u16, next: Must, a: Placed) -> Step
     ensures { λ r. ⌜ openAfter r ≡ rest Direction.Present kind speed (found a) (mustBe next) ∷ [] ⌝ }
 {
     let direction = Direction::Present;
-    Step::To(Stand::After(
+    Step::To(Walk::After(
         Tail::Must(next),
         Picked {
             direction,
@@ -37,7 +37,7 @@ pub fn opposite(kind: Kind, next: May, a: Placed) -> Step
     ensures { λ r. ⌜ openAfter r ≡ rest Direction.Opposite kind 0 (found a) (mayBe next) ∷ [] ⌝ }
 {
     let direction = Direction::Opposite;
-    Step::To(Stand::After(
+    Step::To(Walk::After(
         Tail::May(next),
         Picked {
             direction,
@@ -52,7 +52,7 @@ pub fn opposite(kind: Kind, next: May, a: Placed) -> Step
 pub fn to(at: Before) -> Step
     ensures { λ r. ⌜ openAfter r ≡ rowsBefore at ⌝ }
 {
-    Step::To(Stand::Before(at))
+    Step::To(Walk::Before(at))
 }
 
 // A 3 as the first balise: a line speed board by AY and AZ.

@@ -10,18 +10,18 @@ use crate::after_first;
 use crate::before;
 use crate::is_category;
 use crate::stands::Before;
-use crate::stands::Stand;
 use crate::stands::Step;
 use crate::stands::Tail;
+use crate::stands::Walk;
 use crate::tails;
 
 // Where the walk stands after one balise more.
-fn next(at: Stand, b: Placed) -> Step
+fn next(at: Walk, b: Placed) -> Step
     ensures { λ r. ⌜ openAfter r ≡ after (rowsOf at) b ⌝ }
 {
     match at {
-        Stand::Before(passed) => before::next(passed, b),
-        Stand::After(tail, picked) => match tail {
+        Walk::Before(passed) => before::next(passed, b),
+        Walk::After(tail, picked) => match tail {
             Tail::Must(must) => tails::must_next(must, picked, b),
             Tail::May(may) => tails::may_next(may, picked, b),
         },
@@ -29,12 +29,12 @@ fn next(at: Stand, b: Placed) -> Step
 }
 
 // The row of a group that ends here, or refusal 13.
-pub fn end_at(at: Stand) -> Fitted
+pub fn end_at(at: Walk) -> Fitted
     ensures { λ r. ⌜ r ≡ ended at ⌝ }
 {
     match at {
-        Stand::Before(_) => Fitted::NoRow,
-        Stand::After(tail, picked) => match tail {
+        Walk::Before(_) => Fitted::NoRow,
+        Walk::After(tail, picked) => match tail {
             Tail::Must(_) => Fitted::NoRow,
             Tail::May(_) => Fitted::Is(picked),
         },
@@ -43,7 +43,7 @@ pub fn end_at(at: Stand) -> Fitted
 
 // How far the balises lead: the first count of them open a group, and the walk then stands at at.
 pub struct Run {
-    pub at: Stand,
+    pub at: Walk,
     pub count: usize,
 }
 
@@ -52,7 +52,7 @@ pub fn follow(p: [Placed; 5], n: usize) -> Run
     requires { ⌜ n ≤ 5 ⌝ }
     ensures { λ r. ⌜ Ran p n r ⌝ }
 {
-    let mut at = Stand::Before(Before::Nothing);
+    let mut at = Walk::Before(Before::Nothing);
     let mut left = 1usize;
     let mut ahead = p;
     let mut i = 0;

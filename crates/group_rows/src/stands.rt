@@ -37,7 +37,7 @@ pub enum Tail {
 }
 
 // A stand: before A, or after it, with what its row says.
-pub enum Stand {
+pub enum Walk {
     Before(Before),
     After(Tail, Picked),
 }
@@ -45,5 +45,5 @@ pub enum Stand {
 // What one balise more answers: no row is open any more, or where the walk stands.
 pub enum Step {
     Shut,
-    To(Stand),
+    To(Walk),
 }

@@ -11,9 +11,9 @@ use crate::Placed;
 use crate::is_category;
 use crate::stands::May;
 use crate::stands::Must;
-use crate::stands::Stand;
 use crate::stands::Step;
 use crate::stands::Tail;
+use crate::stands::Walk;
 
 // Whether a balise is a 9 with Y 0 to 13.
 fn is_low_nine(part: Part) -> bool
@@ -62,7 +62,7 @@ fn to_if(so: bool, next: May, picked: Picked) -> Step
     ensures { λ r. ⌜ openAfter r ≡ pick so (withRest picked (mayBe next) ∷ []) [] ⌝ }
 {
     if so {
-        Step::To(Stand::After(Tail::May(next), picked))
+        Step::To(Walk::After(Tail::May(next), picked))
     } else {
         Step::Shut
     }
@@ -89,7 +89,7 @@ fn optional(c: u8, picked: Picked, b: Placed) -> Step
 {
     let part = b.part;
     if is_category(part, c) {
-        return Step::To(Stand::After(Tail::May(May::Twelve), picked));
+        return Step::To(Walk::After(Tail::May(May::Twelve), picked));
     }
     to_if(is_category(part, 12), May::Nothing, picked)
 }

@@ -1,5 +1,5 @@
 // The settings before the leads: a sync pair, or a file.
-use console::Asked;
+use console::AskedFor;
 use console::Given;
 use console::sync_word;
 use figures::Byte;
@@ -22,19 +22,19 @@ fn refuse(program: &[u8], aside: bool) {
 }
 
 // The pair S and S* with the gap 40, or what is said of it.
-fn pair(program: &[u8], aside: bool, s: u8, t: u8) -> Asked {
+fn pair(program: &[u8], aside: bool, s: u8, t: u8) -> AskedFor {
     let begun = settings::begin(GAP, s, t);
     let store = begun.store;
     let verdict = begun.verdict;
     match verdict {
-        Verdict::Kept => Asked {
+        Verdict::Kept => AskedFor {
             store,
             first: AFTER,
             how: Given::Plain,
         },
         Verdict::Refused(_) => {
             refuse(program, aside);
-            Asked {
+            AskedFor {
                 store,
                 first: AFTER,
                 how: Given::Said,
@@ -44,8 +44,8 @@ fn pair(program: &[u8], aside: bool, s: u8, t: u8) -> Asked {
 }
 
 // Nothing is ridden.
-fn none(how: Given) -> Asked {
-    Asked {
+fn none(how: Given) -> AskedFor {
+    AskedFor {
         store: no_store(),
         first: AFTER,
         how,
@@ -53,7 +53,7 @@ fn none(how: Given) -> Asked {
 }
 
 // The words of a pair, from the arguments.
-fn pair_named(program: &[u8], aside: bool) -> Asked {
+fn pair_named(program: &[u8], aside: bool) -> AskedFor {
     if os::arg_count() < AFTER {
         return none(Given::Usage);
     }
@@ -67,15 +67,15 @@ fn pair_named(program: &[u8], aside: bool) -> Asked {
 }
 
 // What the arguments ask for before the leads: `-s SETTINGS`, or `S S*`.
-pub fn options(program: &[u8], aside: bool) -> Asked {
+pub fn options(program: &[u8], aside: bool) -> AskedFor {
     let asked = console::options(program, aside);
     let store = asked.store;
     let first = asked.first;
     let how = asked.how;
     match how {
         Given::Plain => pair_named(program, aside),
-        Given::Settings => Asked { store, first, how },
-        Given::Usage => Asked { store, first, how },
-        Given::Said => Asked { store, first, how },
+        Given::Settings => AskedFor { store, first, how },
+        Given::Usage => AskedFor { store, first, how },
+        Given::Said => AskedFor { store, first, how },
     }
 }

@@ -14,9 +14,9 @@ mod pieces;
 mod saying;
 
 pub use before::options;
-pub use pieces::How;
 pub use pieces::Leads;
 pub use pieces::Piece;
+pub use pieces::ReadingGoes;
 pub use pieces::begin;
 pub use pieces::kept;
 pub use pieces::next_piece;

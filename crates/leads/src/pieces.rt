@@ -22,7 +22,7 @@ pub struct Leads {
 
 // How the reading goes on: more may come; all leads were read; the lead of this argument cannot be opened, or a read of it failed; or the
 // lent block has no room for a frame.
-pub enum How {
+pub enum ReadingGoes {
     More,
     End,
     CannotOpen(usize),
@@ -34,7 +34,7 @@ pub enum How {
 pub struct Piece {
     pub leads: Leads,
     pub length: usize,
-    pub how: How,
+    pub how: ReadingGoes,
 }
 
 // The leads from this argument on, none begun.
@@ -55,7 +55,7 @@ pub fn kept(leads: Leads) -> usize {
 }
 
 // No frame, with this file open, so many leads begun, and so many bytes of a frame at the front of the block.
-fn none(leads: Leads, begun: usize, fd: i32, how: How) -> Piece
+fn none(leads: Leads, begun: usize, fd: i32, how: ReadingGoes) -> Piece
     ensures { λ r. ⌜ r .length ≡ 0 ⌝ }
 {
     let far = leads.far;
@@ -98,19 +98,19 @@ fn next_lead(leads: Leads) -> Piece
     if is_last & (leads.begun > 0) {
         let far = leads.far;
         wipe(far);
-        return none(leads, leads.begun, -1, How::End);
+        return none(leads, leads.begun, -1, ReadingGoes::End);
     }
     let fd = open(number);
     let how = if fd < 0 {
-        How::CannotOpen(number)
+        ReadingGoes::CannotOpen(number)
     } else {
-        How::More
+        ReadingGoes::More
     };
     none(leads, std::num::wrapping_add_usize(leads.begun, 1), fd, how)
 }
 
 // The open lead is closed: it has ended, or a read of it failed.
-fn closed(leads: Leads, how: How) -> Piece
+fn closed(leads: Leads, how: ReadingGoes) -> Piece
     ensures { λ r. ⌜ r .length ≡ 0 ⌝ }
 {
     if leads.fd != STDIN_FILENO {
@@ -137,7 +137,7 @@ fn frames(leads: Leads, end: usize) -> Piece
             far,
         },
         length,
-        how: How::More,
+        how: ReadingGoes::More,
     }
 }
 
@@ -148,7 +148,7 @@ fn read_on(leads: Leads, block: &mut [u8]) -> Piece
 {
     let kept = leads.count;
     if kept == block.len() {
-        return none(leads, leads.begun, leads.fd, How::NoRoom);
+        return none(leads, leads.begun, leads.fd, ReadingGoes::NoRoom);
     }
     let got = libc::read(leads.fd, &mut block[kept..]);
     if got < 0 {
@@ -156,11 +156,11 @@ fn read_on(leads: Leads, block: &mut [u8]) -> Piece
             std::num::wrapping_add_usize(leads.first, leads.begun),
             1,
         );
-        return closed(leads, How::CannotRead(number));
+        return closed(leads, ReadingGoes::CannotRead(number));
     }
     let more = io::count(got, &block[kept..]);
     if more == 0 {
-        return closed(leads, How::More);
+        return closed(leads, ReadingGoes::More);
     }
     frames(leads, kept + more)
 }

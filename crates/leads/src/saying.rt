@@ -1,14 +1,14 @@
 // What a program says on standard error of a lead that failed.
-use crate::pieces::How;
+use crate::pieces::ReadingGoes;
 
 // `PROGRAM: cannot open FILE` or `PROGRAM: cannot read FILE`; of what did not fail, nothing.
-pub fn say(program: &[u8], how: How) {
+pub fn say(program: &[u8], how: ReadingGoes) {
     match how {
-        How::More => {}
-        How::End => {}
-        How::CannotOpen(number) => console::cannot_open(program, number),
-        How::CannotRead(number) => cannot_read(program, number),
-        How::NoRoom => {}
+        ReadingGoes::More => {}
+        ReadingGoes::End => {}
+        ReadingGoes::CannotOpen(number) => console::cannot_open(program, number),
+        ReadingGoes::CannotRead(number) => cannot_read(program, number),
+        ReadingGoes::NoRoom => {}
     }
 }
 

@@ -10,7 +10,7 @@ use lib.ListN.{length, getD, drop, drop-of-length-le}
 use lib.Seq.{drop-cons}
 use borrow.Author.Tests.{eq-eqb, ne-eqb}
 use Rattle.words.specs.Answer.{pick}
-use Rattle.lines.specs.declared.Line.{Line}
+use Rattle.lines.specs.declared.TextLine.{TextLine}
 use Rattle.lines.specs.declared.Letters.{Letters}
 use Rattle.lines.specs.declared.Reader.{Reader}
 use Rattle.lines.specs.declared.Got.{Got}
@@ -40,7 +40,7 @@ module _ (r : Reader) (text : List ℕ) (i : ℕ) where
     goes-on e next is = by-first ∙ simp (ne-eqb _ _ e) (ap (λ (x : Reader). lineFrom x (drop (i + 1) text) (i + 1)) (sym is))
 
 -- One character more, by its kind.
-module _ (line : Line) (word : Letters) (c : ℕ) where
+module _ (line : TextLine) (word : Letters) (c : ℕ) where
   pub in-comment : _≡_ {A = Reader} (record { line = line; word = word; comment = true }) (character (record { line = line; word = word; comment = true }) c)
   unfolding character
   in-comment = refl

@@ -12,7 +12,7 @@ use Rattle.figures.specs.declared.Byte.{Byte}
 use Rattle.lines.specs.declared.Number.{Number}
 use Rattle.lines.specs.declared.Name.{Name}
 use Rattle.lines.specs.declared.Word.{Word}
-use Rattle.lines.specs.declared.Line.{Line}
+use Rattle.lines.specs.declared.TextLine.{TextLine}
 use Rattle.lines.specs.declared.Letters.{Letters}
 use Rattle.lines.specs.declared.Reader.{Reader}
 use Rattle.lines.specs.declared.Got.{Got}
@@ -84,7 +84,7 @@ abbrev pub stops : ℕ → Bool
 stops c = blank c || hash c
 
 -- A line after the word that was being read, if there was one.
-unfoldable pub closed : Line → Letters → Line
+unfoldable pub closed : TextLine → Letters → TextLine
 closed line w = pick (eqb (w .count) 0) line (kept line (done w))
 
 -- Before the first character of a line.
@@ -100,10 +100,10 @@ character r c =
     (record { line = r .line; word = letterOn (r .word) c; comment = false }))
 
 -- What a line comes to that ends before this place, and one that goes on after it.
-unfoldable pub whole : Line → Letters → ℕ → Got
+unfoldable pub whole : TextLine → Letters → ℕ → Got
 whole line w next = record { line = closed line w; ends = true; next = next; reader = fresh }
 
-unfoldable pub unfinished : Line → Letters → Bool → ℕ → Got
+unfoldable pub unfinished : TextLine → Letters → Bool → ℕ → Got
 unfinished line w c next =
     record { line = closed line w; ends = false; next = next; reader = record { line = line; word = w; comment = c } }
 

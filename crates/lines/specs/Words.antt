@@ -13,7 +13,7 @@ use Rattle.figures.specs.declared.Byte.{Byte}
 use Rattle.lines.specs.declared.Number.{Number}
 use Rattle.lines.specs.declared.Name.{Name}
 use Rattle.lines.specs.declared.Word.{Word}
-use Rattle.lines.specs.declared.Line.{Line}
+use Rattle.lines.specs.declared.TextLine.{TextLine}
 use Rattle.lines.specs.Text.{wordsOf}
 
 -- The largest number that a place can be, 2^32 - 1; all above it are only that.
@@ -58,21 +58,21 @@ abbrev pub noWord : Word
 noWord = record { number = Number.Odd; byte = Byte.Is 0; name = Name.Other }
 
 -- A line without a word.
-unfoldable pub noWords : Line
+unfoldable pub noWords : TextLine
 noWords = record { words = replicate 6 noWord; count = 0 }
 
 -- A line with one word more: the first six are kept; of a seventh, and of all after it, only that there is one.
-unfoldable pub kept : Line → Word → Line
+unfoldable pub kept : TextLine → Word → TextLine
 kept line word =
     pick (ltb (line .count) 6)
     (record { words = set (line .words) (line .count) word; count = line .count + 1 })
     (record { words = line .words; count = 7 })
 
 -- A line with some words more.
-unfoldable pub keptAll : Line → List (List ℕ) → Line
+unfoldable pub keptAll : TextLine → List (List ℕ) → TextLine
 keptAll line [] = line
 keptAll line (w ∷ ws) = keptAll (kept line (wordOf w)) ws
 
 -- What is kept of a line.
-unfoldable pub lineOf : List ℕ → Line
+unfoldable pub lineOf : List ℕ → TextLine
 lineOf line = keptAll noWords (wordsOf line)

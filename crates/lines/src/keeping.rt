@@ -5,10 +5,10 @@ ghost use Rattle.lines.specs.Words.{noWords, kept};
 ghost use Rattle.lines.specs.Reading.{stops, closed, unfinished, whole};
 use crate::Got;
 use crate::Letters;
-use crate::Line;
 use crate::Name;
 use crate::Number;
 use crate::Reader;
+use crate::TextLine;
 use crate::Word;
 use crate::spelling::done;
 use figures::Byte;
@@ -21,29 +21,29 @@ const NO_WORD: Word = Word {
 };
 
 // A line without a word.
-pub fn no_words() -> Line
+pub fn no_words() -> TextLine
     ensures { λ r. ⌜ r ≡ noWords ⌝ }
 {
-    Line {
+    TextLine {
         words: [NO_WORD; 6],
         count: 0,
     }
 }
 
 // A line with one word more; of a seventh, and of all after it, only that there is one.
-fn kept(line: Line, word: Word) -> Line
+fn kept(line: TextLine, word: Word) -> TextLine
     ensures { λ r. ⌜ r ≡ kept line word ⌝ }
 {
     let count = line.count;
     let mut words = line.words;
     if count < 6 {
         words[count] = word;
-        return Line {
+        return TextLine {
             words,
             count: count + 1,
         };
     }
-    Line { words, count: 7 }
+    TextLine { words, count: 7 }
 }
 
 // Whether a character ends a word: a blank, or the `#` of a comment.
@@ -54,7 +54,7 @@ pub fn is_stop(c: u8) -> bool
 }
 
 // A line after the word that was being read, if there was one.
-pub fn closed(line: Line, word: Letters) -> Line
+pub fn closed(line: TextLine, word: Letters) -> TextLine
     ensures { λ r. ⌜ r ≡ closed line word ⌝ }
 {
     if word.count == 0 {
@@ -64,7 +64,7 @@ pub fn closed(line: Line, word: Letters) -> Line
 }
 
 // A line that ends before this place.
-pub fn whole(line: Line, word: Letters, next: usize) -> Got
+pub fn whole(line: TextLine, word: Letters, next: usize) -> Got
     ensures { λ r. ⌜ r ≡ whole line word next ⌝ }
 {
     Got {
@@ -76,7 +76,7 @@ pub fn whole(line: Line, word: Letters, next: usize) -> Got
 }
 
 // A line that goes on after this place.
-pub fn unfinished(line: Line, word: Letters, comment: bool, next: usize) -> Got
+pub fn unfinished(line: TextLine, word: Letters, comment: bool, next: usize) -> Got
     ensures { λ r. ⌜ r ≡ unfinished line word comment next ⌝ }
 {
     Got {

@@ -45,7 +45,7 @@ pub struct Word {
 }
 
 // What is kept of a line: how many words it has, 7 for all above 6, and the first six of them.
-pub struct Line {
+pub struct TextLine {
     pub words: [Word; 6],
     pub count: usize,
 }
@@ -61,14 +61,14 @@ pub struct Letters {
 
 // A line so far: its words, the word that is being read, and whether its comment has begun.
 pub struct Reader {
-    pub line: Line,
+    pub line: TextLine,
     pub word: Letters,
     pub comment: bool,
 }
 
 // What a block gives of a line: the line as far as it goes, whether it ends there, where the next one begins, and where reading goes on from.
 pub struct Got {
-    pub line: Line,
+    pub line: TextLine,
     pub ends: bool,
     pub next: usize,
     pub reader: Reader,

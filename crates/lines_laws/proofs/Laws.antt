@@ -9,7 +9,7 @@ use lib.Dec.{eqb}
 use lib.ListN.{length}
 use Rattle.words.specs.Answer.{pick}
 use Rattle.words.proofs.Never.{cannot-be}
-use Rattle.lines.specs.declared.Line.{Line}
+use Rattle.lines.specs.declared.TextLine.{TextLine}
 use Rattle.lines.specs.declared.Reader.{Reader}
 use Rattle.lines.specs.declared.Got.{Got}
 use Rattle.lines.specs.Text.{newline, upTo, onto, cut, linesOf}
@@ -53,7 +53,7 @@ newline-ends : (r : Reader) (rest : List ℕ) (at : ℕ) → lineFrom r (10 ∷ 
 unfolding lineFrom
 newline-ends r rest at = refl
 
-abbrev ended : Line → ℕ → Got
+abbrev ended : TextLine → ℕ → Got
 ended line next = record { line = line; ends = true; next = next; reader = fresh }
 
 pub reads-a-line : ReadsALine
@@ -61,7 +61,7 @@ unfolding whole
 reads-a-line line rest at one =
     over fresh line (10 ∷ rest) at one
     ∙ newline-ends (readOn fresh line) rest (at + length line)
-    ∙ ap (λ (l : Line). ended l (at + length line + 1)) (reads-words line)
+    ∙ ap (λ (l : TextLine). ended l (at + length line + 1)) (reads-words line)
 
 pub reads-the-last : ReadsTheLast
 unfolding unfinished

@@ -11,7 +11,7 @@ use lib.ListN.{length, getD, drop, length-append}
 use borrow.Author.Tests.{le-leb}
 use Rattle.words.specs.Answer.{pick}
 use Rattle.words.proofs.Never.{cannot-be}
-use Rattle.lines.specs.declared.Line.{Line}
+use Rattle.lines.specs.declared.TextLine.{TextLine}
 use Rattle.lines.specs.declared.Reader.{Reader}
 use Rattle.lines.specs.declared.Got.{Got}
 use Rattle.lines.specs.Text.{newline, onto, cut, linesOf, beginning, linesIn}
@@ -22,7 +22,7 @@ use Rattle.lines_laws.specs.Texts.{Through, line, used, ThroughAll, none
 use Rattle.lines_laws.proofs.Wording.{readOn, keeps, reads-words}
 
 -- The lines of a text that is read on from a reader to its end.
-unfoldable toEnd : Reader → List ℕ → List Line
+unfoldable toEnd : Reader → List ℕ → List TextLine
 toEnd r [] = keeps r ∷ []
 toEnd r (c ∷ cs) = pick (newline c) (keeps r ∷ toEnd fresh cs) (toEnd (character r c) cs)
 
@@ -69,28 +69,28 @@ answered : (r : Reader) (b : List ℕ) (from : ℕ) (g : Got) → NextLine r b f
 unfolding nextLine
 answered r b from g c = c .4 ∙ ap (λ (t : List ℕ). nextLine r t from) (c .3)
 
-over-block : (b rest : List ℕ) (r last : Reader) (from : ℕ) (ls : List Line) → Through b r from ls last → toEnd r (drop from b ++ rest) ≡ ls ++ toEnd last rest
+over-block : (b rest : List ℕ) (r last : Reader) (from : ℕ) (ls : List TextLine) → Through b r from ls last → toEnd r (drop from b ++ rest) ≡ ls ++ toEnd last rest
 over-block b rest r last from _ (line g asked ends more) =
     let is = answered r b from g asked in
     ended (drop from b) b rest r from refl (ap (λ (x : Got). x .ends) (sym is) ∙ ends)
     ∙ ap (λ (x : Got). x .line ∷ toEnd (x .reader) (drop (x .next) b ++ rest)) (sym is)
-    ∙ ap (λ (l : List Line). g .line ∷ l) (over-block b rest (g .reader) last (g .next) _ more)
+    ∙ ap (λ (l : List TextLine). g .line ∷ l) (over-block b rest (g .reader) last (g .next) _ more)
 over-block b rest r last from _ (used g asked ends) =
     let is = answered r b from g asked in
     unended (drop from b) rest r from (ap (λ (x : Got). x .ends) (sym is) ∙ ends) ∙ ap (λ (x : Got). toEnd (x .reader) rest) (sym is)
 
-over-blocks : (bs : List (List ℕ)) (rest : List ℕ) (r last : Reader) (ls : List Line) → ThroughAll r bs ls last → toEnd r (joined bs ++ rest) ≡ ls ++ toEnd last rest
+over-blocks : (bs : List (List ℕ)) (rest : List ℕ) (r last : Reader) (ls : List TextLine) → ThroughAll r bs ls last → toEnd r (joined bs ++ rest) ≡ ls ++ toEnd last rest
 over-blocks [] rest r last _ none = refl
 over-blocks (b ∷ bs) rest r last _ (block {next = next} {ls = ls} {ms = ms} through more) =
     ap (toEnd r) (append-assoc b (joined bs) rest)
     ∙ over-block b (joined bs ++ rest) r next 0 ls through
-    ∙ ap (λ (l : List Line). ls ++ l) (over-blocks bs rest next last ms more)
+    ∙ ap (λ (l : List TextLine). ls ++ l) (over-blocks bs rest next last ms more)
     ∙ sym (append-assoc ls ms (toEnd last rest))
 
 -- ---- the lines of the text
 
 -- The lines, of which the first is read on from a reader.
-abbrev from-reader : Reader → List (List ℕ) → List Line
+abbrev from-reader : Reader → List (List ℕ) → List TextLine
 from-reader r [] = keeps r ∷ []
 from-reader r (l ∷ ls) = keeps (readOn r l) ∷ keptOf ls
 
@@ -113,7 +113,7 @@ some-line (c ∷ cs) = by (newline c) (linesOf cs)
 from-fresh : (t : List ℕ) → from-reader fresh (linesOf t) ≡ keptOf (linesOf t)
 from-fresh t =
     let l = some-line t in
-    ap (from-reader fresh) (l .2) ∙ ap (λ (x : Line). x ∷ keptOf (l .1)) (reads-words (l .0)) ∙ ap keptOf (sym (l .2))
+    ap (from-reader fresh) (l .2) ∙ ap (λ (x : TextLine). x ∷ keptOf (l .1)) (reads-words (l .0)) ∙ ap keptOf (sym (l .2))
 
 to-end : (t : List ℕ) (r : Reader) → toEnd r t ≡ from-reader r (linesOf t)
 unfolding toEnd cut readOn
@@ -122,7 +122,7 @@ to-end (c ∷ cs) r = by (newline c) (to-end cs fresh) (to-end cs (character r c
   where
     by : (n : Bool) → toEnd fresh cs ≡ from-reader fresh (linesOf cs) → toEnd (character r c) cs ≡ from-reader (character r c) (linesOf cs)
         → pick n (keeps r ∷ toEnd fresh cs) (toEnd (character r c) cs) ≡ from-reader r (pick n ([] ∷ linesOf cs) (onto c (linesOf cs)))
-    by true anew on = ap (λ (l : List Line). keeps r ∷ l) (anew ∙ from-fresh cs)
+    by true anew on = ap (λ (l : List TextLine). keeps r ∷ l) (anew ∙ from-fresh cs)
     by false anew on = on ∙ begun-with r c (linesOf cs)
 
 -- ---- the beginning
@@ -159,9 +159,9 @@ all-lines first others lines enough read =
     let end : read .end .line ≡ keeps (read .last) = ap (λ (g : Got). g .line) (answered (read .last) [] 0 (read .end) (read .ends)) in
     let body : toEnd (read .fresh) (drop (read .from) first ++ (joined others ++ [])) ≡ read .in-first ++ (read .in-others ++ toEnd (read .last) []) =
     over-block first (joined others ++ []) (read .fresh) (read .next) (read .from) (read .in-first) (read .through)
-    ∙ ap (λ (l : List Line). read .in-first ++ l) (over-blocks others [] (read .next) (read .last) (read .in-others) (read .on)) in
+    ∙ ap (λ (l : List TextLine). read .in-first ++ l) (over-blocks others [] (read .next) (read .last) (read .in-others) (read .on)) in
     read .all
-    ∙ ap (λ (x : Line). read .in-first ++ (read .in-others ++ (x ∷ []))) end
+    ∙ ap (λ (x : TextLine). read .in-first ++ (read .in-others ++ (x ∷ []))) end
     ∙ sym body
     ∙ ap (λ (x : Reader). toEnd x (drop (read .from) first ++ (joined others ++ []))) (read .is-fresh .1)
     ∙ ap (λ (n : ℕ). toEnd fresh (drop n first ++ (joined others ++ []))) start

@@ -14,7 +14,7 @@ use Rattle.figures.specs.declared.Byte.{Byte}
 use Rattle.lines.specs.declared.Number.{Number}
 use Rattle.lines.specs.declared.Name.{Name}
 use Rattle.lines.specs.declared.Word.{Word}
-use Rattle.lines.specs.declared.Line.{Line}
+use Rattle.lines.specs.declared.TextLine.{TextLine}
 use Rattle.lines.specs.declared.Letters.{Letters}
 use Rattle.lines.specs.declared.Reader.{Reader}
 use Rattle.lines.specs.Text.{blank, hash, upTo, onto, cut, some, wordsOf}
@@ -99,10 +99,10 @@ readOn r [] = r
 readOn r (c ∷ cs) = readOn (character r c) cs
 
 -- What is kept of it then.
-abbrev pub keeps : Reader → Line
+abbrev pub keeps : Reader → TextLine
 keeps r = closed (r .line) (r .word)
 
-in-comment : (line : Line) (w : Letters) (cs : List ℕ) → readOn (record { line = line; word = w; comment = true }) cs ≡ record { line = line; word = w; comment = true }
+in-comment : (line : TextLine) (w : Letters) (cs : List ℕ) → readOn (record { line = line; word = w; comment = true }) cs ≡ record { line = line; word = w; comment = true }
 unfolding readOn character
 in-comment line w [] = refl
 in-comment line w (c ∷ cs) = in-comment line w cs
@@ -136,7 +136,7 @@ snoc w [] c = refl
 snoc w (d ∷ u) c = snoc (letterOn w d) u c
 
 -- A word that ends is kept, if it has a character.
-ends : (line : Line) (u : List ℕ) (ps : List (List ℕ)) → keptAll (closed line (spelled noLetters u)) (some ps) ≡ keptAll line (some (u ∷ ps))
+ends : (line : TextLine) (u : List ℕ) (ps : List (List ℕ)) → keptAll (closed line (spelled noLetters u)) (some ps) ≡ keptAll line (some (u ∷ ps))
 unfolding closed keptAll some spelled
 ends line [] ps = simp no-count
 ends line (c ∷ cs) ps = simp (ne-eqb _ _ (some-stay noLetters c cs)) (ap (λ (w : Word). keptAll (kept line w) (some ps)) (as-word c cs))
@@ -144,31 +144,31 @@ ends line (c ∷ cs) ps = simp (ne-eqb _ _ (some-stay noLetters c cs)) (ap (λ (
 -- The line after what is left of it, with u the characters of the word that is being read.
 abbrev Comes : List ℕ → Type 0
 Comes t =
-    (line : Line) (u : List ℕ)
+    (line : TextLine) (u : List ℕ)
     → keeps (readOn (record { line = line; word = spelled noLetters u; comment = false }) t) ≡ keptAll line (some (front u (cut blank (upTo hash t))))
 
-closed-none : (line : Line) → closed line noLetters ≡ line
+closed-none : (line : TextLine) → closed line noLetters ≡ line
 unfolding closed
 closed-none line = simp no-count
 
-nothing-more : (line : Line) → keptAll line (some []) ≡ line
+nothing-more : (line : TextLine) → keptAll line (some []) ≡ line
 unfolding keptAll some
 nothing-more line = refl
 
 -- A word at the end of what counts.
-at-end : (line : Line) (u : List ℕ) → closed line (spelled noLetters u) ≡ keptAll line (some ((u ++ []) ∷ []))
+at-end : (line : TextLine) (u : List ℕ) → closed line (spelled noLetters u) ≡ keptAll line (some ((u ++ []) ∷ []))
 at-end line u =
     sym (nothing-more (closed line (spelled noLetters u))) ∙ ends line u [] ∙ ap (λ (l : List ℕ). keptAll line (some (l ∷ []))) (sym (append-nil u))
 
 -- A comment: nothing more counts.
-comment-on : (line : Line) (u cs : List ℕ)
+comment-on : (line : TextLine) (u cs : List ℕ)
     → keeps (readOn (record { line = closed line (spelled noLetters u); word = noLetters; comment = true }) cs) ≡ keptAll line (some (front u (cut blank [])))
 unfolding cut
 comment-on line u cs =
     ap keeps (in-comment (closed line (spelled noLetters u)) noLetters cs) ∙ closed-none (closed line (spelled noLetters u)) ∙ at-end line u
 
 -- A blank: the word is over.
-word-over : (line : Line) (u cs : List ℕ) → Comes cs
+word-over : (line : TextLine) (u cs : List ℕ) → Comes cs
     → keeps (readOn (record { line = closed line (spelled noLetters u); word = noLetters; comment = false }) cs) ≡ keptAll line (some (u ∷ cut blank (upTo hash cs)))
 unfolding spelled
 word-over line u cs next =
@@ -177,11 +177,11 @@ word-over line u cs next =
     ∙ ends line u (cut blank (upTo hash cs))
 
 -- The end of the line.
-last-one : (line : Line) (u : List ℕ) → closed line (spelled noLetters u) ≡ keptAll line (some (front u (cut blank [])))
+last-one : (line : TextLine) (u : List ℕ) → closed line (spelled noLetters u) ≡ keptAll line (some (front u (cut blank [])))
 unfolding cut
 last-one line u = at-end line u
 
-by-kind : (b h : Bool) (c : ℕ) (cs : List ℕ) → blank c ≡ b → hash c ≡ h → Comes cs → (line : Line) (u : List ℕ)
+by-kind : (b h : Bool) (c : ℕ) (cs : List ℕ) → blank c ≡ b → hash c ≡ h → Comes cs → (line : TextLine) (u : List ℕ)
     → keeps (readOn (pick (b || h) (record { line = closed line (spelled noLetters u); word = noLetters; comment = h }) (record { line = line; word = letterOn (spelled noLetters u) c; comment = false })) cs)
     ≡ keptAll line (some (front u (cut blank (pick h [] (c ∷ upTo hash cs)))))
 unfolding cut

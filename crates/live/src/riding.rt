@@ -72,13 +72,13 @@ fn end(from: Underway, store: Store, out: &mut [u8]) {
 }
 
 // What comes after the last piece: the end, or what failed.
-fn finish(how: leads::How, underway: Underway, store: Store, out: &mut [u8]) {
+fn finish(how: leads::ReadingGoes, underway: Underway, store: Store, out: &mut [u8]) {
     match how {
-        leads::How::End => end(underway, store, out),
-        leads::How::CannotOpen(_) => leads::say(b"live", how),
-        leads::How::CannotRead(_) => leads::say(b"live", how),
-        leads::How::NoRoom => {}
-        leads::How::More => {}
+        leads::ReadingGoes::End => end(underway, store, out),
+        leads::ReadingGoes::CannotOpen(_) => leads::say(b"live", how),
+        leads::ReadingGoes::CannotRead(_) => leads::say(b"live", how),
+        leads::ReadingGoes::NoRoom => {}
+        leads::ReadingGoes::More => {}
     }
 }
 
@@ -102,7 +102,7 @@ pub fn all(store: Store, first: usize) {
         }
         from = got.leads;
         let how = got.how;
-        let leads::How::More = how else {
+        let leads::ReadingGoes::More = how else {
             let last = stand.underway;
             finish(how, last, store, &mut out);
             return;

@@ -2,7 +2,7 @@
 use figures::Figure;
 
 // A seed, 1 to 2,147,483,646, and how many bits in a million flip; that the arguments are no call; or that one of them is no number, which was said.
-pub enum Asked {
+pub enum Called {
     For { seed: u32, chance: u32 },
     Usage,
     Said,
@@ -39,23 +39,23 @@ fn in_range(n: u64, least: u32, most: u32) -> Taken {
 }
 
 // The call with this seed.
-fn with_seed(seed: u32) -> Asked {
+fn with_seed(seed: u32) -> Called {
     match number(b"N", 2, 0, 1000000) {
-        Taken::Is(chance) => Asked::For { seed, chance },
-        Taken::Usage => Asked::Usage,
-        Taken::Said => Asked::Said,
+        Taken::Is(chance) => Called::For { seed, chance },
+        Taken::Usage => Called::Usage,
+        Taken::Said => Called::Said,
     }
 }
 
 // The whole call; a lead may follow.
-pub fn arguments() -> Asked {
+pub fn arguments() -> Called {
     let count = os::arg_count();
     if (count != 3) & (count != 4) {
-        return Asked::Usage;
+        return Called::Usage;
     }
     match number(b"SEED", 1, 1, 2147483646) {
         Taken::Is(seed) => with_seed(seed),
-        Taken::Usage => Asked::Usage,
-        Taken::Said => Asked::Said,
+        Taken::Usage => Called::Usage,
+        Taken::Said => Called::Said,
     }
 }

@@ -5,7 +5,7 @@
 mod call;
 mod pieces;
 
-use call::Asked;
+use call::Called;
 
 // The lead with noise, by way of a block of 65,536 bytes.
 fn send(seed: u32, chance: u32) {
@@ -18,8 +18,8 @@ fn main() {
         return;
     }
     match call::arguments() {
-        Asked::For { seed, chance } => send(seed, chance),
-        Asked::Usage => console::usage(b"noise", b"noise SEED N [LEAD]"),
-        Asked::Said => {}
+        Called::For { seed, chance } => send(seed, chance),
+        Called::Usage => console::usage(b"noise", b"noise SEED N [LEAD]"),
+        Called::Said => {}
     }
 }

@@ -1,8 +1,8 @@
 // The lead piece by piece: in, with noise, out.
 ghost use Prim.Native.Nat.{_≤_};
 ghost use lib.ListN.{length};
-use leads::How;
 use leads::Leads;
+use leads::ReadingGoes;
 use libc::STDOUT_FILENO;
 
 // The generator's number, and whether the write before succeeded.
@@ -36,17 +36,17 @@ fn send(x: u32, chance: u32, block: &mut [u8], count: usize) -> Sent
 }
 
 // What comes after the last piece: the bytes of a frame that is not whole, as they came; or what failed.
-fn finish(how: How, leads: Leads, block: &[u8]) {
+fn finish(how: ReadingGoes, leads: Leads, block: &[u8]) {
     match how {
-        How::End => {
+        ReadingGoes::End => {
             if !write(block, leads::kept(leads)) {
                 cannot_write();
             }
         }
-        How::CannotOpen(_) => leads::say(b"noise", how),
-        How::CannotRead(_) => leads::say(b"noise", how),
-        How::NoRoom => {}
-        How::More => {}
+        ReadingGoes::CannotOpen(_) => leads::say(b"noise", how),
+        ReadingGoes::CannotRead(_) => leads::say(b"noise", how),
+        ReadingGoes::NoRoom => {}
+        ReadingGoes::More => {}
     }
 }
 
@@ -67,7 +67,7 @@ pub fn all(seed: u32, chance: u32, block: &mut [u8]) {
         x = sent.x;
         leads = piece.leads;
         let how = piece.how;
-        let How::More = how else {
+        let ReadingGoes::More = how else {
             finish(how, leads, block);
             return;
         };

@@ -24,8 +24,7 @@ pub mod Reading
 mod MarkerLine
 mod Marker
 mod Computed
-mod FirstLines
-mod LastLines
+mod EightLines
 pub mod OtherLines
 mod Limits
 mod MarkerMet

@@ -13,7 +13,7 @@ use Rattle.words.specs.Says.{saysLongRead}
 use Rattle.words.specs.declared.LongRead.{LongRead}
 use Rattle.words.proofs.Told.{told as once}
 use Rattle.telegram.specs.Sync.{isGood}
-use Rattle.balise_writer.specs.Words.{asked, tooLarge, hasFifteen, wordsOf, spell}
+use Rattle.telegram.specs.Spelling.{asked, tooLarge, hasFifteen, wordsOf, spell}
 use Rattle.words_list.proofs.Alike.{printed}
 use Rattle.audibility.specs.Sound.{Heard, audible, broken, isBroken, sending, soundWith, soundOf}
 use Rattle.audibility.specs.Says.{saysSound}

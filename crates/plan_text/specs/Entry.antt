@@ -6,7 +6,7 @@ use lib.Dec.{eqb}
 use Rattle.words.specs.Answer.{pick}
 use Rattle.lines.specs.declared.Number.{Number}
 use Rattle.lines.specs.declared.Name.{Name}
-use Rattle.lines.specs.declared.Line.{Line}
+use Rattle.lines.specs.declared.TextLine.{TextLine}
 use Rattle.trace_text.specs.Said.{nth}
 use Rattle.plan_text.specs.declared.Kind.{Kind}
 use Rattle.plan_text.specs.declared.Entry.{Entry}
@@ -35,7 +35,7 @@ atPlace Number.Above kind = Entry.Unreadable
 atPlace Number.Odd kind = Entry.Unreadable
 
 -- What a line says: two words, a place and a kind.
-unfoldable pub entry : Line → Entry
+unfoldable pub entry : TextLine → Entry
 entry line =
     pick (eqb (line .count) 0) Entry.Nothing
     (pick (eqb (line .count) 2) (atPlace (nth line 0 .number) (kindOf (nth line 1 .name))) Entry.Unreadable)

@@ -5,9 +5,9 @@ ghost use mathlib.Core.Path.{_≡_};
 ghost use Rattle.trace_text.specs.Record.{bytesOf};
 ghost use Rattle.plan_text.specs.Entry.{kindOf, entered, atPlace, entry};
 ghost use Rattle.trace_text.specs.Said.{nth};
-use lines::Line;
 use lines::Name;
 use lines::Number;
+use lines::TextLine;
 use trace_text::What;
 
 // The kind of an entry, 0 to 4, or none.
@@ -52,7 +52,7 @@ fn entered(place: u32, kind: Kind) -> Entry
 }
 
 // What two words say: a place and a kind.
-fn two(line: Line) -> Entry
+fn two(line: TextLine) -> Entry
     ensures { λ r. ⌜ r ≡ atPlace (nth line 0 .number) (kindOf (nth line 1 .name)) ⌝ }
 {
     let words = line.words;
@@ -68,7 +68,7 @@ fn two(line: Line) -> Entry
 }
 
 // What a line says.
-pub fn read(line: Line) -> Entry
+pub fn read(line: TextLine) -> Entry
     ensures { λ r. ⌜ r ≡ entry line ⌝ }
 {
     let count = line.count;

@@ -3,7 +3,7 @@ ghost use Prim.Native.Nat.{_≤_};
 ghost use lib.ListN.{length};
 use crate::out;
 use crate::out::Out;
-use leads::How;
+use leads::ReadingGoes;
 use recording::Came;
 use recording::Tape;
 use recording_text::Frames;
@@ -135,13 +135,13 @@ fn at_end(from: Stand, bytes: usize) {
 }
 
 // What comes after the last piece: the end, or what failed.
-fn finish(how: How, stand: Stand, bytes: usize) {
+fn finish(how: ReadingGoes, stand: Stand, bytes: usize) {
     match how {
-        How::End => at_end(stand, bytes),
-        How::CannotOpen(_) => leads::say(b"record", how),
-        How::CannotRead(_) => leads::say(b"record", how),
-        How::NoRoom => {}
-        How::More => {}
+        ReadingGoes::End => at_end(stand, bytes),
+        ReadingGoes::CannotOpen(_) => leads::say(b"record", how),
+        ReadingGoes::CannotRead(_) => leads::say(b"record", how),
+        ReadingGoes::NoRoom => {}
+        ReadingGoes::More => {}
     }
 }
 
@@ -172,7 +172,7 @@ pub fn all(store: Store, first: usize) {
         }
         from = got.leads;
         let how = got.how;
-        let How::More = how else {
+        let ReadingGoes::More = how else {
             finish(how, stand, leads::kept(from));
             return;
         };

@@ -23,7 +23,7 @@ use Rattle.telegram.specs.declared.Word.{Word}
 use Rattle.telegram.proofs.Window.{bits-lt}
 use Rattle.contact.specs.Judge.{allAlike, firstPlace, isMarker, Contact, read, marker, judgement, judge}
 use Rattle.contact.specs.declared.Judged.{Judged}
-use Rattle.balise_writer.specs.Words.{Words, asked, tooLarge, hasFifteen, wordsOf, spell}
+use Rattle.telegram.specs.Spelling.{Words, asked, tooLarge, hasFifteen, wordsOf, spell}
 use Rattle.recorder.specs.Record.{Content, telegramOf, informed, contentOf, bytesOf, atOdometer, recordOf}
 use Rattle.recorder.specs.Received.{AsReceived}
 use Rattle.words.proofs.Never.{cannot-be}

@@ -7,7 +7,7 @@ use lib.Dec.{ltb}
 use Rattle.words.specs.Answer.{Outcome, gives, refuses, then, pick}
 use Rattle.telegram.specs.declared.Telegram.{Telegram}
 use Rattle.contact.specs.declared.Judged.{Judged}
-use Rattle.balise_writer.specs.Words.{Words, asked, spell}
+use Rattle.telegram.specs.Spelling.{Words, asked, spell}
 
 -- What a record says beyond its odometer: its kind and the words X, Y and Z.
 pub record Content : Type 0 where

@@ -1,14 +1,14 @@
 // What a record says beyond its odometer, and its eight bytes.
 ghost use mathlib.Core.Path.{_≡_};
 ghost use Rattle.words.specs.Answer.{gives};
-ghost use Rattle.balise_writer.specs.Words.{spell};
-ghost use Rattle.balise_writer.specs.Says.{saysSpelt};
+ghost use Rattle.telegram.specs.Spelling.{spell};
+ghost use Rattle.telegram.specs.Says.{saysSpelt};
 ghost use Rattle.recorder.specs.Record.{telegramOf, informed, blank, contentOf, atOdometer, eightZeroes, recording};
 ghost use Rattle.recorder.specs.Says.{saysKept, saysWent, saysRecorded};
 use crate::Recorded;
 use crate::Went;
-use balise_writer::Spelt;
 use contact::Judged;
+use telegram::Spelt;
 use telegram::Telegram;
 
 // Kind and words of a record, or why there are none.
@@ -25,8 +25,8 @@ fn words_of(telegram: Telegram) -> Spelt
     ensures { λ r. ⌜ saysSpelt r ≡ spell (telegramOf telegram) ⌝ }
 {
     match telegram {
-        Telegram::Figures(x, y, z) => balise_writer::spell(x, y as u16, z),
-        Telegram::Number(m) => balise_writer::spell(12, m, 0),
+        Telegram::Figures(x, y, z) => telegram::spell(x, y as u16, z),
+        Telegram::Number(m) => telegram::spell(12, m, 0),
     }
 }
 

@@ -9,7 +9,7 @@ use lib.Dec.{ltb}
 use borrow.Author.Tests.{le-ltb}
 use Rattle.words.specs.Answer.{Outcome, gives, refuses, then, pick}
 use Rattle.contact.specs.Judge.{Contact, read, marker}
-use Rattle.balise_writer.specs.Words.{Words, spell}
+use Rattle.telegram.specs.Spelling.{Words, spell}
 use Rattle.contact.specs.History.{after}
 use Rattle.recorder.specs.Record.{Content, telegramOf, informed, contentOf, bytesOf, blank, atOdometer, recordOf}
 use Rattle.ride.specs.Record.{odometerOf, inOrder, checkRecord}

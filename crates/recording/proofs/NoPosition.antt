@@ -7,7 +7,7 @@ use mathlib.Core.List.{List, [], _∷_, _++_}
 use lib.Dec.{ltb, eqb}
 use Rattle.words.specs.Answer.{Outcome, gives, refuses, then, pick}
 use Rattle.contact.specs.Judge.{Contact, read, marker}
-use Rattle.balise_writer.specs.Words.{Words, spell}
+use Rattle.telegram.specs.Spelling.{Words, spell}
 use Rattle.antenna.specs.Line.{Told, placed}
 use Rattle.recorder.specs.Record.{telegramOf, informed, contentOf, bytesOf, atOdometer, recordOf}
 use Rattle.ride.specs.Record.{kindOf}

@@ -18,7 +18,7 @@ use Rattle.contact.specs.Contacts.{contact, quiet, contacts, contactsFrom, next
 use Rattle.contact.specs.Judge as judging
 use Rattle.contact.specs.Judge.{marker, onesAtEnd, allZero, isMarker, judgement}
 use Rattle.contact.specs.declared.Search.{Search}
-use Rattle.contact.specs.declared.Begun.{Begun}
+use Rattle.contact.specs.declared.SearchBegun.{SearchBegun}
 use Rattle.contact.specs.declared.Next.{Next}
 use Rattle.contact.specs.declared.Judged.{Judged}
 use Rattle.contact.proofs.Law.{further, ends as at-the-end}

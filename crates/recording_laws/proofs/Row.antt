@@ -17,7 +17,7 @@ use Rattle.contact.specs.Judge.{Contact, judge}
 use Rattle.contact.specs.Says.{saysJudged}
 use Rattle.contact.specs.declared.Judged.{Judged}
 use Rattle.contact.specs.declared.Search.{Search}
-use Rattle.balise_writer.specs.Words.{spell}
+use Rattle.telegram.specs.Spelling.{spell}
 use Rattle.contact_laws.specs.Calls.{Listened, JudgeContact}
 use Rattle.contact_laws.specs.Pass.{between, cutBits}
 use Rattle.contact_laws.specs.Heard.{enough, OverIt, IsRead}

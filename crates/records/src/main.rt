@@ -4,7 +4,7 @@
 // stands in docs/EXCEPTIONS.md.
 mod blocks;
 
-use console::Found;
+use console::CardsFound;
 
 // Goes over the cards twice: once for their lengths, once for the records.
 fn main() {
@@ -12,12 +12,12 @@ fn main() {
     let mut block = blocks::room();
     let found = console::go_over(1, &mut lengths, &mut block);
     match found {
-        Found::Cards => blocks::write_cards(&lengths, &mut block),
-        Found::BadLength(_) => console::refuse_trace(b"records"),
-        Found::NoCard => console::usage(b"records", b"records CARD.."),
-        Found::TooMany => console::say_found(b"records", found),
-        Found::CannotOpen(_) => console::say_found(b"records", found),
-        Found::CannotRead(_) => console::say_found(b"records", found),
-        Found::Once(_) => console::say_found(b"records", found),
+        CardsFound::Cards => blocks::write_cards(&lengths, &mut block),
+        CardsFound::BadLength(_) => console::refuse_trace(b"records"),
+        CardsFound::NoCard => console::usage(b"records", b"records CARD.."),
+        CardsFound::TooMany => console::say_found(b"records", found),
+        CardsFound::CannotOpen(_) => console::say_found(b"records", found),
+        CardsFound::CannotRead(_) => console::say_found(b"records", found),
+        CardsFound::Once(_) => console::say_found(b"records", found),
     }
 }

@@ -4,7 +4,7 @@ ghost use Prim.Native.Nat.{_≤_};
 ghost use lib.ListN.{length};
 use crate::saying::say_found;
 use crate::saying::write;
-use console::Found;
+use console::CardsFound;
 use console::Goes;
 use ride::Ride;
 use ride_text::Done;
@@ -86,8 +86,8 @@ fn finish(program: &[u8], reasons: bool, how: Goes, stand: Stand) {
     let ride = stand.ride;
     match how {
         Goes::End => write_end(program, reasons, ride),
-        Goes::CannotOpen(number) => say_found(program, reasons, Found::CannotOpen(number)),
-        Goes::CannotRead(number) => say_found(program, reasons, Found::CannotRead(number)),
+        Goes::CannotOpen(number) => say_found(program, reasons, CardsFound::CannotOpen(number)),
+        Goes::CannotRead(number) => say_found(program, reasons, CardsFound::CannotRead(number)),
         Goes::NoRoom => {}
         Goes::More => {}
     }

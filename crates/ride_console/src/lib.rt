@@ -6,7 +6,7 @@
 mod blocks;
 mod saying;
 
-use console::Found;
+use console::CardsFound;
 use console::Given;
 pub use saying::refuse_trace;
 use settings::Store;
@@ -41,13 +41,13 @@ fn go_over(program: &[u8], call: &[u8], reasons: bool, store: Store, first: usiz
     let mut block = io::large_buffer();
     let found = console::go_over(first, &mut lengths, &mut block);
     match found {
-        Found::Cards => list_all(program, reasons, store, first, &lengths, &mut block),
-        Found::BadLength(_) => saying::refuse_trace(program, reasons),
-        Found::NoCard => saying::usage(program, call, reasons),
-        Found::TooMany => saying::say_found(program, reasons, found),
-        Found::CannotOpen(_) => saying::say_found(program, reasons, found),
-        Found::CannotRead(_) => saying::say_found(program, reasons, found),
-        Found::Once(_) => saying::say_found(program, reasons, found),
+        CardsFound::Cards => list_all(program, reasons, store, first, &lengths, &mut block),
+        CardsFound::BadLength(_) => saying::refuse_trace(program, reasons),
+        CardsFound::NoCard => saying::usage(program, call, reasons),
+        CardsFound::TooMany => saying::say_found(program, reasons, found),
+        CardsFound::CannotOpen(_) => saying::say_found(program, reasons, found),
+        CardsFound::CannotRead(_) => saying::say_found(program, reasons, found),
+        CardsFound::Once(_) => saying::say_found(program, reasons, found),
     }
 }
 

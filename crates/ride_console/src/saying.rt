@@ -1,6 +1,6 @@
 // What is written, and what is said where something goes wrong: a plain listing tells the launcher alone.
+use console::CardsFound;
 use console::Ended;
-use console::Found;
 use console::tell;
 use libc::STDOUT_FILENO;
 use ride::Line;
@@ -37,20 +37,20 @@ pub fn usage(program: &[u8], call: &[u8], reasons: bool) {
 }
 
 // How a call ends by what was found wrong with the cards.
-fn ended(found: Found) -> Ended {
+fn ended(found: CardsFound) -> Ended {
     match found {
-        Found::Cards => Ended::Said,
-        Found::NoCard => Ended::Usage,
-        Found::TooMany => Ended::TooMany,
-        Found::CannotOpen(_) => Ended::Unread,
-        Found::CannotRead(_) => Ended::Unread,
-        Found::BadLength(_) => Ended::Refused,
-        Found::Once(_) => Ended::Once,
+        CardsFound::Cards => Ended::Said,
+        CardsFound::NoCard => Ended::Usage,
+        CardsFound::TooMany => Ended::TooMany,
+        CardsFound::CannotOpen(_) => Ended::Unread,
+        CardsFound::CannotRead(_) => Ended::Unread,
+        CardsFound::BadLength(_) => Ended::Refused,
+        CardsFound::Once(_) => Ended::Once,
     }
 }
 
 // What was found wrong with the cards.
-pub fn say_found(program: &[u8], reasons: bool, found: Found) {
+pub fn say_found(program: &[u8], reasons: bool, found: CardsFound) {
     if reasons {
         console::say_found(program, found);
         return;

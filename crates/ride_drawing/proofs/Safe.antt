@@ -25,7 +25,7 @@ use Rattle.ride_text.specs.Text.{between, kind, mark, number, seen, textWith, w
 use Rattle.words.proofs.Linear.{and-parts}
 use Rattle.words.specs.Why.{Why, why, are, unsaid}
 use Rattle.telegram.specs.Telegram.{badWord}
-use Rattle.group_reason.specs.Reason.{Bad, unreadable, word, balises, bad, opens, figure, Explained, noReason, because}
+use Rattle.group_reason.specs.Reason.{Amiss, unreadable, word, balises, bad, opens, figure, Explained, noReason, because}
 use Rattle.group_reason.specs.Explain.{explain}
 use Rattle.group_reason.specs.Text.{letter, refusedAs, badly, baliseAt, soMany, reasonText}
 use Rattle.ride_drawing.specs.Sign.{title}
@@ -135,7 +135,7 @@ refused-safe (why n (are Parity.Odd)) = join (join (words " refused " refl) (num
 refused-safe (why n (are Parity.Even)) = join (join (words " refused " refl) (number-of n)) (words " even" refl)
 refused-safe (why n unsaid) = join (words " refused " refl) (number-of n)
 
-badly-safe : (b : Bad) → Safe (badly b)
+badly-safe : (b : Amiss) → Safe (badly b)
 unfolding badly areSafe
 badly-safe unreadable = words " unreadable" refl
 badly-safe (word (badWord w y)) = join (letter-safe w) (refused-safe y)

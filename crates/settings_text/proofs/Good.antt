@@ -14,7 +14,7 @@ use Rattle.settings.specs.declared.Store.{Store}
 use Rattle.settings.specs.Versions.{Kept, kept, settingsOf}
 use Rattle.settings.specs.Store.{noStore, Change, firstOf, opened, openedIf, begin, judged, withOne, mayAdd, addedIf, add}
 use Rattle.settings.proofs.Laws.{settings}
-use Rattle.lines.specs.declared.Line.{Line}
+use Rattle.lines.specs.declared.TextLine.{TextLine}
 use Rattle.lines.specs.Text.{linesIn}
 use Rattle.lines.specs.Words.{lineOf}
 use Rattle.settings_text.specs.declared.Condition.{Condition}
@@ -83,7 +83,7 @@ stated-sound store Stated.Nothing h = h
 stated-sound store (Stated.Version place gap s t) h = given-sound store (record { place = place; gap = gap; s = s; t = t }) h
 stated-sound store Stated.Unreadable h = h
 
-taken-sound : (store : Store) (line : Line) → Sound store → Sound (takeLine store line .store)
+taken-sound : (store : Store) (line : TextLine) → Sound store → Sound (takeLine store line .store)
 unfolding takeLine
 taken-sound store line h = stated-sound store (stated line) h
 

@@ -7,13 +7,13 @@ use Rattle.words.specs.Answer.{pick}
 use Rattle.figures.specs.declared.Byte.{Byte}
 use Rattle.lines.specs.declared.Number.{Number}
 use Rattle.lines.specs.declared.Word.{Word}
-use Rattle.lines.specs.declared.Line.{Line}
+use Rattle.lines.specs.declared.TextLine.{TextLine}
 use Rattle.lines.specs.Words.{largest, noWord}
 use Rattle.settings_text.specs.declared.line.Figure.{Figure}
 use Rattle.settings_text.specs.declared.line.Stated.{Stated}
 
 -- Word i of a line, the first at 0.
-abbrev pub wordAt : Line → ℕ → Word
+abbrev pub wordAt : TextLine → ℕ → Word
 wordAt line i = getD (line .words) i noWord
 
 -- A number as a place or a gap. The largest of 32 bits stands for all above it: a number too large for its type is refused as what it is, 18 or 19.
@@ -41,7 +41,7 @@ version place gap s t =
     Stated.Version p g a b
 
 -- What a line states: nothing where it has no word, a version where it has four, else it is unreadable.
-unfoldable pub stated : Line → Stated
+unfoldable pub stated : TextLine → Stated
 stated line =
     pick (eqb (line .count) 0) Stated.Nothing
     (pick (eqb (line .count) 4)

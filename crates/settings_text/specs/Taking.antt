@@ -7,7 +7,7 @@ use Rattle.settings.specs.declared.Version.{Version}
 use Rattle.settings.specs.declared.Store.{Store}
 use Rattle.settings.specs.Versions.{Kept}
 use Rattle.settings.specs.Store.{Change, begin, add}
-use Rattle.lines.specs.declared.Line.{Line}
+use Rattle.lines.specs.declared.TextLine.{TextLine}
 use Rattle.settings_text.specs.declared.line.Stated.{Stated}
 use Rattle.settings_text.specs.declared.Condition.{Condition}
 use Rattle.settings_text.specs.declared.Taken.{Taken}
@@ -37,5 +37,5 @@ statedTo store (Stated.Version place gap s t) = given store (record { place = pl
 statedTo store Stated.Unreadable = record { store = store; how = Condition.Unreadable }
 
 -- A line taken.
-unfoldable pub takeLine : Store → Line → Taken
+unfoldable pub takeLine : Store → TextLine → Taken
 takeLine store line = statedTo store (stated line)

@@ -14,7 +14,7 @@ mod taking;
 mod telling;
 
 use line::Stated;
-use lines::Line;
+use lines::TextLine;
 use settings::Store;
 pub use taking::no_store;
 
@@ -42,7 +42,7 @@ pub struct Sheet {
 
 // A line given to the store, or to one of no version, which is not opened yet: a blank line or a comment leaves it; a version opens it, at place 0 (else
 // that is told), or is added, or is refused with 4, 19, 18, 24 or 25. A line that is not fine leaves the store.
-pub fn take(store: Store, line: Line) -> Taken
+pub fn take(store: Store, line: TextLine) -> Taken
     ensures { λ r. ⌜ r ≡ takeLine store line ⌝ }
 {
     let stated = line::read_line(line);

@@ -2,8 +2,8 @@
 ghost use mathlib.Core.Path.{_≡_};
 ghost use Rattle.settings_text.specs.Line.{wordAt, figureOf, version, stated};
 use figures::Byte;
-use lines::Line;
 use lines::Number;
+use lines::TextLine;
 
 // A place or a gap of a line, or none.
 enum Figure {
@@ -49,7 +49,7 @@ fn version_of(place: Figure, gap: Figure, s: Byte, t: Byte) -> Stated
 }
 
 // What the first four words of a line state.
-fn four(line: Line) -> Stated
+fn four(line: TextLine) -> Stated
     ensures { λ r. ⌜ r ≡ version (figureOf (wordAt line 0 .number)) (figureOf (wordAt line 1 .number)) (wordAt line 2 .byte) (wordAt line 3 .byte) ⌝ }
 {
     let words = line.words;
@@ -65,7 +65,7 @@ fn four(line: Line) -> Stated
 }
 
 // What a line states.
-pub fn read_line(line: Line) -> Stated
+pub fn read_line(line: TextLine) -> Stated
     ensures { λ r. ⌜ r ≡ stated line ⌝ }
 {
     let count = line.count;

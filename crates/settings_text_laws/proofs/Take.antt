@@ -13,7 +13,7 @@ use Rattle.settings.specs.declared.Version.{Version}
 use Rattle.settings.specs.declared.Store.{Store}
 use Rattle.settings.specs.Versions.{Kept, kept, settingsOf, follows}
 use Rattle.settings.specs.Store.{firstOf, openedIf, begin, addedIf, mayAdd, add, lastPlace}
-use Rattle.lines.specs.declared.Line.{Line}
+use Rattle.lines.specs.declared.TextLine.{TextLine}
 use Rattle.settings_text.specs.declared.Condition.{Condition}
 use Rattle.settings_text.specs.declared.Taken.{Taken}
 use Rattle.settings_text.specs.Taking.{afterIt, changed, given, statedTo, takeLine}
@@ -26,7 +26,7 @@ use Rattle.demands.proofs.Demand1.StoreRules.{settings-so, version-so, store-so
 use Rattle.settings_text_laws.specs.Demand1.{Takes, heard, ByRules, States, TakeDecided}
 
 -- What is taken of a line that states a version.
-states : (store : Store) (line : Line) (v : Version) (r : Taken) → Takes store line r → States line v → r ≡ given store v
+states : (store : Store) (line : TextLine) (v : Version) (r : Taken) → Takes store line r → States line v → r ≡ given store v
 unfolding takeLine
 states store line v r c e = c .1 ∙ ap (statedTo store) e
 

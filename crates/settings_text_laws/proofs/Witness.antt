@@ -6,14 +6,14 @@ use Prim.Native.Nat.{ℕ}
 use Rattle.text.specs.Text.{codes}
 use Rattle.settings.specs.declared.Store.{Store}
 use Rattle.settings.specs.Store.{noStore}
-use Rattle.lines.specs.declared.Line.{Line}
+use Rattle.lines.specs.declared.TextLine.{TextLine}
 use Rattle.demands.proofs.Witness.CallsMet.{lent}
 use Rattle.settings_text.specs.Taking.{takeLine}
 use Rattle.settings_text.specs.Sheet.{sheet}
 use Rattle.settings_text_laws.specs.Demand1.{Takes, Reads}
 
 -- Every line is taken, and every text read.
-pub takes : (store : Store) (line : Line) → Takes store line (takeLine store line)
+pub takes : (store : Store) (line : TextLine) → Takes store line (takeLine store line)
 takes store line = ((store, (line, tt)), refl)
 
 pub reads : (text : List ℕ) → Reads text (sheet text)

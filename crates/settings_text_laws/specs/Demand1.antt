@@ -16,7 +16,7 @@ use Rattle.settings.specs.declared.Version.{Version}
 use Rattle.settings.specs.declared.Store.{Store}
 use Rattle.settings.specs.Versions.{Kept, kept}
 use Rattle.settings.specs.Store.{noStore, lastPlace, judged}
-use Rattle.lines.specs.declared.Line.{Line}
+use Rattle.lines.specs.declared.TextLine.{TextLine}
 use Rattle.lines.specs.Text.{linesIn}
 use Rattle.lines.specs.Words.{lineOf}
 use Rattle.settings_text.specs.declared.line.Stated.{Stated}
@@ -37,7 +37,7 @@ use Rattle.demands.specs.Stores.{settingsRules, versionRules, storeRules}
 -- ---- what the contracts allow
 
 -- The contract of `take` allows the answer r for this line and this store.
-abbrev pub Takes : Store → Line → Taken → Type 0
+abbrev pub Takes : Store → TextLine → Taken → Type 0
 Takes store line r = (e : AtExit (endedOf 0 take-kinds.ps take-kinds.r) tt) × take-reads.Post tt (store, (line, tt)) r e
 
 -- The contract of `read` allows the answer r for this text.
@@ -57,19 +57,19 @@ abbrev pub ByRules : List (Rule (Outcome Kept)) → Condition → Type 0
 ByRules rules how = (o : Outcome Kept) × Decided (Is kept) rules o × (how ≡ heard o)
 
 -- The line states this version.
-abbrev pub States : Line → Version → Type 0
+abbrev pub States : TextLine → Version → Type 0
 States line v = stated line ≡ Stated.Version (v .place) (v .gap) (v .s) (v .t)
 
 -- `take`: a line without a version gives no number. The first version opens the store: its place is 0, else that is told; then 4 and 19. Any other is
 -- added: the store's own refusals, 4, 19, 18, 24, 25.
 pub record TakeDecided : Type 0 where
-  pub blank : (store : Store) (line : Line) (r : Taken) → Takes store line r → stated line ≡ Stated.Nothing → r .how ≡ Condition.Fine
-  pub unreadable : (store : Store) (line : Line) (r : Taken) → Takes store line r → stated line ≡ Stated.Unreadable → r .how ≡ Condition.Unreadable
-  pub late : (store : Store) (line : Line) (v : Version) (r : Taken) → Takes store line r → States line v → store .count ≡ 0
+  pub blank : (store : Store) (line : TextLine) (r : Taken) → Takes store line r → stated line ≡ Stated.Nothing → r .how ≡ Condition.Fine
+  pub unreadable : (store : Store) (line : TextLine) (r : Taken) → Takes store line r → stated line ≡ Stated.Unreadable → r .how ≡ Condition.Unreadable
+  pub late : (store : Store) (line : TextLine) (v : Version) (r : Taken) → Takes store line r → States line v → store .count ≡ 0
       → startsLate (v .place) ≡ true → r .how ≡ Condition.FirstPlace
-  pub first : (store : Store) (line : Line) (v : Version) (r : Taken) → Takes store line r → States line v → store .count ≡ 0
+  pub first : (store : Store) (line : TextLine) (v : Version) (r : Taken) → Takes store line r → States line v → store .count ≡ 0
       → startsLate (v .place) ≡ false → ByRules (settingsRules v []) (r .how)
-  pub later : (store : Store) (line : Line) (v : Version) (r : Taken) → Takes store line r → States line v → (store .count ≡ 0 → ⊥)
+  pub later : (store : Store) (line : TextLine) (v : Version) (r : Taken) → Takes store line r → States line v → (store .count ≡ 0 → ⊥)
       → ByRules (storeRules store (versionRules (lastPlace store) v (row 25 (full (store .count)) ∷ []))) (r .how)
 
 -- ---- a text
@@ -114,5 +114,5 @@ ReadGood = (text : List ℕ) (r : Sheet) → Reads text r → r .how ≡ Conditi
 
 -- A line that is not fine leaves the store as it was; of a text that is not fine there is no store, and nothing but what is wrong.
 pub record Untouched : Type 0 where
-  pub take : (store : Store) (line : Line) (r : Taken) → Takes store line r → isFine (r .how) ≡ false → r .store ≡ store
+  pub take : (store : Store) (line : TextLine) (r : Taken) → Takes store line r → isFine (r .how) ≡ false → r .store ≡ store
   pub read : (text : List ℕ) (r : Sheet) (f : Fault) → Reads text r → says r ≡ refuses f → r ≡ bad (f .line) (f .how)

@@ -8,19 +8,23 @@ use Rattle.words.specs.Why.{why, are, unsaid}
 use Rattle.telegram.specs.Sync.{Good}
 use Rattle.telegram.specs.Stretch.{Taken}
 use Rattle.telegram.specs.Telegram.{Received, badWord}
+use Rattle.telegram.specs.Spelling.{Words}
 use Rattle.telegram.specs.Place.{Single, at}
 use Rattle.telegram.specs.Survey.{Alike, alike}
-use Rattle.telegram.specs.Says.{saysPair, saysReach, saysTelegramRead, saysFound, saysSurveyed}
+use Rattle.telegram.specs.Says.{saysPair, saysReach, saysTelegramRead, saysSpelt, saysFound, saysSurveyed}
 use Rattle.telegram.specs.declared.Pair.{Pair}
 use Rattle.telegram.specs.declared.Reach.{Reach}
 use Rattle.telegram.specs.declared.Telegram.{Telegram}
 use Rattle.telegram.specs.declared.TelegramRead.{TelegramRead}
+use Rattle.telegram.specs.declared.spelling.Spelt.{Spelt}
 use Rattle.telegram.specs.declared.Found.{Found}
 use Rattle.telegram.specs.declared.Surveyed.{Surveyed}
 use Rattle.telegram.proofs.good_pair.Kinds as pair-kinds
 use Rattle.telegram.proofs.good_pair.Reads as pair-reads
 use Rattle.telegram.proofs.read.Kinds as read-kinds
 use Rattle.telegram.proofs.read.Reads as read-reads
+use Rattle.telegram.proofs.spelling.spell.Kinds as spell-kinds
+use Rattle.telegram.proofs.spelling.spell.Reads as spell-reads
 use Rattle.telegram.proofs.inside.Kinds as inside-kinds
 use Rattle.telegram.proofs.inside.Reads as inside-reads
 use Rattle.telegram.proofs.bits.eight_bytes.Kinds as eight-bytes-kinds
@@ -58,6 +62,15 @@ read-back (TelegramRead.Is t) = refl
 read-back (TelegramRead.NotCode w p) = refl
 read-back (TelegramRead.Fifteen w) = refl
 
+abbrev pub speltOf : Outcome Words → Spelt
+speltOf (gives w) = Spelt.Words (w .x) (w .y) (w .z)
+speltOf (refuses n) = pick (eqb n 2) Spelt.TooLarge Spelt.Fifteen
+
+pub spelt-back : (r : Spelt) → speltOf (saysSpelt r) ≡ r
+spelt-back (Spelt.Words x y z) = refl
+spelt-back Spelt.TooLarge = refl
+spelt-back Spelt.Fifteen = refl
+
 -- Of a reading that is none, any answer will do.
 abbrev pub told : {A : Type 0} → (Telegram → A) → A → Received → A
 told some none (gives m) = some m
@@ -90,6 +103,9 @@ good-pair-determined κs a r r′ x x′ p q = sym (pair-back r) ∙ ap pairOf (
 
 pub read-determined : Fixed 0 read-kinds.ps read-kinds.r read-reads.Post
 read-determined κs a r r′ x x′ p q = sym (read-back r) ∙ ap readOf (p ∙ sym q) ∙ read-back r′
+
+pub spell-determined : Fixed 0 spell-kinds.ps spell-kinds.r spell-reads.Post
+spell-determined κs a r r′ x x′ p q = sym (spelt-back r) ∙ ap speltOf (p ∙ sym q) ∙ spelt-back r′
 
 pub inside-determined : Fixed 1 inside-kinds.ps inside-kinds.r inside-reads.Post
 inside-determined κs a r r′ x x′ p q = sym (reach-back r) ∙ ap reachOf (p ∙ sym q) ∙ reach-back r′

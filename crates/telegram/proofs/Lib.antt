@@ -1,4 +1,6 @@
 pub mod Words
+pub mod Spelt
+pub mod ReadsBack
 pub mod Pairs
 pub mod Taken
 pub mod Window

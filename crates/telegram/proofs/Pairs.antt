@@ -1,15 +1,16 @@
--- The ones of S xor S* are the bits in which the two differ.
+-- The ones of S xor S* are the bits in which the two differ; and what the answer about a pair shows of it.
 -- Assumes nothing.
 use mathlib.Core.Path.{_≡_, refl, sym, ap, ap₂, _∙_}
 use Prim.Native.Nat.{ℕ, zero, suc, _+_, _^_, _<_}
+use mathlib.Core.Bool.{Bool, true, false}
 use lib.Dec.{eqb}
 use lib.Bits.{bitXor, differ, xor-lt}
 use lib.Count.{ones}
-use Rattle.words.specs.Answer.{pick}
+use Rattle.words.specs.Answer.{Outcome, gives, refuses, pick}
 use Rattle.words.specs.Bits.{bit}
 use Rattle.words.proofs.Digits.{bit-lt, two-bits, bit-xor}
 use Rattle.words.proofs.Ones.{ones-is}
-use Rattle.telegram.specs.Sync.{differing}
+use Rattle.telegram.specs.Sync.{differing, isGood, Good, good, goodPair}
 use Rattle.words.proofs.HowMany.{onesOf}
 
 -- two bits differ, or they do not
@@ -24,3 +25,22 @@ ones-differing s t (suc n) =
 
 pub differing-is : (s t : ℕ) → s < 2 ^ 8 → t < 2 ^ 8 → ones (bitXor s t) ≡ differing s t 8
 differing-is s t hs ht = ones-is (bitXor s t) 8 (xor-lt 8 s t hs ht) ∙ ones-differing s t 8
+
+module _ (s t : ℕ) where
+  -- A pair that is called good is good,
+  pub is-good : gives good ≡ goodPair s t → isGood s t ≡ true
+  unfolding goodPair
+  is-good e = go (isGood s t) e
+    where
+      go : (b : Bool) → _≡_ {A = Outcome Good} (gives good) (pick b (gives good) (refuses 4)) → b ≡ true
+      go true e = refl
+      go false e = cc
+
+  -- and one that is refused is not.
+  pub not-good : refuses 4 ≡ goodPair s t → isGood s t ≡ false
+  unfolding goodPair
+  not-good e = go (isGood s t) e
+    where
+      go : (b : Bool) → _≡_ {A = Outcome Good} (refuses 4) (pick b (gives good) (refuses 4)) → b ≡ false
+      go false e = refl
+      go true e = cc

@@ -5,11 +5,13 @@ use Rattle.words.specs.Why.{why, are, unsaid}
 use Rattle.telegram.specs.Stretch.{Taken, taken}
 use Rattle.telegram.specs.Sync.{Good, good}
 use Rattle.telegram.specs.Telegram.{Received, badWord}
+use Rattle.telegram.specs.Spelling.{Words}
 use Rattle.telegram.specs.Place.{Single, at}
 use Rattle.telegram.specs.Survey.{Alike, alike}
 use Rattle.telegram.specs.declared.Pair.{Pair}
 use Rattle.telegram.specs.declared.Reach.{Reach}
 use Rattle.telegram.specs.declared.TelegramRead.{TelegramRead}
+use Rattle.telegram.specs.declared.spelling.Spelt.{Spelt}
 use Rattle.telegram.specs.declared.Found.{Found}
 use Rattle.telegram.specs.declared.Surveyed.{Surveyed}
 
@@ -28,6 +30,12 @@ abbrev pub saysTelegramRead : TelegramRead → Received
 saysTelegramRead (TelegramRead.Is t) = gives t
 saysTelegramRead (TelegramRead.NotCode w p) = refuses (badWord w (why 1 (are p)))
 saysTelegramRead (TelegramRead.Fifteen w) = refuses (badWord w (why 3 unsaid))
+
+-- The three words to send; "figure to write above 15 or above 2,047" is 2, "a short word of a telegram reads 15" is 3.
+abbrev pub saysSpelt : Spelt → Outcome Words
+saysSpelt (Spelt.Words x y z) = gives (record { x = x; y = y; z = z })
+saysSpelt Spelt.TooLarge = refuses 2
+saysSpelt Spelt.Fifteen = refuses 3
 
 -- A place with its telegram; 4 and 5 as above, "no place in the stretch" is 6.
 abbrev pub saysFound : Found → Outcome Single

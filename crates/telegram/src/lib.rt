@@ -1,6 +1,6 @@
 // Telegrams of document 01: the sync pair, the three words between two sync words, the places in a stretch of bits.
-// Promises: a telegram is read whole or refused by its first bad word; every place of a stretch is found, and no other.
-// Specification: specs/Sync.antt, specs/Telegram.antt, specs/Stretch.antt, specs/Place.antt, specs/Survey.antt, specs/Says.antt (the answers).
+// Promises: a telegram is read whole or refused by its first bad word, and spelt as the words that read so; every place of a stretch is found, and no other.
+// Specification: specs/Sync.antt, specs/Telegram.antt, specs/Spelling.antt, specs/Stretch.antt, specs/Place.antt, specs/Survey.antt, specs/Says.antt (the answers).
 // Laws: asked again from the bit after each place until 6, `find` hands out exactly the places of the stretch, each once, in order (proofs/Law.antt).
 ghost use mathlib.Core.Path.{_≡_};
 ghost use Rattle.telegram.specs.Stretch.{stretchOf};
@@ -16,10 +16,13 @@ mod alike;
 mod bits;
 mod forty;
 mod scan;
+mod spelling;
 mod stretch;
 mod sync;
 
 pub use bits::eight_bytes;
+pub use spelling::Spelt;
+pub use spelling::spell;
 use words::Parity;
 use words::ShortRead;
 

@@ -1,14 +1,14 @@
 // The detector, alone and with the judging of what it hands out.
 use crate::say;
-use contact::Begun;
 use contact::Next;
+use contact::SearchBegun;
 use contact::begin;
 use contact::judge;
 use contact::next_contact;
 
 // The contacts of a record's first bits, up to the first answer that is none.
 fn ask(record: &[u8], bits: usize) {
-    let Begun::Search(search) = begin(record, 0, bits) else {
+    let SearchBegun::Search(search) = begin(record, 0, bits) else {
         say::words(b"refused 5\n");
         return;
     };
@@ -40,7 +40,7 @@ pub fn records() {
 
 // The first contact of a record, judged.
 fn ask_and_judge(record: &[u8], bits: usize) {
-    let Begun::Search(search) = begin(record, 0, bits) else {
+    let SearchBegun::Search(search) = begin(record, 0, bits) else {
         say::words(b"refused 5\n");
         return;
     };

@@ -1,7 +1,7 @@
 -- What is counted over a file's entries.
 -- Assumes nothing.
 use mathlib.Core.Bool.{Bool, true, not}
-use Rattle.fields.specs.Fields.{more}
+use Rattle.figures.specs.Fields.{more}
 use Rattle.test_rows.specs.declared.tally.Tally.{Tally}
 
 -- Nothing counted.

@@ -51,13 +51,13 @@ fn words_of(x: Short, y: Short, z: Short) -> Meant {
 
 // The number balise that 12nN writes.
 fn number(text: &[u8]) -> Meant {
-    let Figure::Number(n) = figures::decimal(fields::field(text, b'n', 1), 65535) else {
+    let Figure::Number(n) = figures::decimal(figures::field(text, b'n', 1), 65535) else {
         return Meant::Nothing;
     };
     let LongWritten::Word(w) = words::write_long(n as u16) else {
         return Meant::Nothing;
     };
-    let x = sent(fields::field(text, b'n', 0));
+    let x = sent(figures::field(text, b'n', 0));
     words_of(
         x,
         Short::Word((w / 256) as u8),
@@ -73,15 +73,15 @@ pub fn heard_of(text: &[u8]) -> Meant {
     if check::same(text, b"?") {
         return Meant::Is(Heard::Unreadable);
     }
-    if fields::has(text, b'n') {
+    if figures::has(text, b'n') {
         return number(text);
     }
-    if fields::has(text, b'/') {
-        let x = received(fields::field(text, b'/', 0));
-        let y = received(fields::field(text, b'/', 1));
-        return words_of(x, y, received(fields::field(text, b'/', 2)));
+    if figures::has(text, b'/') {
+        let x = received(figures::field(text, b'/', 0));
+        let y = received(figures::field(text, b'/', 1));
+        return words_of(x, y, received(figures::field(text, b'/', 2)));
     }
-    let x = sent(fields::field(text, b'.', 0));
-    let y = sent(fields::field(text, b'.', 1));
-    words_of(x, y, sent(fields::field(text, b'.', 2)))
+    let x = sent(figures::field(text, b'.', 0));
+    let y = sent(figures::field(text, b'.', 1));
+    words_of(x, y, sent(figures::field(text, b'.', 2)))
 }

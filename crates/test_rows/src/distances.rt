@@ -9,9 +9,9 @@ use group::Measured;
 
 // Whether a cell in metres, with or without a tenth after a comma, shows these decimetres.
 fn shows(cell: &[u8], dm: u64) -> bool {
-    let whole = spelling::spells(fields::field(cell, b',', 0), dm / 10);
-    if fields::has(cell, b',') {
-        whole & spelling::spells(fields::field(cell, b',', 1), dm % 10)
+    let whole = spelling::spells(figures::field(cell, b',', 0), dm / 10);
+    if figures::has(cell, b',') {
+        whole & spelling::spells(figures::field(cell, b',', 1), dm % 10)
     } else {
         whole & (dm % 10 == 0)
     }
@@ -58,12 +58,12 @@ fn is_so(by: u8, figure: u8, means: &[u8]) -> bool {
 
 // One entry, counted. The table goes figure by figure from 0, and for each BY by BY.
 pub fn entry(before: Tally, line: &[u8]) -> Tally {
-    let by = spelling::figure(fields::field(line, b'\t', 0));
-    let figure = spelling::figure(fields::field(line, b'\t', 1));
+    let by = spelling::figure(figures::field(line, b'\t', 0));
+    let figure = spelling::figure(figures::field(line, b'\t', 1));
     if figure as u32 * 15 + by as u32 != before.compared {
         return tally::out_of_place(before, line);
     }
-    let cell = fields::field(line, b'\t', 2);
-    let means = fields::field(line, b'\t', 3);
+    let cell = figures::field(line, b'\t', 2);
+    let means = figures::field(line, b'\t', 3);
     tally::entry(before, is_put_right(cell, means), is_so(by, figure, means))
 }

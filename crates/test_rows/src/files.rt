@@ -35,7 +35,7 @@ fn lines(file: File, text: &[u8]) -> Tally {
     let mut t = tally::none();
     let mut at = 0;
     while at < text.len() {
-        let end = fields::place_of(text, at, b'\n');
+        let end = figures::place_of(text, at, b'\n');
         t = line(file, t, &text[at..end]);
         at = end + 1;
     }

@@ -51,7 +51,7 @@ fn group_of(text: &[u8]) -> Gathered {
     let mut group = empty();
     let mut at = 0;
     while at < text.len() {
-        let end = fields::place_of(text, at, b' ');
+        let end = figures::place_of(text, at, b' ');
         let Meant::Is(heard) = balises::heard_of(&text[at..end]) else {
             return Gathered { good: false, group };
         };
@@ -83,7 +83,7 @@ fn is_judged_so(g: Group, wanted: &[u8]) -> bool {
 
 // One entry, counted, with a line for it.
 pub fn entry(before: Tally, line: &[u8]) -> Tally {
-    let sign = fields::place_of(line, 0, b'=');
+    let sign = figures::place_of(line, 0, b'=');
     if line.len() < 2 {
         return tally::out_of_place(before, line);
     }

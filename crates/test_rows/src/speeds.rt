@@ -33,11 +33,11 @@ fn is_so(figure: u8, means: &[u8]) -> bool {
 
 // One entry, counted. The tables go figure by figure from 0 to 14, one after the other.
 pub fn entry(before: Tally, line: &[u8]) -> Tally {
-    let figure = spelling::figure(fields::field(line, b'\t', 1));
+    let figure = spelling::figure(figures::field(line, b'\t', 1));
     if figure as u32 != before.compared % 15 {
         return tally::out_of_place(before, line);
     }
-    let cell = fields::field(line, b'\t', 2);
-    let means = fields::field(line, b'\t', 3);
+    let cell = figures::field(line, b'\t', 2);
+    let means = figures::field(line, b'\t', 3);
     tally::entry(before, !same(cell, means), is_so(figure, means))
 }

@@ -2,7 +2,7 @@
 ghost use mathlib.Core.Path.{_≡_};
 ghost use Rattle.test_rows.specs.Counting.{noEntries, oneEntry};
 use crate::say;
-use fields::more;
+use figures::more;
 
 pub struct Tally {
     pub compared: u32,

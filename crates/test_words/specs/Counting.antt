@@ -2,8 +2,8 @@
 -- Assumes nothing.
 use Prim.Native.Nat.{ℕ}
 use mathlib.Core.Bool.{Bool, true, not}
-use Rattle.fields.specs.Fields.{more}
-use Rattle.test_words.specs.declared.counts.Found.{Found}
+use Rattle.figures.specs.Fields.{more}
+use Rattle.test_words.specs.declared.counts.WordFound.{WordFound}
 use Rattle.test_words.specs.declared.counts.Cells.{Cells}
 use Rattle.test_words.specs.declared.counts.Counts.{Counts}
 
@@ -15,15 +15,15 @@ abbrev pub noCounts : Counts
 noCounts = record { cells = 0; readable = noCells; right = noCells; misread = 0; refused = 0; absent = 0; unreadable = 0; differences = 0; next = 0 }
 
 -- One cell more of a kind, by how its word was found.
-unfoldable pub oneMore : Cells → Found → Cells
+unfoldable pub oneMore : Cells → WordFound → Cells
 oneMore c f = record { all = more (c .all) true; written = more (c .written) (f .written); checked = more (c .checked) (f .checked); listed = more (c .listed) (f .listed) }
 
 -- The differences with those of a word: one for each way in which it was not found as it should be.
-unfoldable pub missed : ℕ → Found → ℕ
+unfoldable pub missed : ℕ → WordFound → ℕ
 missed n f = more (more (more n (not (f .written))) (not (f .checked))) (not (f .listed))
 
 -- A readable cell; a cell that was put right.
-unfoldable pub readableCell : Counts → Found → Counts
+unfoldable pub readableCell : Counts → WordFound → Counts
 readableCell c f =
     record {
       cells = c .cells;
@@ -37,7 +37,7 @@ readableCell c f =
       next = c .next;
     }
 
-unfoldable pub rightCell : Counts → Found → Counts
+unfoldable pub rightCell : Counts → WordFound → Counts
 rightCell c f =
     record {
       cells = c .cells;

@@ -10,7 +10,7 @@ use Rattle.words.specs.Answer.{pick}
 use Rattle.figures.specs.Figures.{decimal, hex}
 use Rattle.figures.specs.declared.Figure.{Figure}
 use Rattle.figures.specs.declared.Byte.{Byte}
-use Rattle.fields.specs.Fields.{field}
+use Rattle.figures.specs.Fields.{field}
 use Rattle.test_words.specs.declared.cells.Cell.{Cell}
 use Rattle.test_words.specs.declared.cells.Shown.{Shown}
 

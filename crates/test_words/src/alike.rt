@@ -1,6 +1,6 @@
 // Every long word by both readers, by the checks and by the printed list: whether they give the same.
 use crate::say;
-use fields::more;
+use figures::more;
 use words::LongRead;
 use words::Parity;
 

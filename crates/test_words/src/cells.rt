@@ -99,9 +99,9 @@ fn put_right(figure: u16, off: Shown, right: Shown) -> Cell
 fn columns(figure: u16, line: &[u8]) -> Cell
     ensures { λ r. ⌜ r ≡ columnsOf figure (now (line .entry)) ⌝ }
 {
-    let off = read_off(fields::field(line, b'\t', 2));
-    let right = fields::field(line, b'\t', 3);
-    let why = fields::field(line, b'\t', 4);
+    let off = read_off(figures::field(line, b'\t', 2));
+    let right = figures::field(line, b'\t', 3);
+    let why = figures::field(line, b'\t', 4);
     if right.len() == 0 {
         return held(figure, off);
     }
@@ -118,7 +118,7 @@ pub fn read(line: &[u8]) -> Cell
     if begins(line, b'#') {
         return Cell::Comment;
     }
-    match figures::decimal(fields::field(line, b'\t', 0), 2047) {
+    match figures::decimal(figures::field(line, b'\t', 0), 2047) {
         Figure::Number(n) => columns(n as u16, line),
         Figure::Above => Cell::Unknown,
         Figure::Odd => Cell::Unknown,

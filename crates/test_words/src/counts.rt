@@ -2,10 +2,10 @@
 ghost use mathlib.Core.Path.{_≡_};
 ghost use Rattle.test_words.specs.Counting.{noCells, noCounts, oneMore, missed, readableCell, rightCell, misreadCell, unreadableCell, anyCell, unknownLine};
 use crate::say;
-use fields::more;
+use figures::more;
 
 // How the word of a cell was found: written so, read so by the checks, read so by the list.
-pub struct Found {
+pub struct WordFound {
     pub written: bool,
     pub checked: bool,
     pub listed: bool,
@@ -60,7 +60,7 @@ pub fn none() -> Counts
 }
 
 // One cell more of a kind.
-fn one_more(cells: Cells, found: Found) -> Cells
+fn one_more(cells: Cells, found: WordFound) -> Cells
     ensures { λ r. ⌜ r ≡ oneMore cells found ⌝ }
 {
     Cells {
@@ -72,7 +72,7 @@ fn one_more(cells: Cells, found: Found) -> Cells
 }
 
 // How often a word was not found as it should be, added to the differences.
-fn missed(differences: u32, found: Found) -> u32
+fn missed(differences: u32, found: WordFound) -> u32
     ensures { λ r. ⌜ r ≡ missed differences found ⌝ }
 {
     let written = found.written;
@@ -84,7 +84,7 @@ fn missed(differences: u32, found: Found) -> u32
 }
 
 // A readable cell, by how its word was found.
-pub fn readable(counts: Counts, found: Found) -> Counts
+pub fn readable(counts: Counts, found: WordFound) -> Counts
     ensures { λ r. ⌜ r ≡ readableCell counts found ⌝ }
 {
     let mut c = counts;
@@ -95,7 +95,7 @@ pub fn readable(counts: Counts, found: Found) -> Counts
 }
 
 // A cell that was put right, by how its word was found.
-pub fn right(counts: Counts, found: Found) -> Counts
+pub fn right(counts: Counts, found: WordFound) -> Counts
     ensures { λ r. ⌜ r ≡ rightCell counts found ⌝ }
 {
     let mut c = counts;

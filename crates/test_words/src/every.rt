@@ -1,6 +1,6 @@
 // Every word there is: how many are read, whether each that is read is written back as itself, and how many of the refused are odd and even.
 use crate::say;
-use fields::more;
+use figures::more;
 use words::LongRead;
 use words::LongWritten;
 use words::Parity;

@@ -4,7 +4,7 @@ use crate::cells;
 use crate::cells::Cell;
 use crate::counts;
 use crate::counts::Counts;
-use crate::counts::Found;
+use crate::counts::WordFound;
 use crate::say;
 use words::LongRead;
 use words::LongWritten;
@@ -71,8 +71,8 @@ fn is_refused(figure: u16, word: u16, read: LongRead, by: &[u8]) -> bool {
 }
 
 // How the word of a figure is found.
-fn find(figure: u16, word: u16) -> Found {
-    Found {
+fn find(figure: u16, word: u16) -> WordFound {
+    WordFound {
         written: is_written(figure, word),
         checked: is_read(figure, word, words::read_long(word), b", by the checks"),
         listed: is_read(figure, word, words_list::read_long(word), b", by the list"),
@@ -132,7 +132,7 @@ pub fn compare(text: &[u8]) {
     let mut c = counts::none();
     let mut at = 0;
     while at < text.len() {
-        let end = fields::place_of(text, at, b'\n');
+        let end = figures::place_of(text, at, b'\n');
         c = line(c, &text[at..end]);
         at = end + 1;
     }

@@ -11,8 +11,8 @@ use Rattle.words.specs.Answer.{Outcome, gives, refuses, pick}
 use Rattle.words.proofs.Told.{Fixed}
 use Rattle.text.specs.Put.{Put, came}
 use Rattle.trace_text.specs.Record.{Made, Recording}
-use Rattle.trace_text.specs.Says.{saysHow, saysRecorded}
-use Rattle.trace_text.specs.declared.How.{How}
+use Rattle.trace_text.specs.Says.{saysMakingWent, saysRecorded}
+use Rattle.trace_text.specs.declared.MakingWent.{MakingWent}
 use Rattle.trace_text.specs.declared.Recorded.{Recorded}
 use Rattle.trace_text.proofs.read.Kinds as read-kinds
 use Rattle.trace_text.proofs.read.Reads as read-reads
@@ -26,20 +26,20 @@ use Rattle.trace_text.proofs.put_thing.Kinds as put-thing-kinds
 use Rattle.trace_text.proofs.put_thing.Reads as put-thing-reads
 
 -- From what an answer says, the answer.
-abbrev pub howOf : Outcome Made → How
-howOf (gives m) = How.Made
-howOf (refuses n) = pick (eqb n 2) How.TooLarge How.Fifteen
+abbrev pub howOf : Outcome Made → MakingWent
+howOf (gives m) = MakingWent.Made
+howOf (refuses n) = pick (eqb n 2) MakingWent.TooLarge MakingWent.Fifteen
 
-pub how-back : (h : How) → howOf (saysHow h) ≡ h
-how-back How.Made = refl
-how-back How.TooLarge = refl
-how-back How.Fifteen = refl
+pub how-back : (h : MakingWent) → howOf (saysMakingWent h) ≡ h
+how-back MakingWent.Made = refl
+how-back MakingWent.TooLarge = refl
+how-back MakingWent.Fifteen = refl
 
 abbrev pub recordedOf : Recording → Recorded
 recordedOf r = record { bytes = r .bytes; how = howOf (r .answer) }
 
 pub recorded-back : (r : Recorded) → recordedOf (saysRecorded r) ≡ r
-recorded-back r = ap (λ (h : How). record { bytes = r .bytes; how = h }) (how-back (r .how))
+recorded-back r = ap (λ (h : MakingWent). record { bytes = r .bytes; how = h }) (how-back (r .how))
 
 pub read-determined : Fixed 0 read-kinds.ps read-kinds.r read-reads.Post
 read-determined κs a r r′ x x′ p q = p ∙ sym q

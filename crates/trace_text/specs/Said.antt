@@ -12,7 +12,7 @@ use Rattle.figures.specs.declared.Byte.{Byte}
 use Rattle.lines.specs.declared.Number.{Number}
 use Rattle.lines.specs.declared.Name.{Name}
 use Rattle.lines.specs.declared.Word.{Word}
-use Rattle.lines.specs.declared.Line.{Line}
+use Rattle.lines.specs.declared.TextLine.{TextLine}
 use Rattle.lines.specs.Words.{noWord}
 use Rattle.trace_text.specs.declared.What.{What}
 use Rattle.trace_text.specs.declared.Said.{Said}
@@ -87,11 +87,11 @@ raw name a b c d =
     Read.Odd
 
 -- A word of a line.
-abbrev pub nth : Line → ℕ → Word
+abbrev pub nth : TextLine → ℕ → Word
 nth line i = getD (line .words) i noWord
 
 -- What stands after the place, "and nothing after": it goes by the number of words, the place among them.
-unfoldable pub whatOf : Line → Read
+unfoldable pub whatOf : TextLine → Read
 whatOf line =
     pick (eqb (line .count) 2) (named (nth line 1 .name))
     (pick (eqb (line .count) 3) (numbered (nth line 1 .number) (nth line 2 .number))
@@ -109,5 +109,5 @@ atPlace Number.Above read = Said.Unreadable
 atPlace Number.Odd read = Said.Unreadable
 
 -- What a line says.
-unfoldable pub said : Line → Said
+unfoldable pub said : TextLine → Said
 said line = pick (eqb (line .count) 0) Said.Nothing (atPlace (nth line 0 .number) (whatOf line))

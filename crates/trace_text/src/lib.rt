@@ -15,8 +15,8 @@ mod putting;
 mod reading;
 mod things;
 
-use lines::Line;
 use lines::Number;
+use lines::TextLine;
 use reading::Read;
 
 // What lies at a place: a balise with its figures X, Y and Z (for X = 12 with its number Y), where one too large for its type stands as the largest of
@@ -37,7 +37,7 @@ pub enum Said {
 }
 
 // How making a record went: made, or refusal 2 or 3.
-pub enum How {
+pub enum MakingWent {
     Made,
     TooLarge,
     Fifteen,
@@ -46,11 +46,11 @@ pub enum How {
 // What making a record answers: its eight bytes, all zero if it is not made, and how it went.
 pub struct Recorded {
     pub bytes: [u8; 8],
-    pub how: How,
+    pub how: MakingWent,
 }
 
 // What a line says.
-pub fn read(line: Line) -> Said
+pub fn read(line: TextLine) -> Said
     ensures { λ r. ⌜ r ≡ said line ⌝ }
 {
     if line.count == 0 {

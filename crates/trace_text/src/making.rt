@@ -2,15 +2,15 @@
 ghost use mathlib.Core.Path.{_≡_};
 ghost use Rattle.words.specs.Answer.{gives};
 ghost use Rattle.trace_text.specs.Record.{bytesOf, recordOf, recording, eightZeroes};
-ghost use Rattle.trace_text.specs.Says.{saysHow, saysRecorded};
+ghost use Rattle.trace_text.specs.Says.{saysMakingWent, saysRecorded};
 ghost use Rattle.trace_text.specs.declared.What.{What};
-use crate::How;
+use crate::MakingWent;
 use crate::Recorded;
-use balise_writer::Spelt;
+use telegram::Spelt;
 
 // No record, and why.
-fn refused(how: How) -> Recorded
-    ensures { λ r. ⌜ saysRecorded r ≡ record { answer = saysHow how; bytes = eightZeroes } ⌝ }
+fn refused(how: MakingWent) -> Recorded
+    ensures { λ r. ⌜ saysRecorded r ≡ record { answer = saysMakingWent how; bytes = eightZeroes } ⌝ }
 {
     Recorded {
         bytes: [0, 0, 0, 0, 0, 0, 0, 0],
@@ -28,7 +28,7 @@ pub fn made(place: u32, kind: u8, x: u8, y: u8, z: u8) -> Recorded
     let d = (place % 256) as u8;
     Recorded {
         bytes: [a, b, c, d, kind, x, y, z],
-        how: How::Made,
+        how: MakingWent::Made,
     }
 }
 
@@ -36,10 +36,10 @@ pub fn made(place: u32, kind: u8, x: u8, y: u8, z: u8) -> Recorded
 pub fn balise(place: u32, x: u8, y: u16, z: u8) -> Recorded
     ensures { λ r. ⌜ saysRecorded r ≡ recording (recordOf place (What.Balise x y z)) ⌝ }
 {
-    let spelt = balise_writer::spell(x, y, z);
+    let spelt = telegram::spell(x, y, z);
     match spelt {
         Spelt::Words { x: a, y: b, z: c } => made(place, 0, a, b, c),
-        Spelt::TooLarge => refused(How::TooLarge),
-        Spelt::Fifteen => refused(How::Fifteen),
+        Spelt::TooLarge => refused(MakingWent::TooLarge),
+        Spelt::Fifteen => refused(MakingWent::Fifteen),
     }
 }

@@ -3,9 +3,9 @@ ghost use mathlib.Core.Path.{_≡_};
 ghost use Rattle.trace_text.specs.Said.{figureOf, named, numbered, figures, isRaw, raw, whatOf};
 use crate::What;
 use figures::Byte;
-use lines::Line;
 use lines::Name;
 use lines::Number;
+use lines::TextLine;
 use lines::Word;
 
 // A figure, or none.
@@ -138,7 +138,7 @@ fn raw(name: Name, a: Byte, b: Byte, c: Byte, d: Byte) -> Read
 }
 
 // What stands after the place.
-pub fn what_of(line: Line) -> Read
+pub fn what_of(line: TextLine) -> Read
     ensures { λ r. ⌜ r ≡ whatOf line ⌝ }
 {
     let count = line.count;

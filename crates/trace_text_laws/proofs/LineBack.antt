@@ -10,7 +10,7 @@ use lib.Seq.{length-take-le, drop-at}
 use Rattle.text.specs.Text.{codes, decimal}
 use Rattle.text.specs.Put.{placed, Put, put, came}
 use Rattle.text.proofs.Standing.{Stands, stands}
-use Rattle.lines.specs.declared.Line.{Line}
+use Rattle.lines.specs.declared.TextLine.{TextLine}
 use Rattle.lines.specs.declared.Got.{Got}
 use Rattle.lines.specs.Text.{upTo, newline, wordsOf}
 use Rattle.lines.specs.Words.{largest, lineOf, noWords, keptAll}

@@ -10,7 +10,7 @@ use Rattle.words.specs.Answer.{Outcome, gives, refuses, pick}
 use Rattle.words.proofs.Linear.{and-parts}
 use Rattle.telegram.specs.Telegram.{Received, telegram}
 use Rattle.telegram.specs.declared.Telegram.{Telegram}
-use Rattle.balise_writer.specs.Words.{asked, spell}
+use Rattle.telegram.specs.Spelling.{asked, spell}
 use Rattle.recorder.proofs.Received.{spelt-back}
 use Rattle.trace_text.specs.declared.What.{What}
 use Rattle.trace_text.specs.Record.{bytesOf, recordOf}

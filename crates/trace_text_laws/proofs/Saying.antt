@@ -11,7 +11,7 @@ use Rattle.words.specs.Answer.{gives, then, pick}
 use Rattle.text.specs.Text.{codes, digits, decimal}
 use Rattle.figures.specs.Figures.{hex}
 use Rattle.telegram.specs.declared.Telegram.{Telegram}
-use Rattle.balise_writer.specs.Words.{asked, spell}
+use Rattle.telegram.specs.Spelling.{asked, spell}
 use Rattle.lines.specs.declared.Number.{Number}
 use Rattle.lines.specs.Words.{largest, number, same, name, wordOf, noWords, kept, keptAll}
 use Rattle.lines_laws.specs.Printed as printed

@@ -14,7 +14,7 @@ use Rattle.text.proofs.Placing.{placed-start}
 use Rattle.text.proofs.Standing.{was-put}
 use Rattle.figures.specs.Figures.{hexDigit, hex}
 use Rattle.lines.specs.declared.Got.{Got}
-use Rattle.lines.specs.declared.Line.{Line}
+use Rattle.lines.specs.declared.TextLine.{TextLine}
 use Rattle.lines.specs.Text.{beginning}
 use Rattle.lines.specs.Words.{noWords, kept}
 use Rattle.lines.specs.Reading.{digitOn, numberOn, lettersOn, noLetters, letterOn, named, byteOf, done, closed, fresh, character, whole, unfinished, lineFrom, nextLine}
@@ -23,7 +23,7 @@ use Rattle.lines_laws.specs.Texts.{line, used, ReadOut}
 use Rattle.lines_laws.specs.Texts as reading
 use Rattle.trace_text.specs.declared.What.{What}
 use Rattle.trace_text.specs.declared.Said.{Said}
-use Rattle.trace_text.specs.declared.How.{How}
+use Rattle.trace_text.specs.declared.MakingWent.{MakingWent}
 use Rattle.trace_text.specs.Said.{whatOf, said}
 use Rattle.trace_text.specs.Record.{recordOf}
 use Rattle.trace_text.specs.Thing.{blank, thingOf, thingAt}
@@ -107,7 +107,7 @@ read-out =
 comes : Comes (first .line ∷ last .line ∷ []) (made (marker ∷ []))
 unfolding beginning nextLine lineFrom character fresh noWords noLetters letterOn numberOn digitOn lettersOn closed kept done byteOf hex hexDigit named whole unfinished said whatOf recordOf
 comes =
-    thing {place = 5} {what = What.Marker} (record { bytes = marker; how = How.Made }) ((first .line, tt), refl) ((5, (What.Marker, tt)), refl) refl
+    thing {place = 5} {what = What.Marker} (record { bytes = marker; how = MakingWent.Made }) ((first .line, tt), refl) ((5, (What.Marker, tt)), refl) refl
     (nothing ((last .line, tt), refl) no-more)
 
 taken-met : Taken text (made (marker ∷ []))

@@ -10,8 +10,8 @@ use lib.ListN.{length, getD, drop, length-append}
 use borrow.Author.Tests.{ne-eqb}
 use Rattle.words.specs.Answer.{Outcome, gives, refuses, then, pick}
 use Rattle.words.proofs.Never.{cannot-be}
-use Rattle.balise_writer.specs.Words.{Words, asked, spell}
-use Rattle.lines.specs.declared.Line.{Line}
+use Rattle.telegram.specs.Spelling.{Words, asked, spell}
+use Rattle.lines.specs.declared.TextLine.{TextLine}
 use Rattle.lines.specs.Text.{blank, hash, upTo, cut, some, wordsOf, linesOf, beginning, linesIn}
 use Rattle.lines.specs.Words.{lineOf, noWords, keptAll}
 use Rattle.lines_laws.specs.Laws.{OneLine}
@@ -20,12 +20,12 @@ use Rattle.lines_laws.proofs.Laws.{first-line}
 use Rattle.lines_laws.proofs.Texts.{all-lines}
 use Rattle.trace_text.specs.declared.What.{What}
 use Rattle.trace_text.specs.declared.Said.{Said}
-use Rattle.trace_text.specs.declared.How.{How}
+use Rattle.trace_text.specs.declared.MakingWent.{MakingWent}
 use Rattle.trace_text.specs.declared.Recorded.{Recorded}
 use Rattle.trace_text.specs.Said.{said}
 use Rattle.trace_text.specs.Record.{Made, Recording, recording, recordOf, bytesOf}
 use Rattle.trace_text.specs.Record as recorded
-use Rattle.trace_text.specs.Says.{saysHow, saysRecorded}
+use Rattle.trace_text.specs.Says.{saysMakingWent, saysRecorded}
 use Rattle.trace_text_laws.specs.Calls.{ReadLine, RecordOf}
 use Rattle.trace_text_laws.specs.Texts.{Result, made, unreadable, refused, before, Writes, Comes, no-more, nothing, thing, wrong, bad, Taken}
 
@@ -54,21 +54,21 @@ one-more r bytes trace unreadable is e = e
 one-more r bytes trace (refused n) is e = e
 
 -- A line that says nothing.
-pub says-nothing : (l : Line) (ls : List Line) (r : Result) → said l ≡ Said.Nothing → Comes (l ∷ ls) r → Comes ls r
+pub says-nothing : (l : TextLine) (ls : List TextLine) (r : Result) → said l ≡ Said.Nothing → Comes (l ∷ ls) r → Comes ls r
 says-nothing l ls r is (nothing reads rest) = rest
 says-nothing l ls _ is (thing {place = place} {what = what} r reads records how rest) = cannot-be (let e : Said.Thing place what ≡ Said.Nothing = reads .1 ∙ is in cc)
 says-nothing l ls _ is (wrong reads) = cannot-be (let e : Said.Unreadable ≡ Said.Nothing = reads .1 ∙ is in cc)
 says-nothing l ls _ is (bad {place = place} {what = what} r reads records how) = cannot-be (let e : Said.Thing place what ≡ Said.Nothing = reads .1 ∙ is in cc)
 
 -- A line that says a thing with a record.
-same-thing : (place place′ : ℕ) (what what′ : What) (l : Line) → Said.Thing place′ what′ ≡ said l → said l ≡ Said.Thing place what → recordOf place′ what′ ≡ recordOf place what
+same-thing : (place place′ : ℕ) (what what′ : What) (l : TextLine) → Said.Thing place′ what′ ≡ said l → said l ≡ Said.Thing place what → recordOf place′ what′ ≡ recordOf place what
 same-thing place place′ what what′ l e f =
     let same : Said.Thing place′ what′ ≡ Said.Thing place what = e ∙ f in
     let p : place′ ≡ place = cc in
     let w : what′ ≡ what = cc in
     ap₂ recordOf p w
 
-pub split : (l : Line) (ls : List Line) (place : ℕ) (what : What) (bytes : List ℕ) (r : Result) → said l ≡ Said.Thing place what → recordOf place what ≡ gives bytes → Comes (l ∷ ls) r
+pub split : (l : TextLine) (ls : List TextLine) (place : ℕ) (what : What) (bytes : List ℕ) (r : Result) → said l ≡ Said.Thing place what → recordOf place what ≡ gives bytes → Comes (l ∷ ls) r
     → (rest : Result) × Comes ls rest × (r ≡ before bytes rest)
 split l ls place what bytes r is has (nothing reads rest) = cannot-be (let e : Said.Nothing ≡ Said.Thing place what = reads .1 ∙ is in cc)
 split l ls place what bytes _ is has (thing {rest = rest} {place = p} {what = w} r reads records how more) =
@@ -79,7 +79,7 @@ split l ls place what bytes _ is has (bad {place = p} {n = n} {what = w} r reads
     let told : saysRecorded r ≡ recording (gives bytes) = records .1 ∙ ap recording (same-thing place p what w l (reads .1) is ∙ has) in
     cannot-be (let e : _≡_ {A = Outcome Made} (refuses n) (gives recorded.made) = sym how ∙ ap (λ (x : Recording). x .answer) told in cc)
 
-says-thing : (l : Line) (ls : List Line) (place : ℕ) (what : What) (bytes trace : List ℕ) (r : Result) → said l ≡ Said.Thing place what → recordOf place what ≡ gives bytes
+says-thing : (l : TextLine) (ls : List TextLine) (place : ℕ) (what : What) (bytes trace : List ℕ) (r : Result) → said l ≡ Said.Thing place what → recordOf place what ≡ gives bytes
     → ((s : Result) → Comes ls s → Writes s trace) → Comes (l ∷ ls) r → Writes r (bytes ++ trace)
 says-thing l ls place what bytes trace r is has others comes =
     let parts = split l ls place what bytes r is has comes in
@@ -118,7 +118,7 @@ unfolding linesIn
 comes-back {text} {trace} r tells taken =
     let lines = all-lines (taken .first) (taken .others) (taken .lines) (taken .enough) (taken .read) in
     let of-text : taken .lines ≡ keptOf (linesOf text) = lines ∙ ap (λ (t : List ℕ). keptOf (linesIn t)) (taken .whole) ∙ ap (λ (n : ℕ). keptOf (linesOf (drop n text))) (no-mark tells) in
-    of-lines tells r (subst (λ (ls : List Line). Comes ls r) of-text (taken .comes))
+    of-lines tells r (subst (λ (ls : List TextLine). Comes ls r) of-text (taken .comes))
 
 -- ---- whole records
 
@@ -134,12 +134,12 @@ eight-bytes place What.Unreadable bytes e = let is : bytes ≡ bytesOf place 2 0
 eight-bytes place What.Position bytes e = let is : bytes ≡ bytesOf place 3 0 0 0 = cc in ap length is
 eight-bytes place (What.Raw kind x y z) bytes e = let is : bytes ≡ bytesOf place kind x y z = cc in ap length is
 
-made-eight : (place : ℕ) (what : What) (r : Recorded) → RecordOf place what r → r .how ≡ How.Made → length (r .bytes) ≡ 8
+made-eight : (place : ℕ) (what : What) (r : Recorded) → RecordOf place what r → r .how ≡ MakingWent.Made → length (r .bytes) ≡ 8
 made-eight place what r records how = by (recordOf place what) refl (records .1)
   where
     by : (o : Outcome (List ℕ)) → recordOf place what ≡ o → saysRecorded r ≡ recording o → length (r .bytes) ≡ 8
     by (gives bytes) is e = ap (λ (x : Recording). length (x .bytes)) e ∙ eight-bytes place what bytes is
-    by (refuses n) is e = cannot-be (let z : _≡_ {A = Outcome Made} (gives recorded.made) (refuses n) = sym (ap saysHow how) ∙ ap (λ (x : Recording). x .answer) e in cc)
+    by (refuses n) is e = cannot-be (let z : _≡_ {A = Outcome Made} (gives recorded.made) (refuses n) = sym (ap saysMakingWent how) ∙ ap (λ (x : Recording). x .answer) e in cc)
 
 Whole : Result → Type 0
 Whole r = (records : List (List ℕ)) → r ≡ made records → length (joined records) % 8 ≡ 0
@@ -153,7 +153,7 @@ more-whole eight (made rs) is others records e =
 more-whole eight unreadable is others records e = cannot-be cc
 more-whole eight (refused n) is others records e = cannot-be cc
 
-pub all-whole : (ls : List Line) (r : Result) → Comes ls r → (records : List (List ℕ)) → r ≡ made records → length (joined records) % 8 ≡ 0
+pub all-whole : (ls : List TextLine) (r : Result) → Comes ls r → (records : List (List ℕ)) → r ≡ made records → length (joined records) % 8 ≡ 0
 unfolding Whole
 all-whole _ _ no-more rs e = let same : rs ≡ [] = cc in ap (λ (l : List (List ℕ)). length (joined l) % 8) same
 all-whole _ r (nothing {ls = ls} reads rest) rs e = all-whole ls r rest rs e

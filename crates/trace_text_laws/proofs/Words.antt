@@ -14,7 +14,7 @@ use Rattle.figures.specs.Figures.{hexDigit, hex}
 use Rattle.figures.specs.declared.Byte.{Byte}
 use Rattle.figures.proofs.Characters.{decimal-digit, large-letter, two-digits}
 use Rattle.telegram.specs.declared.Telegram.{Telegram}
-use Rattle.balise_writer.specs.Words.{Words, asked, tooLarge, hasFifteen, wordsOf, spell}
+use Rattle.telegram.specs.Spelling.{Words, asked, tooLarge, hasFifteen, wordsOf, spell}
 use Rattle.lines_laws.specs.Printed.{plain, AWord, spaced}
 use Rattle.lines_laws.proofs.Numbers.{no-mark}
 use Rattle.trace_text.specs.declared.What.{What}

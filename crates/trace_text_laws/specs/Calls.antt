@@ -8,7 +8,7 @@ use contract.Lifetimes.{Lfts}
 use denote.Ref.{RefT, now}
 use borrow.Fn.Kinds.{endedOf}
 use denote.Triple.Clauses.{AtExit}
-use Rattle.lines.specs.declared.Line.{Line}
+use Rattle.lines.specs.declared.TextLine.{TextLine}
 use Rattle.trace_text.specs.declared.What.{What}
 use Rattle.trace_text.specs.declared.Said.{Said}
 use Rattle.trace_text.specs.declared.Recorded.{Recorded}
@@ -22,7 +22,7 @@ use Rattle.trace_text.proofs.put_record.Kinds as put-record-kinds
 use Rattle.trace_text.proofs.put_record.Reads as put-record-reads
 
 -- The contract of `read` allows the answer r for this line.
-abbrev pub ReadLine : Line → Said → Type 0
+abbrev pub ReadLine : TextLine → Said → Type 0
 ReadLine line r = (e : AtExit (endedOf 0 read-kinds.ps read-kinds.r) tt) × read-reads.Post tt (line, tt) r e
 
 -- The contract of `record_of` allows the answer r for what lies at this place.

@@ -6,13 +6,13 @@ use mathlib.Core.Path.{_≡_}
 use mathlib.Core.List.{List, [], _∷_, _++_}
 use lib.ListN.{length, take}
 use Rattle.words.specs.Answer.{refuses}
-use Rattle.lines.specs.declared.Line.{Line}
+use Rattle.lines.specs.declared.TextLine.{TextLine}
 use Rattle.lines_laws.specs.Texts.{ReadOut, Enough, joined}
 use Rattle.trace_text.specs.declared.What.{What}
 use Rattle.trace_text.specs.declared.Said.{Said}
-use Rattle.trace_text.specs.declared.How.{How}
+use Rattle.trace_text.specs.declared.MakingWent.{MakingWent}
 use Rattle.trace_text.specs.declared.Recorded.{Recorded}
-use Rattle.trace_text.specs.Says.{saysHow}
+use Rattle.trace_text.specs.Says.{saysMakingWent}
 use Rattle.trace_text_laws.specs.Calls.{ReadLine, RecordOf, ThingAt, PutRecord}
 use Rattle.trace_text_laws.specs.Laws.{Bytes}
 
@@ -53,14 +53,14 @@ Writes unreadable bytes = ⊥
 Writes (refused n) bytes = ⊥
 
 -- Line after line: `read` says what it says, `record_of` makes its record; the first wrong line decides. Every answer is one that its contract allows.
-pub data Comes : List Line → Result → Type 0 where
+pub data Comes : List TextLine → Result → Type 0 where
   no-more : Comes [] (made [])
-  nothing : {l : Line} {ls : List Line} {rest : Result} → ReadLine l Said.Nothing → Comes ls rest → Comes (l ∷ ls) rest
-  thing : {l : Line} {ls : List Line} {rest : Result} {place : ℕ} {what : What} (r : Recorded)
-      → ReadLine l (Said.Thing place what) → RecordOf place what r → r .how ≡ How.Made → Comes ls rest → Comes (l ∷ ls) (before (r .bytes) rest)
-  wrong : {l : Line} {ls : List Line} → ReadLine l Said.Unreadable → Comes (l ∷ ls) unreadable
-  bad : {l : Line} {ls : List Line} {place n : ℕ} {what : What} (r : Recorded)
-      → ReadLine l (Said.Thing place what) → RecordOf place what r → saysHow (r .how) ≡ refuses n → Comes (l ∷ ls) (refused n)
+  nothing : {l : TextLine} {ls : List TextLine} {rest : Result} → ReadLine l Said.Nothing → Comes ls rest → Comes (l ∷ ls) rest
+  thing : {l : TextLine} {ls : List TextLine} {rest : Result} {place : ℕ} {what : What} (r : Recorded)
+      → ReadLine l (Said.Thing place what) → RecordOf place what r → r .how ≡ MakingWent.Made → Comes ls rest → Comes (l ∷ ls) (before (r .bytes) rest)
+  wrong : {l : TextLine} {ls : List TextLine} → ReadLine l Said.Unreadable → Comes (l ∷ ls) unreadable
+  bad : {l : TextLine} {ls : List TextLine} {place n : ℕ} {what : What} (r : Recorded)
+      → ReadLine l (Said.Thing place what) → RecordOf place what r → saysMakingWent (r .how) ≡ refuses n → Comes (l ∷ ls) (refused n)
 
 -- A text in blocks was read, and this came of it.
 pub record Taken (text : List ℕ) (result : Result) : Type 0 where
@@ -68,7 +68,7 @@ pub record Taken (text : List ℕ) (result : Result) : Type 0 where
   pub others : List (List ℕ)
   pub whole : first ++ joined others ≡ text
   pub enough : Enough first others
-  pub lines : List Line
+  pub lines : List TextLine
   pub read : ReadOut first others lines
   pub comes : Comes lines result
 

@@ -10,7 +10,7 @@ pub struct Call {
 }
 
 // What is asked for; that the arguments are no call; or that one of them is wrong, which was said.
-pub enum Asked {
+pub enum Called {
     For(Call),
     Usage,
     Said,
@@ -60,25 +60,25 @@ fn in_range(n: u64) -> Frames {
 }
 
 // The call with this pair.
-fn with_pair(s: u8, t: u8) -> Asked {
+fn with_pair(s: u8, t: u8) -> Called {
     match rate() {
-        Frames::Is(n) => Asked::For(Call { s, t, n }),
-        Frames::Usage => Asked::Usage,
-        Frames::Said => Asked::Said,
+        Frames::Is(n) => Called::For(Call { s, t, n }),
+        Frames::Usage => Called::Usage,
+        Frames::Said => Called::Said,
     }
 }
 
 // The whole call.
-pub fn arguments() -> Asked {
+pub fn arguments() -> Called {
     let count = os::arg_count();
     if (count != 4) & (count != 5) {
-        return Asked::Usage;
+        return Called::Usage;
     }
     let Byte::Is(s) = word(b"S", 2) else {
-        return Asked::Said;
+        return Called::Said;
     };
     let Byte::Is(t) = word(b"S*", 3) else {
-        return Asked::Said;
+        return Called::Said;
     };
     with_pair(s, t)
 }

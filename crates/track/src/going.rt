@@ -2,37 +2,37 @@
 use crate::call::Call;
 use crate::saying;
 use crate::taking;
-use crate::taking::How;
-use crate::taking::Stand;
-use console::Found;
+use crate::taking::Laying;
+use crate::taking::PassStands;
+use console::CardsFound;
 use libc::SEEK_SET;
-use lines::Line;
+use lines::TextLine;
 use track_lead::Way;
-use typed_lines::How as Came;
+use typed_lines::Came;
 
 // Whether a pass goes on.
-fn goes_on(how: How) -> bool {
+fn goes_on(how: PassStands) -> bool {
     match how {
-        How::On => true,
-        How::Unreadable => false,
-        How::TooLarge => false,
-        How::Fifteen => false,
-        How::TooHigh => false,
-        How::Lower => false,
-        How::TooNear => false,
-        How::CannotWrite => false,
+        PassStands::On => true,
+        PassStands::Unreadable => false,
+        PassStands::TooLarge => false,
+        PassStands::Fifteen => false,
+        PassStands::TooHigh => false,
+        PassStands::Lower => false,
+        PassStands::TooNear => false,
+        PassStands::CannotWrite => false,
     }
 }
 
 // A pass over the open text: how it stands, whether all of it could be read, and whether it is over.
 struct Passed {
-    stand: Stand,
+    stand: Laying,
     is_read: bool,
     is_over: bool,
 }
 
 // The pass after a line of this number, if it goes on.
-fn after_line(stand: Stand, line: Line, number: u64, room: &mut [u8]) -> Passed {
+fn after_line(stand: Laying, line: TextLine, number: u64, room: &mut [u8]) -> Passed {
     Passed {
         stand: taking::take(stand, line, number, room),
         is_read: true,
@@ -41,7 +41,7 @@ fn after_line(stand: Stand, line: Line, number: u64, room: &mut [u8]) -> Passed 
 }
 
 // A pass that is over.
-fn over_with(stand: Stand, is_read: bool) -> Passed {
+fn over_with(stand: Laying, is_read: bool) -> Passed {
     Passed {
         stand,
         is_read,
@@ -50,7 +50,7 @@ fn over_with(stand: Stand, is_read: bool) -> Passed {
 }
 
 // The pass after what came of the text.
-fn after(stand: Stand, came: Came, line: Line, number: u64, room: &mut [u8]) -> Passed {
+fn after(stand: Laying, came: Came, line: TextLine, number: u64, room: &mut [u8]) -> Passed {
     match came {
         Came::Line => after_line(stand, line, number, room),
         Came::End => over_with(stand, true),
@@ -59,7 +59,7 @@ fn after(stand: Stand, came: Came, line: Line, number: u64, room: &mut [u8]) -> 
 }
 
 // All lines of the open text. It counts its turns down from a number that no text uses up.
-fn over(fd: i32, begun: Stand, text: &mut [u8], room: &mut [u8]) -> Passed {
+fn over(fd: i32, begun: Laying, text: &mut [u8], room: &mut [u8]) -> Passed {
     let mut pass = typed_lines::begin(fd);
     let mut stand = begun;
     let mut turns = u64::MAX;
@@ -82,7 +82,7 @@ fn over(fd: i32, begun: Stand, text: &mut [u8], room: &mut [u8]) -> Passed {
 }
 
 // One pass over the open text that argument 1 names; what was wrong is said.
-fn pass(fd: i32, stand: Stand, text: &mut [u8], room: &mut [u8]) -> Stand {
+fn pass(fd: i32, stand: Laying, text: &mut [u8], room: &mut [u8]) -> Laying {
     let passed = over(fd, stand, text, room);
     let after = passed.stand;
     if !passed.is_read {
@@ -95,37 +95,37 @@ fn pass(fd: i32, stand: Stand, text: &mut [u8], room: &mut [u8]) -> Stand {
 }
 
 // A pass that does not go on, of which all is said.
-fn with_failure(stand: Stand) -> Stand {
+fn with_failure(stand: Laying) -> Laying {
     let way = stand.way;
     let feed = stand.feed;
-    Stand {
+    Laying {
         writes: stand.writes,
         lines: stand.lines,
         way,
         feed,
-        how: How::CannotWrite,
+        how: PassStands::CannotWrite,
     }
 }
 
 // A pass at the text's beginning, over a way that is known so far.
-fn begun(call: Call, way: Way, writes: bool) -> Stand {
-    Stand {
+fn begun(call: Call, way: Way, writes: bool) -> Laying {
+    Laying {
         writes,
         lines: 0,
         way,
         feed: track_lead::begin(way, call.n, call.s, call.t),
-        how: How::On,
+        how: PassStands::On,
     }
 }
 
 // Whether a pass stands well.
-fn is_well(stand: Stand) -> bool {
+fn is_well(stand: Laying) -> bool {
     let how = stand.how;
     goes_on(how)
 }
 
 // The frames up to the way's end, after the last thing.
-fn finish(stand: Stand, room: &mut [u8]) {
+fn finish(stand: Laying, room: &mut [u8]) {
     if !is_well(stand) {
         return;
     }
@@ -148,7 +148,7 @@ fn over_twice(fd: i32, call: Call, text: &mut [u8], room: &mut [u8]) {
         return;
     }
     if libc::lseek(fd, 0, SEEK_SET) != 0 {
-        console::say_found(b"track", Found::Once(1));
+        console::say_found(b"track", CardsFound::Once(1));
         return;
     }
     let way = judged.way;

@@ -8,8 +8,8 @@ mod out;
 mod saying;
 mod taking;
 
-use call::Asked;
 use call::Call;
+use call::Called;
 use telegram::Pair;
 
 // Goes over the text twice: once for what is refused, once for the frames.
@@ -33,8 +33,8 @@ fn main() {
         return;
     }
     match call::arguments() {
-        Asked::For(call) => answer(call),
-        Asked::Usage => console::usage(b"track", b"track FILE S S* [N]"),
-        Asked::Said => {}
+        Called::For(call) => answer(call),
+        Called::Usage => console::usage(b"track", b"track FILE S S* [N]"),
+        Called::Said => {}
     }
 }

@@ -1,5 +1,5 @@
 // What is said on standard error of a text that is refused.
-use crate::taking::How;
+use crate::taking::PassStands;
 use console::Ended;
 use libc::STDERR_FILENO;
 
@@ -23,15 +23,15 @@ fn say_refused(line: u64, number: u8) {
 }
 
 // Why the line with this number is not taken; of a pass that goes on, nothing.
-pub fn say(line: u64, how: How) {
+pub fn say(line: u64, how: PassStands) {
     match how {
-        How::On => {}
-        How::Unreadable => say_line(line, b" unreadable\n"),
-        How::TooLarge => say_refused(line, 2),
-        How::Fifteen => say_refused(line, 3),
-        How::TooHigh => say_refused(line, 18),
-        How::Lower => say_refused(line, 17),
-        How::TooNear => say_line(line, b" too near\n"),
-        How::CannotWrite => console::cannot_write(b"track"),
+        PassStands::On => {}
+        PassStands::Unreadable => say_line(line, b" unreadable\n"),
+        PassStands::TooLarge => say_refused(line, 2),
+        PassStands::Fifteen => say_refused(line, 3),
+        PassStands::TooHigh => say_refused(line, 18),
+        PassStands::Lower => say_refused(line, 17),
+        PassStands::TooNear => say_line(line, b" too near\n"),
+        PassStands::CannotWrite => console::cannot_write(b"track"),
     }
 }

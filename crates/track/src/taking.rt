@@ -1,7 +1,7 @@
 // One line of the text, in the first pass and in the second.
 use crate::out;
 use libc::STDOUT_FILENO;
-use lines::Line;
+use lines::TextLine;
 use track_lead::Feed;
 use track_lead::Taken;
 use track_lead::Thing;
@@ -9,7 +9,7 @@ use track_lead::Way;
 use track_text::Entry;
 
 // How a pass stands: it goes on, or a line is not taken, or a write failed.
-pub enum How {
+pub enum PassStands {
     On,
     Unreadable,
     TooLarge,
@@ -21,19 +21,19 @@ pub enum How {
 }
 
 // A pass over the text: whether it writes (the second does), the number of its line, the way, the feed, and how it stands.
-pub struct Stand {
+pub struct Laying {
     pub writes: bool,
     pub lines: u64,
     pub way: Way,
     pub feed: Feed,
-    pub how: How,
+    pub how: PassStands,
 }
 
 // The same pass, standing so.
-fn with_how(stand: Stand, how: How) -> Stand {
+fn with_how(stand: Laying, how: PassStands) -> Laying {
     let way = stand.way;
     let feed = stand.feed;
-    Stand {
+    Laying {
         writes: stand.writes,
         lines: stand.lines,
         way,
@@ -43,10 +43,10 @@ fn with_how(stand: Stand, how: How) -> Stand {
 }
 
 // The same pass with this feed.
-fn with_feed(stand: Stand, feed: Feed) -> Stand {
+fn with_feed(stand: Laying, feed: Feed) -> Laying {
     let way = stand.way;
     let how = stand.how;
-    Stand {
+    Laying {
         writes: stand.writes,
         lines: stand.lines,
         way,
@@ -56,7 +56,7 @@ fn with_feed(stand: Stand, feed: Feed) -> Stand {
 }
 
 // All frames before the decimetre `to`, block after block up to one that is empty. It counts its turns down from a number that no lead uses up.
-pub fn write_to(stand: Stand, to: u32, room: &mut [u8]) -> Stand {
+pub fn write_to(stand: Laying, to: u32, room: &mut [u8]) -> Laying {
     let mut feed = stand.feed;
     let mut turns = u64::MAX;
     while turns > 0 {
@@ -67,7 +67,7 @@ pub fn write_to(stand: Stand, to: u32, room: &mut [u8]) -> Stand {
             return with_feed(stand, feed);
         }
         if !out::write(STDOUT_FILENO, room, count) {
-            return with_how(stand, How::CannotWrite);
+            return with_how(stand, PassStands::CannotWrite);
         }
         turns -= 1;
     }
@@ -75,7 +75,7 @@ pub fn write_to(stand: Stand, to: u32, room: &mut [u8]) -> Stand {
 }
 
 // A thing at its place, in the second pass: all frames before it, then it passes. A position passes nothing.
-fn feed_to(stand: Stand, place: u32, thing: Thing, room: &mut [u8]) -> Stand {
+fn feed_to(stand: Laying, place: u32, thing: Thing, room: &mut [u8]) -> Laying {
     if let Thing::Nothing = thing {
         return stand;
     }
@@ -85,31 +85,31 @@ fn feed_to(stand: Stand, place: u32, thing: Thing, room: &mut [u8]) -> Stand {
 }
 
 // A thing at its place, in the first pass: the way after it.
-fn judge(stand: Stand, place: u32, thing: Thing) -> Stand {
+fn judge(stand: Laying, place: u32, thing: Thing) -> Laying {
     let way = stand.way;
     match track_lead::take(way, place, thing) {
         Taken::On(next) => {
             let feed = stand.feed;
-            Stand {
+            Laying {
                 writes: stand.writes,
                 lines: stand.lines,
                 way: next,
                 feed,
-                how: How::On,
+                how: PassStands::On,
             }
         }
-        Taken::TooHigh => with_how(stand, How::TooHigh),
-        Taken::Lower => with_how(stand, How::Lower),
-        Taken::TooNear => with_how(stand, How::TooNear),
+        Taken::TooHigh => with_how(stand, PassStands::TooHigh),
+        Taken::Lower => with_how(stand, PassStands::Lower),
+        Taken::TooNear => with_how(stand, PassStands::TooNear),
     }
 }
 
 // The pass at the line with this number.
-fn at_line(stand: Stand, number: u64) -> Stand {
+fn at_line(stand: Laying, number: u64) -> Laying {
     let way = stand.way;
     let feed = stand.feed;
     let how = stand.how;
-    Stand {
+    Laying {
         writes: stand.writes,
         lines: number,
         way,
@@ -119,7 +119,7 @@ fn at_line(stand: Stand, number: u64) -> Stand {
 }
 
 // The pass after a line.
-pub fn take(before: Stand, line: Line, number: u64, room: &mut [u8]) -> Stand {
+pub fn take(before: Laying, line: TextLine, number: u64, room: &mut [u8]) -> Laying {
     let stand = at_line(before, number);
     match track_text::read(line) {
         Entry::Nothing => stand,
@@ -130,8 +130,8 @@ pub fn take(before: Stand, line: Line, number: u64, room: &mut [u8]) -> Stand {
                 judge(stand, place, thing)
             }
         }
-        Entry::Unreadable => with_how(stand, How::Unreadable),
-        Entry::TooLarge => with_how(stand, How::TooLarge),
-        Entry::Fifteen => with_how(stand, How::Fifteen),
+        Entry::Unreadable => with_how(stand, PassStands::Unreadable),
+        Entry::TooLarge => with_how(stand, PassStands::TooLarge),
+        Entry::Fifteen => with_how(stand, PassStands::Fifteen),
     }
 }

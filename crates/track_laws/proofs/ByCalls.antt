@@ -7,8 +7,8 @@ use mathlib.Core.List.{List, [], _∷_, _++_}
 use lib.Dec.{eqb}
 use Rattle.words.specs.Answer.{Answer, Outcome, gives, refuses, then, pick}
 use Rattle.words.proofs.Never.{cannot-be}
-use Rattle.balise_writer.specs.Words.{Words, asked, spell}
-use Rattle.lines.specs.declared.Line.{Line}
+use Rattle.telegram.specs.Spelling.{Words, asked, spell}
+use Rattle.lines.specs.declared.TextLine.{TextLine}
 use Rattle.lines_laws.specs.Texts.{keptOf}
 use Rattle.lines.specs.Text.{linesIn}
 use Rattle.lines_laws.proofs.Texts.{all-lines}
@@ -147,7 +147,7 @@ thing-said (Said.Thing place what) at thing e =
     record { what = what; is = ap (λ (p : ℕ). Said.Thing p what) (sym (it .0)); record-of = subst (λ (p : ℕ). Same p what thing) (sym (it .0)) (it .1) }
 thing-said Said.Unreadable at thing e = cannot-be cc
 
-read-said : (l : Line) → read l ≡ readSaid (said l)
+read-said : (l : TextLine) → read l ≡ readSaid (said l)
 unfolding read
 read-said l = refl
 
@@ -161,7 +161,7 @@ no-lines : (r : Result) → Comes [] r → Makes [] r
 unfolding withoutPositions recordsOf
 no-lines _ no-more = ([], refl, refl)
 
-of-lines : (lines : List Line) (items : List Item) → Items lines items → (r : Result) → Comes lines r → Makes items r
+of-lines : (lines : List TextLine) (items : List Item) → Items lines items → (r : Result) → Comes lines r → Makes items r
 of-lines _ _ calls.none r comes = no-lines r comes
 of-lines _ _ (calls.nothing {l = l} {ls = ls} {items = items} reads rest) r comes =
     of-lines ls items rest r (says-nothing l ls r (nothing-said (said l) (sym (reads .1 ∙ read-said l))) comes)
@@ -190,7 +190,7 @@ the-whole-way n s t text lead store pieces records result tracked some few pair 
     ∙ feeds-the-lead n s t items way some goes in
     let of-text = all-lines (tracked .first) (tracked .others) (tracked .lines) (tracked .enough) (tracked .read) ∙ ap (λ (l : List ℕ). keptOf (linesIn l)) (tracked .whole) in
     let same-text = all-lines (taken .first) (taken .others) (taken .lines) (taken .enough) (taken .read) ∙ ap (λ (l : List ℕ). keptOf (linesIn l)) (taken .whole) in
-    let typed = of-lines (tracked .lines) items (tracked .are) result (subst (λ (ls : List Line). Comes ls result) (same-text ∙ sym of-text) (taken .comes)) in
+    let typed = of-lines (tracked .lines) items (tracked .are) result (subst (λ (ls : List TextLine). Comes ls result) (same-text ∙ sym of-text) (taken .comes)) in
     let recorded-so : withoutPositions records ≡ recordsOf items =
     ap withoutPositions (as-a-whole .of-the-lead store pieces records whole recording ∙ ap (recorded store) (is ∙ its-lead))
     ∙ whole-way n s t items way store some few goes pair sure held in

@@ -9,14 +9,14 @@ use Rattle.words.specs.Answer.{Answer, Outcome, gives, refuses, then, pick}
 use Rattle.words.proofs.Told.{told}
 use Rattle.words.proofs.Never.{cannot-be}
 use Rattle.telegram.specs.declared.Telegram.{Telegram}
-use Rattle.balise_writer.specs.Words.{Words, asked, tooLarge, hasFifteen, wordsOf, spell}
-use Rattle.balise_writer.specs.Says.{saysSpelt}
-use Rattle.balise_writer.proofs.Determined.{speltOf, spelt-back}
+use Rattle.telegram.specs.Spelling.{Words, asked, tooLarge, hasFifteen, wordsOf, spell}
+use Rattle.telegram.specs.Says.{saysSpelt}
+use Rattle.telegram.proofs.Determined.{speltOf, spelt-back}
 use Rattle.trace_text.specs.declared.What.{What}
 use Rattle.trace_text.specs.declared.Recorded.{Recorded}
 use Rattle.trace_text.specs.Record.{Made, Recording, recording, recordOf, bytesOf}
 use Rattle.trace_text.specs.Record as recorded
-use Rattle.trace_text.specs.Says.{saysHow, saysRecorded}
+use Rattle.trace_text.specs.Says.{saysMakingWent, saysRecorded}
 use Rattle.track_lead.specs.declared.Thing.{Thing}
 use Rattle.track_lead.specs.declared.Way.{Way}
 use Rattle.track_lead.specs.declared.Taken.{Taken}

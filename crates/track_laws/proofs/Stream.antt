@@ -8,7 +8,7 @@ use lib.ListN.{length, take, drop, getD, replicate, getD-replicate, List·getD-e
 use lib.Seq.{getD-drop, getD-take}
 use Rattle.telegram.specs.Stretch.{bitAt}
 use Rattle.balise_line.specs.Line.{OneBalise, sentBit}
-use Rattle.balise_writer.specs.Words.{Words}
+use Rattle.telegram.specs.Spelling.{Words}
 use Rattle.balise_writer.specs.Write.{telegrams}
 use Rattle.balise_writer.proofs.Bytes.{telegrams-byte, telegrams-length}
 use Rattle.track_lead.specs.declared.Thing.{Thing}

@@ -20,7 +20,7 @@ use Rattle.lines_laws.specs.Texts.{line, used, ReadOut}
 use Rattle.lines_laws.specs.Texts as reading
 use Rattle.figures.specs.Figures.{hexDigit, hex}
 use Rattle.trace_text.specs.declared.What.{What}
-use Rattle.trace_text.specs.declared.How.{How}
+use Rattle.trace_text.specs.declared.MakingWent.{MakingWent}
 use Rattle.trace_text.specs.Said.{whatOf, said}
 use Rattle.trace_text.specs.Record.{recordOf}
 use Rattle.trace_text_laws.specs.Texts.{made, Comes, no-more, nothing, thing, Taken}
@@ -80,7 +80,7 @@ marker = 0 ∷ 0 ∷ 0 ∷ 0 ∷ 1 ∷ 0 ∷ 0 ∷ 0 ∷ []
 comes : Comes (first .line ∷ last .line ∷ []) (made (marker ∷ []))
 unfolding beginning nextLine lineFrom character reads.fresh noWords noLetters letterOn numberOn digitOn lettersOn reads.closed kept done byteOf hex hexDigit named whole unfinished said whatOf recordOf
 comes =
-    thing {place = 0} {what = What.Marker} (record { bytes = marker; how = How.Made }) ((first .line, tt), refl) ((0, (What.Marker, tt)), refl) refl
+    thing {place = 0} {what = What.Marker} (record { bytes = marker; how = MakingWent.Made }) ((first .line, tt), refl) ((0, (What.Marker, tt)), refl) refl
     (nothing ((last .line, tt), refl) no-more)
 
 pub taken-met : Taken text (made (marker ∷ []))

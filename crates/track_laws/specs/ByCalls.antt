@@ -7,7 +7,7 @@ use mathlib.Core.Bool.{true, false}
 use mathlib.Core.List.{List, [], _∷_, _++_}
 use lib.ListN.{length, take}
 use Rattle.settings.specs.declared.Store.{Store}
-use Rattle.lines.specs.declared.Line.{Line}
+use Rattle.lines.specs.declared.TextLine.{TextLine}
 use Rattle.lines_laws.specs.Texts.{ReadOut, Enough}
 use Rattle.lines_laws.specs.Texts as texts
 use Rattle.trace_text_laws.specs.Texts.{Result, made, Taken}
@@ -28,10 +28,10 @@ use Rattle.track_laws.specs.WholeWay.{Throughout}
 -- ---- `track`
 
 -- Each line read by `track_text::read`: what stands where, in order.
-pub data Items : List Line → List Item → Type 0 where
+pub data Items : List TextLine → List Item → Type 0 where
   none : Items [] []
-  nothing : {l : Line} {ls : List Line} {items : List Item} → ReadsAs l Entry.Nothing → Items ls items → Items (l ∷ ls) items
-  thing : {l : Line} {ls : List Line} {items : List Item} (place : ℕ) (thing : Thing) → ReadsAs l (Entry.At place thing) → Items ls items
+  nothing : {l : TextLine} {ls : List TextLine} {items : List Item} → ReadsAs l Entry.Nothing → Items ls items → Items (l ∷ ls) items
+  thing : {l : TextLine} {ls : List TextLine} {items : List Item} (place : ℕ) (thing : Thing) → ReadsAs l (Entry.At place thing) → Items ls items
       → Items (l ∷ ls) (record { place = place; thing = thing } ∷ items)
 
 -- The first pass: each is taken.
@@ -58,7 +58,7 @@ pub record Tracked (n s t : ℕ) (text lead : List ℕ) : Type 0 where
   pub others : List (List ℕ)
   pub whole : first ++ texts.joined others ≡ text
   pub enough : Enough first others
-  pub lines : List Line
+  pub lines : List TextLine
   pub read : ReadOut first others lines
   pub items : List Item
   pub are : Items lines items

@@ -8,7 +8,7 @@ use contract.Lifetimes.{Lfts}
 use denote.Ref.{RefT, now}
 use borrow.Fn.Kinds.{endedOf}
 use denote.Triple.Clauses.{AtExit}
-use Rattle.lines.specs.declared.Line.{Line}
+use Rattle.lines.specs.declared.TextLine.{TextLine}
 use Rattle.track_text.specs.declared.Entry.{Entry}
 use Rattle.track_lead.specs.declared.Thing.{Thing}
 use Rattle.track_lead.specs.declared.Way.{Way}
@@ -31,7 +31,7 @@ use Rattle.track_lead.proofs.write.Kinds as write-kinds
 use Rattle.track_lead.proofs.write.Reads as write-reads
 
 -- The contract of `track_text::read` allows the answer r for this line.
-abbrev pub ReadsAs : Line → Entry → Type 0
+abbrev pub ReadsAs : TextLine → Entry → Type 0
 ReadsAs line r = (e : AtExit (endedOf 0 read-kinds.ps read-kinds.r) tt) × read-reads.Post tt (line, tt) r e
 
 -- The contract of `fresh` allows this way, that of `take` the answer r for a line with this place and thing after this way.

@@ -10,14 +10,14 @@ use lib.Dec.{ltb}
 use borrow.Fn.Kinds.{endedOf}
 use denote.Triple.Clauses.{AtExit}
 use Rattle.words.specs.Answer.{Answer, Outcome, refuses}
-use Rattle.balise_writer.specs.Says.{saysSpelt}
-use Rattle.balise_writer.specs.declared.spelling.Spelt.{Spelt}
-use Rattle.balise_writer.proofs.spell.Kinds as spell-kinds
-use Rattle.balise_writer.proofs.spell.Reads as spell-reads
+use Rattle.telegram.specs.Says.{saysSpelt}
+use Rattle.telegram.specs.declared.spelling.Spelt.{Spelt}
+use Rattle.telegram.proofs.spell.Kinds as spell-kinds
+use Rattle.telegram.proofs.spell.Reads as spell-reads
 use Rattle.trace_text.specs.declared.What.{What}
 use Rattle.trace_text.specs.declared.Recorded.{Recorded}
 use Rattle.trace_text.specs.Record.{eightZeroes}
-use Rattle.trace_text.specs.Says.{saysHow}
+use Rattle.trace_text.specs.Says.{saysMakingWent}
 use Rattle.trace_text_laws.specs.Calls.{RecordOf}
 use Rattle.track_lead.specs.declared.Thing.{Thing}
 use Rattle.track_lead.specs.declared.Way.{Way}
@@ -29,7 +29,7 @@ use Rattle.demands.specs.Table02.{someAbove, someFifteen, tooHigh}
 use Rattle.demands.specs.Untouched.{Bare}
 use Rattle.track_laws.specs.Calls.{TakeLine}
 
--- The contract of `balise_writer::spell` allows the answer r for these figures.
+-- The contract of `telegram::spell` allows the answer r for these figures.
 abbrev pub Spell : ℕ → ℕ → ℕ → Spelt → Type 0
 Spell x y z r = (e : AtExit (endedOf 0 spell-kinds.ps spell-kinds.r) tt) × spell-reads.Post tt (x, (y, (z, tt))) r e
 
@@ -52,12 +52,12 @@ takeRules way place thing =
 
 pub record Demand1 : Type 0 where
   pub spell : (x y z : ℕ) (r : Spelt) → Spell x y z r → Decided Given (figureRules x y z) (saysSpelt r)
-  pub record-of : (place : ℕ) (what : What) (r : Recorded) → RecordOf place what r → Decided Given (whatRules what) (saysHow (r .how))
+  pub record-of : (place : ℕ) (what : What) (r : Recorded) → RecordOf place what r → Decided Given (whatRules what) (saysMakingWent (r .how))
   pub take : (way : Way) (place : ℕ) (thing : Thing) (r : Taken) → TakeLine way place thing r
       → Decided Given (takeRules way place thing) (saysTaken r)
 
 -- "A refusal hands out no figure": the same refusal is the same answer, whatever was asked; the bytes beside a refused record are zero.
 pub record Untouched : Type 0 where
   pub spell : Bare saysSpelt
-  pub record-of : (place : ℕ) (what : What) (r : Recorded) (n : ℕ) → RecordOf place what r → saysHow (r .how) ≡ refuses n → r .bytes ≡ eightZeroes
+  pub record-of : (place : ℕ) (what : What) (r : Recorded) (n : ℕ) → RecordOf place what r → saysMakingWent (r .how) ≡ refuses n → r .bytes ≡ eightZeroes
   pub take : Bare saysTaken

@@ -3,8 +3,8 @@
 use Prim.Native.Nat.{ℕ}
 use lib.Dec.{eqb}
 use Rattle.words.specs.Answer.{Outcome, gives, refuses, pick}
-use Rattle.balise_writer.specs.Words.{Words, asked, spell}
-use Rattle.lines.specs.declared.Line.{Line}
+use Rattle.telegram.specs.Spelling.{Words, asked, spell}
+use Rattle.lines.specs.declared.TextLine.{TextLine}
 use Rattle.trace_text.specs.declared.What.{What}
 use Rattle.trace_text.specs.declared.Said.{Said}
 use Rattle.trace_text.specs.Said.{said}
@@ -30,5 +30,5 @@ readSaid Said.Nothing = Entry.Nothing
 readSaid (Said.Thing place what) = thingAt place what
 readSaid Said.Unreadable = Entry.Unreadable
 
-unfoldable pub read : Line → Entry
+unfoldable pub read : TextLine → Entry
 read line = readSaid (said line)

@@ -3,9 +3,9 @@
 // Specification: specs/Read.antt.
 ghost use mathlib.Core.Path.{_≡_};
 ghost use Rattle.track_text.specs.Read.{thingAt, readSaid, read, balise};
-ghost use Rattle.balise_writer.specs.Words.{asked, spell};
-use balise_writer::Spelt;
-use lines::Line;
+ghost use Rattle.telegram.specs.Spelling.{asked, spell};
+use lines::TextLine;
+use telegram::Spelt;
 use trace_text::Said;
 use trace_text::What;
 use track_lead::Thing;
@@ -23,7 +23,7 @@ pub enum Entry {
 fn balise(place: u32, x: u8, y: u16, z: u8) -> Entry
     ensures { λ r. ⌜ r ≡ balise place (spell (asked x y z)) ⌝ }
 {
-    let spelt = balise_writer::spell(x, y, z);
+    let spelt = telegram::spell(x, y, z);
     match spelt {
         Spelt::Words { x: a, y: b, z: c } => Entry::At {
             place,
@@ -73,7 +73,7 @@ fn read_said(said: Said) -> Entry
 }
 
 // What a line of the text says.
-pub fn read(line: Line) -> Entry
+pub fn read(line: TextLine) -> Entry
     ensures { λ r. ⌜ r ≡ read line ⌝ }
 {
     read_said(trace_text::read(line))

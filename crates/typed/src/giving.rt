@@ -1,5 +1,5 @@
 // What a line gives, by the form of the text.
-use lines::Line;
+use lines::TextLine;
 use plan_text::Entry;
 use trace_text::Recorded;
 use trace_text::Said;
@@ -40,9 +40,9 @@ fn recorded(made: Recorded) -> Given {
     let bytes = made.bytes;
     let how = made.how;
     match how {
-        trace_text::How::Made => these(bytes),
-        trace_text::How::TooLarge => nothing(2),
-        trace_text::How::Fifteen => nothing(3),
+        trace_text::MakingWent::Made => these(bytes),
+        trace_text::MakingWent::TooLarge => nothing(2),
+        trace_text::MakingWent::Fifteen => nothing(3),
     }
 }
 
@@ -65,7 +65,7 @@ fn of_plan(entry: Entry) -> Given {
 }
 
 // What a line gives.
-pub fn of_line(form: Form, line: Line) -> Given {
+pub fn of_line(form: Form, line: TextLine) -> Given {
     match form {
         Form::Trace => of_trace(trace_text::read(line)),
         Form::Plan => of_plan(plan_text::read(line)),

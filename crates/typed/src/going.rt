@@ -4,11 +4,11 @@ ghost use lib.ListN.{length};
 use crate::giving::Form;
 use crate::giving::of_line;
 use libc::STDOUT_FILENO;
-use lines::Line;
-use typed_lines::How as Came;
+use lines::TextLine;
+use typed_lines::Came;
 
 // How a pass goes: on, to the text's end or to its first wrong line, or a read or a write failed.
-pub enum How {
+pub enum PassGoes {
     On,
     Whole,
     CannotRead,
@@ -21,7 +21,7 @@ pub struct Done {
     pub things: u64,
     pub bytes: usize,
     pub wrong: u8,
-    pub how: How,
+    pub how: PassGoes,
 }
 
 // One more; a sum that no text reaches stays at the highest number.
@@ -33,7 +33,7 @@ fn more(n: u64) -> u64 {
 }
 
 // The same pass with so many bytes waiting, going so.
-fn with(done: Done, bytes: usize, how: How) -> Done {
+fn with(done: Done, bytes: usize, how: PassGoes) -> Done {
     Done {
         number: done.number,
         things: done.things,
@@ -44,11 +44,11 @@ fn with(done: Done, bytes: usize, how: How) -> Done {
 }
 
 // Writes what waits, if it is to be written; the pass then goes so.
-fn written(done: Done, writes: bool, out: &[u8], how: How) -> Done {
+fn written(done: Done, writes: bool, out: &[u8], how: PassGoes) -> Done {
     let bytes = done.bytes;
     if writes {
         if !console::write(STDOUT_FILENO, out, bytes) {
-            return with(done, 0, How::CannotWrite);
+            return with(done, 0, PassGoes::CannotWrite);
         }
     }
     with(done, 0, how)
@@ -62,16 +62,16 @@ fn given(done: Done, number: u64, eight: [u8; 8], writes: bool, out: &mut [u8]) 
         things: more(done.things),
         bytes,
         wrong: 0,
-        how: How::On,
+        how: PassGoes::On,
     };
     if bytes > 65528 {
-        return written(then, writes, out, How::On);
+        return written(then, writes, out, PassGoes::On);
     }
     then
 }
 
 // A line taken. A wrong one ends the pass.
-fn take(form: Form, done: Done, line: Line, number: u64, writes: bool, out: &mut [u8]) -> Done {
+fn take(form: Form, done: Done, line: TextLine, number: u64, writes: bool, out: &mut [u8]) -> Done {
     let gives = of_line(form, line);
     if gives.wrong > 0 {
         return Done {
@@ -79,7 +79,7 @@ fn take(form: Form, done: Done, line: Line, number: u64, writes: bool, out: &mut
             things: done.things,
             bytes: done.bytes,
             wrong: gives.wrong,
-            how: How::Whole,
+            how: PassGoes::Whole,
         };
     }
     if gives.has {
@@ -87,16 +87,16 @@ fn take(form: Form, done: Done, line: Line, number: u64, writes: bool, out: &mut
         return given(done, number, eight, writes, out);
     }
     let bytes = done.bytes;
-    with(done, bytes, How::On)
+    with(done, bytes, PassGoes::On)
 }
 
 // Whether a pass goes on.
-fn goes_on(how: How) -> bool {
+fn goes_on(how: PassGoes) -> bool {
     match how {
-        How::On => true,
-        How::Whole => false,
-        How::CannotRead => false,
-        How::CannotWrite => false,
+        PassGoes::On => true,
+        PassGoes::Whole => false,
+        PassGoes::CannotRead => false,
+        PassGoes::CannotWrite => false,
     }
 }
 
@@ -105,15 +105,15 @@ fn after(
     form: Form,
     done: Done,
     came: Came,
-    line: Line,
+    line: TextLine,
     number: u64,
     writes: bool,
     out: &mut [u8],
 ) -> Done {
     match came {
         Came::Line => take(form, done, line, number, writes, out),
-        Came::End => written(done, writes, out, How::Whole),
-        Came::CannotRead => with(done, 0, How::CannotRead),
+        Came::End => written(done, writes, out, PassGoes::Whole),
+        Came::CannotRead => with(done, 0, PassGoes::CannotRead),
     }
 }
 
@@ -125,7 +125,7 @@ fn over(form: Form, fd: i32, writes: bool, block: &mut [u8], out: &mut [u8]) -> 
         things: 0,
         bytes: 0,
         wrong: 0,
-        how: How::On,
+        how: PassGoes::On,
     };
     let mut turns = u64::MAX;
     while turns > 0 {

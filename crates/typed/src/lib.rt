@@ -7,10 +7,10 @@ mod giving;
 mod going;
 mod telling;
 
-use console::Found;
+use console::CardsFound;
 pub use giving::Form;
 use going::Done;
-use going::How;
+use going::PassGoes;
 use libc::SEEK_SET;
 
 // The argument of the file.
@@ -20,13 +20,13 @@ const FILE: usize = 1;
 fn is_well(program: &[u8], done: Done) -> bool {
     let how = done.how;
     match how {
-        How::On => {}
-        How::Whole => {}
-        How::CannotRead => {
+        PassGoes::On => {}
+        PassGoes::Whole => {}
+        PassGoes::CannotRead => {
             console::cannot_read(program, FILE);
             return false;
         }
-        How::CannotWrite => {
+        PassGoes::CannotWrite => {
             console::cannot_write(program);
             return false;
         }
@@ -50,7 +50,7 @@ fn twice(program: &[u8], form: Form, fd: i32) {
         return;
     }
     if libc::lseek(fd, 0, SEEK_SET) != 0 {
-        console::say_found(program, Found::Once(FILE));
+        console::say_found(program, CardsFound::Once(FILE));
         return;
     }
     let second = going::pass(form, fd, true);

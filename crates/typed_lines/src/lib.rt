@@ -4,8 +4,8 @@
 // Promises: it is safe and it ends, in the same memory for a file of any size. What is kept of a line is what `lines` keeps; that the blocks join is crates/lines_laws/specs/Texts.antt. What is
 // read stands outside contracts: docs/EXCEPTIONS.md.
 use lines::Got;
-use lines::Line;
 use lines::Reader;
+use lines::TextLine;
 
 // Where the reading of a text stands: its file, the line that is being read and its number, how many bytes of the text are in the block and where the line goes on there; whether the
 // first block was read, and whether the last line was handed out.
@@ -20,7 +20,7 @@ pub struct Pass {
 }
 
 // What comes: a line, the end of the text, or that it cannot be read.
-pub enum How {
+pub enum Came {
     Line,
     End,
     CannotRead,
@@ -29,9 +29,9 @@ pub enum How {
 // The pass after it, the line and its number.
 pub struct Step {
     pub pass: Pass,
-    pub line: Line,
+    pub line: TextLine,
     pub number: u64,
-    pub how: How,
+    pub how: Came,
 }
 
 // Before the first line of an open file.
@@ -101,12 +101,12 @@ fn one_line(pass: Pass, got: Got, is_over: bool) -> Step {
         },
         line,
         number,
-        how: How::Line,
+        how: Came::Line,
     }
 }
 
 // No line.
-fn no_line(pass: Pass, how: How) -> Step {
+fn no_line(pass: Pass, how: Came) -> Step {
     let number = pass.number;
     let reader = pass.reader;
     let line = reader.line;
@@ -122,7 +122,7 @@ fn no_line(pass: Pass, how: How) -> Step {
 fn first_block(pass: Pass, block: &mut [u8]) -> Step {
     let got = console::fill(pass.fd, block);
     if got.failed {
-        return no_line(pass, How::CannotRead);
+        return no_line(pass, Came::CannotRead);
     }
     let at = start_of(block, got.count);
     let reader = pass.reader;
@@ -148,7 +148,7 @@ fn on(pass: Pass, block: &mut [u8]) -> Step {
         let more = console::fill(here.fd, block);
         let count = more.count;
         if more.failed {
-            return no_line(here, How::CannotRead);
+            return no_line(here, Came::CannotRead);
         }
         if count == 0 {
             return one_line(here, last_line(after), true);
@@ -156,13 +156,13 @@ fn on(pass: Pass, block: &mut [u8]) -> Step {
         here = with_block(here, after, count, 0);
         turns -= 1;
     }
-    no_line(here, How::CannotRead)
+    no_line(here, Came::CannotRead)
 }
 
 // The next line.
 pub fn next(pass: Pass, block: &mut [u8]) -> Step {
     if pass.is_over {
-        return no_line(pass, How::End);
+        return no_line(pass, Came::End);
     }
     if !pass.is_begun {
         return first_block(pass, block);

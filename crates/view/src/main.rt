@@ -7,7 +7,7 @@ mod out;
 mod reading;
 mod session;
 
-use console::Found;
+use console::CardsFound as Found;
 use console::Given;
 use settings::Store;
 

@@ -1,7 +1,7 @@
 -- `put_telegram` spells the line in a space of its own, and puts it into the buffer if it fits there.
 use native.Mathlib.Omega.{arith}
 use Rattle.text.proofs.Standing.{Begins, begins, as-long, put-as}
-use Rattle.balise_writer.specs.Words.{asked}
+use Rattle.telegram.specs.Spelling.{asked}
 use Rattle.audibility.specs.Lines.{telegramLine}
 use Rattle.audibility.proofs.Pieces.{telegram-length}
 use borrow.Author.Needs.{needs}

@@ -1,8 +1,8 @@
 -- `sound_of` spells the words, and goes on to their line if there are words.
 use mathlib.Core.Path.{sym, ap, _∙_}
 use Rattle.words.specs.Answer.{Outcome, then}
-use Rattle.balise_writer.specs.Words.{Words}
-use Rattle.balise_writer.specs.Says.{saysSpelt}
+use Rattle.telegram.specs.Spelling.{Words}
+use Rattle.telegram.specs.Says.{saysSpelt}
 use Rattle.audibility.specs.Sound.{soundWith, soundOf}
 use borrow.Author.Needs.{needs}
 use Rattle.audibility.proofs.sound_of.Statement.{statement}

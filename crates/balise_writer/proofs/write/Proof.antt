@@ -3,17 +3,17 @@ use mathlib.Core.Path.{sym, ap, _∙_}
 use mathlib.Core.List.{List}
 use Prim.Native.Nat.{ℕ}
 use lib.ListN.{length}
-use Rattle.words.specs.Answer.{Outcome}
-use Rattle.balise_writer.specs.Words.{Words}
-use Rattle.balise_writer.specs.Write.{bytesOf, Writing, onto, withWords, write}
-use Rattle.balise_writer.specs.Says.{saysSpelt}
+use Rattle.words.specs.Answer.{Outcome, then}
+use Rattle.telegram.specs.Spelling.{Words}
+use Rattle.balise_writer.specs.Write.{bytesOf, Writing, onto, write}
+use Rattle.telegram.specs.Says.{saysSpelt}
 use borrow.Author.Needs.{needs}
 use Rattle.balise_writer.proofs.write.Statement.{statement}
 use Rattle.balise_writer.proofs.write.Tie as tie
 
 -- what the words' answer o comes to
 abbrev after : ℕ → ℕ → ℕ → List ℕ → Outcome Words → Writing
-after s t n out o = onto out (withWords o (bytesOf s t n (length out)))
+after s t n out o = onto out (then o (bytesOf s t n (length out)))
 
 returns : tie.Need-returns
 unfolding write

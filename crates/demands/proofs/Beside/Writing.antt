@@ -19,7 +19,7 @@ use Rattle.balise_line.specs.Line.{OneBalise, Proper, placesOf}
 use Rattle.balise_line.proofs.TooFew.{few-flips-few}
 use Rattle.balise_line.proofs.Stretch.{all-sent}
 use Rattle.balise_line.proofs.Clean.{clean-few, true-places}
-use Rattle.balise_writer.specs.Words.{wordsOf}
+use Rattle.telegram.specs.Spelling.{wordsOf}
 use Rattle.balise_writer.specs.Write.{telegrams, write}
 use Rattle.balise_writer.specs.Sender.{sender}
 use Rattle.balise_writer.proofs.Bytes.{telegrams-length}

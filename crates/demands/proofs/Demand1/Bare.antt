@@ -7,7 +7,7 @@ use Rattle.words.specs.Says.{saysShortRead, saysShortWritten, saysLongRead, say
 use Rattle.telegram.specs.Says.{saysPair, saysReach, saysTelegramRead, saysFound, saysSurveyed}
 use Rattle.balise_writer.specs.Write.{Writing, write}
 use Rattle.balise_writer.specs.Says.{saysAnswer}
-use Rattle.contact.specs.Says.{saysBegun, saysNext, saysJudged, saysJudgedUnder}
+use Rattle.contact.specs.Says.{saysSearchBegun, saysNext, saysJudged, saysJudgedUnder}
 use Rattle.group_rows.specs.Fitting.{saysFitted}
 use Rattle.group.specs.Says.{saysMeasured, saysGroupJudged as saysGroup}
 use Rattle.ride.specs.Says.{saysChecked, saysReport, saysReply, saysWay}
@@ -74,7 +74,7 @@ untouched = record {
   found = λ n r r′ p q. told saysFound telegram-is.foundOf telegram-is.found-back r r′ p q;
   surveyed = λ n r r′ p q. told saysSurveyed telegram-is.surveyedOf telegram-is.surveyed-back r r′ p q;
   written = λ n r r′ p q. told saysAnswer writer-is.writtenOf writer-is.written-back r r′ p q;
-  begun = λ n r r′ p q. told saysBegun contact-is.begunOf contact-is.begun-back r r′ p q;
+  begun = λ n r r′ p q. told saysSearchBegun contact-is.begunOf contact-is.begun-back r r′ p q;
   next = λ n r r′ p q. told saysNext contact-is.nextOf contact-is.next-back r r′ p q;
   contact-judged = λ n r r′ p q. told saysJudged contact-is.judgedOf contact-is.judged-back r r′ p q;
   measured = λ n r r′ p q. told saysMeasured group-is.measured group-is.measured-back r r′ p q;

@@ -11,7 +11,7 @@ use Rattle.words.specs.Code.{other, exchanged, sent}
 use Rattle.telegram.specs.Sync.{differing, isGood}
 use Rattle.telegram.specs.declared.Telegram.{Telegram}
 use Rattle.contact.specs.declared.Judged.{Judged}
-use Rattle.balise_writer.specs.Words.{asked, tooLarge, hasFifteen, wordsOf, spell}
+use Rattle.telegram.specs.Spelling.{asked, tooLarge, hasFifteen, wordsOf, spell}
 use Rattle.balise_writer.specs.Write.{telegrams, inRange, bytesOf, write}
 use Rattle.demands.specs.Contracts.{JudgeContact}
 use Rattle.demands.specs.Writing.{OneWriting}

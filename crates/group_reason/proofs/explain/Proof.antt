@@ -7,7 +7,7 @@ use lib.ListN.{take}
 use Rattle.words.specs.Answer.{gives, refuses, pick}
 use Rattle.group.specs.Balise.{balises}
 use Rattle.group_reason.specs.Reason.{bad}
-use Rattle.group_reason.specs.Says.{saysBad}
+use Rattle.group_reason.specs.Says.{saysBadBalise}
 use Rattle.group_reason.specs.Explain.{readFrom, explain}
 use borrow.Author.Needs.{needs}
 use Rattle.group_reason.proofs.explain.Statement.{statement}
@@ -33,7 +33,7 @@ returns-3 c =
     let l = r .read-all .result in
     let e : readFrom 0 (take n (g .kept)) ≡ gives (take n (l .parts)) =
     sym (r .read-all .ensures)
-    ∙ ap (λ (b : Bool). pick b (gives (take n (l .parts))) (refuses (bad (l .balise) (l .place) (saysBad (l .bad))))) (k .if3 .taken) in
+    ∙ ap (λ (b : Bool). pick b (gives (take n (l .parts))) (refuses (bad (l .balise) (l .place) (saysBadBalise (l .bad))))) (k .if3 .taken) in
     c .why-fit .ensures ∙ sym (rw (ne-eqb n 1 (r .before .before .if1 .left), le-ltb 5 n (r .before .if2 .left), e))
 
 returns-4 : tie.Need-returns-4
@@ -43,9 +43,9 @@ returns-4 c =
     let g = r .before .before .before .before .args .group in
     let n = g .count in
     let l = r .read-all .result in
-    let e : readFrom 0 (take n (g .kept)) ≡ refuses (bad (l .balise) (l .place) (saysBad (l .bad))) =
+    let e : readFrom 0 (take n (g .kept)) ≡ refuses (bad (l .balise) (l .place) (saysBadBalise (l .bad))) =
     sym (r .read-all .ensures)
-    ∙ ap (λ (b : Bool). pick b (gives (take n (l .parts))) (refuses (bad (l .balise) (l .place) (saysBad (l .bad))))) (c .if3 .left) in
+    ∙ ap (λ (b : Bool). pick b (gives (take n (l .parts))) (refuses (bad (l .balise) (l .place) (saysBadBalise (l .bad))))) (c .if3 .left) in
     rw (ne-eqb n 1 (r .before .before .if1 .left), le-ltb 5 n (r .before .if2 .left), e)
 
 pub explain-spec : {M : Type 1} → statement M

@@ -4,7 +4,7 @@ use mathlib.Core.Bool.{Bool}
 use Prim.Native.Nat.{ℕ, _-_, _<_}
 use native.Mathlib.Omega.{arith}
 use lib.ListN.{length, drop}
-use Rattle.lines.specs.declared.Line.{Line}
+use Rattle.lines.specs.declared.TextLine.{TextLine}
 use Rattle.lines.specs.declared.Letters.{Letters}
 use Rattle.lines.specs.declared.Reader.{Reader}
 use Rattle.lines.specs.Text.{hash}
@@ -13,7 +13,7 @@ use Rattle.lines.proofs.Steps.{at-the-end, at-newline, goes-on, in-comm
 use Rattle.lines.proofs.next_line.Statement.{statement}
 use Rattle.lines.proofs.next_line.Tie as tie
 
-abbrev reader : Line → Letters → Bool → Reader
+abbrev reader : TextLine → Letters → Bool → Reader
 reader line word comment = record { line = line; word = word; comment = comment }
 
 abbrev Inv-loop : tie.InvT-loop

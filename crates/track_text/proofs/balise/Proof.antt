@@ -1,7 +1,7 @@
 -- `balise` goes by what spelling the words answers.
 use mathlib.Core.Path.{_≡_, sym, ap, _∙_}
 use borrow.Author.Needs.{needs}
-use Rattle.balise_writer.specs.Says.{saysSpelt}
+use Rattle.telegram.specs.Says.{saysSpelt}
 use Rattle.track_text.specs.Read.{balise}
 use Rattle.track_text.proofs.balise.Statement.{statement}
 use Rattle.track_text.proofs.balise.Tie as tie

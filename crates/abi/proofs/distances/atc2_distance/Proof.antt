@@ -6,7 +6,7 @@ use borrow.Author.Needs.{needs}
 use Rattle.group.specs.Says.{saysMeasured}
 use Rattle.abi.specs.Face.{returned, itself}
 use Rattle.abi.proofs.Carried.{carried, as-i32}
-use Rattle.abi.proofs.TableDF.{small}
+use Rattle.group.proofs.TableDF.{small}
 use Rattle.abi.proofs.distances.atc2_distance.Statement.{statement}
 use Rattle.abi.proofs.distances.atc2_distance.Tie as tie
 

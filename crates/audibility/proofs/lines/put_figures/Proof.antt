@@ -9,7 +9,7 @@ use Rattle.text.specs.Text.{codes}
 use Rattle.text.specs.Put.{put}
 use Rattle.text.proofs.Standing.{join, join-4, numbered, room-as}
 use Rattle.telegram.specs.declared.Telegram.{Telegram}
-use Rattle.balise_writer.specs.Words.{asked}
+use Rattle.telegram.specs.Spelling.{asked}
 use Rattle.audibility.specs.Lines.{telegramLine}
 use Rattle.audibility.proofs.Pieces.{figures-are, number-is}
 use borrow.Author.Needs.{needs}

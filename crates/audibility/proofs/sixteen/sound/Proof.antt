@@ -3,8 +3,8 @@ use mathlib.Core.Path.{_≡_, sym, ap, ap₂, _∙_}
 use mathlib.Core.Bool.{Bool, true, false}
 use Rattle.words.specs.Answer.{Outcome, gives, refuses, pick}
 use Rattle.telegram.specs.Says.{saysPair}
-use Rattle.balise_writer.specs.Words.{Words}
-use Rattle.balise_writer.proofs.Answers.{is-good, not-good}
+use Rattle.telegram.specs.Spelling.{Words}
+use Rattle.telegram.proofs.Pairs.{is-good, not-good}
 use Rattle.audibility.specs.Sound.{isBroken, sending, Heard, audible, broken, soundWith}
 use Rattle.audibility.proofs.Ten.{ten-broken}
 use borrow.Author.Needs.{needs}

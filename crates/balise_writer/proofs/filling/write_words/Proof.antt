@@ -6,10 +6,11 @@ use native.Mathlib.Omega.{arith}
 use lib.ListN.{length}
 use Rattle.telegram.specs.Sync.{isGood}
 use Rattle.telegram.specs.Says.{saysPair}
-use Rattle.balise_writer.specs.Words.{Words}
+use Rattle.telegram.specs.Spelling.{Words}
 use Rattle.balise_writer.specs.Write.{inRange}
+use Rattle.telegram.proofs.Pairs.{is-good, not-good}
 use Rattle.balise_writer.proofs.Bytes.{is-onto}
-use Rattle.balise_writer.proofs.Answers.{is-good, not-good, range, answers-4, answers-20, answers-21, answers-bytes}
+use Rattle.balise_writer.proofs.Answers.{range, answers-4, answers-20, answers-21, answers-bytes}
 use borrow.Author.Needs.{needs}
 use Rattle.balise_writer.proofs.filling.write_words.Statement.{statement}
 use Rattle.balise_writer.proofs.filling.write_words.Tie as tie

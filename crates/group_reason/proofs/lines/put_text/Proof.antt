@@ -8,7 +8,7 @@ use Rattle.text.specs.Text.{codes}
 use Rattle.text.specs.Put.{put}
 use Rattle.text.proofs.Standing.{less, room-after, join, numbered, room-as}
 use Rattle.group_reason.specs.declared.Reason.{Reason}
-use Rattle.group_reason.specs.Says.{saysBad, saysReason}
+use Rattle.group_reason.specs.Says.{saysBadBalise, saysReason}
 use Rattle.group_reason.specs.Text.{badly, baliseAt, reasonText}
 use Rattle.group_reason.proofs.Pieces.{one-is, unread-is}
 use borrow.Author.Needs.{needs}
@@ -17,11 +17,11 @@ use Rattle.group_reason.proofs.lines.put_text.Tie as tie
 
 -- A bad balise has room, whole.
 whole : (k : tie.After-reason3) → let s = k .before .before .before in let g = k .reason3 .given .0 in
-    s .args .at + length (baliseAt (g .0) (g .1 .0) ++ badly (saysBad (g .1 .1 .0))) ≤ length (s .args .buf .now)
+    s .args .at + length (baliseAt (g .0) (g .1 .0) ++ badly (saysBadBalise (g .1 .1 .0))) ≤ length (s .args .buf .now)
 whole k =
     let s = k .before .before .before in
     let g = k .reason3 .given .0 in
-    room-as (s .args .buf .now) (s .args .at) (unread-is (g .0) (g .1 .0) (saysBad (g .1 .1 .0)) ∙ ap (λ (v : Reason). reasonText (saysReason v)) (sym (k .reason3 .given .1))) (s .pre)
+    room-as (s .args .buf .now) (s .args .at) (unread-is (g .0) (g .1 .0) (saysBadBalise (g .1 .1 .0)) ∙ ap (λ (v : Reason). reasonText (saysReason v)) (sym (k .reason3 .given .1))) (s .pre)
 
 put-many-requires : tie.Need-put-many-requires
 unfolding reasonText
@@ -35,7 +35,7 @@ put-balise-requires c κs =
     let k = c .before .before in
     let s = k .before .before .before in
     let g = k .reason3 .given .0 in
-    less (s .args .buf .now) (s .args .at) (baliseAt (g .0) (g .1 .0)) (badly (saysBad (g .1 .1 .0))) (whole k)
+    less (s .args .buf .now) (s .args .at) (baliseAt (g .0) (g .1 .0)) (badly (saysBadBalise (g .1 .1 .0))) (whole k)
 
 put-bad-requires : tie.Need-put-bad-requires
 put-bad-requires c κs =
@@ -43,7 +43,7 @@ put-bad-requires c κs =
     let k = p1 .before .before .before in
     let s = k .before .before .before in
     let g = k .reason3 .given .0 in
-    room-after (s .args .buf .now) (s .args .at) (baliseAt (g .0) (g .1 .0)) (badly (saysBad (g .1 .1 .0))) (whole k) (p1 .put-balise .ensures)
+    room-after (s .args .buf .now) (s .args .at) (baliseAt (g .0) (g .1 .0)) (badly (saysBadBalise (g .1 .1 .0))) (whole k) (p1 .put-balise .ensures)
 
 put-run-requires : tie.Need-put-run-requires
 unfolding reasonText
@@ -95,8 +95,8 @@ returns-4 c =
     let s = k .before .before .before in
     let a = s .args in
     let g = k .reason3 .given .0 in
-    join (a .buf .now) (a .at) (baliseAt (g .0) (g .1 .0)) (badly (saysBad (g .1 .1 .0))) (whole k) (p1 .put-balise .ensures) (p2 .put-bad .ensures)
-    ∙ ap (λ (t : List ℕ). put t (a .buf .now) (a .at)) (unread-is (g .0) (g .1 .0) (saysBad (g .1 .1 .0)) ∙ ap (λ (v : Reason). reasonText (saysReason v)) (sym (k .reason3 .given .1)))
+    join (a .buf .now) (a .at) (baliseAt (g .0) (g .1 .0)) (badly (saysBadBalise (g .1 .1 .0))) (whole k) (p1 .put-balise .ensures) (p2 .put-bad .ensures)
+    ∙ ap (λ (t : List ℕ). put t (a .buf .now) (a .at)) (unread-is (g .0) (g .1 .0) (saysBadBalise (g .1 .1 .0)) ∙ ap (λ (v : Reason). reasonText (saysReason v)) (sym (k .reason3 .given .1)))
 
 returns-5 : tie.Need-returns-5
 unfolding reasonText

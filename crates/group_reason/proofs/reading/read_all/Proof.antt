@@ -6,7 +6,7 @@ use native.Mathlib.Omega.{arith}
 use lib.ListN.{length, take, drop, length-set}
 use Rattle.words.specs.Answer.{gives}
 use Rattle.group_reason.specs.Explain.{readFrom}
-use Rattle.group_reason.specs.Says.{saysBad}
+use Rattle.group_reason.specs.Says.{saysBadBalise}
 use Rattle.group_reason.specs.Inside.{saysPartRead}
 use Rattle.group_reason.proofs.Hearing.{after, after-none, read-good, read-bad, read-end}
 use borrow.Author.Needs.{needs}
@@ -30,7 +30,7 @@ returns c =
     let t = h .before .before .before in
     let s = t .before in
     let e = sym (h .part-heard .ensures) ∙ ap saysPartRead (q .bad .given .1) in
-    read-bad (s .args .t1) (s .args .n) (t .loop .i) (s .good .0 .1 .0 .1) (s .pre) (h .before .before .loop-test .taken) (saysBad (q .bad .given .0 .0)) e (take (t .loop .i) (t .loop .parts))
+    read-bad (s .args .t1) (s .args .n) (t .loop .i) (s .good .0 .1 .0 .1) (s .pre) (h .before .before .loop-test .taken) (saysBadBalise (q .bad .given .0 .0)) e (take (t .loop .i) (t .loop .parts))
     ∙ sym (t .loop .inv .2)
 
 loop-again : tie.Need-loop-again Inv-loop μ-loop

@@ -1,6 +1,6 @@
 -- `as_information` keeps the words, or hands on why there are none.
 use mathlib.Core.Path.{sym, ap, _∙_}
-use Rattle.balise_writer.specs.Says.{saysSpelt}
+use Rattle.telegram.specs.Says.{saysSpelt}
 use Rattle.recorder.specs.Record.{informed}
 use borrow.Author.Needs.{needs}
 use Rattle.recorder.proofs.keeping.as_information.Statement.{statement}

@@ -1,7 +1,7 @@
 -- `words_of` spells what was read: three figures, or 12 and the number.
 use mathlib.Core.Path.{sym, ap, _∙_}
 use Rattle.telegram.specs.declared.Telegram.{Telegram}
-use Rattle.balise_writer.specs.Words.{asked, spell}
+use Rattle.telegram.specs.Spelling.{asked, spell}
 use Rattle.recorder.specs.Record.{telegramOf}
 use borrow.Author.Needs.{needs}
 use Rattle.recorder.proofs.keeping.words_of.Statement.{statement}

@@ -3,7 +3,7 @@ use Prim.Native.Nat.{_-_}
 use native.Mathlib.Omega.{arith}
 use lib.ListN.{length}
 use borrow.Author.Needs.{needs}
-use Rattle.fields.proofs.Signs.{found-within}
+use Rattle.figures.proofs.Signs.{found-within}
 use Rattle.test_rows.proofs.groups.group_of.Statement.{statement}
 use Rattle.test_rows.proofs.groups.group_of.Tie as tie
 

@@ -6,13 +6,14 @@ use native.Mathlib.Omega.{arith}
 use borrow.Author.Needs.{needs}
 use Rattle.figures.specs.Figures.{decimal}
 use Rattle.figures.proofs.Largest.{no-larger}
+use Rattle.figures.proofs.Signs.{its-bytes}
 use Rattle.test_words.specs.Lines.{column, withFigure, cellOf}
 use Rattle.test_words.proofs.cells.read.Statement.{statement}
 use Rattle.test_words.proofs.cells.read.Tie as tie
 
 -- what the figure's column says
 figured : (d : tie.After-decimal) → d .decimal .result ≡ decimal (column (d .before .before .before .before .before .args .line .now) 0) 2047
-figured d = d .decimal .ensures ∙ ap (λ (t : List ℕ). decimal t 2047) (d .before .field .ensures)
+figured d = d .decimal .ensures ∙ ap (λ (t : List ℕ). decimal t 2047) (its-bytes (d .before .field .ensures))
 
 returns : tie.Need-returns
 unfolding cellOf

@@ -1,6 +1,6 @@
 -- `balise` makes a record of the words, or hands on why there are none.
 use mathlib.Core.Path.{_≡_, sym, ap, _∙_}
-use Rattle.balise_writer.specs.Says.{saysSpelt}
+use Rattle.telegram.specs.Says.{saysSpelt}
 use Rattle.trace_text.specs.Record.{recordOf}
 use borrow.Author.Needs.{needs}
 use Rattle.trace_text.proofs.making.balise.Statement.{statement}
