@@ -14,14 +14,18 @@ use Rattle.compaction.specs.Dropped.{isDropped}
 abbrev pub waitingRecord : Waiting → List (List ℕ)
 waitingRecord w = pick (w .waits) (w .bytes ∷ []) []
 
--- What the next record settles of the one that waits: that it is kept or dropped.
+-- The gap in force at the record that waits.
+abbrev pub gapThere : (ℕ → ℕ) → Waiting → ℕ
+gapThere gaps w = gaps (odometerOf (w .bytes))
+
+-- What the next record settles of the one that waits: that it is dropped or kept.
 unfoldable pub settled : (ℕ → ℕ) → Waiting → List ℕ → List (List ℕ)
-settled gaps w next = pick (w .waits) (pick (isDropped (w .ride) (gaps (odometerOf (w .bytes))) (w .bytes) next) [] (w .bytes ∷ [])) []
+settled gaps w next = pick (w .waits) (pick (isDropped (w .ride) (gapThere gaps w) (w .bytes) next) [] (w .bytes ∷ [])) []
 
 -- Then the next record waits, in the state that the one before it left.
 unfoldable pub waitsNext : (ℕ → ℕ) → Waiting → List ℕ → Waiting
 waitsNext gaps w next =
-    record { ride = pick (w .waits) (treat (w .ride) (gaps (odometerOf (w .bytes))) (w .bytes) .ride) (w .ride); bytes = next; waits = true }
+    record { ride = pick (w .waits) (treat (w .ride) (gapThere gaps w) (w .bytes) .ride) (w .ride); bytes = next; waits = true }
 
 -- The records that are settled as kept while some records come.
 unfoldable pub keptOver : (ℕ → ℕ) → Waiting → List (List ℕ) → List (List ℕ)

@@ -1,16 +1,13 @@
 -- What can be computed of a noisy pass: that no forty bits have too many flips, and what comes of it.
 -- Assumes nothing.
-use Prim.Native.Nat.{ℕ, _+_, _-_, _≤_, _<_}
+use Prim.Native.Nat.{ℕ, _+_, _-_, _≤_}
 use mathlib.Core.Path.{_≡_, _∙_, subst}
 use mathlib.Core.Bool.{true}
 use mathlib.Core.List.{List}
 use native.Mathlib.Omega.{arith}
 use lib.Dec.{T, leb, leb→le}
 use Rattle.words.proofs.Ranges.{upto, below}
-use Rattle.words.specs.Answer.{gives}
 use Rattle.telegram.specs.Stretch.{inside}
-use Rattle.telegram.specs.Sync.{isGood}
-use Rattle.telegram.specs.Telegram.{telegram}
 use Rattle.balise_line.specs.Line.{OneBalise, Proper}
 use Rattle.balise_line.specs.Forty.{EqualBit}
 use Rattle.contact.specs.Contacts.{contact, quiet, contactsFrom, fromStart}
@@ -52,13 +49,3 @@ passed-so k most o from to start length then r proper equal pass is so =
         answered = λ a called. judges (o .buffer) start length (o .s) (o .t) a called ∙ so;
       };
     }
-
--- A line that is heard from its first bit up to the bit `to`, all of it computed.
-pub computed : (k most : ℕ) (o : OneBalise) (to start length : ℕ) (then : Search) (r : Judged)
-    → (o .s < 256) × (o .t < 256) × (o .x < 256) × (o .y < 256) × (o .z < 256) → isGood (o .s) (o .t) ≡ true → telegram (o .x) (o .y) (o .z) ≡ gives (o .telegram)
-    → inside (o .buffer) (o .start) (o .len) ≡ true → EqualBit o k
-    → o .start + o .len ≤ to → T (upto (λ i. leb (flipsIn (lineAt o) (o .buffer) (0 + i) 40) most) (to - 0 - 39)) → inside (o .buffer) 0 (to - 0) ≡ true
-    → contactsFrom (o .buffer) (fromStart 0 (to - 0)) ≡ contact start length then quiet → judgedOf (judge (o .buffer) start length (o .s) (o .t)) ≡ r → Passed k most o r
-computed k most o to start length then r bytes pair valid taken equal high ok heard is so =
-    passed-so k most o 0 to start length then r (record { bytes = bytes; pair = pair; valid = valid; taken = taken }) equal
-    (pass-computed most o 0 to (omega arith) high ok heard) is so

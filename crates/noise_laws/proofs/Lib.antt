@@ -24,7 +24,8 @@ pub mod Reading
 mod MarkerLine
 mod Marker
 mod Computed
-mod EightLines
+mod FirstLines
+mod LastLines
 pub mod OtherLines
 mod Limits
 mod MarkerMet

@@ -5,7 +5,8 @@ use mathlib.Core.Path.{_≡_}
 use native.Mathlib.Omega.{arith}
 use Rattle.telegram.specs.declared.Telegram.{Telegram}
 use Rattle.noise_laws.specs.Limits.{OneMoreDoesNot, WithinIt}
-use Rattle.noise_laws.proofs.EightLines.{first, second, third, fourth, fifth, sixth, seventh, eighth}
+use Rattle.noise_laws.proofs.FirstLines.{first, second, third, fourth}
+use Rattle.noise_laws.proofs.LastLines.{fifth, sixth, seventh, eighth}
 use Rattle.noise_laws.proofs.OtherLines.{nothing, noisy, seven, eight}
 
 -- Telegrams of three figures that are the same have the same figures.

@@ -14,79 +14,155 @@ use Rattle.refusals.proofs.put_refused.Tie as tie
 
 returns : tie.Need-returns
 unfolding refused worded table decimal digits
-returns c = by-case refused _ _ (c .before .before .before .before .before .match .keys1) (c .before .before .put .ensures)
+returns c =
+    let p = c .before .before in
+    let k = p .before .before .before in
+    let a = k .before .before .args in
+    by-case refused (a .buf .now) (a .at) (k .match .keys1) (p .put .ensures)
 
 returns-2 : tie.Need-returns-2
 unfolding refused worded table decimal digits
-returns-2 c = by-case refused _ _ (c .before .before .before .before .before .match .keys2) (c .before .before .put2 .ensures)
+returns-2 c =
+    let p = c .before .before in
+    let k = p .before .before .before in
+    let a = k .before .before .args in
+    by-case refused (a .buf .now) (a .at) (k .match .keys2) (p .put2 .ensures)
 
 returns-3 : tie.Need-returns-3
 unfolding refused worded table decimal digits
-returns-3 c = by-case refused _ _ (c .before .before .before .before .before .match .keys3) (c .before .before .put3 .ensures)
+returns-3 c =
+    let p = c .before .before in
+    let k = p .before .before .before in
+    let a = k .before .before .args in
+    by-case refused (a .buf .now) (a .at) (k .match .keys3) (p .put3 .ensures)
 
 returns-4 : tie.Need-returns-4
 unfolding refused worded table decimal digits
-returns-4 c = by-case refused _ _ (c .before .before .before .before .before .match .keys4) (c .before .before .put4 .ensures)
+returns-4 c =
+    let p = c .before .before in
+    let k = p .before .before .before in
+    let a = k .before .before .args in
+    by-case refused (a .buf .now) (a .at) (k .match .keys4) (p .put4 .ensures)
 
 returns-5 : tie.Need-returns-5
 unfolding refused worded table decimal digits
-returns-5 c = by-case refused _ _ (c .before .before .before .before .before .match .keys5) (c .before .before .put5 .ensures)
+returns-5 c =
+    let p = c .before .before in
+    let k = p .before .before .before in
+    let a = k .before .before .args in
+    by-case refused (a .buf .now) (a .at) (k .match .keys5) (p .put5 .ensures)
 
 returns-6 : tie.Need-returns-6
 unfolding refused worded table decimal digits
-returns-6 c = by-case refused _ _ (c .before .before .before .before .before .match .keys6) (c .before .before .put6 .ensures)
+returns-6 c =
+    let p = c .before .before in
+    let k = p .before .before .before in
+    let a = k .before .before .args in
+    by-case refused (a .buf .now) (a .at) (k .match .keys6) (p .put6 .ensures)
 
 returns-7 : tie.Need-returns-7
 unfolding refused worded table decimal digits
-returns-7 c = by-case refused _ _ (c .before .before .before .before .before .match .keys7) (c .before .before .put7 .ensures)
+returns-7 c =
+    let p = c .before .before in
+    let k = p .before .before .before in
+    let a = k .before .before .args in
+    by-case refused (a .buf .now) (a .at) (k .match .keys7) (p .put7 .ensures)
 
 returns-8 : tie.Need-returns-8
 unfolding refused worded table decimal digits
-returns-8 c = by-case refused _ _ (c .before .before .before .before .before .match .keys8) (c .before .before .put8 .ensures)
+returns-8 c =
+    let p = c .before .before in
+    let k = p .before .before .before in
+    let a = k .before .before .args in
+    by-case refused (a .buf .now) (a .at) (k .match .keys8) (p .put8 .ensures)
 
 returns-9 : tie.Need-returns-9
 unfolding refused worded table decimal digits
-returns-9 c = by-case refused _ _ (c .before .before .before .before .before .match .keys9) (c .before .before .put9 .ensures)
+returns-9 c =
+    let p = c .before .before in
+    let k = p .before .before .before in
+    let a = k .before .before .args in
+    by-case refused (a .buf .now) (a .at) (k .match .keys9) (p .put9 .ensures)
 
 returns-10 : tie.Need-returns-10
 unfolding refused worded table decimal digits
-returns-10 c = by-case refused _ _ (c .before .before .before .before .before .match .keys10) (c .before .before .put10 .ensures)
+returns-10 c =
+    let p = c .before .before in
+    let k = p .before .before .before in
+    let a = k .before .before .args in
+    by-case refused (a .buf .now) (a .at) (k .match .keys10) (p .put10 .ensures)
 
 returns-11 : tie.Need-returns-11
 unfolding refused worded table decimal digits
-returns-11 c = by-case refused _ _ (c .before .before .before .before .before .match .keys11) (c .before .before .put11 .ensures)
+returns-11 c =
+    let p = c .before .before in
+    let k = p .before .before .before in
+    let a = k .before .before .args in
+    by-case refused (a .buf .now) (a .at) (k .match .keys11) (p .put11 .ensures)
 
 returns-12 : tie.Need-returns-12
 unfolding refused worded table decimal digits
-returns-12 c = by-case refused _ _ (c .before .before .before .before .before .match .keys12) (c .before .before .put12 .ensures)
+returns-12 c =
+    let p = c .before .before in
+    let k = p .before .before .before in
+    let a = k .before .before .args in
+    by-case refused (a .buf .now) (a .at) (k .match .keys12) (p .put12 .ensures)
 
 returns-13 : tie.Need-returns-13
 unfolding refused worded table decimal digits
-returns-13 c = by-case refused _ _ (c .before .before .before .before .before .match .keys13) (c .before .before .put13 .ensures)
+returns-13 c =
+    let p = c .before .before in
+    let k = p .before .before .before in
+    let a = k .before .before .args in
+    by-case refused (a .buf .now) (a .at) (k .match .keys13) (p .put13 .ensures)
 
 returns-14 : tie.Need-returns-14
 unfolding refused worded table decimal digits
-returns-14 c = by-case refused _ _ (c .before .before .before .before .before .match .keys14) (c .before .before .put14 .ensures)
+returns-14 c =
+    let p = c .before .before in
+    let k = p .before .before .before in
+    let a = k .before .before .args in
+    by-case refused (a .buf .now) (a .at) (k .match .keys14) (p .put14 .ensures)
 
 returns-15 : tie.Need-returns-15
 unfolding refused worded table decimal digits
-returns-15 c = by-case refused _ _ (c .before .before .before .before .before .match .keys15) (c .before .before .put15 .ensures)
+returns-15 c =
+    let p = c .before .before in
+    let k = p .before .before .before in
+    let a = k .before .before .args in
+    by-case refused (a .buf .now) (a .at) (k .match .keys15) (p .put15 .ensures)
 
 returns-16 : tie.Need-returns-16
 unfolding refused worded table decimal digits
-returns-16 c = by-case refused _ _ (c .before .before .before .before .before .match .keys16) (c .before .before .put16 .ensures)
+returns-16 c =
+    let p = c .before .before in
+    let k = p .before .before .before in
+    let a = k .before .before .args in
+    by-case refused (a .buf .now) (a .at) (k .match .keys16) (p .put16 .ensures)
 
 returns-17 : tie.Need-returns-17
 unfolding refused worded table decimal digits
-returns-17 c = by-case refused _ _ (c .before .before .before .before .before .match .keys17) (c .before .before .put17 .ensures)
+returns-17 c =
+    let p = c .before .before in
+    let k = p .before .before .before in
+    let a = k .before .before .args in
+    by-case refused (a .buf .now) (a .at) (k .match .keys17) (p .put17 .ensures)
 
 returns-18 : tie.Need-returns-18
 unfolding refused worded table decimal digits
-returns-18 c = by-case refused _ _ (c .before .before .before .before .before .match .keys18) (c .before .before .put18 .ensures)
+returns-18 c =
+    let p = c .before .before in
+    let k = p .before .before .before in
+    let a = k .before .before .args in
+    by-case refused (a .buf .now) (a .at) (k .match .keys18) (p .put18 .ensures)
 
 returns-19 : tie.Need-returns-19
 unfolding refused worded table decimal digits
-returns-19 c = by-case refused _ _ (c .before .before .before .before .before .match .keys19) (c .before .before .put19 .ensures)
+returns-19 c =
+    let p = c .before .before in
+    let k = p .before .before .before in
+    let a = k .before .before .args in
+    by-case refused (a .buf .now) (a .at) (k .match .keys19) (p .put19 .ensures)
 
 no-row : (c : tie.At-match-rest) → worded table (c .before .before .args .number) ≡ []
 unfolding worded table
