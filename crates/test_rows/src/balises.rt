@@ -1,5 +1,9 @@
 // A balise as a group's line writes it, as what was heard: X.Y.Z and 12nN are written by the crate
 // `words`, words in hex stand as they are.
+ghost use mathlib.Core.Path.{_≡_};
+ghost use Rattle.words.specs.Code.{writeLong};
+ghost use Rattle.figures.specs.Fields.{field};
+ghost use Rattle.test_rows.specs.Balises.{isSign, sentAs, receivedAs, wordsOf, numberWord, numberAs, heardAs};
 use crate::spelling;
 use figures::Byte;
 use figures::Figure;
