@@ -16,14 +16,12 @@ use ride_text::Done;
 use settings::Held;
 use settings::Store;
 
-// The records in turn, up to the last, while there is room for what one more may add and the next number fits. The store is asked only where an
-// odometer leaves the places of the settings that are held; one version alone is in force throughout.
+// The records in turn, up to the last, while there is room for what one more may add and the next number fits.
 pub fn over(drawing: Drawing, store: Store, first: Held, trace: &[u8], out: &mut [u8]) -> Drawn
     requires { ⌜ (judged store ≡ gives kept) × (first ≡ heldAt store 0) ⌝ }
     ensures { λ r. ⌜ saysDrawn r (now (out .exit)) ≡ drawTaken (gapAt store) drawing (records (now (trace .entry))) (now (out .entry)) ⌝ }
 {
     let count = trace.len() / 8;
-    let throughout = store.count == 1;
     let mut now = drawing.ride;
     let mut pen = drawing.pen;
     let mut next = drawing.number;
@@ -31,12 +29,7 @@ pub fn over(drawing: Drawing, store: Store, first: Held, trace: &[u8], out: &mut
     let mut i: usize = 0;
     let mut at: usize = 0;
     while (i < count) & ((out.len() - at >= 8192) & (next < u64::MAX)) {
-        if !throughout {
-            let odometer = ride::odometer_at(trace, i);
-            if settings::leaves(held, odometer) {
-                held = settings::hold(store, held, odometer);
-            }
-        }
+        held = ride::held_at(store, held, trace, i);
         let treated = ride::treat_at(now, held.gap, trace, i);
         let reply = treated.reply;
         let Reply::Record(given) = reply else {

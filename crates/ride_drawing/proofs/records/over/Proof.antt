@@ -8,17 +8,15 @@ use native.Mathlib.Numerals.{add-one}
 use mathlib.Core.Bool.{Bool, true, _&&_}
 use lib.Dec.{leb, ltb}
 use lib.ListN.{length}
-use borrow.Author.Tests.{ltb-true, leb-true, not-true, not-false}
-use mathlib.Core.Logic.{⊎-elim}
+use borrow.Author.Tests.{ltb-true, leb-true}
 use Rattle.settings.specs.At.{gapAt}
-use Rattle.settings.proofs.Holding.{asked-for, stays-for}
+use Rattle.settings.proofs.Holding.{Holding, holding-at}
 use Rattle.ride.specs.Record.{odometerOf}
 use Rattle.ride.specs.Step.{Step, treat}
 use Rattle.ride.specs.At.{recordAt}
 use Rattle.ride.specs.Over.{records}
 use Rattle.ride.specs.Says.{saysGiven}
-use Rattle.ride.proofs.At.{Took, took, past}
-use Rattle.ride.proofs.Under.{alone, Turning, turning-first, spared, looked}
+use Rattle.ride.proofs.Under.{Turning, Turned, turned, turned-past}
 use Rattle.ride_text.proofs.Turns.{leftOf, left-next, left-all, both}
 use Rattle.text.specs.Put.{placed}
 use Rattle.text.proofs.Placing.{placed-length}
@@ -32,30 +30,30 @@ use Rattle.ride_drawing.proofs.records.over.Statement.{statement}
 use Rattle.ride_drawing.proofs.records.over.Tie as tie
 
 abbrev Inv-loop : tie.InvT-loop
-Inv-loop store trace out₀ count throughout now₀ pen₀ next₀ held₀ i₀ at₀ out now pen next held i at =
+Inv-loop store trace out₀ count now₀ pen₀ next₀ held₀ i₀ at₀ out now pen next held i at =
     (at ≤ length out)
     × (length out ≡ length out₀)
     × (next ≤ 18446744073709551615)
     × (i ≤ length trace / 8)
-    × Turning store held
+    × Holding store held
     × (fromHere (gapAt store) pen now next i at (leftOf trace (length trace / 8) i) out ≡ fromHere (gapAt store) pen₀ now₀ next₀ 0 0 (leftOf trace (length trace / 8) 0) out₀)
 
 abbrev μ-loop : tie.MeasureT-loop
-μ-loop store trace out₀ count throughout now₀ pen₀ next₀ held₀ i₀ at₀ out now pen next held i at = length trace / 8 - i
+μ-loop store trace out₀ count now₀ pen₀ next₀ held₀ i₀ at₀ out now pen next held i at = length trace / 8 - i
 
 loop-holds : tie.Need-loop-holds Inv-loop μ-loop
 loop-holds c =
-    let s = c .before .before .before .before .before in
-    (omega arith, refl, omega arith, omega arith, turning-first (s .args .store) _ (s .pre .0) (s .pre .1), refl)
+    let s = c .before .before .before .before in
+    (omega arith, refl, omega arith, omega arith, rw (s .pre .1) (holding-at (s .args .store) 0 (s .pre .0)), refl)
 
 -- what the loop's test says: a record is left, there is room, and there is a next number
 test : (c : tie.In-loop Inv-loop μ-loop) →
     let l = c .before .loop in
-    let a = c .before .before .before .before .before .before .before .args in
+    let a = c .before .before .before .before .before .before .args in
     (l .i < length (a .trace .now) / 8) × (isTaken (l .next) (length (l .out) - l .at) ≡ true)
 test c =
     let l = c .before .loop in
-    let a = c .before .before .before .before .before .before .before .args in
+    let a = c .before .before .before .before .before .before .args in
     let parts = both (ltb (l .i) (length (a .trace .now) / 8)) (isTaken (l .next) (length (l .out) - l .at)) (c .loop-test .taken) in
     (ltb-true _ _ (parts .0), parts .1)
 
@@ -68,50 +66,29 @@ room c =
     let parts = both (leb 8192 (length (l .out) - l .at)) (ltb (l .next) 18446744073709551615) (test c .1) in
     (omega (arith, leb-true 8192 (length (l .out) - l .at) (parts .0)), ltb-true _ _ (parts .1))
 
--- what is held for a record treats it as the gap in force at its odometer does
-turned : (j : tie.Joined1 Inv-loop μ-loop) →
-    let l = j .before .before in
-    let a = l .before .before .before .before .before .before .args in
-    let r = recordAt (a .trace .now) (l .loop .i) in
-    Turning (a .store) (j .if1 .held) × (treat (l .loop .now) (j .if1 .held .gap) r ≡ treat (l .loop .now) (gapAt (a .store) (odometerOf r)) r)
-turned j =
-    let l = j .before .before in
-    let s = l .before .before .before .before .before .before in
-    let a = s .args in
-    let turning = l .loop .inv .4 in
-    let there = test (j .before) .0 in
-    let looks = looked (a .store) (l .loop .held) (j .if1 .held) (l .loop .now) (a .trace .now) (l .loop .i) in
-    ⊎-elim
-    (λ w. looks (w .1 .result) (not-true (alone (a .store)) (w .0 .taken)) (s .pre .0) turning there (w .1 .ensures)
-    (asked-for (a .store) (l .loop .held) (j .if1 .held) (w .1 .result) (sym (w .2 .ensures) ∙ w .3 .taken) (w .5 ∙ w .4 .ensures)))
-    (λ v. ⊎-elim
-    (λ w. looks (w .1 .result) (not-true (alone (a .store)) (w .0 .taken)) (s .pre .0) turning there (w .1 .ensures)
-    (stays-for (a .store) (l .loop .held) (j .if1 .held) (w .1 .result) (sym (w .2 .ensures) ∙ w .3 .left) (w .4)))
-    (λ w. spared (a .store) (l .loop .held) (j .if1 .held) (l .loop .now) (recordAt (a .trace .now) (l .loop .i)) (not-false (alone (a .store)) (w .0 .left)) turning (w .1))
-    v)
-    (j .if1 .came)
+-- the turn of a record
+turn : (t : tie.After-treat-at Inv-loop μ-loop) →
+    let h = t .before in
+    let l = h .before .before in
+    let a = l .before .before .before .before .before .args in
+    Turning (a .store) (l .loop .held) (h .held-at .result) (l .loop .now) (a .trace .now) (l .loop .i) (t .treat-at .result)
+turn t =
+    let h = t .before in
+    let l = h .before .before in
+    record { good = l .before .before .before .before .before .pre .0; holding = l .loop .inv .4; next-is = h .held-at .ensures; says = t .treat-at .ensures }
 
 enum-known-reply : tie.Need-enum-known-reply Inv-loop μ-loop
 enum-known-reply c = c .match .keys1
 
 -- what the reply says of a record that is taken
-took-one : (c : tie.After-reply Inv-loop μ-loop) →
-    let t = c .before .before in
-    let l = t .before .before .before in
-    let a = l .before .before .before .before .before .before .args in
-    Took (l .loop .now) (t .before .if1 .held .gap) (a .trace .now) (l .loop .i) (t .treat-at .result) (c .reply .given .0 .0)
-took-one c =
-    let t = c .before .before in
-    let l = t .before .before .before in
-    let s = l .before .before .before .before .before .before in
-    took (l .loop .now) (t .before .if1 .held .gap) (s .args .trace .now) (l .loop .i) (t .treat-at .result) (c .reply .given .0 .0) (turned (t .before) .0 .holding .gap)
-    (t .treat-at .ensures) (c .reply .given .1)
+took-one : (c : tie.After-reply Inv-loop μ-loop) → Turned _ _ _ _ _ _ _ (turn (c .before .before)) (c .reply .given .0 .0)
+took-one c = turned _ _ _ _ _ _ _ (turn (c .before .before)) (c .reply .given .0 .0) (c .reply .given .1)
 
 add-next : tie.Need-add-next Inv-loop μ-loop
 add-next c = omega (arith, room (c .before .before .before .before .before .before .before .before .before .before .before .before) .1)
 
 -- an index of the trace has a next one
-next-fits : (l : tie.At-loop Inv-loop μ-loop) → l .loop .i < length (l .before .before .before .before .before .before .args .trace .now) / 8 → l .loop .i + 1 < 18446744073709551616
+next-fits : (l : tie.At-loop Inv-loop μ-loop) → l .loop .i < length (l .before .before .before .before .before .args .trace .now) / 8 → l .loop .i + 1 < 18446744073709551616
 next-fits l h = omega arith
 
 add-i : tie.Need-add-i Inv-loop μ-loop
@@ -128,7 +105,7 @@ loop-again c =
     let g = p .before .before .before .before .before in
     let t = g .before .before in
     let l = t .before .before .before in
-    let s = l .before .before .before .before .before .before in
+    let s = l .before .before .before .before .before in
     let gaps = gapAt (s .args .store) in
     let trace = s .args .trace .now in
     let ride = l .loop .now in
@@ -143,7 +120,7 @@ loop-again c =
     let one = took-one g in
     let closed = t .treat-at .result .closed in
     let after = t .treat-at .result .ride in
-    let stepped = one .step ∙ turned (t .before) .1 in
+    let stepped = one .step in
     let ride-is : after ≡ treat ride (gaps (odometerOf r)) r .ride = ap (λ (x : Step). x .ride) stepped in
     let pen-is : c .pen-after .result ≡ stepPen pen ride (stepAt gaps ride r) = c .pen-after .ensures ∙ ap (stepPen pen ride) stepped in
     let es : List Element = stepElements pen ride next (stepAt gaps ride r) in
@@ -163,7 +140,7 @@ loop-again c =
       length-is ∙ l .loop .inv .1,
       omega arith,
       omega (arith, one .there),
-      turned (t .before) .0,
+      one .holding,
       here
           ∙ sym (from-next gaps pen ride next i at r rest out (test (t .before .before) .1) fits)
           ∙ ap (λ (rs : List (List ℕ)). fromHere gaps pen ride next i at rs out) (sym (left-next trace (length trace / 8) i (one .there)))
@@ -172,12 +149,12 @@ loop-again c =
 
 -- where no record more is taken, the drawing is whole
 whole : (l : tie.At-loop Inv-loop μ-loop) →
-    let a = l .before .before .before .before .before .before .args in
+    let a = l .before .before .before .before .before .args in
     taken (gapAt (a .store)) (l .loop .pen) (l .loop .now) (l .loop .next) (length (l .loop .out) - l .loop .at) (leftOf (a .trace .now) (length (a .trace .now) / 8) (l .loop .i)) ≡ 0
     → block (l .loop .i) (l .loop .at) (l .loop .now) (l .loop .next) (l .loop .pen) (l .loop .out)
     ≡ drawTaken (gapAt (a .store)) (a .drawing) (records (a .trace .now)) (a .out .now)
 whole l none =
-    let a = l .before .before .before .before .before .before .args in
+    let a = l .before .before .before .before .before .args in
     let gaps = gapAt (a .store) in
     let trace = a .trace .now in
     from-last gaps (l .loop .pen) (l .loop .now) (l .loop .next) (l .loop .i) (l .loop .at) (leftOf trace (length trace / 8) (l .loop .i)) (l .loop .out) none
@@ -191,7 +168,7 @@ same-length c = c .before .loop .inv .1
 returns : tie.Need-returns Inv-loop μ-loop
 returns c =
     let l = c .before in
-    let a = l .before .before .before .before .before .before .args in
+    let a = l .before .before .before .before .before .args in
     let trace = a .trace .now in
     whole l (no-more (gapAt (a .store)) (l .loop .pen) (l .loop .now) (l .loop .next) (length (l .loop .out) - l .loop .at) trace (length trace / 8) (l .loop .i) (c .loop-test .left))
 
@@ -201,13 +178,12 @@ same-length-2 c = c .before .before .before .before .loop .inv .1
 returns-2 : tie.Need-returns-2 Inv-loop μ-loop
 returns-2 c =
     let t = c .before in
-    let j = t .before in
-    let l = j .before .before in
-    let a = l .before .before .before .before .before .before .args in
+    let l = t .before .before .before in
+    let a = l .before .before .before .before .before .args in
     let trace = a .trace .now in
     whole l
     (none-left (gapAt (a .store)) (l .loop .pen) (l .loop .now) (l .loop .next) (length (l .loop .out) - l .loop .at) trace (length trace / 8) (l .loop .i)
-    (past (l .loop .now) (j .if1 .held .gap) trace (l .loop .i) (t .treat-at .result) (turned j .0 .holding .gap) (t .treat-at .ensures) (c .match .keys2)))
+    (turned-past _ _ _ _ _ _ _ (turn t) (c .match .keys2)))
 
 pub over-spec : {M : Type 1} → statement M
 over-spec =
@@ -216,7 +192,7 @@ over-spec =
     Inv-loop
     μ-loop
     loop-holds
-    (λ c. omega arith) (λ c κs. tt) (λ c κs. tt) (λ c κs. tt) (λ c κs. tt) enum-known-reply
+    (λ c. omega arith) (λ c κs. tt) (λ c κs. tt) enum-known-reply
     (λ c κs. tt) (λ c κs. tt) add-next
     add-i
     loop-less
