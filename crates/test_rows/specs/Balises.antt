@@ -1,4 +1,5 @@
--- A balise as the file of groups writes it: `M` is a marker, `?` an unreadable one, `12n1612` a number balise, `17/8E/5A` three words as received, and `1.8.5` three figures.
+-- A balise as the file of groups writes it: `M` is a marker, `?` an unreadable one, `12n1612` a
+-- number balise, `17/8E/5A` three words as received, and `1.8.5` three figures.
 -- Assumes nothing.
 use Prim.Native.Nat.{ℕ, _/_, _%_}
 use mathlib.Core.Bool.{Bool, _&&_}
@@ -57,7 +58,8 @@ numbered x Figure.Odd = Meant.Nothing
 unfoldable pub numberAs : List ℕ → Meant
 numberAs text = numbered (sentAs (field text 110 0)) (decimal (field text 110 1) 65535)
 
--- What was heard at the balise that a text writes: the signs are `M`, 77, `?`, 63, `n`, 110, `/`, 47, and `.`, 46.
+-- What was heard at the balise that a text writes: the signs are `M`, 77, `?`, 63, `n`, 110, `/`,
+-- 47, and `.`, 46.
 unfoldable pub heardAs : List ℕ → Meant
 heardAs text =
     pick (isSign text 77) (Meant.Is Heard.Marker)

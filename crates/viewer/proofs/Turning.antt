@@ -1,4 +1,5 @@
--- What the walks over a viewer share: what it owns taken apart and put together, that a viewer that is made has its type, and how a walk comes to its function's contract.
+-- What the walks over a viewer share: what it owns taken apart and put together, that a viewer that
+-- is made has its type, and how a walk comes to its function's contract.
 -- Assumes nothing.
 use mathlib.Core.Path.{_≡_, refl, sym, subst}
 use Prim.Native.Nat.{ℕ}
@@ -122,7 +123,8 @@ module _ {M : Type 1} (𝓤 : URA M) (H : Heap 𝓤) (A : Atoms 𝓤) (W : Given
     unfolding StandTy
     typed-viewer = LL.lawful (T.the-type β) (T′.the-laws β) 𝓤 H A W .typed (viewer s stand) _ is-viewer .0
 
-  -- what is known of a viewer that is given: it has its type, and so have its slice and where it stands
+  -- what is known of a viewer that is given: it has its type, and so have its slice and where it
+  -- stands
   pub record Known (d : Viewer) : Type 0 where
     pub typed : Holds (hasTy (ViewerTy (α .mir)) (mach α d)) × WT (mach α d)
     pub slice-is : Is (ShrSlice (α .mir) (α .lft) u8) (d .trace) (slice (d .trace) ∷ [])

@@ -1,5 +1,6 @@
--- The hypotheses of `Sessions` and `Stopping` are met, computed: over four records four forward, two back, afresh, and five forward, the fifth of which is refused with
--- 23; then five back, the fifth of which is refused with 22.
+-- The hypotheses of `Sessions` and `Stopping` are met, computed: over four records four forward,
+-- two back, afresh, and five forward, the fifth of which is refused with 23; then five back, the
+-- fifth of which is refused with 22.
 -- Assumes nothing.
 use Prim.Native.Nat.{ℕ}
 use mathlib.Core.Path.{_≡_, refl}
