@@ -1,9 +1,10 @@
--- The hypotheses of `Sessions` and `Stopping` are met, computed: over four records four forward, two back, afresh, and five forward, the fifth of which is refused with
+-- The hypotheses of `Sessions`, `Stopping` and `Lasting` are met, computed: over four records four forward, two back, afresh, and five forward, the fifth of which is refused with
 -- 23; then five back, the fifth of which is refused with 22.
 -- Assumes nothing.
 use Prim.Native.Nat.{ℕ}
 use mathlib.Core.Path.{_≡_, refl}
 use mathlib.Core.List.{List, [], _∷_}
+use lib.ListN.{length}
 use denote.Ref.{RefT}
 use Rattle.words.specs.Answer.{refuses}
 use Rattle.telegram.specs.Sync.{differing, isGood, goodPair}
@@ -19,9 +20,11 @@ use Rattle.viewer.specs.Stand.{opened, passed, returned}
 use Rattle.viewer.specs.Viewing.{start, forward as forwardOf, back as backOf}
 use Rattle.viewer.specs.Going.{forwards, backs}
 use Rattle.viewer.specs.History.{first}
+use Rattle.viewer_text.specs.Screen.{linesFrom}
 use Rattle.viewer_laws.specs.Session.{StartAt, ForwardsAt, BacksAt, Move, forward, back, afresh, Lead, session, Views}
 use Rattle.viewer_laws.proofs.Session.{sessions}
 use Rattle.viewer_laws.proofs.Stopping.{stopping}
+use Rattle.viewer_laws.specs.Lasting.{LastLines}
 use Rattle.viewer_laws.proofs.Witness.{bytes}
 
 -- a lent trace with these bytes
@@ -81,3 +84,7 @@ viewed = sessions .after-any store bytes begun moves (back-five .stand) starts r
 
 pub stopped : (forwardOf bytes (five .stand) .answer ≡ refuses 23) × (backOf (back-five .stand) .answer ≡ refuses 22)
 stopped = (stopping .forwards bytes (opened store) 5 23 five five-met refl .0, stopping .backs (five .stand) 5 22 back-five back-five-met refl .0)
+
+-- every text has its last lines
+pub lasts : (text : List ℕ) (lines : ℕ) → LastLines text lines (linesFrom (length text) lines text)
+lasts text lines = (([], tt), lent text, (lent text, (lines, tt)), refl, refl)
