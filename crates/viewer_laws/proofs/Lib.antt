@@ -3,3 +3,4 @@ pub mod Stopping
 pub mod Witness
 pub mod SessionMet
 pub mod Lasting
+pub mod Seeking
