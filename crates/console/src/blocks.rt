@@ -11,9 +11,8 @@ use crate::progress::not_begun;
 use crate::progress::wipe;
 use crate::reading::fill;
 
-// Where a pass over the cards stands: the argument of the first card, how many cards were begun,
-// the argument of the latest, its file with the bytes that are left of it (a file below 0 is none),
-// and how far it is.
+// Where a pass over the cards stands: the first card's argument, how many cards were begun, the
+// latest one's argument, its file with the bytes left of it (below 0: none), and how far it is.
 pub struct Pass {
     first: usize,
     begun: usize,
