@@ -19,7 +19,8 @@ use Rattle.ear_bytes.specs.declared.Hearing.{Hearing}
 use Rattle.ear_bytes.specs.Ears.{earBytes, earIn}
 use Rattle.ear_bytes.specs.Hearing.{fresh, joined, Written, hear, end}
 use Rattle.ear_bytes.specs.Laws.{toCome, wroteOf}
-use Rattle.ear_bytes.proofs.Pieces.{any-room, any-room-at-end, none-left, joined-two}
+use Rattle.ear_bytes.proofs.Pieces.{any-room, joined-two}
+use Rattle.ear_bytes.proofs.Ends.{any-room-at-end, none-left}
 use Rattle.abi.specs.Face.{returned, left}
 use Rattle.abi.specs.Stores.{keptNumber}
 use Rattle.abi.specs.Leads.{heard, earLeft, recordsLeft, usedLeft, earAfter}

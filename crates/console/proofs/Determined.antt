@@ -1,4 +1,5 @@
--- Each contract that is an equation fixes the whole answer: any two answers that it allows are equal. (The others read: docs/EXCEPTIONS.md.)
+-- Each contract that is an equation fixes the whole answer: any two answers that it allows are
+-- equal. (The others read: docs/EXCEPTIONS.md.)
 -- Assumes nothing.
 use mathlib.Core.Path.{sym, _∙_}
 use Rattle.words.proofs.Told.{Fixed}

@@ -1,4 +1,5 @@
--- What the arguments before the cards come to: where the cards begin, and which store is ridden under.
+-- What the arguments before the cards come to: where the cards begin, and which store is ridden
+-- under.
 -- Assumes nothing.
 use Prim.Native.Nat.{ℕ, _+_}
 use mathlib.Core.Path.{_≡_}
@@ -15,7 +16,8 @@ cardsFrom at Given.Settings = at + 2
 cardsFrom at Given.Usage = at + 2
 cardsFrom at Given.Said = at + 2
 
--- The store: document 01's gap where no settings are named, a good one where they are; where nothing is ridden there is none.
+-- The store: document 01's gap where no settings are named, a good one where they are; where
+-- nothing is ridden there is none.
 abbrev pub Ridden : Given → Store → Type 0
 Ridden Given.Plain store = store ≡ plain 40
 Ridden Given.Settings store = judged store ≡ gives kept

@@ -1,4 +1,5 @@
-// What the arguments ask for before the cards, for the programs that ride: `-s SETTINGS`, from one argument on.
+// What the arguments ask for before the cards, for the programs that ride: `-s SETTINGS`, from one
+// argument on.
 ghost use mathlib.Core.Path.{_≡_};
 ghost use Prim.Native.Nat.{_+_};
 ghost use lib.ListN.{length};
@@ -135,7 +136,8 @@ fn from_file(program: &[u8], aside: bool, at: u8, fd: i32) -> AskedFor
     judged(program, aside, at, &text[..count])
 }
 
-// What the arguments ask for before the cards, from this one on, where another option stands before them.
+// What the arguments ask for before the cards, from this one on, where another option stands before
+// them.
 pub fn options_at(program: &[u8], aside: bool, at: u8) -> AskedFor
     ensures { λ r. ⌜ (r .first ≡ cardsFrom at (r .how)) × Ridden (r .how) (r .store) ⌝ }
 {

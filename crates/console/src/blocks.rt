@@ -11,8 +11,8 @@ use crate::progress::not_begun;
 use crate::progress::wipe;
 use crate::reading::fill;
 
-// Where a pass over the cards stands: the argument of the first card, how many cards were begun, the argument of the latest, its file with the bytes that are
-// left of it (a file below 0 is none), and how far it is.
+// Where a pass over the cards stands: the first card's argument, how many cards were begun, the
+// latest one's argument, its file with the bytes left of it (below 0: none), and how far it is.
 pub struct Pass {
     first: usize,
     begun: usize,
@@ -22,8 +22,8 @@ pub struct Pass {
     far: Far,
 }
 
-// How a pass goes on: more may come; all cards were read; the card of this argument cannot be opened any more, or a read of it failed; or
-// the lent block has no room for a record.
+// How a pass goes on: more may come; all cards were read; the card of this argument cannot be
+// opened any more, or a read of it failed; or the lent block has no room for a record.
 pub enum Goes {
     More,
     End,
@@ -32,7 +32,8 @@ pub enum Goes {
     NoRoom,
 }
 
-// What a block leaves: the pass, how many bytes of whole records stand at the start of the block, and how it goes on.
+// What a block leaves: the pass, how many bytes of whole records stand at the start of the block,
+// and how it goes on.
 pub struct Block {
     pub pass: Pass,
     pub read: usize,
@@ -78,7 +79,8 @@ fn with_card(pass: Pass, begun: usize, number: usize, bytes: u64) -> Block
     }
 }
 
-// The pass after so many bytes, with its card closed: it has no further one, or is shorter by now, or a read of it failed.
+// The pass after so many bytes, with its card closed: it has no further one, or is shorter by now,
+// or a read of it failed.
 fn closed(pass: Pass, read: usize, how: Goes) -> Block
     ensures { λ r. ⌜ r .read ≡ read ⌝ }
 {
@@ -173,7 +175,8 @@ fn told(got: Block, lengths: &[u64]) -> Block
     }
 }
 
-// The next records of the cards, whose lengths were kept, into block: whole ones. Where a card begins or ends there are none.
+// The next records of the cards, whose lengths were kept, into block: whole ones. Where a card
+// begins or ends there are none.
 pub fn next_block(pass: Pass, lengths: &[u64], block: &mut [u8]) -> Block
     ensures { λ r. ⌜ (r .read ≤ length (now (block .entry))) × (r .read % 8 ≡ 0) ⌝ }
 {

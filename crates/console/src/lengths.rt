@@ -1,4 +1,5 @@
-// The cards gone over for their lengths. A name that is too long counts as a card that cannot be opened.
+// The cards gone over for their lengths. A name that is too long counts as a card that cannot be
+// opened.
 ghost use Prim.Native.Nat.{_+_, _≤_};
 ghost use lib.ListN.{length};
 use crate::arguments::is_input;
@@ -8,8 +9,9 @@ use crate::progress::wipe;
 use crate::reading::length_of;
 use libc::SEEK_SET;
 
-// What going over the cards finds: cards of whole records; no card; more of them than lengths are kept; or the number of the argument whose
-// card cannot be opened, cannot be read, has a length that is no multiple of 8, or cannot be gone over a second time.
+// What going over the cards finds: cards of whole records; no card; more of them than lengths are
+// kept; or the number of the argument whose card cannot be opened, cannot be read, has a length
+// that is no multiple of 8, or cannot be gone over a second time.
 pub enum CardsFound {
     Cards,
     NoCard,
@@ -20,7 +22,8 @@ pub enum CardsFound {
     Once(usize),
 }
 
-// One card: how many bytes it has, whether it could be opened, whether it could be read, and whether it can be gone over again; and how far the work is.
+// One card: how many bytes it has, whether it could be opened, whether it could be read, and
+// whether it can be gone over again; and how far the work is.
 struct Card {
     bytes: u64,
     is_open: bool,
@@ -35,7 +38,8 @@ struct Gone {
     far: Far,
 }
 
-// Opens the file that the argument with this number names, or standard input for the name `-`; below 0 where that cannot be done.
+// Opens the file that the argument with this number names, or standard input for the name `-`;
+// below 0 where that cannot be done.
 pub fn open_card(number: usize) -> i32 {
     if is_input(number) {
         return os::open_read(b"/dev/stdin");
@@ -73,7 +77,8 @@ fn measure(number: usize, block: &mut [u8], far: Far) -> Card {
     }
 }
 
-// How many cards are named from this argument on; none where there are more than that many, or than a million, which no command line has.
+// How many cards are named from this argument on; none where there are more than that many, or than
+// a million, which no command line has.
 pub fn named(first: usize, most: usize) -> usize
     ensures { λ r. ⌜ (r ≤ most) × (first + r ≤ 18446744073709551615) × (r ≤ 1000000) ⌝ }
 {
@@ -156,8 +161,9 @@ fn go_over_all(first: usize, count: usize, lengths: &mut [u64], block: &mut [u8]
     }
 }
 
-// Goes over all cards for their lengths, and keeps them. One that cannot be opened or read decides before one of a bad length, and that
-// before one that cannot be gone over again; among equals the first.
+// Goes over all cards for their lengths, and keeps them. One that cannot be opened or read decides
+// before one of a bad length, and that before one that cannot be gone over again; among equals the
+// first.
 pub fn go_over(first: usize, lengths: &mut [u64], block: &mut [u8]) -> CardsFound {
     let count = named(first, lengths.len());
     if count == 0 {

@@ -1,26 +1,47 @@
-// What programs share that read and write: what they say and how they tell the launcher that something was wrong, arguments, the settings that stand before the
-// cards, and the cards themselves.
-// 1. `tell`: a program has no exit status in this language, so one digit goes to descriptor 9, which the launcher (./run, atc2) alone opens; a program that is run by
-//    itself has no such pipe, and nothing happens.
-// 2. `say`, `say_of`: a line of standard error that begins with the program's name; `fail`, `fail_of`, `fail_with`: the same where the call comes to nothing by it, which
-//    is told. `usage`, `cannot_write`, `wrong` (an argument), `refuse`, `to_terminal`: what programs have to say alike, and tell.
-// 3. `write`: the first bytes of a buffer to either stream; `put`: to standard output, and a failure is said and told; `refuse_here`: a refusal there;
-//    `refuse_trace`: `trace refused 16`, in document 01's words.
-// 4. `number`, `word`, `sync_word`, `is_input`: an argument as a figure, as a word of two hex digits, as standard input (`-`).
-// 5. `options(program, aside)` takes `-s SETTINGS` and answers an `Asked`: the store of the settings; the first argument after them (1, or 3); and how it went: `Plain` (no `-s`:
-//    the store of document 01's gap, 40), `Settings` (the good store of the file), `Usage` (`-s` without a file: the program says its usage), or `Said`: the settings are bad, and it was
-//    said and told. Then there is no store, and the program ends, before any card is opened. Said are, on standard output, `settings line 3 refused 24: WORDS`, `settings line 3 unreadable`,
-//    `settings refused 19: WORDS`; for a program whose result is bytes (`aside`) the same after its name on standard error; there, for every program, `PROGRAM: cannot open FILE`,
-//    `PROGRAM: cannot read FILE`, `PROGRAM: settings too long`. `options_at(program, aside, at)`: the same from argument `at` on, after an option of the program's own.
-// 6. `go_over(first, lengths, block)` goes over all cards for their lengths, from argument `first` on (1 is the first after the program's name), and answers a `Found`: cards of whole
-//    records, or which argument failed and how. `lengths` has room for the most cards, `block` is any buffer.
-// 7. `begin(first)` and `next_block(pass, lengths, block)` read them again, block by block of whole records, card after card: `block[..read]` holds the next records, `how` says whether
-//    more may come (`More`; an empty block too), all were read (`End`), or what failed. No more is read than `go_over` counted.
-// 8. `open_card(number)` opens the file of an argument, `fill(fd, buf)` reads it, for files that are no cards (settings, a plan). The name `-` is standard input.
-// 9. `cannot_open`, `cannot_read`, `only_once`, `say_found`: one line of standard error each, `explain: cannot open FILE`, and it is told. Of a bad length it says nothing: that is `trace refused 16`.
-// 10. `not_begun`, `go_on`, `go_on_somehow`, `wipe`: how far long work is, at a terminal; `go_over` and `next_block` say it by themselves.
-// Promises: all is safe and ends; what is read lies within what was lent, and a block is whole records; where the cards begin, and that what is ridden under is good (specs/Asked.antt).
-// The words of a refusal are `refusals`', figures `figures`', settings `settings_text`'s. What is read or written stands outside contracts: docs/EXCEPTIONS.md.
+// What programs share that read and write: what they say and how they tell the launcher that
+// something was wrong, arguments, the settings that stand before the cards, and the cards
+// themselves.
+// 1. `tell`: a program has no exit status in this language, so one digit goes to descriptor 9,
+//    which the launcher (./run, atc2) alone opens; a program that is run by itself has no such
+//    pipe, and nothing happens.
+// 2. `say`, `say_of`: a line of standard error that begins with the program's name; `fail`,
+//    `fail_of`, `fail_with`: the same where the call comes to nothing by it, which is told.
+//    `usage`, `cannot_write`, `wrong` (an argument), `refuse`, `to_terminal`: what programs have to
+//    say alike, and tell.
+// 3. `write`: the first bytes of a buffer to either stream; `put`: to standard output, and a
+//    failure is said and told; `refuse_here`: a refusal there; `refuse_trace`: `trace refused 16`,
+//    in document 01's words.
+// 4. `number`, `word`, `sync_word`, `is_input`: an argument as a figure, as a word of two hex
+//    digits, as standard input (`-`).
+// 5. `options(program, aside)` takes `-s SETTINGS` and answers an `Asked`: the store of the
+//    settings; the first argument after them (1, or 3); and how it went: `Plain` (no `-s`: the
+//    store of document 01's gap, 40), `Settings` (the good store of the file), `Usage` (`-s`
+//    without a file: the program says its usage), or `Said`: the settings are bad, and it was said
+//    and told. Then there is no store, and the program ends, before any card is opened. Said are,
+//    on standard output, `settings line 3 refused 24: WORDS`, `settings line 3 unreadable`,
+//    `settings refused 19: WORDS`; for a program whose result is bytes (`aside`) the same after its
+//    name on standard error; there, for every program, `PROGRAM: cannot open FILE`,
+//    `PROGRAM: cannot read FILE`, `PROGRAM: settings too long`. `options_at(program, aside, at)`:
+//    the same from argument `at` on, after an option of the program's own.
+// 6. `go_over(first, lengths, block)` goes over all cards for their lengths, from argument `first`
+//    on (1 is the first after the program's name), and answers a `Found`: cards of whole records,
+//    or which argument failed and how. `lengths` has room for the most cards, `block` is any
+//    buffer.
+// 7. `begin(first)` and `next_block(pass, lengths, block)` read them again, block by block of whole
+//    records, card after card: `block[..read]` holds the next records, `how` says whether more may
+//    come (`More`; an empty block too), all were read (`End`), or what failed. No more is read than
+//    `go_over` counted.
+// 8. `open_card(number)` opens the file of an argument, `fill(fd, buf)` reads it, for files that
+//    are no cards (settings, a plan). The name `-` is standard input.
+// 9. `cannot_open`, `cannot_read`, `only_once`, `say_found`: one line of standard error each,
+//    `explain: cannot open FILE`, and it is told. Of a bad length it says nothing: that is
+//    `trace refused 16`.
+// 10. `not_begun`, `go_on`, `go_on_somehow`, `wipe`: how far long work is, at a terminal; `go_over`
+//     and `next_block` say it by themselves.
+// Promises: all is safe and ends; what is read lies within what was lent, and a block is whole
+// records; where the cards begin, and that what is ridden under is good (specs/Asked.antt). The
+// words of a refusal are `refusals`', figures `figures`', settings `settings_text`'s. What is read
+// or written stands outside contracts: docs/EXCEPTIONS.md.
 mod arguments;
 mod before;
 mod blocks;

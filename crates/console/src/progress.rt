@@ -1,12 +1,14 @@
-// How far long work is, on standard error where that is a terminal: `explain: 45 %`, or `explain: 512 MiB` where nobody knows how much there is. It is said
-// from the third second on, once a second at most; the cursor stays at the line's beginning, so that what comes next stands in its place, and at the end it is
-// wiped out.
+// How far long work is, on standard error where that is a terminal: `explain: 45 %`, or
+// `explain: 512 MiB` where nobody knows how much there is. It is said from the third second on,
+// once a second at most; the cursor stays at the line's beginning, so that what comes next stands
+// in its place, and at the end it is wiped out.
 ghost use mathlib.Core.Path.{_≡_};
 ghost use Rattle.console.specs.Pass.{notBegun};
 use libc::STDERR_FILENO;
 use libc::STDOUT_FILENO;
 
-// Whether the work has begun; the second that it is and how many came since, from the third of which on it is said how far it is; how many bytes were gone over; and whether anybody is told.
+// Whether the work has begun; the second that it is and how many came since, from the third of
+// which on it is said how far it is; how many bytes were gone over; and whether anybody is told.
 pub struct Far {
     on: bool,
     last: i64,
@@ -34,7 +36,8 @@ fn second() -> i64 {
     libc::time(&mut t)
 }
 
-// Work that begins now, if it has not. Where the program's lines go to a terminal too they say how far it is, and nobody else does.
+// Work that begins now, if it has not. Where the program's lines go to a terminal too they say how
+// far it is, and nobody else does.
 fn begun(far: Far, has_lines: bool) -> Far {
     if far.on {
         return far;
@@ -113,7 +116,8 @@ fn with(far: Far, bytes: u64, last: i64, seconds: u64) -> Far {
     }
 }
 
-// So many bytes more were gone over, of those that the lengths say; without a length, of nobody knows how many.
+// So many bytes more were gone over, of those that the lengths say; without a length, of nobody
+// knows how many.
 pub fn go_on(before: Far, has_lines: bool, count: usize, lengths: &[u64]) -> Far {
     let far = begun(before, has_lines);
     let bytes = std::num::wrapping_add_u64(far.bytes, count as u64);

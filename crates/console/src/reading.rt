@@ -55,8 +55,9 @@ pub fn fill(fd: i32, buf: &mut [u8]) -> Got
     }
 }
 
-// The length of the file from here on, by way of block: block after block up to one that is empty. A proved loop has to
-// end, and nothing says that a file does: so the loop counts its turns down from a number that no run uses up.
+// The length of the file from here on, by way of block: block after block up to one that is empty.
+// A proved loop has to end, and nothing says that a file does: so the loop counts its turns down
+// from a number that no run uses up.
 pub fn length_of(fd: i32, block: &mut [u8], before: Far) -> Length {
     let mut far = before;
     let mut bytes: u64 = 0;

@@ -4,8 +4,10 @@ use libc::SEEK_CUR;
 // The descriptor that the launcher alone opens.
 const LAUNCHER: i32 = 9;
 
-// What the launcher has to tell apart: the whole call was refused by a number, or not passed; it came to nothing, and that was said; or nothing was said, and
-// a card cannot be opened or read, a write failed, the arguments are wrong, there are too many cards, or a card cannot be gone over twice.
+// What the launcher has to tell apart: the whole call was refused by a number, or not passed; it
+// came to nothing, and that was said; or nothing was said, and a card cannot be opened or read, a
+// write failed, the arguments are wrong, there are too many cards, or a card cannot be gone over
+// twice.
 pub enum Ended {
     Refused,
     Said,
@@ -16,7 +18,8 @@ pub enum Ended {
     Once,
 }
 
-// One digit to the launcher's pipe. A descriptor that has a position is a file of somebody else, and a terminal is none of ours.
+// One digit to the launcher's pipe. A descriptor that has a position is a file of somebody else,
+// and a terminal is none of ours.
 fn put_digit(digit: &[u8]) {
     if libc::isatty(LAUNCHER) == 1 {
         return;

@@ -15,7 +15,8 @@ pub fn cannot_read(program: &[u8], number: usize) {
     fail_of(program, b"cannot read", number);
 }
 
-// `PROGRAM: - is standard input, which can be gone over only once: give a file`, or `PROGRAM: FILE can be gone over only once: give a file`.
+// `PROGRAM: - is standard input, which can be gone over only once: give a file`, or
+// `PROGRAM: FILE can be gone over only once: give a file`.
 pub fn only_once(program: &[u8], number: usize) {
     if is_input(number) {
         fail(
@@ -27,8 +28,8 @@ pub fn only_once(program: &[u8], number: usize) {
     fail_with(program, number, b"can be gone over only once: give a file");
 }
 
-// What is wrong with the cards, where document 01 has no words for it. Of no card, and of a bad length, nothing: the one is usage, the other
-// `trace refused 16`.
+// What is wrong with the cards, where document 01 has no words for it. Of no card, and of a bad
+// length, nothing: the one is usage, the other `trace refused 16`.
 pub fn say_found(program: &[u8], found: CardsFound) {
     match found {
         CardsFound::Cards => {}

@@ -30,8 +30,7 @@ use Rattle.contact_laws.proofs.Sound.{received}
 use Rattle.contact_laws.proofs.Over.{cut-straight}
 use Rattle.contact_laws.proofs.Alike.{judged-so, answers-so, two-listed}
 
--- The contact that skips k of the balise's bits and has e of the ones after them, as a stretch;
--- with e = 0, the balise's part of it.
+-- The contact that skips k of the balise's bits and has e of the ones after them (0: its part).
 abbrev pub contactOf : OneBalise → ℕ → ℕ → OneBalise
 contactOf o k e =
     record {
@@ -121,8 +120,7 @@ module _ (o : OneBalise) (proper : Proper o) (clean : Clean o) (k e : ℕ) (k-lo
           let high = ltb-true j (o .phase + k + (o .len + 0 - k)) (h .1) in
           unequal-same (bitAt (o .buffer) (o .start + k + (j - (o .phase + k)))) (sentBit part j) (as-received j (leb-true (o .phase + k) j (h .0)) (omega arith))
 
-  -- A place of the contact that ends in the balise's part is one of that part, and the other way
-  -- round.
+  -- A place of the contact that ends in the balise's part is one of that part, and back.
   there : (p : ℕ) → p + 40 ≤ o .start + o .len → among p (placesOf all) ≡ true → among p (placesOf part) ≡ true
   unfolding places
   there p high e′ =
@@ -161,8 +159,7 @@ module _ (o : OneBalise) (proper : Proper o) (clean : Clean o) (k e : ℕ) (k-lo
       (parts-sent part p low (omega arith) (ap (λ (x : ℕ). x % 32) same ∙ straight))
       (none-sum (λ i. flip part (lineBit part p + i)) 40 (λ i l. part-clean (lineBit part p + i))))
 
-  -- Where what ends in the ones after the balise begins where a telegram does, it has the words
-  -- sent too: at most three of its data bits are not the balise's.
+  -- What begins where a telegram does has the words sent: three data bits at most are not its.
   module _ (e-low : e ≤ 11) (fair : NoFalse o) where
     late-sent : (p : ℕ) → o .start + o .len < p + 40 → among p (placesOf all) ≡ true → Sent all p
     unfolding places lineBit flips

@@ -1,7 +1,7 @@
 -- Demand 1 for the functions of document 02's M-111 that make a store of settings or take one: each
 -- refuses with the first number of its list whose condition holds, and a refusal leaves what it was
--- given as it was. (`allowed`, `leaves`, `hold` and `ride::odometer_at` give no number: they always
--- answer.)
+-- given as it was. (`allowed`, `leaves`, `ride::held_at` and `ride::odometer_at` give no number:
+-- they always answer.)
 -- Assumes nothing.
 use Prim.Native.Nat.{ℕ}
 use mathlib.Core.Path.{_≡_}

@@ -1,8 +1,7 @@
 -- Document 01's table of refusal numbers, row by row. Each condition stands alone, and names no
 -- number. Its figures (7, 15, 16,777,216, 64 and 11, 8 and 4, 1 to 14; those of 16 to 19 in
--- RecordTable.antt) stand here a second time, so that a wrong one in a crate shows as a failing
--- proof. What a place is, when places are alike (`allAlike`), how a row fits (`fitIn`) and the ones
--- and zeroes of a contact are cited from the crates.
+-- RecordTable.antt) stand here a second time, so that a wrong one shows as a failing proof. What a
+-- place is, when places are alike, how a row fits, a contact's ones and zeroes are the crates'.
 -- Assumes nothing.
 use Prim.Native.Nat.{ℕ, zero, suc, _+_, _-_, _*_, _^_}
 use mathlib.Core.Bool.{Bool, true, false, not, _&&_, _||_}

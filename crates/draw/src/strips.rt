@@ -1,51 +1,64 @@
-// The strips of a ride, record by record. What a record adds is far less than the room behind the first 65,536 bytes of the lent buffer.
+// The strips of a ride, block by block.
 ghost use mathlib.Core.Path.{_≡_};
+ghost use Prim.Native.Nat.{_≤_};
 ghost use lib.ListN.{length};
 use console::Goes;
 use ride_drawing::Drawing;
-use settings::Asked;
+use ride_text::Done;
 use settings::Store;
 
-// Room for what waits to be written, and for a record's pieces behind it.
-pub fn room() -> [u8; 131072]
-    ensures { λ r. ⌜ 131072 ≡ length r ⌝ }
+// Room for what the records of a part of a block add.
+pub fn room() -> [u8; 1048576]
+    ensures { λ r. ⌜ 1048576 ≡ length r ⌝ }
 {
-    [0; 131072]
+    [0; 1048576]
 }
 
-// Where the drawing stands, how many bytes wait to be written, and whether all reads and writes so far succeeded.
+// Where the drawing stands, and whether all reads and writes so far succeeded.
 struct Stand {
     drawing: Drawing,
-    at: usize,
     is_good: bool,
 }
 
-// Writes what waits, if it is much; no place at all where that fails.
-fn relieved(at: usize, out: &[u8]) -> usize {
-    if at < 65536 {
-        return at;
+// How many of so many records were drawn, once they are written: none where that fails.
+fn written(done: Done, most: usize, out: &[u8]) -> usize
+    ensures { λ r. ⌜ r ≤ most ⌝ }
+{
+    match done {
+        Done::Took { records, bytes } => {
+            if records > most {
+                return 0;
+            }
+            if console::put(b"draw", out, bytes) {
+                return records;
+            }
+            0
+        }
+        Done::Settings(_) => 0,
+        Done::Length => 0,
     }
-    if console::put(b"draw", out, at) {
-        return 0;
-    }
-    usize::MAX
 }
 
-// The records of a block, one after the other.
+// The records of a block: as many at once as have room.
 fn draw_records(from: Stand, store: Store, records: &[u8], out: &mut [u8]) -> Stand {
     let mut drawing = from.drawing;
-    let mut at = from.at;
     let mut i: usize = 0;
-    while (i < records.len() / 8) & (at < usize::MAX) {
-        let put = ride_drawing::draw_record(drawing, store, records, i, out, at);
-        drawing = put.drawing;
-        at = relieved(put.next, out);
-        i += 1;
+    while i < records.len() / 8 {
+        let drawn = ride_drawing::draw(drawing, store, &records[i * 8..], out);
+        let done = drawn.done;
+        drawing = drawn.drawing;
+        let took = written(done, records.len() / 8 - i, out);
+        if took == 0 {
+            return Stand {
+                drawing,
+                is_good: false,
+            };
+        }
+        i += took;
     }
     Stand {
         drawing,
-        at,
-        is_good: at < usize::MAX,
+        is_good: true,
     }
 }
 
@@ -56,7 +69,7 @@ fn finish(how: Goes, stand: Stand, out: &mut [u8]) -> bool {
             let drawing = stand.drawing;
             let pen = drawing.pen;
             let ride = drawing.ride;
-            let n = ride_drawing::draw_end(pen, ride, out, stand.at);
+            let n = ride_drawing::draw_end(pen, ride, out, 0);
             console::put(b"draw", out, n)
         }
         Goes::CannotOpen(number) => {
@@ -84,7 +97,6 @@ fn draw_blocks(
 ) -> bool {
     let mut stand = Stand {
         drawing,
-        at: 0,
         is_good: true,
     };
     let mut pass = console::begin(first);
@@ -106,7 +118,7 @@ fn draw_blocks(
     false
 }
 
-// The strips of the cards' ride, from the settings in force at place 0.
+// The strips of the cards' ride, from a fresh one.
 pub fn draw_cards(
     store: Store,
     first: usize,
@@ -114,19 +126,12 @@ pub fn draw_cards(
     block: &mut [u8],
     out: &mut [u8],
 ) -> bool {
-    let asked = settings::at(store, 0);
-    match asked {
-        Asked::Refused(_) => false,
-        Asked::InForce(held) => {
-            let ride = ride::fresh();
-            let pen = ride_drawing::fresh_pen();
-            let drawing = Drawing {
-                ride,
-                held,
-                number: 1,
-                pen,
-            };
-            draw_blocks(drawing, store, first, lengths, block, out)
-        }
-    }
+    let ride = ride::fresh();
+    let pen = ride_drawing::fresh_pen();
+    let drawing = Drawing {
+        ride,
+        number: 1,
+        pen,
+    };
+    draw_blocks(drawing, store, first, lengths, block, out)
 }

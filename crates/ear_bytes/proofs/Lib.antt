@@ -3,5 +3,7 @@ pub mod Read
 pub mod EarBack
 pub mod Filled
 pub mod Within
+pub mod SameFrames
 pub mod Pieces
+pub mod Ends
 pub mod Determined

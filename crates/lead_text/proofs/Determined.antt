@@ -1,5 +1,5 @@
--- Each contract fixes its function's whole answer and the lent buffer then: any two answers that it allows are equal, and so
--- are the buffers.
+-- Each contract fixes its function's whole answer and the lent buffer then: any two answers that it
+-- allows are equal, and so are the buffers.
 -- Assumes nothing.
 use Prim.Native.Nat.{ℕ}
 use mathlib.Core.Path.{_≡_, refl, sym, ap, _∙_}

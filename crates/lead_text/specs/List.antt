@@ -1,5 +1,6 @@
--- The lines of a lead: the text of the ride over the records that come of it, with reasons, at the start of a lent buffer. The records are
--- `recording`'s, their text and how many are taken into a buffer `ride_text`'s.
+-- The lines of a lead: the text of the ride over the records that come of it, with reasons, at the
+-- start of a lent buffer. The records are `recording`'s, their text and how many are taken into a
+-- buffer `ride_text`'s.
 -- Assumes nothing.
 use Prim.Native.Nat.{ℕ, _+_}
 use mathlib.Core.Bool.{Bool, true, false}
@@ -42,7 +43,8 @@ pub record Wrote : Type 0 where
   pub bytes : ℕ
   pub all : Bool
 
--- What listing answers: what was written, or the number of its refusal; the ride then, and the buffer then.
+-- What listing answers: what was written, or the number of its refusal; the ride then, and the
+-- buffer then.
 pub record Telling : Type 0 where
   pub answer : Outcome Wrote
   pub underway : Underway
@@ -53,7 +55,8 @@ abbrev pub noneLeft : List (List ℕ) → Bool
 noneLeft [] = true
 noneLeft (r ∷ rs) = false
 
--- The listing of as many of some records as are taken into the buffer. With all of them the reading stands at `last`, with n of them at `upTo n`.
+-- The listing of as many of some records as are taken into the buffer. With all of them the reading
+-- stands at `last`, with n of them at `upTo n`.
 unfoldable pub listOf : (ℕ → ℕ) → Underway → List (List ℕ) → Place → (ℕ → Place) → List ℕ → Telling
 listOf gaps u rs last upTo out =
     let n : ℕ = taken withReasons gaps (u .ride) (u .number) (length out) rs in
@@ -65,7 +68,8 @@ listOf gaps u rs last upTo out =
       out = placed (told .text) out 0;
     }
 
--- The listing of what comes of a piece of the lead; when it is used, the next one is gone over from its first frame on.
+-- The listing of what comes of a piece of the lead; when it is used, the next one is gone over from
+-- its first frame on.
 abbrev pub ofFrames : Store → Underway → List ℕ → List ℕ → Telling
 ofFrames store u frames out =
     listOf (gapAt store) u (toCome store frames (placeOf u) .records)

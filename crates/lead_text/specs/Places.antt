@@ -1,4 +1,5 @@
--- Where the reading of a lead stands, and where it stands after each record: the records are `recording`'s (docs/LEAD.md).
+-- Where the reading of a lead stands, and where it stands after each record: the records are
+-- `recording`'s (docs/LEAD.md).
 -- Assumes nothing.
 use Prim.Native.Nat.{ℕ, zero, suc, _-_}
 use mathlib.Core.List.{List}

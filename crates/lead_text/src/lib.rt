@@ -1,8 +1,11 @@
-// The lines of a lead: frames of odometer and line in, the lines of the ride over their records out, with reasons, as text in a lent buffer.
-// A ride under way goes by value; the frames are lent in pieces of any length, and each call goes on as far as the room allows.
-// Promises: the lines are those that the crate ride_text writes with reasons of the records that the crate recording makes of the lead; bytes around the text stay.
-// Specification: specs/Places.antt (where a reading stands), List.antt (the listing), Says.antt (the answers), Inside.antt (one record); what
-// is promised of all calls together: crates/lead_text_laws/specs.
+// The lines of a lead: frames of odometer and line in, the lines of the ride over their records
+// out, with reasons, as text in a lent buffer. A ride under way goes by value; the frames are lent
+// in pieces of any length, and each call goes on as far as the room allows.
+// Promises: the lines are those that the crate ride_text writes with reasons of the records that
+// the crate recording makes of the lead; bytes around the text stay.
+// Specification: specs/Places.antt (where a reading stands), List.antt (the listing), Says.antt
+// (the answers), Inside.antt (one record); what is promised of all calls together:
+// crates/lead_text_laws/specs.
 ghost use mathlib.Core.Path.{_≡_};
 ghost use Rattle.lead_text.specs.List.{fresh, listFrames, listEnd};
 ghost use Rattle.lead_text.specs.Says.{saysWritten};
@@ -17,8 +20,8 @@ use settings::Asked;
 use settings::Bad;
 use settings::Store;
 
-// A ride under way: the tape at the lead, the ride over the records that came, the number of the next one, and the frame of the lent piece and the
-// bit of its line to go on from.
+// A ride under way: the tape at the lead, the ride over the records that came, the number of the
+// next one, and the frame of the lent piece and the bit of its line to go on from.
 pub struct Underway {
     pub tape: Tape,
     pub ride: Ride,
@@ -27,8 +30,8 @@ pub struct Underway {
     pub bit: usize,
 }
 
-// How far a call came, and how many bytes it wrote: all that was lent is used; the room is used, and the same is lent again; or the settings
-// are refused.
+// How far a call came, and how many bytes it wrote: all that was lent is used; the room is used,
+// and the same is lent again; or the settings are refused.
 pub enum HowFar {
     Over(usize),
     Full(usize),
@@ -56,8 +59,9 @@ pub fn fresh() -> Underway
     }
 }
 
-// The lines of the records that come of a piece of the lead, from where the ride stands, at the start of out: of as many records as surely have
-// room, 320 bytes each. Where the piece is used, the next one is gone over from its first frame on.
+// The lines of the records that come of a piece of the lead, from where the ride stands, at the
+// start of out: of as many records as surely have room, 320 bytes each. Where the piece is used,
+// the next one is gone over from its first frame on.
 pub fn list_frames(underway: Underway, store: Store, frames: &[u8], out: &mut [u8]) -> Written
     ensures { λ r. ⌜ saysWritten r (now (out .exit)) ≡ listFrames underway store (now (frames .entry)) (now (out .entry)) ⌝ }
 {
@@ -70,7 +74,8 @@ pub fn list_frames(underway: Underway, store: Store, frames: &[u8], out: &mut [u
     }
 }
 
-// The lines of the records that come at the lead's end, likewise. The end of the ride is `ride_text::put_end`'s.
+// The lines of the records that come at the lead's end, likewise. The end of the ride is
+// `ride_text::put_end`'s.
 pub fn list_end(underway: Underway, store: Store, out: &mut [u8]) -> Written
     ensures { λ r. ⌜ saysWritten r (now (out .exit)) ≡ listEnd underway store (now (out .entry)) ⌝ }
 {

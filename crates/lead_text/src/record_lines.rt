@@ -12,7 +12,8 @@ use ride_text::Done;
 use ride_text::REASONS;
 use settings::Store;
 
-// What listing a record answers: whether it was taken; the ride, the next record's number and the next place then.
+// What listing a record answers: whether it was taken; the ride, the next record's number and the
+// next place then.
 pub struct One {
     pub taken: bool,
     pub ride: Ride,

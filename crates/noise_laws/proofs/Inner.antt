@@ -42,8 +42,7 @@ use Rattle.noise_laws.proofs.Near.{near-sent}
 abbrev isNext : ℕ → Bool
 isNext r = eqb r 1 || eqb r 31
 
--- By the equal bit e, counted from 0: each wrong offset costs more flips than are allowed, and
--- those next to a telegram's beginning as many.
+-- By the equal bit e, from 0: a wrong offset costs more flips than allowed, one beside as many.
 offsetTest : ℕ → Bool
 offsetTest e = upto (λ r. leb (getD allowed e 0 + pick (isNext (suc r)) 0 1) (sum (cost 1 e (suc r)) 8)) 31
 

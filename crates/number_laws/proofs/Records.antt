@@ -16,7 +16,7 @@ use Rattle.contact.proofs.Determined.{judgedOf, judged-back}
 use Rattle.antenna.specs.declared.Until.{Until}
 use Rattle.antenna.specs.Piece.{First, openedAt, closedAt, usedUp}
 use Rattle.antenna.specs.Says.{saysUntil}
-use Rattle.balise_writer.specs.Words.{Words, asked, tooLarge, hasFifteen, wordsOf, spell}
+use Rattle.telegram.specs.Spelling.{Words, asked, tooLarge, hasFifteen, wordsOf, spell}
 use Rattle.recorder.specs.Record.{Content, Made, made, Recording, telegramOf, informed, bytesOf, contentOf, atOdometer, recordOf, recording, eightZeroes}
 use Rattle.recorder.specs.Says.{saysWent}
 use Rattle.recorder.proofs.Determined.{wentOf, went-back}

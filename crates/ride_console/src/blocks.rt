@@ -10,8 +10,8 @@ use ride::Ride;
 use ride_text::Done;
 use settings::Store;
 
-// How many bytes of a lent block are used at once: 8,192 records of 128 bytes of lines fill the room
-// for lines, 3,276 of 320.
+// How many bytes of a lent block are used at once: 8,192 records of 128 bytes of lines fill the
+// room for lines, 3,276 of 320.
 pub fn size(reasons: bool, lent: usize) -> usize
     ensures { λ r. ⌜ r ≤ lent ⌝ }
 {
@@ -34,14 +34,16 @@ pub fn room() -> [u8; 1048576]
     [0; 1048576]
 }
 
-// Where the ride stands: the state, the next record's number, and whether all reads and writes so far succeeded.
+// Where the ride stands: the state, the next record's number, and whether all reads and writes so
+// far succeeded.
 pub struct Listing {
     ride: Ride,
     number: u64,
     is_good: bool,
 }
 
-// Lists the records and writes their lines. Where out has room for the lines of them all, one call of `list` takes them all.
+// Lists the records and writes their lines. Where out has room for the lines of them all, one call
+// of `list` takes them all.
 fn write_records(
     program: &[u8],
     reasons: bool,
@@ -93,8 +95,9 @@ fn finish(program: &[u8], reasons: bool, how: Goes, stand: Listing) {
     }
 }
 
-// The lines of all records of the cards from this argument on, whose lengths were kept, as one ride under the settings, and of its end. A proved loop has to
-// end, and nothing says that a file does: so it counts its turns down from a number that no run uses up.
+// The lines of all records of the cards from this argument on, whose lengths were kept, as one ride
+// under the settings, and of its end. A proved loop has to end, and nothing says that a file does:
+// so it counts its turns down from a number that no run uses up.
 pub fn over(
     program: &[u8],
     reasons: bool,

@@ -1,8 +1,11 @@
-// The listing of a ride from the cards that the arguments name, in their order: what `checker` and `explain` do, each in its style.
-// `list_cards(program, call, reasons)` reads the settings that `-s` names (else document 01's gap), goes over the cards twice, once for their lengths and once for the
-// records, and writes the lines. A plain listing is document 01's lines and nothing else: of what goes wrong the launcher alone is told; with reasons the program says it.
-// Promises: it is safe and it ends; the lines are those of the crate ride_text, block by block and card by card. What its calls of `list` come to is
-// crates/demands/specs/Sections.antt; what cannot be said of a program's reads and writes stands in docs/EXCEPTIONS.md.
+// The listing of a ride from the cards that the arguments name, in their order: what `checker` and
+// `explain` do, each in its style. `list_cards(program, call, reasons)` reads the settings that
+// `-s` names (else document 01's gap), goes over the cards twice, once for their lengths and once
+// for the records, and writes the lines. A plain listing is document 01's lines and nothing else:
+// of what goes wrong the launcher alone is told; with reasons the program says it.
+// Promises: it is safe and it ends; the lines are those of the crate ride_text, block by block and
+// card by card. What its calls of `list` come to is crates/demands/specs/Sections.antt; what cannot
+// be said of a program's reads and writes stands in docs/EXCEPTIONS.md.
 mod blocks;
 mod saying;
 
@@ -11,9 +14,9 @@ use console::Given;
 pub use saying::refuse_trace;
 use settings::Store;
 
-// The lines of the cards from this argument on, whose lengths were kept, by way of a lent block. The
-// room for lines is made once: a fresh one for each part of a card would have to be filled with zeroes
-// first.
+// The lines of the cards from this argument on, whose lengths were kept, by way of a lent block.
+// The room for lines is made once: a fresh one for each part of a card would have to be filled with
+// zeroes first.
 pub fn list_all(
     program: &[u8],
     reasons: bool,

@@ -1,4 +1,5 @@
-// What is written, and what is said where something goes wrong: a plain listing tells the launcher alone.
+// What is written, and what is said where something goes wrong: a plain listing tells the launcher
+// alone.
 use console::CardsFound;
 use console::Ended;
 use console::tell;

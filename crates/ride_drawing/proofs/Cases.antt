@@ -11,28 +11,19 @@ use lib.Seq.{take-take}
 use borrow.Author.Tests.{lt-ltb, le-leb, lt-leb, leb-true}
 use Rattle.words.specs.Answer.{pick}
 use Rattle.text.specs.Text.{codes}
-use Rattle.text.specs.Put.{Put}
 use Rattle.text.proofs.Standing.{Begins, as-long}
-use Rattle.settings.specs.declared.Store.{Store}
-use Rattle.settings.specs.declared.Held.{Held}
-use Rattle.settings.specs.At.{heldFor}
 use Rattle.group_rows.specs.declared.Kind.{Kind}
 use Rattle.group.specs.declared.Group.{Group}
 use Rattle.group.specs.declared.Told.{Told}
 use Rattle.ride.specs.declared.Mark.{Mark}
 use Rattle.ride.specs.declared.Known.{Known}
 use Rattle.ride.specs.declared.Line.{Line}
-use Rattle.ride.specs.declared.Ride.{Ride}
-use Rattle.ride.specs.declared.trace.Treated.{Treated}
-use Rattle.ride.specs.At.{odometerAt, Treatment, treatAt}
-use Rattle.ride.specs.Says.{saysReply, saysTreated}
 use Rattle.ride_drawing.specs.declared.Pen.{Pen}
-use Rattle.ride_drawing.specs.declared.Drawing.{Drawing}
 use Rattle.ride_drawing.specs.Pieces.{metres}
 use Rattle.ride_drawing.specs.Strip.{lesser, onStrip, arrive}
 use Rattle.ride_drawing.specs.Span.{speedLine, level, middle}
 use Rattle.ride_drawing.specs.Sign.{kindShape}
-use Rattle.ride_drawing.specs.Drawing.{Drawn, pieces, placeOf, reached, afterLine, onItsStrip, drawLines, byReply, drawRecord}
+use Rattle.ride_drawing.specs.Drawing.{pieces, placeOf, reached, afterLine, onItsStrip, drawLines}
 use Rattle.ride_drawing.proofs.Putting.{pieces-append}
 
 -- The lesser of two is at most the second.
@@ -109,25 +100,3 @@ unfolding drawLines
 two-drawn pen known then closed l m odometer =
     ap (λ (ps : List (List ℕ)). pieces (onItsStrip pen known closed l (placeOf l odometer)) ++ ps) (one-drawn (afterLine pen l odometer) then then closed m odometer)
     ∙ pieces-append (onItsStrip pen known closed l (placeOf l odometer)) (drawLines (afterLine pen l odometer) then then closed (m ∷ []) odometer)
-
--- ---- a record
-
-pub drawn-is : (d : Drawing) (store : Store) (trace : List ℕ) (i : ℕ) (b : List ℕ) (at o : ℕ) (h : Held) (t : Treated) (x : Drawn)
-    → o ≡ odometerAt trace i → h ≡ heldFor store (d .held) o → saysTreated t ≡ treatAt (d .ride) (h .gap) trace i
-    → x ≡ byReply d h (saysReply (t .reply)) (t .closed) (t .ride) b at → x ≡ drawRecord d store trace i b at
-unfolding drawRecord
-drawn-is d store trace i b at o h t x is-o is-h is-t is =
-    is
-    ∙ ap (λ (u : Treatment). byReply d h (u .reply) (u .closed) (u .ride) b at) is-t
-    ∙ ap (λ (k : Held). byReply d k (treatAt (d .ride) (k .gap) trace i .reply) (treatAt (d .ride) (k .gap) trace i .closed) (treatAt (d .ride) (k .gap) trace i .ride) b at) is-h
-    ∙ ap
-    (λ (q : ℕ). byReply d (heldFor store (d .held) q) (treatAt (d .ride) (heldFor store (d .held) q .gap) trace i .reply)
-    (treatAt (d .ride) (heldFor store (d .held) q .gap) trace i .closed) (treatAt (d .ride) (heldFor store (d .held) q .gap) trace i .ride) b at) is-o
-
--- what drawing a record came to, of its parts
-abbrev pub drawnOf : Ride → Held → ℕ → Pen → Put → Drawn
-drawnOf ride held number pen p = record { drawing = record { ride = ride; held = held; number = number; pen = pen }; put = p }
-
-pub drawn-parts : {n n′ : ℕ} {p p′ : Pen} {q q′ : Put} (ride : Ride) (held : Held) → n ≡ n′ → p ≡ p′ → q ≡ q′ → drawnOf ride held n p q ≡ drawnOf ride held n′ p′ q′
-drawn-parts {n} {n′} {p} {p′} {q} {q′} ride held e f g =
-    ap (λ (x : ℕ). drawnOf ride held x p q) e ∙ ap (λ (x : Pen). drawnOf ride held n′ x q) f ∙ ap (drawnOf ride held n′ p′) g

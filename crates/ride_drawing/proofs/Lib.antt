@@ -1,6 +1,12 @@
 pub mod Putting
 pub mod Cases
+pub mod Turns
+pub mod Bounds
+pub mod Short
+pub mod Fitting
+pub mod Judging
 pub mod Signed
+pub mod Blocks
 pub mod AtItsPlace
 pub mod Safe
 pub mod Determined

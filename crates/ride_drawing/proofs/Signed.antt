@@ -13,8 +13,9 @@ use Rattle.ride.specs.Record.{odometerOf}
 use Rattle.ride.specs.Step.{Step, End, treat, end}
 use Rattle.ride.specs.Over.{linesFor, rideOver}
 use Rattle.ride_drawing.specs.declared.Pen.{Pen}
-use Rattle.ride_drawing.specs.Drawing.{Element, plain, mark, placeOf, afterLine, afterLines, onItsStrip, drawLines, inTheRow, drawRefused, drawAccepted, drawStep, penAfter, lastStrip, drawEnd}
-use Rattle.ride_drawing.specs.Laws.{signed, drawOver, OneSign}
+use Rattle.ride_drawing.specs.Drawing.{Element, plain, mark, placeOf, afterLine, afterLines, onItsStrip, drawLines, inTheRow, drawRefused, drawAccepted, drawStep, lastStrip, drawEnd}
+use Rattle.ride_drawing.specs.Draw.{stepPen, stepElements, drawOver}
+use Rattle.ride_drawing.specs.Laws.{signed, OneSign}
 
 signed-append : (es fs : List Element) → signed (es ++ fs) ≡ signed es ++ signed fs
 signed-append [] fs = refl
@@ -49,13 +50,13 @@ step-signed pen ride number (refuses n) closed after = refused-signed pen (ride 
 step-signed pen ride number (gives lines) closed after = then-plain pen (ride .known) (end ride .ride .known) closed lines (ride .odometer) _
 
 module _ (gaps : ℕ → ℕ) where
-  over : (pen : Pen) (ride : Ride) (number : ℕ) (rs : List (List ℕ)) → signed (drawOver gaps pen ride number rs) ≡ rideOver gaps ride number rs .lines
+  pub over : (pen : Pen) (ride : Ride) (number : ℕ) (rs : List (List ℕ)) → signed (drawOver gaps pen ride number rs .elements) ≡ rideOver gaps ride number rs .lines
   unfolding drawOver rideOver
   over pen ride number [] = refl
   over pen ride number (r ∷ rs) =
       let s : Step = treat ride (gaps (odometerOf r)) r in
-      let pen′ : Pen = penAfter pen (ride .odometer) (s .lines) (s .ride) in
-      signed-append (drawStep pen ride number (s .lines) (s .closed) (s .ride)) (drawOver gaps pen′ (s .ride) (suc number) rs)
+      let pen′ : Pen = stepPen pen ride s in
+      signed-append (stepElements pen ride number s) (drawOver gaps pen′ (s .ride) (suc number) rs .elements)
       ∙ ap₂ (λ (x y : List Line). x ++ y) (step-signed pen ride number (s .lines) (s .closed) (s .ride)) (over pen′ (s .ride) (suc number) rs)
 
 ending : (pen : Pen) (ride : Ride) → signed (drawEnd pen ride) ≡ end ride .lines

@@ -5,12 +5,7 @@ use mathlib.Core.Bool.{Bool, true, false, not}
 use mathlib.Core.List.{List, [], _∷_, _++_}
 use lib.Dec.{leb, ltb}
 use Rattle.words.specs.Answer.{Outcome, gives, refuses, pick}
-use Rattle.words.specs.Limits.{largest64}
 use Rattle.text.specs.Text.{codes}
-use Rattle.text.specs.Put.{Put}
-use Rattle.settings.specs.declared.Store.{Store}
-use Rattle.settings.specs.declared.Held.{Held}
-use Rattle.settings.specs.At.{heldFor}
 use Rattle.group_rows.specs.declared.Direction.{Direction}
 use Rattle.group_rows.specs.declared.Kind.{Kind}
 use Rattle.group.specs.declared.Group.{Group}
@@ -22,10 +17,7 @@ use Rattle.ride.specs.State.{isOpen}
 use Rattle.ride.specs.Closing.{firstPlace}
 use Rattle.ride.specs.Step.{Step, end}
 use Rattle.ride.specs.Over.{linesFor}
-use Rattle.ride.specs.At.{odometerAt, Standing, noRecord, treated, Treatment, treatAt}
 use Rattle.ride_drawing.specs.declared.Pen.{Pen}
-use Rattle.ride_drawing.specs.declared.Drawing.{Drawing}
-use Rattle.ride_drawing.specs.Pieces.{puts}
 use Rattle.ride_drawing.specs.Strip.{greater, isFurther, arrive, heading, closing, between}
 use Rattle.ride_drawing.specs.Span.{span}
 use Rattle.ride_drawing.specs.Sign.{sign}
@@ -145,32 +137,6 @@ drawStep pen ride number (gives lines) closed after = drawAccepted pen ride line
 abbrev pub penAfter : Pen → ℕ → Outcome (List Line) → Ride → Pen
 penAfter pen odometer (refuses n) after = pen
 penAfter pen odometer (gives lines) after = arrive (afterLines pen lines odometer) (after .odometer) (certain after)
-
--- The next record's number; the last one that 64 bits hold stays.
-abbrev pub nextNumber : ℕ → ℕ
-nextNumber n = pick (ltb n largest64) (suc n) n
-
--- What drawing a record comes to: where the drawing stands, and the text that was put.
-pub record Drawn : Type 0 where
-  pub drawing : Drawing
-  pub put : Put
-
--- Where the drawing stands after a record, and what was put; where the trace has no such record, or the gap is refused, nothing changes.
-abbrev pub byReply : Drawing → Held → Outcome Standing → Group → Ride → List ℕ → ℕ → Drawn
-byReply d held (gives (treated lines)) closed after buffer at =
-    record {
-      drawing = record { ride = after; held = held; number = nextNumber (d .number); pen = penAfter (d .pen) (d .ride .odometer) lines after };
-      put = puts (pieces (drawStep (d .pen) (d .ride) (d .number) lines closed after)) buffer at;
-    }
-byReply d held (gives noRecord) closed after buffer at = record { drawing = d; put = record { next = at; buffer = buffer } }
-byReply d held (refuses n) closed after buffer at = record { drawing = d; put = record { next = at; buffer = buffer } }
-
--- The record at an index of a trace, drawn: it is treated with the settings that a store has in force at its odometer.
-unfoldable pub drawRecord : Drawing → Store → List ℕ → ℕ → List ℕ → ℕ → Drawn
-drawRecord d store trace i buffer at =
-    let held : Held = heldFor store (d .held) (odometerAt trace i) in
-    let t : Treatment = treatAt (d .ride) (held .gap) trace i in
-    byReply d held (t .reply) (t .closed) (t .ride) buffer at
 
 -- The end of the last strip: what is known is drawn up to the last accepted odometer.
 unfoldable pub lastStrip : Pen → Ride → List (List ℕ)

@@ -1,21 +1,33 @@
 -- What is promised of a drawing: every line has one sign, at its place or at the strip's edge, and no title needs an escape.
 -- Assumes nothing.
-use Prim.Native.Nat.{ℕ, suc, _+_, _-_, _*_, _≤_, _<_}
+use Prim.Native.Nat.{ℕ, suc, _+_, _%_, _≤_, _<_}
 use mathlib.Core.Path.{_≡_}
 use mathlib.Core.Bool.{Bool, true, not, _&&_}
 use mathlib.Core.List.{List, [], _∷_, _++_}
 use lib.Dec.{eqb}
+use lib.ListN.{length, take, drop}
+use Rattle.words.specs.Limits.{largest64}
+use Rattle.words.specs.Answer.{gives}
 use Rattle.group.specs.declared.Group.{Group}
-use Rattle.settings.specs.declared.Held.{Held}
+use Rattle.settings.specs.declared.Store.{Store}
+use Rattle.settings.specs.Versions.{kept}
+use Rattle.settings.specs.Store.{judged}
+use Rattle.settings.specs.At.{gapAt}
 use Rattle.ride.specs.declared.Line.{Line}
 use Rattle.ride.specs.declared.Ride.{Ride}
-use Rattle.ride.specs.Record.{odometerOf}
-use Rattle.ride.specs.Step.{Step, treat, end}
-use Rattle.ride.specs.Over.{linesFor, rideOver}
+use Rattle.ride.specs.declared.trace.Given.{Given}
+use Rattle.ride.specs.Step.{end}
+use Rattle.ride.specs.Says.{saysGiven}
+use Rattle.ride.specs.Over.{records, rideOver}
+use Rattle.ride_text.specs.declared.Done.{Done}
 use Rattle.ride_drawing.specs.declared.Pen.{Pen}
 use Rattle.ride_drawing.specs.Strip.{onStrip}
 use Rattle.ride_drawing.specs.Sign.{title}
-use Rattle.ride_drawing.specs.Drawing.{Element, plain, mark, drawStep, penAfter, drawEnd}
+use Rattle.ride_drawing.specs.declared.Drawing.{Drawing}
+use Rattle.ride_drawing.specs.declared.Drawn.{Drawn}
+use Rattle.ride_drawing.specs.Drawing.{Element, plain, mark, drawStep, drawEnd}
+use Rattle.ride_drawing.specs.Draw.{textOf, drawOver, roomFor, draw}
+use Rattle.ride_drawing.specs.Says.{saysDrawn}
 
 -- ---- every line has one sign
 
@@ -25,17 +37,70 @@ signed [] = []
 signed (plain pieces ∷ es) = signed es
 signed (mark closed line edge place ∷ es) = line ∷ signed es
 
--- The elements of the ride over some records, from a pen, a state and the first one's number, with the gap that a rule gives for each odometer.
-unfoldable pub drawOver : (ℕ → ℕ) → Pen → Ride → ℕ → List (List ℕ) → List Element
-drawOver gaps pen ride number [] = []
-drawOver gaps pen ride number (r ∷ rs) =
-    let s : Step = treat ride (gaps (odometerOf r)) r in
-    drawStep pen ride number (s .lines) (s .closed) (s .ride) ++ drawOver gaps (penAfter pen (ride .odometer) (s .lines) (s .ride)) (s .ride) (suc number) rs
-
 -- The signs of a ride are its lines, each once and in their order; so are those of its end.
 pub record OneSign : Type 0 where
-  pub over : (gaps : ℕ → ℕ) (pen : Pen) (ride : Ride) (number : ℕ) (rs : List (List ℕ)) → signed (drawOver gaps pen ride number rs) ≡ rideOver gaps ride number rs .lines
+  pub over : (gaps : ℕ → ℕ) (pen : Pen) (ride : Ride) (number : ℕ) (rs : List (List ℕ)) → signed (drawOver gaps pen ride number rs .elements) ≡ rideOver gaps ride number rs .lines
   pub ending : (pen : Pen) (ride : Ride) → signed (drawEnd pen ride) ≡ end ride .lines
+
+-- ---- any blocks give the whole
+
+-- One call of `draw`: the block that it is lent, the lent buffer before it, what it answers, and the buffer after it.
+pub record Call : Type 0 where
+  pub block : List ℕ
+  pub before : List ℕ
+  pub answer : Drawn
+  pub after : List ℕ
+
+-- The contract of `draw` allows it.
+abbrev pub Allowed : Store → Drawing → Call → Type 0
+Allowed store d c = saysDrawn (c .answer) (c .after) ≡ draw d store (c .block) (c .before)
+
+-- How many records a call took, and how many bytes it wrote; a refused one none.
+abbrev pub tookOf : Done → ℕ
+tookOf (Done.Took records bytes) = records
+tookOf (Done.Settings bad) = 0
+tookOf Done.Length = 0
+
+abbrev pub bytesOf : Done → ℕ
+bytesOf (Done.Took records bytes) = bytes
+bytesOf (Done.Settings bad) = 0
+bytesOf Done.Length = 0
+
+-- A call is lent a block of whole records from the front of those that are left, long or short.
+pub record Lent (left : List (List ℕ)) (c : Call) : Type 0 where
+  pub rest : List (List ℕ)
+  pub front : left ≡ records (c .block) ++ rest
+  pub whole : eqb (length (c .block) % 8) 0 ≡ true
+
+-- These are calls of `draw` over some records: each goes on where the one before ended, with what that one did not take, until none is left.
+abbrev pub ByCalls : Store → Drawing → List (List ℕ) → List Call → Type 0
+ByCalls store d left [] = left ≡ []
+ByCalls store d left (c ∷ cs) = Lent left c × Allowed store d c × ByCalls store (c .answer .drawing) (drop (tookOf (c .answer .done)) left) cs
+
+-- The texts that they write, one after the other, and where the drawing stands after them.
+abbrev pub written : List Call → List ℕ
+written [] = []
+written (c ∷ cs) = take (bytesOf (c .answer .done)) (c .after) ++ written cs
+
+abbrev pub afterCalls : Drawing → List Call → Drawing
+afterCalls d [] = d
+afterCalls d (c ∷ cs) = afterCalls (c .answer .drawing) cs
+
+-- Whatever blocks `draw` is called with, and whatever room it has, what the calls write is the text of the elements of the whole ride, each of whose lines has one sign
+-- in it, and the drawing stands where that ends; and a call with room for one record takes one, so that the calls come to an end.
+pub record Blocks : Type 0 where
+  pub whole : (store : Store) (d : Drawing) (rs : List (List ℕ)) (calls : List Call) → judged store ≡ gives kept → ByCalls store d rs calls →
+      let p = drawOver (gapAt store) (d .pen) (d .ride) (d .number) rs in
+      (written calls ≡ textOf (p .elements))
+      × (signed (p .elements) ≡ rideOver (gapAt store) (d .ride) (d .number) rs .lines)
+      × (afterCalls d calls ≡ record { ride = p .ride; number = d .number + length rs; pen = p .pen })
+  pub goes-on : (store : Store) (d : Drawing) (rs : List (List ℕ)) (c : Call) → judged store ≡ gives kept → Lent rs c → Allowed store d c → 1 ≤ length (records (c .block))
+      → roomFor ≤ length (c .before) → d .number < largest64 → 1 ≤ tookOf (c .answer .done)
+
+-- No record adds more than the room that is kept for it, whatever it gives, and neither does the end.
+pub record Bounded : Type 0 where
+  pub step : (pen : Pen) (ride : Ride) (number : ℕ) (given : Given) (closed : Group) (after : Ride) → length (textOf (drawStep pen ride number (saysGiven given) closed after)) ≤ roomFor
+  pub ending : (pen : Pen) (ride : Ride) → length (textOf (drawEnd pen ride)) ≤ roomFor
 
 -- ---- at its place, or at the edge
 

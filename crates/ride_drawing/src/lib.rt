@@ -1,25 +1,26 @@
 // A ride as strips of a page, one for each kilometre: what each record adds to them, and the end of the ride.
-// Promises: every line of the ride that has a place has one sign, at its place or at the strip's edge; its title is the line as `explain` writes it; a
-// piece of text is put whole or not at all, and the bytes around it stay.
+// Promises: every line of the ride that has a place has one sign, at its place or at the strip's edge; its title is the line as `explain` writes it; any blocks
+// give the whole; no record adds more than the room that is kept for it; the bytes around a text stay.
 // Specification: specs/Pieces.antt (text in pieces), Strip.antt (the strips), Span.antt (speeds, and where a signal is due), Sign.antt (the signs),
-// Drawing.antt (a record and the end), Laws.antt (the promises).
+// Drawing.antt (a record and the end), Draw.antt (a block of records), Laws.antt (the promises).
 ghost use mathlib.Core.Path.{_≡_};
 ghost use Rattle.text.specs.Put.{came};
 ghost use Rattle.ride_drawing.specs.Pieces.{puts};
-ghost use Rattle.ride_drawing.specs.Drawing.{Drawn, pieces, drawRecord, drawEnd};
+ghost use Rattle.ride_drawing.specs.Drawing.{pieces, drawEnd};
+ghost use Rattle.ride_drawing.specs.Draw.{draw};
 ghost use Rattle.ride_drawing.specs.Says.{freshPen, saysDrawn};
 
 mod lines;
 mod places;
+mod records;
 mod signs;
 mod spans;
 mod steps;
 mod strips;
 
-use ride::Reply;
 use ride::Ride;
-use ride::Treated;
-use settings::Held;
+use ride_text::Done;
+use settings::Asked;
 use settings::Store;
 
 // Where the pen stands: the left edge of its strip in dm, the place up to which what is known has been drawn, and whether a strip is open.
@@ -29,18 +30,18 @@ pub struct Pen {
     pub is_open: bool,
 }
 
-// Where a drawing stands: the ride, the settings that are held, the next record's number, and the pen.
+// Where a drawing stands: the ride, the next record's number, and the pen.
 pub struct Drawing {
     pub ride: Ride,
-    pub held: Held,
     pub number: u64,
     pub pen: Pen,
 }
 
-// What drawing a record answers: where the drawing stands then, and the place after what was put.
-pub struct Put {
+// What drawing a block answers: where the drawing stands then, and how it went: so many records taken
+// and bytes written, or refused as a listing is.
+pub struct Drawn {
     pub drawing: Drawing,
-    pub next: usize,
+    pub done: Done,
 }
 
 // A pen before the first strip.
@@ -54,41 +55,26 @@ pub fn fresh_pen() -> Pen
     }
 }
 
-// What the record at an index of the trace adds to the strips, into buf from `at` on, piece by piece, each whole or not at all; where there is no such
-// record, or the gap that is held is refused, nothing.
-pub fn draw_record(
-    drawing: Drawing,
-    store: Store,
-    trace: &[u8],
-    i: usize,
-    buf: &mut [u8],
-    at: usize,
-) -> Put
-    ensures { λ r. ⌜ saysDrawn r (now (buf .exit)) ≡ drawRecord drawing store (now (trace .entry)) i (now (buf .entry)) at ⌝ }
+// What the trace's records add to the strips, as text at the start of out, of as many records as surely have room, each treated with the gap in force at its own
+// odometer; where the drawing stands then, how many records and bytes; or the settings' own refusal, then 16, with nothing taken.
+pub fn draw(drawing: Drawing, store: Store, trace: &[u8], out: &mut [u8]) -> Drawn
+    ensures { λ r. ⌜ saysDrawn r (now (out .exit)) ≡ draw drawing store (now (trace .entry)) (now (out .entry)) ⌝ }
 {
-    let old = drawing.held;
-    let held = steps::held_for(store, old, ride::odometer_at(trace, i));
-    let ride = drawing.ride;
-    let treated = ride::treat_at(ride, held.gap, trace, i);
-    let reply = treated.reply;
-    match reply {
-        Reply::Record(given) => {
-            let pen = drawing.pen;
-            let closed = treated.closed;
-            let after = treated.ride;
-            let next = steps::put_step(pen, ride, drawing.number, given, closed, after, buf, at);
-            Put {
-                drawing: Drawing {
-                    ride: after,
-                    held,
-                    number: steps::next_number(drawing.number),
-                    pen: steps::pen_after(pen, ride.odometer, given, after),
-                },
-                next,
+    let asked = settings::at(store, 0);
+    match asked {
+        Asked::Refused(bad) => Drawn {
+            drawing,
+            done: Done::Settings(bad),
+        },
+        Asked::InForce(held) => {
+            if trace.len() % 8 != 0 {
+                return Drawn {
+                    drawing,
+                    done: Done::Length,
+                };
             }
+            records::over(drawing, store, held, trace, out)
         }
-        Reply::NoRecord => Put { drawing, next: at },
-        Reply::Gap => Put { drawing, next: at },
     }
 }
 

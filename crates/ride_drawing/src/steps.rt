@@ -1,12 +1,11 @@
 // What a record adds, and the end of the last strip.
 ghost use mathlib.Core.Path.{_≡_};
 ghost use Rattle.text.specs.Put.{came};
-ghost use Rattle.settings.specs.At.{heldFor};
 ghost use Rattle.ride.specs.declared.Line.{Line};
 ghost use Rattle.ride.specs.Says.{saysWrong, saysLines, saysGiven};
 ghost use Rattle.ride_drawing.specs.declared.Pen.{Pen};
 ghost use Rattle.ride_drawing.specs.Pieces.{puts};
-ghost use Rattle.ride_drawing.specs.Drawing.{pieces, drawRefused, drawAccepted, drawStep, penAfter, nextNumber, lastStrip};
+ghost use Rattle.ride_drawing.specs.Drawing.{pieces, drawRefused, drawAccepted, drawStep, penAfter, lastStrip};
 use crate::Pen;
 use crate::lines::after_lines;
 use crate::lines::put_lines;
@@ -21,29 +20,7 @@ use ride::Line;
 use ride::Lines;
 use ride::Ride;
 use ride::Wrong;
-use settings::Held;
-use settings::Store;
 use text::put;
-
-// The settings to hold at an odometer.
-pub fn held_for(store: Store, held: Held, odometer: u32) -> Held
-    ensures { λ r. ⌜ r ≡ heldFor store held odometer ⌝ }
-{
-    if settings::leaves(held, odometer) {
-        return settings::hold(store, held, odometer);
-    }
-    held
-}
-
-// The next record's number.
-pub fn next_number(n: u64) -> u64
-    ensures { λ r. ⌜ r ≡ nextNumber n ⌝ }
-{
-    if n < u64::MAX {
-        return n + 1;
-    }
-    n
-}
 
 // The number of a refusal.
 fn refusal(wrong: Wrong) -> u8

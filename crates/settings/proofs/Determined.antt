@@ -24,8 +24,6 @@ use Rattle.settings.proofs.at.Kinds as at-kinds
 use Rattle.settings.proofs.at.Reads as at-reads
 use Rattle.settings.proofs.places.leaves.Kinds as leaves-kinds
 use Rattle.settings.proofs.places.leaves.Reads as leaves-reads
-use Rattle.settings.proofs.hold.Kinds as hold-kinds
-use Rattle.settings.proofs.hold.Reads as hold-reads
 use Rattle.words.proofs.Told.{Fixed}
 
 -- From what an answer says, the answer.
@@ -86,6 +84,3 @@ at-determined κs a r r′ x x′ p q = sym (asked-back r) ∙ ap askedOf (p ∙
 
 pub leaves-determined : Fixed 0 leaves-kinds.ps leaves-kinds.r leaves-reads.Post
 leaves-determined κs a r r′ x x′ p q = p ∙ sym q
-
-pub hold-determined : Fixed 0 hold-kinds.ps hold-kinds.r hold-reads.Post
-hold-determined κs a r r′ x x′ p q = p ∙ sym q

@@ -9,7 +9,7 @@
 // that its first bad version would have been given.
 ghost use mathlib.Core.Path.{_≡_};
 ghost use Rattle.settings.specs.Store.{begin, add};
-ghost use Rattle.settings.specs.At.{asked, hold};
+ghost use Rattle.settings.specs.At.{asked};
 ghost use Rattle.settings.specs.Says.{saysBegun, saysAdded, saysAsked};
 
 mod judging;
@@ -134,17 +134,5 @@ pub fn at(store: Store, place: u32) -> Asked
             }
             Asked::InForce(places::in_force(store, place))
         }
-    }
-}
-
-// The settings to hold at a place, by whoever goes over many: those in force there; where asking is
-// refused, those held before.
-pub fn hold(store: Store, held: Held, place: u32) -> Held
-    ensures { λ r. ⌜ r ≡ hold store held place ⌝ }
-{
-    let answer = at(store, place);
-    match answer {
-        Asked::InForce(next) => next,
-        Asked::Refused(_) => held,
     }
 }

@@ -78,19 +78,21 @@ pub fn figure_at(bytes: &[u8], i: usize) -> u64
     0
 }
 
-// The low 32, 16 and 8 bits of a figure.
+// The low 32 bits of a figure.
 pub fn low32(figure: u64) -> u32
     ensures { λ r. ⌜ r ≡ figure % 4294967296 ⌝ }
 {
     (figure % 4294967296) as u32
 }
 
+// The low sixteen bits of a figure.
 pub fn low16(figure: u64) -> u16
     ensures { λ r. ⌜ r ≡ figure % 65536 ⌝ }
 {
     (figure % 65536) as u16
 }
 
+// The low eight bits of a figure.
 pub fn low8(figure: u64) -> u8
     ensures { λ r. ⌜ r ≡ figure % 256 ⌝ }
 {

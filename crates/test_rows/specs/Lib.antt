@@ -1,3 +1,4 @@
 pub mod Counting
 pub mod Spelling
 pub mod Answers
+pub mod Balises

@@ -1,5 +1,9 @@
 // A balise as a group's line writes it, as what was heard: X.Y.Z and 12nN are written by the crate
 // `words`, words in hex stand as they are.
+ghost use mathlib.Core.Path.{_≡_};
+ghost use Rattle.words.specs.Code.{writeLong};
+ghost use Rattle.figures.specs.Fields.{field};
+ghost use Rattle.test_rows.specs.Balises.{isSign, sentAs, receivedAs, wordsOf, numberWord, numberAs, heardAs};
 use crate::spelling;
 use figures::Byte;
 use figures::Figure;
@@ -14,13 +18,25 @@ pub enum Meant {
 }
 
 // A received short word, or none.
-enum Short {
+pub enum Short {
     Word(u8),
     Nothing,
 }
 
+// Whether a text is this one sign.
+fn is_sign(text: &[u8], sign: u8) -> bool
+    ensures { λ r. ⌜ r ≡ isSign (now (text .entry)) sign ⌝ }
+{
+    if text.len() != 1 {
+        return false;
+    }
+    text[0] == sign
+}
+
 // The short word of the figure that a text spells.
-fn sent(text: &[u8]) -> Short {
+fn sent(text: &[u8]) -> Short
+    ensures { λ r. ⌜ r ≡ sentAs (now (text .entry)) ⌝ }
+{
     match words::write_short(spelling::figure(text)) {
         ShortWritten::Word(w) => Short::Word(w),
         ShortWritten::TooLarge => Short::Nothing,
@@ -28,7 +44,9 @@ fn sent(text: &[u8]) -> Short {
 }
 
 // The short word that two hexadecimal digits spell.
-fn received(text: &[u8]) -> Short {
+fn received(text: &[u8]) -> Short
+    ensures { λ r. ⌜ r ≡ receivedAs (now (text .entry)) ⌝ }
+{
     match figures::hex(text) {
         Byte::Is(w) => Short::Word(w),
         Byte::Odd => Short::Nothing,
@@ -36,52 +54,80 @@ fn received(text: &[u8]) -> Short {
 }
 
 // Three words as one balise's.
-fn words_of(x: Short, y: Short, z: Short) -> Meant {
-    let Short::Word(a) = x else {
-        return Meant::Nothing;
-    };
-    let Short::Word(b) = y else {
-        return Meant::Nothing;
-    };
-    let Short::Word(c) = z else {
-        return Meant::Nothing;
-    };
-    Meant::Is(Heard::Words(a, b, c))
+fn words_of(x: Short, y: Short, z: Short) -> Meant
+    ensures { λ r. ⌜ r ≡ wordsOf x y z ⌝ }
+{
+    match x {
+        Short::Nothing => Meant::Nothing,
+        Short::Word(a) => match y {
+            Short::Nothing => Meant::Nothing,
+            Short::Word(b) => match z {
+                Short::Nothing => Meant::Nothing,
+                Short::Word(c) => Meant::Is(Heard::Words(a, b, c)),
+            },
+        },
+    }
+}
+
+// A number balise: its X, and its number as a long word.
+fn number_word(x: Short, n: u16) -> Meant
+    ensures { λ r. ⌜ r ≡ numberWord x (writeLong n) ⌝ }
+{
+    match words::write_long(n) {
+        LongWritten::Word(w) => words_of(
+            x,
+            Short::Word((w / 256) as u8),
+            Short::Word((w % 256) as u8),
+        ),
+        LongWritten::TooLarge => Meant::Nothing,
+    }
 }
 
 // The number balise that 12nN writes.
-fn number(text: &[u8]) -> Meant {
-    let Figure::Number(n) = figures::decimal(figures::field(text, b'n', 1), 65535) else {
-        return Meant::Nothing;
-    };
-    let LongWritten::Word(w) = words::write_long(n as u16) else {
-        return Meant::Nothing;
-    };
+fn number(text: &[u8]) -> Meant
+    ensures { λ r. ⌜ r ≡ numberAs (now (text .entry)) ⌝ }
+{
     let x = sent(figures::field(text, b'n', 0));
-    words_of(
-        x,
-        Short::Word((w / 256) as u8),
-        Short::Word((w % 256) as u8),
-    )
+    match figures::decimal(figures::field(text, b'n', 1), 65535) {
+        Figure::Number(n) => number_word(x, n as u16),
+        Figure::Above => Meant::Nothing,
+        Figure::Odd => Meant::Nothing,
+    }
 }
 
-// What was heard at the balise that a text writes.
-pub fn heard_of(text: &[u8]) -> Meant {
-    if check::same(text, b"M") {
+// Three words in hex.
+fn as_received(text: &[u8]) -> Meant
+    ensures { λ r. ⌜ r ≡ wordsOf (receivedAs (field (now (text .entry)) 47 0)) (receivedAs (field (now (text .entry)) 47 1)) (receivedAs (field (now (text .entry)) 47 2)) ⌝ }
+{
+    let x = received(figures::field(text, b'/', 0));
+    let y = received(figures::field(text, b'/', 1));
+    words_of(x, y, received(figures::field(text, b'/', 2)))
+}
+
+// Three figures.
+fn as_figures(text: &[u8]) -> Meant
+    ensures { λ r. ⌜ r ≡ wordsOf (sentAs (field (now (text .entry)) 46 0)) (sentAs (field (now (text .entry)) 46 1)) (sentAs (field (now (text .entry)) 46 2)) ⌝ }
+{
+    let x = sent(figures::field(text, b'.', 0));
+    let y = sent(figures::field(text, b'.', 1));
+    words_of(x, y, sent(figures::field(text, b'.', 2)))
+}
+
+// What was heard at the balise that a text writes; or nothing, where it writes none.
+pub fn heard_of(text: &[u8]) -> Meant
+    ensures { λ r. ⌜ r ≡ heardAs (now (text .entry)) ⌝ }
+{
+    if is_sign(text, b'M') {
         return Meant::Is(Heard::Marker);
     }
-    if check::same(text, b"?") {
+    if is_sign(text, b'?') {
         return Meant::Is(Heard::Unreadable);
     }
     if figures::has(text, b'n') {
         return number(text);
     }
     if figures::has(text, b'/') {
-        let x = received(figures::field(text, b'/', 0));
-        let y = received(figures::field(text, b'/', 1));
-        return words_of(x, y, received(figures::field(text, b'/', 2)));
+        return as_received(text);
     }
-    let x = sent(figures::field(text, b'.', 0));
-    let y = sent(figures::field(text, b'.', 1));
-    words_of(x, y, sent(figures::field(text, b'.', 2)))
+    as_figures(text)
 }

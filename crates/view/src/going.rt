@@ -18,7 +18,8 @@ pub fn smaller(a: usize, b: usize) -> usize
     b
 }
 
-// Where a block ends: 192 records on, for whose lines a large buffer surely has room, and 4,096 bytes more; or at the last.
+// Where a block ends: 192 records on, for whose lines a large buffer surely has room, and 4,096
+// bytes more; or at the last.
 pub fn end_of(number: usize, to: usize) -> usize
     requires { ⌜ number < to ⌝ }
     ensures { λ r. ⌜ (number < r) × (r ≤ to) ⌝ }
@@ -29,7 +30,8 @@ pub fn end_of(number: usize, to: usize) -> usize
     to
 }
 
-// Writes the lines of some records, the first with this number, in this state; the state after them.
+// Writes the lines of some records, the first with this number, in this state; the state after
+// them.
 fn write_block(ride: Ride, store: Store, number: u64, records: &[u8], out: &mut [u8]) -> Ride {
     let listed = ride_text::list(REASONS, ride, store, number, records, out);
     let done = listed.done;
@@ -56,7 +58,8 @@ fn write_passed(trace: &[u8], from: Standing, number: usize) {
     }
 }
 
-// Forward so often, and writes the lines of the records that are passed; on a screen they stand anyway.
+// Forward so often, and writes the lines of the records that are passed; on a screen they stand
+// anyway.
 pub fn forth(trace: &[u8], from: Standing, times: usize, on_screen: bool) -> Moved {
     let moved = viewer::forwards_at(trace, from, times);
     let stand = moved.stand;
@@ -74,7 +77,8 @@ fn afresh(trace: &[u8], from: Standing, times: usize) -> Moved {
     viewer::forwards_at(trace, stand, times)
 }
 
-// To where so many records lie before the viewer: forward; back as far as the history goes; or, further back, as a fresh viewer.
+// To where so many records lie before the viewer: forward; back as far as the history goes; or,
+// further back, as a fresh viewer.
 pub fn to_number(trace: &[u8], from: Standing, before: usize, on_screen: bool) -> Moved {
     let number = from.number;
     if before >= number {

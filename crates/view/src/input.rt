@@ -3,7 +3,8 @@ ghost use Prim.Native.Nat.{_≤_};
 ghost use lib.ListN.{length};
 use libc::STDIN_FILENO;
 
-// A line: how many bytes it has, whether the input ended before it began, and whether it filled its room: no command is that long.
+// A line: how many bytes it has, whether the input ended before it began, and whether it filled its
+// room: no command is that long.
 pub struct InputLine {
     pub count: usize,
     pub is_end: bool,
@@ -49,7 +50,8 @@ fn line_of(count: usize, room: usize) -> InputLine
     }
 }
 
-// The next line, without its newline, into buf. The last one may lack its newline. No run uses up the turns.
+// The next line, without its newline, into buf. The last one may lack its newline. No run uses up
+// the turns.
 pub fn next(buf: &mut [u8]) -> InputLine
     ensures { λ r. ⌜ r .count ≤ length (now (buf .entry)) ⌝ }
 {

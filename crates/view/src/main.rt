@@ -1,8 +1,9 @@
-// A ride looked at step by step, forward and back: commands from standard input, a line each, and where the viewer stands after each; on a terminal as a screen that
-// each command replaces.
-// Promises: it is safe and it ends; where it stands, the lines, the commands and where a word is found are those of the crates viewer, ride_text, trace_text and
-// viewer_text.
-// Specification: none of its own; what cannot be said of a program's reads and writes stands in docs/EXCEPTIONS.md.
+// A ride looked at step by step, forward and back: commands from standard input, a line each, and
+// where the viewer stands after each; on a terminal as a screen that each command replaces.
+// Promises: it is safe and it ends; where it stands, the lines, the commands and where a word is
+// found are those of the crates viewer, ride_text, trace_text and viewer_text.
+// Specification: none of its own; what cannot be said of a program's reads and writes stands in
+// docs/EXCEPTIONS.md.
 mod going;
 mod input;
 mod memory;

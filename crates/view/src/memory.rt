@@ -1,4 +1,5 @@
-// What is remembered from command to command: the last one, which Enter alone repeats, and the last word that was asked for.
+// What is remembered from command to command: the last one, which Enter alone repeats, and the last
+// word that was asked for.
 ghost use Prim.Native.Nat.{_≤_};
 ghost use lib.ListN.{length};
 use crate::going::smaller;
@@ -12,7 +13,8 @@ pub fn meant(command: Command, last: Command) -> Command {
     last
 }
 
-// What Enter repeats after a command: it, with the word that is remembered; after a line that is no command, what it repeated before.
+// What Enter repeats after a command: it, with the word that is remembered; after a line that is no
+// command, what it repeated before.
 pub fn remembered(command: Command, last: Command) -> Command {
     match command {
         Command::Forward(_) => command,
@@ -40,7 +42,8 @@ pub fn is_quit(command: Command) -> bool {
     }
 }
 
-// The word that a command's line names, at the start of `word`, and how many letters it has; where it names none the one before stays, which has so many.
+// The word that a command's line names, at the start of `word`, and how many letters it has; where
+// it names none the one before stays, which has so many.
 pub fn keep_word(command: Command, line: &[u8], word: &mut [u8], count: usize) -> usize
     requires { ⌜ count ≤ length (now word) ⌝ }
     ensures { λ r. ⌜ r ≤ length (now (word .entry)) ⌝ }

@@ -4,8 +4,9 @@ use libc::STDIN_FILENO;
 use libc::STDOUT_FILENO;
 use viewer::Standing;
 
-// What is noted beside where the viewer stands: nothing; at the start, that it is no start of the cards, but at this record, at this place; after a command the number
-// of the refusal that stopped it, that no further line has the word, or the list of commands.
+// What is noted beside where the viewer stands: nothing; at the start, that it is no start of the
+// cards, but at this record, at this place; after a command the number of the refusal that stopped
+// it, that no further line has the word, or the list of commands.
 pub enum Note {
     Nothing,
     From { record: u64, place: u32 },
@@ -50,7 +51,8 @@ pub fn tell(note: Note, word: &[u8]) {
     }
 }
 
-// Where the viewer stands, and the record that comes next, into the page from `at` on, and the place after it.
+// Where the viewer stands, and the record that comes next, into the page from `at` on, and the
+// place after it.
 pub fn put_stand(trace: &[u8], stand: Standing, page: &mut [u8], at: usize) -> usize {
     let ride = stand.ride;
     let count = trace.len() / 8;

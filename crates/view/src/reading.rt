@@ -1,4 +1,5 @@
-// The cards joined in one buffer of 4 MiB, half a million records, from the first record on or from a place.
+// The cards joined in one buffer of 4 MiB, half a million records, from the first record on or from
+// a place.
 ghost use mathlib.Core.Path.{_≡_};
 ghost use Prim.Native.Nat.{_≤_};
 ghost use lib.ListN.{length};
@@ -7,13 +8,15 @@ use crate::moving::to_start;
 use console::Goes;
 use console::Pass;
 
-// Where a ride begins: with the first record, or with the first at or past the place that an argument names.
+// Where a ride begins: with the first record, or with the first at or past the place that an
+// argument names.
 pub enum Start {
     First,
     At { place: u64, argument: usize },
 }
 
-// How filling the buffer goes on: more may come; all was read; there is more than it has room for; or a card failed, and that was said.
+// How filling the buffer goes on: more may come; all was read; there is more than it has room for;
+// or a card failed, and that was said.
 pub enum Filling {
     More,
     Whole,
@@ -21,7 +24,8 @@ pub enum Filling {
     Failed,
 }
 
-// Where filling the buffer stands: the pass over the cards, how many bytes the buffer has, how many records were passed over before them, and how it goes on.
+// Where filling the buffer stands: the pass over the cards, how many bytes the buffer has, how many
+// records were passed over before them, and how it goes on.
 pub struct Step {
     pass: Pass,
     pub have: usize,
@@ -93,8 +97,8 @@ fn begin(first: usize) -> Step
     }
 }
 
-// The first block that has a record at or past the place, but for those that will be refused, from that record on; the blocks before it are passed over. No run uses
-// up the turns.
+// The first block that has a record at or past the place, but for those that will be refused, from
+// that record on; the blocks before it are passed over. No run uses up the turns.
 fn begin_at(first: usize, place: u64, lengths: &[u64], trace: &mut [u8]) -> Step
     ensures { λ r. ⌜ r .have ≤ length (now (trace .entry)) ⌝ }
 {

@@ -1,4 +1,5 @@
-// What a terminal shows in place of what it showed before: the last lines of the ride, where the viewer stands, and the records around it.
+// What a terminal shows in place of what it showed before: the last lines of the ride, where the
+// viewer stands, and the records around it.
 ghost use Prim.Native.Nat.{_≤_};
 ghost use lib.ListN.{length};
 use crate::going::end_of;
@@ -22,7 +23,8 @@ struct Told {
     have: usize,
 }
 
-// The lines of some records, the first with this number, after those that the buffer has; of them all the last are kept.
+// The lines of some records, the first with this number, after those that the buffer has; of them
+// all the last are kept.
 fn go_on(ride: Ride, store: Store, number: u64, records: &[u8], buf: &mut [u8], have: usize) -> Told
     requires { ⌜ have ≤ length (now buf) ⌝ }
     ensures { λ r. ⌜ r .have ≤ length (now (buf .entry)) ⌝ }
@@ -42,7 +44,8 @@ fn go_on(ride: Ride, store: Store, number: u64, records: &[u8], buf: &mut [u8], 
     }
 }
 
-// The last lines of the ride over the records before the viewer, at the start of the buffer; how many bytes they have.
+// The last lines of the ride over the records before the viewer, at the start of the buffer; how
+// many bytes they have.
 fn last_lines(trace: &[u8], stand: Standing, buf: &mut [u8]) -> usize
     ensures { λ r. ⌜ r ≤ length (now (buf .entry)) ⌝ }
 {

@@ -28,7 +28,8 @@ struct Came {
     note: Note,
 }
 
-// Why a move ended: the refusal of the next step, if it would be refused. An opened viewer's settings are good, so 22 or 23.
+// Why a move ended: the refusal of the next step, if it would be refused. An opened viewer's
+// settings are good, so 22 or 23.
 fn noted(ending: Ending) -> Note {
     match ending {
         Ending::All => Note::Nothing,
@@ -54,7 +55,8 @@ fn help(stand: Standing) -> Came {
     }
 }
 
-// Forward to just after the next record that gives a line with the word; where there is none the viewer stays. Without a word, the list of commands.
+// Forward to just after the next record that gives a line with the word; where there is none the
+// viewer stays. Without a word, the list of commands.
 fn find(trace: &[u8], stand: Standing, word: &[u8], on_screen: bool) -> Came {
     if word.len() == 0 {
         return help(stand);
@@ -85,7 +87,8 @@ fn obey(trace: &[u8], stand: Standing, command: Command, word: &[u8], on_screen:
     }
 }
 
-// Where the viewer stands and what is noted, if it can be written: on a screen in place of what was shown before, and the note below.
+// Where the viewer stands and what is noted, if it can be written: on a screen in place of what was
+// shown before, and the note below.
 fn show(trace: &[u8], stand: Standing, note: Note, word: &[u8], on_screen: bool) -> bool {
     if on_screen {
         let is_written = screen::show(trace, stand);
@@ -115,7 +118,8 @@ fn asked(line: &[u8], is_long: bool) -> Command {
     viewer_text::read(line)
 }
 
-// The commands up to `q`, the end of the input, or where nothing can be written any more. No run uses up the turns.
+// The commands up to `q`, the end of the input, or where nothing can be written any more. No run
+// uses up the turns.
 fn obey_all(trace: &[u8], first: Standing, begun: Note, on_screen: bool) {
     let mut stand = first;
     let mut note = first_note(begun, on_screen);

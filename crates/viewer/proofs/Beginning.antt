@@ -1,4 +1,5 @@
--- What the walk of `start` rests on: the answer and its types, what a slice owns, and that what is made has its type.
+-- What the walk of `start` rests on: the answer and its types, what a slice owns, and that what is
+-- made has its type.
 -- Assumes nothing.
 use mathlib.Core.Path.{_≡_, refl, sym, ap, _∙_, subst}
 use Prim.Native.Nat.{ℕ}

@@ -1,4 +1,5 @@
--- Each contract fixes the whole answer: any two answers that it allows are equal; of a viewer that was refused, as far as a machine tells them apart.
+-- Each contract fixes the whole answer: any two answers that it allows are equal; of a viewer that
+-- was refused, as far as a machine tells them apart.
 -- Assumes nothing.
 use Prim.Native.Nat.{ℕ}
 use mathlib.Core.Path.{_≡_, refl, sym, ap, _∙_}
@@ -130,8 +131,9 @@ backs-at-determined κs a r r′ x x′ p q = sym (moved-back r) ∙ ap movedOf 
 
 -- ---- over a viewer
 
--- A viewer that was opened: its answer, where it stands, and its slice, the very one where it was not refused; of one that was refused where the slice lies and its bytes,
--- which is all that a machine has of it (its name is the prover's).
+-- A viewer that was opened: its answer, where it stands, and its slice, the very one where it was
+-- not refused; of one that was refused where the slice lies and its bytes, which is all that a
+-- machine has of it (its name is the prover's).
 pub record Alike (r r′ : Started) : Type 0 where
   pub begun : r .begun ≡ r′ .begun
   pub stand : r .viewer .stand ≡ r′ .viewer .stand

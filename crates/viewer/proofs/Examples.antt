@@ -1,5 +1,6 @@
--- A viewer over two records, the second of which is refused, computed: one back too many, two forward, one too many, and one back. So the
--- hypotheses of `Viewing` are met, and those of `ManyAtOnce`.
+-- A viewer over two records, the second of which is refused, computed: one back too many, two
+-- forward, one too many, and one back. So the hypotheses of `Viewing` are met, and those of
+-- `ManyAtOnce`.
 -- Assumes nothing.
 use Prim.Native.Nat.{ℕ, _+_}
 use mathlib.Core.Path.{_≡_, refl, sym, ap, _∙_}
@@ -48,7 +49,8 @@ lent = record { ptr = (0, 0); name = 0; now = bytes }
 abbrev at : Standing → Viewer
 at s = record { trace = lent; stand = s }
 
--- Where it stands: opened with gap 40, after the first record, after the second, and back before the second.
+-- Where it stands: opened with gap 40, after the first record, after the second, and back before
+-- the second.
 abbrev s0 : Standing
 s0 = opened (plain 40)
 

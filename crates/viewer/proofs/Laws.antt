@@ -1,4 +1,5 @@
--- A viewer that was opened shows after any calls what the plain definition says, and that is what a fresh ride comes to.
+-- A viewer that was opened shows after any calls what the plain definition says, and that is what a
+-- fresh ride comes to.
 -- Assumes nothing.
 use Prim.Native.Nat.{ℕ, _+_, _/_, _%_}
 use mathlib.Core.Path.{_≡_, refl, sym, ap, subst, _∙_}

@@ -1,4 +1,5 @@
--- Many records at once: going forward again and again is as far as the loop has come, and going back is one reading of the ring.
+-- Many records at once: going forward again and again is as far as the loop has come, and going
+-- back is one reading of the ring.
 -- Assumes nothing.
 use Prim.Native.Nat.{ℕ, zero, suc, _+_, _-_, _/_, _%_, _≤_, _<_}
 use mathlib.Core.Path.{_≡_, refl, sym, ap, _∙_}

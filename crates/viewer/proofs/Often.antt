@@ -1,4 +1,5 @@
--- Many at once is one after the other: a refusal leaves the viewer, where it stops the next call is refused alike, and the lines of the records that are passed.
+-- Many at once is one after the other: a refusal leaves the viewer, where it stops the next call is
+-- refused alike, and the lines of the records that are passed.
 -- Assumes nothing.
 use Prim.Native.Nat.{ℕ, zero, suc, _+_, _/_, _≤_, _<_}
 use mathlib.Core.Path.{_≡_, refl, sym, ap, _∙_}

@@ -1,4 +1,5 @@
--- The ring holds what the plain definition's history holds: each place of the history has its place in the ring.
+-- The ring holds what the plain definition's history holds: each place of the history has its place
+-- in the ring.
 -- Assumes nothing.
 use Prim.Native.Nat.{ℕ, zero, suc, _+_, _-_, _/_, _%_, _<_, _≤_}
 use mathlib.Core.Path.{_≡_, refl, sym, ap, _∙_}

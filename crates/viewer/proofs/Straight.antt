@@ -1,4 +1,5 @@
--- The plain definition goes back to states of a fresh ride: each state that it holds is that of a fresh ride over the records before it.
+-- The plain definition goes back to states of a fresh ride: each state that it holds is that of a
+-- fresh ride over the records before it.
 -- Assumes nothing.
 use Prim.Native.Nat.{ℕ, zero, suc, _+_, _-_, _*_, _/_, _<_, _≤_}
 use mathlib.Core.Path.{_≡_, refl, sym, ap, _∙_}

@@ -1,5 +1,7 @@
--- What the generated contracts of `start`, `forward` and `back` ensure of an answer is what specs/Laws.antt says of it. Of a function that takes or
--- hands out a struct with a slice the kit states the contract as a formula over what is lent (`ensured`), not as a relation of plain values: so the tie is an entailment.
+-- What the generated contracts of `start`, `forward` and `back` ensure of an answer is what
+-- specs/Laws.antt says of it. Of a function that takes or hands out a struct with a slice the kit
+-- states the contract as a formula over what is lent (`ensured`), not as a relation of plain
+-- values: so the tie is an entailment.
 -- Assumes nothing.
 use Prim.Native.Nat.{ℕ}
 use mathlib.Core.List.{List}

@@ -1,4 +1,5 @@
--- What the walks over a viewer share: what it owns taken apart and put together, that a viewer that is made has its type, and how a walk comes to its function's contract.
+-- What the walks over a viewer share: what it owns taken apart and put together, that a viewer that
+-- is made has its type, and how a walk comes to its function's contract.
 -- Assumes nothing.
 use mathlib.Core.Path.{_≡_, refl, sym, subst}
 use Prim.Native.Nat.{ℕ}
@@ -75,8 +76,8 @@ Own α d = T.the-row α .own d (mach α d ∷ [])
 abbrev pub Trace : NamedLft → RefT (List ℕ) → Fml
 Trace α s = ShrSlice (α .mir) (α .lft) u8 .own s (slice s ∷ [])
 
-abbrev pub Standing : Standing → Fml
-Standing s = P.the-row .own s (LL.val P.the-type P′.the-laws s ∷ [])
+abbrev pub StandOwned : Standing → Fml
+StandOwned s = P.the-row .own s (LL.val P.the-type P′.the-laws s ∷ [])
 
 abbrev pub Parts : NamedLft → Viewer → Fml
 Parts α d = all-own (T.the-type α .parts) (T′.the-laws α) (parts α d)
@@ -104,9 +105,9 @@ module _ {M : Type 1} (𝓤 : URA M) (H : Heap 𝓤) (A : Atoms 𝓤) (W : Given
   trace d = qed W (‵ (Own α d) ∷ []) ∵ use1 W (‵ (Parts α d)) (opened d) $ fsplit ! $ move ! (1 ∷ []) $ drop ! $ done !
 
   -- a viewer of the slice and of where it stands; the rest of the answer is kept
-  pub made : (s : RefT (List ℕ)) (stand : Standing) (rest : Fml) → ent 𝓤 (⋆ 𝓤 H A (‵ (Standing stand) ∷ ‵ rest ∷ ‵ (Trace α s) ∷ [])) (sep 𝓤 (sem 𝓤 H A (Own α (viewer s stand))) (sem 𝓤 H A rest))
+  pub made : (s : RefT (List ℕ)) (stand : Standing) (rest : Fml) → ent 𝓤 (⋆ 𝓤 H A (‵ (StandOwned stand) ∷ ‵ rest ∷ ‵ (Trace α s) ∷ [])) (sep 𝓤 (sem 𝓤 H A (Own α (viewer s stand))) (sem 𝓤 H A rest))
   made s stand rest =
-      qed W (‵ (Standing stand) ∷ ‵ rest ∷ ‵ (Trace α s) ∷ []) ∵
+      qed W (‵ (StandOwned stand) ∷ ‵ rest ∷ ‵ (Trace α s) ∷ []) ∵
       nothing ! $ move ! (1 ∷ 0 ∷ []) $ fjoin ! $ move ! (2 ∷ 0 ∷ []) $ fjoin ! $
       use1 W (‵ (Own α (viewer s stand))) (own-shut 𝓤 H A W (T.the-type α) (T′.the-laws α) (parts α (viewer s stand))) $ frame ! $ done !
 
@@ -122,7 +123,8 @@ module _ {M : Type 1} (𝓤 : URA M) (H : Heap 𝓤) (A : Atoms 𝓤) (W : Given
     unfolding StandTy
     typed-viewer = LL.lawful (T.the-type β) (T′.the-laws β) 𝓤 H A W .typed (viewer s stand) _ is-viewer .0
 
-  -- what is known of a viewer that is given: it has its type, and so have its slice and where it stands
+  -- what is known of a viewer that is given: it has its type, and so have its slice and where it
+  -- stands
   pub record Known (d : Viewer) : Type 0 where
     pub typed : Holds (hasTy (ViewerTy (α .mir)) (mach α d)) × WT (mach α d)
     pub slice-is : Is (ShrSlice (α .mir) (α .lft) u8) (d .trace) (slice (d .trace) ∷ [])

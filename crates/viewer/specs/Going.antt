@@ -1,5 +1,6 @@
--- Going many records at once, for the program `view`: forward or back so many times, or until the next call is refused, and forward to a place.
--- None of the calls that are made is refused, so many at once are no refusal: they say how many were made, and whether the next one was refused.
+-- Going many records at once, for the program `view`: forward or back so many times, or until the
+-- next call is refused, and forward to a place. None of the calls that are made is refused, so many
+-- at once are no refusal: they say how many were made, and whether the next one was refused.
 -- Assumes nothing.
 use Prim.Native.Nat.{ℕ, zero, suc, _+_}
 use mathlib.Core.Bool.{Bool, false}
@@ -11,7 +12,8 @@ use Rattle.ride.specs.Record.{Entry, checkRecord}
 use Rattle.viewer.specs.declared.Standing.{Standing}
 use Rattle.viewer.specs.Viewing.{Done, done, Forward, forward, Back, back}
 
--- Why no further call was made: all that were asked for were made, or the next one was refused with this number.
+-- Why no further call was made: all that were asked for were made, or the next one was refused with
+-- this number.
 pub data Ending : Type 0 where
   all : Ending
   refused : ℕ → Ending
@@ -21,7 +23,8 @@ abbrev pub answerOf : Ending → Outcome Done
 answerOf all = gives done
 answerOf (refused n) = refuses n
 
--- What many calls come to: how many were made, why no further one, and where the viewer stands then.
+-- What many calls come to: how many were made, why no further one, and where the viewer stands
+-- then.
 pub record Moved : Type 0 where
   pub steps : ℕ
   pub ending : Ending
@@ -66,11 +69,13 @@ abbrev pub reaches : ℕ → Outcome Entry → Bool
 reaches place (gives e) = leb place (e .odometer)
 reaches place (refuses n) = false
 
--- Whether a fresh ride accepts a record, at or past the place: a record that is malformed or too high is passed over, in whatever ride.
+-- Whether a fresh ride accepts a record, at or past the place: a record that is malformed or too
+-- high is passed over, in whatever ride.
 unfoldable pub isAt : ℕ → List ℕ → Bool
 isAt place r = reaches place (checkRecord 0 r)
 
--- How many forwards lead to the first such record among those that are left. Without one it is the forward at the end, which is refused.
+-- How many forwards lead to the first such record among those that are left. Without one it is the
+-- forward at the end, which is refused.
 unfoldable pub timesTo : ℕ → List (List ℕ) → ℕ
 timesTo place [] = 1
 timesTo place (r ∷ left) = pick (isAt place r) 0 (timesTo place left + 1)

@@ -1,5 +1,6 @@
--- A viewer as one plain definition (document 02, M-108): the number of records before it, "a history of the last 256 states" as a list, the
--- newest first, and the state. The gap is that of a rule for each record's odometer.
+-- A viewer as one plain definition (document 02, M-108): the number of records before it, "a
+-- history of the last 256 states" as a list, the newest first, and the state. The gap is that of a
+-- rule for each record's odometer.
 -- Assumes nothing.
 use Prim.Native.Nat.{ℕ, _+_, _-_, _/_}
 use mathlib.Core.List.{List, [], _∷_}
@@ -22,7 +23,8 @@ pub record Plain : Type 0 where
 abbrev pub first : Plain
 first = record { number = 0; history = []; ride = freshRide }
 
--- One record forward: the state goes into the history, and what would be the 257th is dropped. At the end nothing moves.
+-- One record forward: the state goes into the history, and what would be the 257th is dropped. At
+-- the end nothing moves.
 unfoldable pub goForth : (ℕ → ℕ) → List ℕ → Plain → Plain
 goForth gaps trace p =
     let r : List ℕ = recordAt trace (p .number) in

@@ -1,5 +1,6 @@
--- What is promised of a viewer (document 02, M-108), over the contracts of `start`, `forward` and `back`: "After any sequence of calls its
--- state is the one that a fresh ride over the records before its number has." That it holds: proofs/Laws.antt.
+-- What is promised of a viewer (document 02, M-108), over the contracts of `start`, `forward` and
+-- `back`: "After any sequence of calls its state is the one that a fresh ride over the records
+-- before its number has." That it holds: proofs/Laws.antt.
 -- Assumes nothing.
 use Prim.Native.Nat.{ℕ, _+_, _/_, _<_, _≤_}
 use mathlib.Core.Path.{_≡_}
@@ -23,9 +24,10 @@ use Rattle.viewer.specs.Says.{holding, over, saysCallWent, saysStarted, 
 use Rattle.viewer.specs.Going.{forwards, linesPassed}
 use Rattle.viewer.specs.History.{Plain, first, Call, forth, back, plainly, straight}
 
--- What the contracts allow: `start` answers r, `forward` and `back` of a viewer answer r. The kit states the contract of a function that takes or hands out a struct
--- with a slice as a formula over what is lent, and a crate's own specs/ cannot name it: so the clauses stand here again, and proofs/Tied.antt shows that the contracts
--- ensure them.
+-- What the contracts allow: `start` answers r, `forward` and `back` of a viewer answer r. The kit
+-- states the contract of a function that takes or hands out a struct with a slice as a formula over
+-- what is lent, and a crate's own specs/ cannot name it: so the clauses stand here again, and
+-- proofs/Tied.antt shows that the contracts ensure them.
 abbrev pub Starts : Store → RefT (List ℕ) → Started → Type 0
 Starts store trace r = saysStarted r ≡ holding trace (start store (now trace))
 
@@ -55,12 +57,14 @@ pub record Views (gaps : ℕ → ℕ) (trace : List ℕ) (cs : List Call) (w : V
   pub as-straight : w .stand .ride ≡ straight gaps trace (w .stand .number)
 
 pub record Viewing : Type 0 where
-  -- after any calls, under one fixed store (M-111): each record with the gap in force at its own odometer
+  -- after any calls, under one fixed store (M-111): each record with the gap in force at its own
+  -- odometer
   pub after-any : (store : Store) (trace : RefT (List ℕ)) (r : Started) (cs : List Call) (w : Viewer)
       → Starts store trace r → r .begun ≡ OpeningWent.Open → Lead cs (r .viewer) w → Views (gapAt store) (now trace) cs w
 
--- When a call is refused, and what that leaves: "22 for back exactly if the kept count is 0; 23 for forward exactly at the end; both leave the
--- viewer unchanged." The conditions stand here a second time. A viewer whose settings are good is refused nothing else.
+-- When a call is refused, and what that leaves: "22 for back exactly if the kept count is 0; 23 for
+-- forward exactly at the end; both leave the viewer unchanged." The conditions stand here a second
+-- time. A viewer whose settings are good is refused nothing else.
 pub record Refusing : Type 0 where
   pub back-refused : (v : Viewer) (r : Backed) → Backs v r → v .stand .kept ≡ 0 → (saysCallWent (r .how) ≡ refuses 22) × (r .viewer ≡ v)
   pub back-done : (v : Viewer) (r : Backed) → Backs v r → 0 < v .stand .kept → saysCallWent (r .how) ≡ gives done
@@ -69,8 +73,8 @@ pub record Refusing : Type 0 where
   pub forward-done : (v : Viewer) (r : Forwarded) → Forwards v r → v .stand .number < length (now (v .trace)) / 8 → judged (v .stand .settings) ≡ gives kept
       → saysCallWent (r .how) ≡ gives done
 
--- The records that many forwards pass, as `f 20` of the program `view` asks: they give the lines of a ride over them from the state before them,
--- and the viewer has that ride's state.
+-- The records that many forwards pass, as `f 20` of the program `view` asks: they give the lines of
+-- a ride over them from the state before them, and the viewer has that ride's state.
 pub record ManyAtOnce : Type 0 where
   pub lines : (n : ℕ) (trace : List ℕ) (s : Standing) → judged (s .settings) ≡ gives kept → s .number + n ≤ length trace / 8
       → _≡_ {A = Ridden} (record { lines = linesPassed n trace s; ride = forwards n trace s .stand .ride })

@@ -20,13 +20,15 @@ use Rattle.viewer.specs.declared.Backed.{Backed}
 use Rattle.viewer.specs.Viewing.{Done, done, Start, Forward, Back}
 use Rattle.viewer.specs.Going.{Ending as Ends, all, refused, Moved as Moves}
 
--- Settings that are refused have their own number ("gap outside 1 to 200" is 19); "trace length not a multiple of 8" is 16.
+-- Settings that are refused have their own number ("gap outside 1 to 200" is 19); "trace length not
+-- a multiple of 8" is 16.
 abbrev pub saysOpeningWent : OpeningWent → Outcome Done
 saysOpeningWent OpeningWent.Open = gives done
 saysOpeningWent (OpeningWent.Settings bad) = refuses (saysBad bad)
 saysOpeningWent OpeningWent.Length = refuses 16
 
--- "22 for back exactly if the kept count is 0; 23 for forward exactly at the end"; settings that are refused have their own number.
+-- "22 for back exactly if the kept count is 0; 23 for forward exactly at the end"; settings that
+-- are refused have their own number.
 abbrev pub saysCallWent : CallWent → Outcome Done
 saysCallWent CallWent.Done = gives done
 saysCallWent CallWent.NothingKept = refuses 22
@@ -61,7 +63,8 @@ saysEnding (Ending.Settings bad) = refused (saysBad bad)
 abbrev pub saysMoved : Moved → Moves
 saysMoved m = record { steps = m .steps; ending = saysEnding (m .ending); stand = m .stand }
 
--- A slice that a viewer holds: the very one that was lent; or where it lies, a block and an offset, and its bytes.
+-- A slice that a viewer holds: the very one that was lent; or where it lies, a block and an offset,
+-- and its bytes.
 pub data Slice : Type 0 where
   very : RefT (List ℕ) → Slice
   lies : ℕ × ℕ → List ℕ → Slice
@@ -71,7 +74,8 @@ abbrev pub sliceOf : Outcome Done → RefT (List ℕ) → Slice
 sliceOf (gives d) held = very held
 sliceOf (refuses n) held = lies (held .ptr) (held .now)
 
--- and what it is to be: the very one that was lent, or, where it was refused, an empty one at its place.
+-- and what it is to be: the very one that was lent, or, where it was refused, an empty one at its
+-- place.
 abbrev pub lentTo : Outcome Done → RefT (List ℕ) → Slice
 lentTo (gives d) lent = very lent
 lentTo (refuses n) lent = lies (lent .ptr) []

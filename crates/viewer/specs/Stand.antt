@@ -1,5 +1,6 @@
--- Where a viewer stands (document 02, M-108): how many records lie before it, the state there, and "a history of the last 256 states". The
--- history is a ring of 256 places: the state before record n, the first with 0, stands at n % 256.
+-- Where a viewer stands (document 02, M-108): how many records lie before it, the state there, and
+-- "a history of the last 256 states". The history is a ring of 256 places: the state before record
+-- n, the first with 0, stands at n % 256.
 -- Assumes nothing.
 use Prim.Native.Nat.{ℕ, _+_, _-_, _%_}
 use lib.Dec.{ltb}
@@ -10,7 +11,8 @@ use Rattle.ride.specs.declared.Ride.{Ride}
 use Rattle.ride.specs.State.{freshRide}
 use Rattle.viewer.specs.declared.Standing.{Standing}
 
--- "A viewer opens at the first record with a fresh ride"; "opening a viewer starts [the kept count] at 0".
+-- "A viewer opens at the first record with a fresh ride"; "opening a viewer starts [the kept count]
+-- at 0".
 unfoldable pub opened : Store → Standing
 opened store = record { number = 0; kept = 0; ride = freshRide; last = replicate 256 freshRide; settings = store }
 

@@ -1,4 +1,5 @@
--- The viewer's calls (document 02, M-108): "a viewer that holds the caller's lent trace and a record number, with forward and back".
+-- The viewer's calls (document 02, M-108): "a viewer that holds the caller's lent trace and a
+-- record number, with forward and back".
 -- Assumes nothing.
 use Prim.Native.Nat.{ℕ, _+_, _/_, _%_}
 use mathlib.Core.List.{List, []}
@@ -23,7 +24,8 @@ use Rattle.viewer.specs.Stand.{opened, passed, returned}
 pub data Done : Type 0 where
   done : Done
 
--- What opening answers: that it was done, or the number of its refusal; the trace that the viewer then holds; where it stands.
+-- What opening answers: that it was done, or the number of its refusal; the trace that the viewer
+-- then holds; where it stands.
 pub record Start : Type 0 where
   pub answer : Outcome Done
   pub trace : List ℕ
@@ -41,13 +43,13 @@ opens store trace (gives k) =
     (unopened store 16)
 opens store trace (refuses n) = unopened store n
 
--- "A viewer opens at the first record with a fresh ride; 19, then 16 refuse it": the settings' own refusal (of a gap, 19), then 16 for the trace's
--- length.
+-- "A viewer opens at the first record with a fresh ride; 19, then 16 refuse it": the settings' own
+-- refusal (of a gap, 19), then 16 for the trace's length.
 unfoldable pub start : Store → List ℕ → Start
 start store trace = opens store trace (judged store)
 
--- What going forward answers: that it was done, or the number of its refusal; the lines that the record gave; the group that closed; where
--- the viewer stands then.
+-- What going forward answers: that it was done, or the number of its refusal; the lines that the
+-- record gave; the group that closed; where the viewer stands then.
 pub record Forward : Type 0 where
   pub answer : Outcome Done
   pub lines : List Line
@@ -63,7 +65,8 @@ abbrev pub byStep : Standing → Step → Forward
 byStep s t =
     record { answer = gives done; lines = linesFor (s .number + 1) (t .lines); closed = t .closed; stand = passed s (t .ride) }
 
--- A viewer that no call made may hold settings that are refused: then forward is refused with their number.
+-- A viewer that no call made may hold settings that are refused: then forward is refused with their
+-- number.
 abbrev pub under : Standing → Outcome Kept → Forward → Forward
 under s (gives k) f = f
 under s (refuses n) f = stays s n
@@ -79,7 +82,8 @@ forward trace s =
     (under s (judged (s .settings)) (byStep s (stepOf s (recordAt trace (s .number)))))
     (stays s 23)
 
--- What going back answers, and what going many times does: that it was done, or the number of its refusal; where the viewer stands then.
+-- What going back answers, and what going many times does: that it was done, or the number of its
+-- refusal; where the viewer stands then.
 pub record Back : Type 0 where
   pub answer : Outcome Done
   pub stand : Standing

@@ -1,4 +1,5 @@
-// Many records forward or back at once. The last states are a local while it goes, so that no record costs a copy of them all.
+// Many records forward or back at once. The last states are a local while it goes, so that no
+// record costs a copy of them all.
 ghost use mathlib.Core.Path.{_≡_};
 ghost use Prim.Native.Nat.{_-_};
 ghost use lib.Dec.{eqb, leb};
@@ -75,7 +76,8 @@ fn refusal(number: usize, count: usize, bad: Bad) -> Ending
     Ending::AtEnd
 }
 
-// `forward_at` so many times, or until the next one is refused: where the viewer then stands, how many steps were made, and why no further one.
+// `forward_at` so many times, or until the next one is refused: where the viewer then stands, how
+// many steps were made, and why no further one.
 pub fn forwards_at(trace: &[u8], stand: Standing, times: usize) -> Moved
     ensures { λ r. ⌜ saysMoved r ≡ forwards times (now (trace .entry)) stand ⌝ }
 {
@@ -128,7 +130,8 @@ fn less(number: usize, by: usize) -> usize
     number - by
 }
 
-// `back_at` so many times, or until the next one is refused: where the viewer then stands, how many steps were made, and why no further one.
+// `back_at` so many times, or until the next one is refused: where the viewer then stands, how many
+// steps were made, and why no further one.
 pub fn backs_at(stand: Standing, times: usize) -> Moved
     ensures { λ r. ⌜ saysMoved r ≡ backs times stand ⌝ }
 {

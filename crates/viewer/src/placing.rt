@@ -1,4 +1,5 @@
-// The record at or past a place. One that every ride refuses, since it is malformed or its odometer is too high, is none.
+// The record at or past a place. One that every ride refuses, since it is malformed or its odometer
+// is too high, is none.
 ghost use mathlib.Core.Path.{_≡_};
 ghost use Prim.Native.Nat.{_/_, _<_};
 ghost use lib.ListN.{length, drop};
@@ -47,8 +48,8 @@ fn is_at(trace: &[u8], i: usize, place: u64) -> bool
     reaches(checked, place)
 }
 
-// How many forwards lead to just before the first record at or past the place that a fresh ride accepts, with so many records before the viewer; where there
-// is none, one more than are left.
+// How many forwards lead to just before the first record at or past the place that a fresh ride
+// accepts, with so many records before the viewer; where there is none, one more than are left.
 pub fn times_to(trace: &[u8], number: usize, place: u64) -> usize
     ensures { λ r. ⌜ r ≡ timesTo place (drop number (records (now (trace .entry)))) ⌝ }
 {

@@ -1,4 +1,5 @@
--- Each move keeps a viewer alike to the plain definition, whose state is that of a fresh ride over the records before its number.
+-- Each move keeps a viewer alike to the plain definition, whose state is that of a fresh ride over
+-- the records before its number.
 -- Assumes nothing.
 use Prim.Native.Nat.{ℕ, zero, suc, _+_, _*_, _/_, _%_, _≤_}
 use mathlib.Core.Path.{_≡_, refl, sym, ap, subst, _∙_}

@@ -1,9 +1,11 @@
--- The hypotheses of `Sessions` and `Stopping` are met, computed: over four records four forward, two back, afresh, and five forward, the fifth of which is refused with
--- 23; then five back, the fifth of which is refused with 22.
+-- The hypotheses of `Sessions`, `Stopping`, `Lasting` and `Seeking` are met, computed: over four
+-- records four forward, two back, afresh, and five forward, the fifth of which is refused with 23;
+-- then five back, the fifth of which is refused with 22.
 -- Assumes nothing.
 use Prim.Native.Nat.{ℕ}
 use mathlib.Core.Path.{_≡_, refl}
 use mathlib.Core.List.{List, [], _∷_}
+use lib.ListN.{length}
 use denote.Ref.{RefT}
 use Rattle.words.specs.Answer.{refuses}
 use Rattle.telegram.specs.Sync.{differing, isGood, goodPair}
@@ -19,9 +21,21 @@ use Rattle.viewer.specs.Stand.{opened, passed, returned}
 use Rattle.viewer.specs.Viewing.{start, forward as forwardOf, back as backOf}
 use Rattle.viewer.specs.Going.{forwards, backs}
 use Rattle.viewer.specs.History.{first}
+use Rattle.text.specs.Text.{codes, digits, decimal}
+use Rattle.ride.specs.State.{noGroup, nothingKnown, freshRide}
+use Rattle.ride.specs.Record.{odometerOf, passedOf, inOrder, checkRecord}
+use Rattle.ride.specs.Step.{treat}
+use Rattle.ride.specs.Over.{firstRecords}
+use Rattle.ride_text.specs.Text.{textWith, linesText}
+use Rattle.viewer_text.specs.Finding.{small, standsAt, standsBefore, has}
+use Rattle.viewer_text.specs.Seeking.{seekIn, seek}
+use Rattle.viewer_text.specs.declared.seeking.Sought.{Sought}
+use Rattle.viewer_text.specs.Screen.{linesFrom}
 use Rattle.viewer_laws.specs.Session.{StartAt, ForwardsAt, BacksAt, Move, forward, back, afresh, Lead, session, Views}
 use Rattle.viewer_laws.proofs.Session.{sessions}
 use Rattle.viewer_laws.proofs.Stopping.{stopping}
+use Rattle.viewer_laws.specs.Lasting.{LastLines}
+use Rattle.viewer_laws.specs.Seeking.{Seeks}
 use Rattle.viewer_laws.proofs.Witness.{bytes}
 
 -- a lent trace with these bytes
@@ -81,3 +95,15 @@ viewed = sessions .after-any store bytes begun moves (back-five .stand) starts r
 
 pub stopped : (forwardOf bytes (five .stand) .answer ≡ refuses 23) × (backOf (back-five .stand) .answer ≡ refuses 22)
 stopped = (stopping .forwards bytes (opened store) 5 23 five five-met refl .0, stopping .backs (five .stand) 5 22 back-five back-five-met refl .0)
+
+-- every text has its last lines
+pub lasts : (text : List ℕ) (lines : ℕ) → LastLines text lines (linesFrom (length text) lines text)
+lasts text lines = (([], tt), lent text, (lent text, (lines, tt)), refl, refl)
+
+-- a malformed record, and a word of its line
+abbrev malformed : List ℕ
+malformed = 0x00 ∷ 0x00 ∷ 0x03 ∷ 0xE8 ∷ 0x04 ∷ 0x00 ∷ 0x00 ∷ 0x00 ∷ []
+
+pub seeks : Seeks malformed 0 freshRide store (codes "Refused") (Sought.After 1)
+unfolding seek seekIn has standsBefore standsAt small linesText textWith decimal digits treat checkRecord odometerOf passedOf inOrder firstRecords freshRide noGroup nothingKnown differing isGood goodPair settingsOf follows noStore versionsOf openedStore begin allFollow versionsInOrder judged
+seeks = (([], ([], tt)), lent malformed, lent (codes "Refused"), (lent malformed, (0, (freshRide, (store, (lent (codes "Refused"), tt))))), refl, refl, refl)

@@ -1,4 +1,5 @@
--- The viewer's states have the number of the last present signal (M-110), computed: after a signal with the number 1612, four records forward.
+-- The viewer's states have the number of the last present signal (M-110), computed: after a signal
+-- with the number 1612, four records forward.
 -- Assumes nothing.
 use Prim.Native.Nat.{ℕ}
 use mathlib.Core.Path.{_≡_, refl}

@@ -1,6 +1,7 @@
--- A session over a viewer (document 02, M-108), as the program `view` holds it: it opens a viewer, goes many records forward or back at once, and opens
--- afresh, in any order. Over the contracts of `viewer::start_at`, `forwards_at` and `backs_at` and of `ride::run`, for any answers that they allow. That it
--- holds: proofs/Session.antt.
+-- A session over a viewer (document 02, M-108), as the program `view` holds it: it opens a viewer,
+-- goes many records forward or back at once, and opens afresh, in any order. Over the contracts of
+-- `viewer::start_at`, `forwards_at` and `backs_at` and of `ride::run`, for any answers that they
+-- allow. That it holds: proofs/Session.antt.
 -- Assumes nothing.
 use Prim.Native.Nat.{ℕ, zero, suc, _*_}
 use mathlib.Core.Path.{_≡_}
@@ -41,7 +42,8 @@ StartAt store trace r =
     (κs : Lfts 1) × (lent : RefT (List ℕ)) × (e : AtExit (endedOf 1 start-kinds.ps start-kinds.r) κs)
     × (now lent ≡ trace) × start-reads.Post κs (store, (lent, tt)) r e
 
--- The contract of `forwards_at` allows the answer r for this trace, from where a viewer stands, for so many times.
+-- The contract of `forwards_at` allows the answer r for this trace, from where a viewer stands, for
+-- so many times.
 abbrev pub ForwardsAt : List ℕ → Standing → ℕ → Moved → Type 0
 ForwardsAt trace s times r =
     (κs : Lfts 1) × (lent : RefT (List ℕ)) × (e : AtExit (endedOf 1 forwards-kinds.ps forwards-kinds.r) κs)
@@ -59,7 +61,8 @@ RunOver ride store trace r =
 
 -- ---- a session
 
--- What a command of `view` comes to: so many records forward or back, or a fresh viewer under the settings that are held.
+-- What a command of `view` comes to: so many records forward or back, or a fresh viewer under the
+-- settings that are held.
 pub data Move : Type 0 where
   forward : ℕ → Move
   back : ℕ → Move
@@ -72,7 +75,8 @@ Lead trace (forward n ∷ ms) s t = (r : Moved) × ForwardsAt trace s n r × Lea
 Lead trace (back n ∷ ms) s t = (r : Moved) × BacksAt s n r × Lead trace ms (r .stand) t
 Lead trace (afresh ∷ ms) s t = (r : Opened) × StartAt (s .settings) trace r × Lead trace ms (r .stand) t
 
--- The same by the plain definition, whose history is a list (viewer/specs/History.antt): a call so many times, where one that is refused moves nothing.
+-- The same by the plain definition, whose history is a list (viewer/specs/History.antt): a call so
+-- many times, where one that is refused moves nothing.
 abbrev pub often : ℕ → (Plain → Plain) → Plain → Plain
 often zero f p = p
 often (suc n) f p = often n f (f p)
@@ -95,7 +99,8 @@ pub record Views (store : Store) (trace : List ℕ) (p : Plain) (t : Standing) :
   pub kept : t .kept ≡ length (p .history)
   -- .. its settings are those that it was opened with ..
   pub settings : t .settings ≡ store
-  -- .. and its state is the one that `run` answers of a fresh ride over "the records before its number"
+  -- .. and its state is the one that `run` answers of a fresh ride over "the records before its
+  -- number"
   pub as-run : (r : Ran) → RunOver freshRide store (take (t .number * 8) trace) r → t .ride ≡ r .ride
 
 -- After any session the viewer stands so.
@@ -103,7 +108,8 @@ pub record Sessions : Type 0 where
   pub after-any : (store : Store) (trace : List ℕ) (r : Opened) (ms : List Move) (t : Standing) → StartAt store trace r → r .begun ≡ OpeningWent.Open → Lead trace ms (r .stand) t
       → Views store trace (session (gapAt store) trace ms first) t
 
--- Where many calls stop, the next one is refused with the number that they name, and leaves the viewer there.
+-- Where many calls stop, the next one is refused with the number that they name, and leaves the
+-- viewer there.
 pub record Stopping : Type 0 where
   pub forwards : (trace : List ℕ) (s : Standing) (n k : ℕ) (r : Moved) → ForwardsAt trace s n r → saysEnding (r .ending) ≡ refused k
       → (forwardOf trace (r .stand) .answer ≡ refuses k) × (forwardOf trace (r .stand) .stand ≡ r .stand)

@@ -1,6 +1,8 @@
--- The commands of the program `view`, a line each without its newline: a letter, and after a space a number where one is asked for.
--- It asks (`Command`) for so many records forward or back, to go to where so many lie before, to a place, to the next line of the ride with a word, for the
--- same again, the end, or nothing that is known. Blanks around it do not count, nor does whether its letter is a capital.
+-- The commands of the program `view`, a line each without its newline: a letter, and after a space
+-- a number where one is asked for. It asks (`Command`) for so many records forward or back, to go
+-- to where so many lie before, to a place, to the next line of the ride with a word, for the same
+-- again, the end, or nothing that is known. Blanks around it do not count, nor does whether its
+-- letter is a capital.
 -- Assumes nothing.
 use Prim.Native.Nat.{ℕ, zero, suc, _+_, _-_}
 use mathlib.Core.Bool.{Bool, _||_}
@@ -18,7 +20,8 @@ use Rattle.viewer_text.specs.declared.commands.Command.{Command}
 abbrev pub largest : ℕ
 largest = largest64
 
--- A command by its letter, with the number after it. Just before record n lie n - 1; record 0 is none, so `g 0` asks for nothing.
+-- A command by its letter, with the number after it. Just before record n lie n - 1; record 0 is
+-- none, so `g 0` asks for nothing.
 unfoldable pub by : ℕ → ℕ → Command
 by letter n =
     pick (eqb letter 102) (Command.Forward n)
@@ -51,8 +54,8 @@ unfoldable pub endsAt : ℕ → List ℕ → ℕ
 endsAt zero line = 0
 endsAt (suc n) line = pick (blank (getD line n 0)) (endsAt n line) (suc n)
 
--- What stands in a line from one place up to another: nothing asks for the same again; a slash and a word, where no letter means the word before; a letter alone; a
--- letter, a blank and a number.
+-- What stands in a line from one place up to another: nothing asks for the same again; a slash and
+-- a word, where no letter means the word before; a letter alone; a letter, a blank and a number.
 unfoldable pub commandIn : List ℕ → ℕ → ℕ → Command
 commandIn line from to =
     pick (leb to from) Command.Again

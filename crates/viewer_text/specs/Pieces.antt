@@ -1,5 +1,7 @@
--- Not for callers: what the private functions of src/state.rt put, which a contract can cite from specs/ alone. The lines of Text.antt, cut so that each piece but the
--- first begins with the newline of the line before: then words and a number are one call. That they come to `state` of Text.antt is `state-is` (proofs/Pieces.antt).
+-- Not for callers: what the private functions of src/state.rt put, which a contract can cite from
+-- specs/ alone. The lines of Text.antt, cut so that each piece but the first begins with the
+-- newline of the line before: then words and a number are one call. That they come to `state` of
+-- Text.antt is `state-is` (proofs/Pieces.antt).
 -- Assumes nothing.
 use Prim.Native.Nat.{ℕ}
 use mathlib.Core.List.{List, _++_}

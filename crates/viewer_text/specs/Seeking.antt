@@ -1,5 +1,5 @@
--- The next line of a ride that has a word (`/fault`): how many records forward lead to just after the record that gives it. The lines are those that `explain`
--- writes, with their reasons.
+-- The next line of a ride that has a word (`/fault`): how many records forward lead to just after
+-- the record that gives it. The lines are those that `explain` writes, with their reasons.
 -- Assumes nothing.
 use Prim.Native.Nat.{ℕ, suc, _+_, _*_}
 use mathlib.Core.List.{List, [], _∷_}
@@ -24,8 +24,9 @@ abbrev pub further : ℕ → Sought → Sought
 further n (Sought.After times) = Sought.After (n + times)
 further n Sought.Nowhere = Sought.Nowhere
 
--- Among some records, the first of which has this number: the first whose lines have the word, each record treated in the state that the one before left, with the
--- gap that a rule gives for its odometer.
+-- Among some records, the first of which has this number: the first whose lines have the word, each
+-- record treated in the state that the one before left, with the gap that a rule gives for its
+-- odometer.
 unfoldable pub seekIn : List ℕ → (ℕ → ℕ) → Ride → ℕ → List (List ℕ) → Sought
 seekIn word gaps ride number [] = Sought.Nowhere
 seekIn word gaps ride number (r ∷ rs) =

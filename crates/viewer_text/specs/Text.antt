@@ -1,5 +1,6 @@
--- What the program `view` shows of where it stands, as text: how many records lie before it, of how many, and how many states are kept; then the
--- state of the ride, a line each, and the record that comes next.
+-- What the program `view` shows of where it stands, as text: how many records lie before it, of how
+-- many, and how many states are kept; then the state of the ride, a line each, and the record that
+-- comes next.
 --     3 of 12, kept 3
 --       odometer 5000
 --       no group
@@ -32,7 +33,8 @@ place number count kept odometer =
     decimal number ++ codes " of " ++ decimal count ++ codes ", kept " ++ decimal kept ++ codes "\n"
     ++ codes "  odometer " ++ decimal odometer ++ codes "\n"
 
--- `group of 2 from 1000 to 1030`: how many balises the open group has (255 stands for 255 or more), its first place and its last; or `no group`.
+-- `group of 2 from 1000 to 1030`: how many balises the open group has (255 stands for 255 or more),
+-- its first place and its last; or `no group`.
 unfoldable pub group : Group → List ℕ
 group g =
     pick (isOpen g)
@@ -64,7 +66,8 @@ unfoldable pub state : ℕ → ℕ → ℕ → Ride → List ℕ
 state number count kept ride =
     place number count kept (ride .odometer) ++ group (ride .group) ++ linking (ride .known .linking) ++ speeds (ride .known)
 
--- `next 1000 1 8 5`: the record that a viewer stands before, in the words of `records`; or that there is none.
+-- `next 1000 1 8 5`: the record that a viewer stands before, in the words of `records`; or that
+-- there is none.
 unfoldable pub nextIs : ℕ → What → List ℕ
 nextIs place what = codes "  next " ++ thingText place what ++ codes "\n"
 

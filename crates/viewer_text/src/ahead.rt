@@ -17,8 +17,8 @@ fn put_ahead(place: u32, what: What, buf: &mut [u8], at: usize) -> usize
     put(&space[..n], buf, at)
 }
 
-// The line of the record that comes next where so many lie before, or that there is none, into buf from `at` on, and the place after it; without room nothing is
-// written, and the answer is `at`.
+// The line of the record that comes next where so many lie before, or that there is none, into buf
+// from `at` on, and the place after it; without room nothing is written, and the answer is `at`.
 pub fn put_next(trace: &[u8], number: usize, buf: &mut [u8], at: usize) -> usize
     ensures { λ r. ⌜ came r (now (buf .exit)) ≡ put (next (now (trace .entry)) number) (now (buf .entry)) at ⌝ }
 {

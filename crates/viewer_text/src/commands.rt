@@ -6,8 +6,10 @@ use crate::trimming;
 use crate::trimming::is_blank;
 use figures::Figure;
 
-// What a line asks for: so many records forward or back, to where so many lie before, to a place, to the next line of the ride that has a word (which stands
-// in the line, from one place up to another; one without a letter means the word before), the same again, the end, or nothing that is known.
+// What a line asks for: so many records forward or back, to where so many lie before, to a place,
+// to the next line of the ride that has a word (which stands in the line, from one place up to
+// another; one without a letter means the word before), the same again, the end, or nothing that is
+// known.
 pub enum Command {
     Forward(u64),
     Back(u64),
@@ -57,9 +59,10 @@ fn alone(letter: u8) -> Command
     Command::Unknown
 }
 
-// What a line asks for, whatever blanks are around it and whether its letter is a capital: a letter alone, or a letter, a blank and a number (`g N`: to
-// where N - 1 records lie before); a slash and a word, or a slash alone; a number that is too large is the largest; nothing asks for the same again; anything
-// else is unknown.
+// What a line asks for, whatever blanks are around it and whether its letter is a capital: a letter
+// alone, or a letter, a blank and a number (`g N`: to where N - 1 records lie before); a slash and
+// a word, or a slash alone; a number that is too large is the largest; nothing asks for the same
+// again; anything else is unknown.
 pub fn read(line: &[u8]) -> Command
     ensures { λ r. ⌜ r ≡ command (now (line .entry)) ⌝ }
 {

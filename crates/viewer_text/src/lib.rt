@@ -1,7 +1,9 @@
 // What the program `view` is told and shows: its commands, and where it stands as text.
-// Promises: every line is answered; a text is written whole or not at all, and the bytes around it stay.
-// Specification: specs/Text.antt (what is shown), specs/Commands.antt (the commands), specs/Finding.antt (a word in a text), specs/Seeking.antt
-// (the next line of a ride that has it), specs/Screen.antt (what a terminal shows beside it).
+// Promises: every line is answered; a text is written whole or not at all, and the bytes around it
+// stay.
+// Specification: specs/Text.antt (what is shown), specs/Commands.antt (the commands),
+// specs/Finding.antt (a word in a text), specs/Seeking.antt (the next line of a ride that has it),
+// specs/Screen.antt (what a terminal shows beside it).
 ghost use mathlib.Core.Path.{_≡_};
 ghost use Rattle.text.specs.Put.{put, came};
 ghost use Rattle.viewer_text.specs.Text.{state};
@@ -25,8 +27,8 @@ pub use screen::put_beside;
 pub use seeking::Sought;
 pub use seeking::seek;
 
-// Where a viewer stands, to the letter, into buf from `at` on, all other bytes as they were, and the place after it; without room nothing is written,
-// and the answer is `at`.
+// Where a viewer stands, to the letter, into buf from `at` on, all other bytes as they were, and
+// the place after it; without room nothing is written, and the answer is `at`.
 pub fn put_state(
     number: usize,
     count: usize,

@@ -1,4 +1,5 @@
-// What a terminal shows beside the state: the last lines of the ride, and the records around the viewer.
+// What a terminal shows beside the state: the last lines of the ride, and the records around the
+// viewer.
 ghost use mathlib.Core.Path.{_≡_};
 ghost use lib.ListN.{length};
 ghost use Prim.Native.Nat.{_-_};
@@ -36,7 +37,8 @@ fn less(number: usize, by: usize) -> usize
     number - by
 }
 
-// The first of the six records around a viewer that so many lie before, of so many: three before it and three after, as far as there are.
+// The first of the six records around a viewer that so many lie before, of so many: three before it
+// and three after, as far as there are.
 pub fn first_around(number: usize, count: usize) -> usize
     ensures { λ r. ⌜ r ≡ around number count ⌝ }
 {
@@ -68,8 +70,9 @@ fn put_marked(ahead: bool, number: u64, place: u32, what: What, buf: &mut [u8], 
     put(&space[..n], buf, at)
 }
 
-// The line of the record at an index, marked where so many records lie before the viewer, into buf from `at` on, and the place after it; without room, or
-// where there is no such record, buf stays as it is, and the answer is `at`.
+// The line of the record at an index, marked where so many records lie before the viewer, into buf
+// from `at` on, and the place after it; without room, or where there is no such record, buf stays
+// as it is, and the answer is `at`.
 pub fn put_beside(trace: &[u8], i: usize, number: usize, buf: &mut [u8], at: usize) -> usize
     ensures { λ r. ⌜ came r (now (buf .exit)) ≡ put (beside (now (trace .entry)) i number) (now (buf .entry)) at ⌝ }
 {

@@ -16,7 +16,8 @@ use ride_text::REASONS;
 use settings::Asked;
 use settings::Store;
 
-// Where the next line with a word is: so many records forward lead to just after the record that gives it; or there is none.
+// Where the next line with a word is: so many records forward lead to just after the record that
+// gives it; or there is none.
 pub enum Sought {
     After(usize),
     Nowhere,
@@ -65,8 +66,9 @@ fn over(trace: &[u8], number: usize, ride: Ride, store: Store, word: &[u8]) -> S
     Sought::Nowhere
 }
 
-// How many records forward lead to just after the first one that gives a line with the word, as `explain` writes it, where so many records lie before the viewer
-// and the ride is in this state. With settings that are refused there is none.
+// How many records forward lead to just after the first one that gives a line with the word, as
+// `explain` writes it, where so many records lie before the viewer and the ride is in this state.
+// With settings that are refused there is none.
 pub fn seek(trace: &[u8], number: usize, ride: Ride, store: Store, word: &[u8]) -> Sought
     ensures { λ r. ⌜ r ≡ seek (now (word .entry)) store ride number (now (trace .entry)) ⌝ }
 {

@@ -1,4 +1,5 @@
-// The lines, piece by piece, where there is room for them. Each piece begins with the newline of the line before.
+// The lines, piece by piece, where there is room for them. Each piece begins with the newline of
+// the line before.
 ghost use mathlib.Core.Path.{_≡_};
 ghost use Prim.Native.Nat.{_+_, _≤_};
 ghost use mathlib.Core.List.{_++_};

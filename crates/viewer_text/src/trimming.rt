@@ -3,7 +3,8 @@ ghost use mathlib.Core.Path.{_≡_};
 ghost use lib.ListN.{length};
 ghost use Rattle.viewer_text.specs.Commands.{blank, leading, endsAt};
 
-// Whether a sign is a blank: a space, a tab, or the CR that stands before the newline on some machines.
+// Whether a sign is a blank: a space, a tab, or the CR that stands before the newline on some
+// machines.
 pub fn is_blank(c: u8) -> bool
     ensures { λ r. ⌜ r ≡ blank c ⌝ }
 {

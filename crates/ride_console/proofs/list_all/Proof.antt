@@ -1,4 +1,5 @@
--- `list_all` lends of the block what the style wants, which is no more than it has; the block keeps its length.
+-- `list_all` lends of the block what the style wants, which is no more than it has; the block keeps
+-- its length.
 use mathlib.Core.Path.{sym}
 use lib.Seq.{length-take-le}
 use borrow.Author.Needs.{needs}

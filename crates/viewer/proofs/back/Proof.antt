@@ -1,4 +1,5 @@
--- `back` meets its contract: a walk of its MIR, by hand. The viewer is taken apart, `back_at` is called on where it stands, and the viewer is made anew.
+-- `back` meets its contract: a walk of its MIR, by hand. The viewer is taken apart, `back_at` is
+-- called on where it stands, and the viewer is made anew.
 -- Assumes nothing.
 use mathlib.Core.Path.{_≡_, refl, ap}
 use Prim.Native.Nat.{ℕ}
@@ -35,7 +36,8 @@ use Rattle.viewer.proofs.back.Code as code
 unfoldable HowTy : Ty
 HowTy = How′.mir
 
--- what the covered function gives, a struct of the name "viewer::Came", and the answer, "viewer::Backed"
+-- what the covered function gives, a struct of the name "viewer::Came", and the answer,
+-- "viewer::Backed"
 abbrev gaveTys : Tys
 gaveTys = tcons StandTy (tcons HowTy tnil)
 

@@ -1,4 +1,5 @@
--- `forward` meets its contract: a walk of its MIR, by hand. The viewer is taken apart, `forward_at` is called on its slice and where it stands, and the viewer is made anew.
+-- `forward` meets its contract: a walk of its MIR, by hand. The viewer is taken apart, `forward_at`
+-- is called on its slice and where it stands, and the viewer is made anew.
 -- Assumes nothing.
 use mathlib.Core.Path.{_≡_, refl, ap}
 use Prim.Native.Nat.{ℕ}
@@ -45,7 +46,8 @@ GroupTy = Group′.mir
 unfoldable HowTy : Ty
 HowTy = How′.mir
 
--- what the covered function gives, a struct of the name "viewer::Went", and the answer, "viewer::Forwarded"
+-- what the covered function gives, a struct of the name "viewer::Went", and the answer,
+-- "viewer::Forwarded"
 abbrev gaveTys : Tys
 gaveTys = tcons StandTy (tcons LinesTy (tcons GroupTy (tcons HowTy tnil)))
 

@@ -1,5 +1,5 @@
--- `start` meets its contract: a walk of its MIR, by hand. `start_at` says where the viewer stands, `seen` what of the trace it holds, and the viewer is made of both.
--- A slice is Copy: what it owns is had three times, for the two calls and for the exit.
+-- `start` meets its contract, a walk of its MIR by hand: `start_at`, then `seen`. A slice is Copy:
+-- what it owns is had three times, for the two calls and for the exit.
 -- Assumes nothing.
 use mathlib.Core.Path.{_≡_, refl, ap, sym, _∙_, subst}
 use Prim.Native.Nat.{ℕ}

@@ -1,4 +1,5 @@
--- `put_state` spells the lines in a space of its own, and puts them into the buffer if they fit there.
+-- `put_state` spells the lines in a space of its own, and puts them into the buffer if they fit
+-- there.
 use mathlib.Core.Path.{_≡_, sym, ap, _∙_}
 use mathlib.Core.List.{List}
 use Prim.Native.Nat.{ℕ, _≤_}

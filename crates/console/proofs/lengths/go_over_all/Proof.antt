@@ -1,4 +1,5 @@
--- `go_over_all` measures card after card, and keeps each length in its own place. The lent slices keep their lengths.
+-- `go_over_all` measures card after card, and keeps each length in its own place. The lent slices
+-- keep their lengths.
 use Prim.Native.Nat.{ℕ, _-_, _≤_}
 use mathlib.Core.Path.{_≡_, refl, _∙_}
 use native.Mathlib.Omega.{arith}

@@ -1,4 +1,5 @@
--- `write_passed` stays within the trace: each block ends after it began, and no later than the last record.
+-- `write_passed` stays within the trace: each block ends after it began, and no later than the last
+-- record.
 use mathlib.Core.Path.{_≡_}
 use Prim.Native.Nat.{_-_}
 use lib.ListN.{length}

@@ -1,4 +1,5 @@
--- `last_lines` stays within the trace and the buffer: each block ends after it began, and no later than the last record.
+-- `last_lines` stays within the trace and the buffer: each block ends after it began, and no later
+-- than the last record.
 use mathlib.Core.Path.{_≡_, refl, sym, ap, _∙_}
 use Prim.Native.Nat.{ℕ, _+_, _-_, _*_, _/_, _<_, _≤_}
 use native.Mathlib.Omega.{arith}

@@ -1,4 +1,5 @@
--- `forwards_at` asks whether any forward is wanted, then whether the settings are good; if not, none is made.
+-- `forwards_at` asks whether any forward is wanted, then whether the settings are good; if not,
+-- none is made.
 use mathlib.Core.Path.{ap, sym, _∙_}
 use Rattle.settings.specs.Says.{saysAsked, saysBad}
 use Rattle.settings.proofs.Holding.{held-given, store-refused}

@@ -1,4 +1,5 @@
--- `over` passes the records one by one, with what is held for each: the forwards that are left, from here, are all of them.
+-- `over` passes the records one by one, with what is held for each: the forwards that are left,
+-- from here, are all of them.
 use mathlib.Core.Path.{_≡_, refl, ap, sym, _∙_}
 use mathlib.Core.Bool.{Bool, true, false, _&&_}
 use Prim.Native.Nat.{ℕ, _+_, _-_, _/_, _%_, _<_, _≤_}

@@ -1,4 +1,5 @@
--- `forward_at` asks whether a record is left, then whether the settings are good; the record is then treated with what is held for it.
+-- `forward_at` asks whether a record is left, then whether the settings are good; the record is
+-- then treated with what is held for it.
 use mathlib.Core.Path.{_≡_, ap, sym, _∙_}
 use Rattle.settings.specs.Says.{saysAsked}
 use Rattle.settings.proofs.Holding.{Holding, held-given, store-refused, holding-at}

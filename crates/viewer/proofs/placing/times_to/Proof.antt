@@ -1,4 +1,5 @@
--- `times_to` goes over the records that are left: the times so far and those from here are all of them.
+-- `times_to` goes over the records that are left: the times so far and those from here are all of
+-- them.
 use mathlib.Core.Path.{_≡_, refl, sym, ap, _∙_}
 use Prim.Native.Nat.{ℕ, _+_, _-_, _/_, _<_, _≤_}
 use native.Mathlib.Omega.{arith}

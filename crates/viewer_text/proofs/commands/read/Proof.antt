@@ -1,4 +1,5 @@
--- `read` goes by what stands between the blanks: how long it is, then its letter, then what follows.
+-- `read` goes by what stands between the blanks: how long it is, then its letter, then what
+-- follows.
 use mathlib.Core.Path.{_≡_, refl, ap, sym, _∙_}
 use Prim.Native.Nat.{ℕ, _+_, _-_, _≤_, _<_}
 use mathlib.Core.List.{List}
