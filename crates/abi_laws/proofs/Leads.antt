@@ -101,6 +101,14 @@ ear-reads-back = record {
   begin = λ before r after c. ap earIn (sym (c .4)) ∙ c .5 .1 .1;
   hears = λ ear store lead room out r next records told c. came ear store lead room out r next records told c .1 .1 .1 .1;
   ends = λ ear room out r next records told c. closes ear room out r next records told c .reads;
+  begun-bytes = λ before r after c. sym (c .4) ∙ c .5 .1 .0 ∙ ap earBytes (sym (ap earIn (sym (c .4)) ∙ c .5 .1 .1));
+  heard-bytes = λ ear store lead room out r next records told good c.
+      let p = came ear store lead room out r next records told c in
+      let w : Written = hear (earIn ear) (storeIn store) lead room in
+      let left-is : next ≡ earBytes (w .wrote .hearing) = p .1 .0 ∙ ap (λ (q : Outcome Kept). earLeft (record { answer = q; written = w }) ear) good in
+      let held : earIn next ≡ w .wrote .hearing = p .1 .1 .1 .1 ∙ ap (λ (q : Outcome Kept). earAfter (record { answer = q; written = w }) (earIn ear)) good in
+      left-is ∙ ap earBytes (sym held);
+  ended-bytes = λ ear room out r next records told c. sym (c .8) ∙ c .11 .1 .0 ∙ ap earBytes (sym (ap earIn (sym (c .8)) ∙ c .11 .1 .1 .1 .1));
 }
 
 -- ---- pieces and rooms

@@ -11,3 +11,4 @@ pub mod RidesLeft
 pub mod RidesHeld
 pub mod RidePieces
 pub mod RidesMet
+pub mod LeadsMet

@@ -11,7 +11,7 @@ use Rattle.settings.specs.Versions.{kept}
 use Rattle.settings.specs.Store.{judged}
 use Rattle.state_bytes.specs.Stores.{storeIn}
 use Rattle.recording.specs.Recording.{recorded}
-use Rattle.ear_bytes.specs.Ears.{earIn}
+use Rattle.ear_bytes.specs.Ears.{earBytes, earIn}
 use Rattle.ear_bytes.specs.Hearing.{fresh, joined, end}
 use Rattle.abi.specs.Face.{returned}
 use Rattle.abi.specs.Stores.{keptNumber}
@@ -41,6 +41,11 @@ pub record EarReadsBack : Type 0 where
       → earIn then ≡ earAfter (heard ear store lead room) (earIn ear)
   pub ends : (ear room out : List ℕ) (r : ℤ) (then records told : List ℕ) → RecordEnd ear room out r then records told
       → earIn then ≡ end (earIn ear) room .wrote .hearing
+  -- and where nothing is refused they are the bytes of the hearing that they hold
+  pub begun-bytes : (before : List ℕ) (r : ℤ) (after : List ℕ) → RecordBegin before r after → after ≡ earBytes (earIn after)
+  pub heard-bytes : (ear store lead room out : List ℕ) (r : ℤ) (then records told : List ℕ) → judged (storeIn store) ≡ gives kept
+      → Record ear store lead room out r then records told → then ≡ earBytes (earIn then)
+  pub ended-bytes : (ear room out : List ℕ) (r : ℤ) (then records told : List ℕ) → RecordEnd ear room out r then records told → then ≡ earBytes (earIn then)
 
 -- ---- pieces and rooms
 

@@ -5,7 +5,7 @@ use Prim.Native.Nat.{ℕ, _≤_, _%_}
 use mathlib.Core.Path.{_≡_}
 use mathlib.Core.List.{List, [], _∷_}
 use lib.IntN.{ℤ, pos}
-use Rattle.words.specs.Answer.{Answer}
+use Rattle.words.specs.Answer.{Answer, gives}
 use Rattle.words.specs.Why.{Why, notCodeWord}
 use Rattle.words.specs.Plain.{figure}
 use Rattle.words.specs.Code.{exchanged}
@@ -14,7 +14,7 @@ use Rattle.settings.specs.Versions.{kept}
 use Rattle.settings.specs.Store.{lastPlace}
 use Rattle.settings.specs.Store as store
 use Rattle.settings_text.specs.Sheet.{sheet}
-use Rattle.state_bytes.specs.Stores.{storeIn}
+use Rattle.state_bytes.specs.Stores.{storeBytes, storeIn}
 use Rattle.abi.specs.Face.{returned, wordNumber}
 use Rattle.abi.specs.Stores.{keptNumber, storeAfter, changeOf}
 use Rattle.demands.specs.Rules.{rowOf, row, Is}
@@ -52,3 +52,10 @@ pub record ReadsBack : Type 0 where
       → storeIn after ≡ storeAfter (store.add (storeIn before) v) (storeIn before)
   pub read : (text before : List ℕ) (r : ℤ) (after : List ℕ) → SettingsRead text before r after
       → storeIn after ≡ storeAfter (changeOf (sheet text)) (storeIn before)
+  -- and where nothing is refused they are the bytes of the store that they hold
+  pub begun-bytes : (gap s t : ℕ) (before : List ℕ) (r : ℤ) (after : List ℕ) → store.begin gap s t .answer ≡ gives kept
+      → SettingsBegin gap s t before r after → after ≡ storeBytes (storeIn after)
+  pub added-bytes : (v : Version) (before : List ℕ) (r : ℤ) (after : List ℕ) → store.add (storeIn before) v .answer ≡ gives kept
+      → SettingsAdd v before r after → after ≡ storeBytes (storeIn after)
+  pub read-bytes : (text before : List ℕ) (r : ℤ) (after : List ℕ) → changeOf (sheet text) .answer ≡ gives kept
+      → SettingsRead text before r after → after ≡ storeBytes (storeIn after)
