@@ -4,15 +4,16 @@
 use Prim.Native.Nat.{ℕ, _+_, _*_, _/_, _%_, _≤_}
 use native.Mathlib.Omega.{arith}
 use mathlib.Core.Path.{_≡_, refl, sym, ap, _∙_, subst}
+use mathlib.Core.Bool.{Bool}
 use mathlib.Core.List.{List, [], _∷_, _++_, append-nil}
 use lib.IntN.{pos}
 use lib.ListN.{length, take, drop, replicate, length-replicate}
 use lib.Seq.{take-length, drop-length}
-use borrow.Author.Tests.{eq-eqb}
+use borrow.Author.Tests.{eq-eqb, le-leb}
 use denote.Ref.{RefT, now}
-use Rattle.words.specs.Answer.{gives}
+use Rattle.words.specs.Answer.{Outcome, gives, refuses, pick}
 use Rattle.words.specs.Limits.{largest64}
-use Rattle.text.specs.Put.{placed}
+use Rattle.text.specs.Put.{placed, Put, put}
 use Rattle.settings.specs.At.{gapAt}
 use Rattle.group.specs.declared.Group.{Group}
 use Rattle.ride.specs.declared.Ride.{Ride}
@@ -20,7 +21,7 @@ use Rattle.ride.specs.State.{noGroup, nothingKnown, freshRide}
 use Rattle.ride.specs.Over.{records}
 use Rattle.ride.proofs.Cutting.{records-length}
 use Rattle.ride_text.specs.Style.{Style}
-use Rattle.ride_text.specs.Told.{Told, tellOver}
+use Rattle.ride_text.specs.Told.{Told, tellOver, endText}
 use Rattle.ride_text.specs.List.{Listing, roomFor, taken, listOf, listTaken}
 use Rattle.ride_text.proofs.Judging.{list-taken}
 use Rattle.ride_text.proofs.Taken.{all-taken}
@@ -28,10 +29,10 @@ use Rattle.state_bytes.specs.Figures.{each, byteOf, spread, eightAt, figureAt}
 use Rattle.state_bytes.specs.Stores.{storeIn}
 use Rattle.ride_bytes.specs.Things.{toldOf, numberOf, linkingOf, heardOf}
 use Rattle.ride_bytes.specs.Rides.{knownFigures, groupFigures, rideBytes, rideOf, rideIn}
-use Rattle.abi.specs.Face.{returned, left}
-use Rattle.abi.specs.Rides.{styleOf, listed, listedNumber, listedPut, rideLeft}
+use Rattle.abi.specs.Face.{returned, left, itself}
+use Rattle.abi.specs.Rides.{styleOf, listed, listedNumber, listedPut, rideLeft, ending}
 use Rattle.demands.specs.Stores.{Good}
-use Rattle.abi_laws.specs.RideCalls.{RideBegin, RideList, InPieces, none, more}
+use Rattle.abi_laws.specs.RideCalls.{RideBegin, RideList, RideEnd, InPieces, none, more}
 
 -- A lent buffer with these bytes.
 abbrev lent : List ℕ → RefT (List ℕ)
@@ -43,6 +44,17 @@ fresh-back = refl
 
 pub begin-met : (before : List ℕ) → RideBegin before (pos 0) (rideBytes freshRide)
 begin-met before = (([], tt), lent before, (lent (rideBytes freshRide), tt), refl, refl, (refl, (refl, fresh-back)))
+
+-- A ride ends in a text that has room for its line.
+pub end-met : (ride : List ℕ) (style : ℕ) (before : List ℕ) → length (endText (styleOf style) (rideIn ride)) ≤ length before
+    → RideEnd ride style before (pos (length (endText (styleOf style) (rideIn ride)))) (placed (endText (styleOf style) (rideIn ride)) before 0)
+unfolding ending put
+end-met ride style before fits =
+    let line : List ℕ = endText (styleOf style) (rideIn ride) in
+    let low : 0 + length line ≤ length before = omega arith in
+    let said = ap (λ (w : Bool). returned itself (pick {A = Outcome ℕ} w (gives (length line)) (refuses 21))) (le-leb (length line) (length before) fits) in
+    let wrote = ap (λ (w : Bool). pick {A = Put} w (record { next = 0 + length line; buffer = placed line before 0 }) (record { next = 0; buffer = before }) .buffer) (le-leb (0 + length line) (length before) low) in
+    (([], ([], tt)), lent ride, lent before, (lent ride, (style, (lent (placed line before 0), tt))), refl, refl, refl, (sym said, sym wrote))
 
 module _ (store ride : List ℕ) (number style : ℕ) (trace : List ℕ) (good : Good (storeIn store)) (whole : length trace % 8 ≡ 0) where
   abbrev form : Style

@@ -6,13 +6,14 @@ use mathlib.Core.List.{List, [], _∷_, _++_}
 use lib.Dec.{ltb}
 use lib.IntN.{ℤ, pos}
 use lib.ListN.{length, take}
-use Rattle.words.specs.Answer.{Outcome}
+use Rattle.words.specs.Answer.{Outcome, gives}
 use Rattle.settings.specs.At.{gapAt}
 use Rattle.ride.specs.State.{freshRide}
 use Rattle.ride.specs.Over.{records}
 use Rattle.ride_text.specs.Told.{Told, tellOver, endText}
+use Rattle.ride_text.specs.List.{Taken}
 use Rattle.state_bytes.specs.Stores.{storeIn}
-use Rattle.ride_bytes.specs.Rides.{knownFigures, rideIn}
+use Rattle.ride_bytes.specs.Rides.{knownFigures, rideBytes, rideIn}
 use Rattle.abi.specs.Face.{returned, itself}
 use Rattle.abi.specs.Rides.{styleOf, listed, listedNumber}
 use Rattle.demands.specs.Rules.{row, Given, Is}
@@ -42,6 +43,11 @@ pub record RidesHeld : Type 0 where
   pub list : (ride store trace : List ℕ) (number style : ℕ) (before out : List ℕ) (r : ℤ) (moved after counts : List ℕ)
       → RideList ride store trace number style before out r moved after counts → rideIn moved ≡ listed ride store trace number style before .ride
   pub known : (ride before : List ℕ) (r : ℤ) (after : List ℕ) → RideKnown ride before r after → after ≡ knownFigures (rideIn ride)
+  -- and where nothing is refused they are the bytes of the ride that they hold
+  pub begun-bytes : (before : List ℕ) (r : ℤ) (after : List ℕ) → RideBegin before r after → after ≡ rideBytes (rideIn after)
+  pub moved-bytes : (ride store trace : List ℕ) (number style : ℕ) (before out : List ℕ) (r : ℤ) (moved after counts : List ℕ) (taken : Taken)
+      → listed ride store trace number style before .answer ≡ gives taken → RideList ride store trace number style before out r moved after counts
+      → moved ≡ rideBytes (rideIn moved)
 
 -- Whatever the pieces and the room: the texts put one after the other are the text of the whole trace, and the bytes at the end hold the ride after it; begun
 -- afresh and ended, they are the lines of the trace and of its end.
