@@ -56,6 +56,16 @@ end-met ride style before fits =
     let wrote = ap (λ (w : Bool). pick {A = Put} w (record { next = 0 + length line; buffer = placed line before 0 }) (record { next = 0; buffer = before }) .buffer) (le-leb (0 + length line) (length before) low) in
     (([], ([], tt)), lent ride, lent before, (lent ride, (style, (lent (placed line before 0), tt))), refl, refl, refl, (sym said, sym wrote))
 
+-- So all are met together: a fresh ride over a trace without a record, and its end.
+pub none-met : (store : List ℕ) (style : ℕ) →
+    let line : List ℕ = endText (styleOf style) (rideIn (rideBytes freshRide)) in
+    RideBegin [] (pos 0) (rideBytes freshRide) × InPieces store style (rideBytes freshRide) 1 [] [] (rideBytes freshRide)
+    × RideEnd (rideBytes freshRide) style line (pos (length line)) (placed line line 0)
+none-met store style =
+    let line : List ℕ = endText (styleOf style) (rideIn (rideBytes freshRide)) in
+    let fits : length line ≤ length line = omega arith in
+    (begin-met [], none, end-met (rideBytes freshRide) style line fits)
+
 module _ (store ride : List ℕ) (number style : ℕ) (trace : List ℕ) (good : Good (storeIn store)) (whole : length trace % 8 ≡ 0) where
   abbrev form : Style
   form = styleOf style
