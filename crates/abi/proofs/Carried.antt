@@ -1,5 +1,5 @@
--- What is made of an answer is what is made of its specification: the answer is the case at hand, and that case says what
--- is specified.
+-- What is made of an answer is what is made of its specification: the answer is the case at hand,
+-- and that case says what is specified.
 -- Assumes nothing.
 use mathlib.Core.Path.{_≡_, sym, ap, _∙_}
 use mathlib.Core.List.{List}

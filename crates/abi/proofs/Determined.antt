@@ -1,5 +1,5 @@
--- Each contract fixes the number that its function returns and what it leaves in each array that it was lent: any two that
--- it allows are equal.
+-- Each contract fixes the number that its function returns and what it leaves in each array that it
+-- was lent: any two that it allows are equal.
 -- Assumes nothing.
 use mathlib.Core.Path.{_≡_, sym, _∙_}
 use lib.IntN.{ℤ}
@@ -122,7 +122,8 @@ atc2-compact-determined κs a r r′ x x′ p q = (p .0 ∙ sym (q .0), p .1 ∙
 pub atc2-why-word-determined : Fixed 0 why-word-kinds.ps why-word-kinds.r why-word-reads.Post
 atc2-why-word-determined κs a r r′ x x′ p q = p ∙ sym q
 
--- `store` is the fourth of the arguments of `atc2_settings_begin`, the first of `atc2_settings_add`, the second of `atc2_settings_read`.
+-- `store` is the fourth of the arguments of `atc2_settings_begin`, the first of
+-- `atc2_settings_add`, the second of `atc2_settings_read`.
 pub atc2-settings-begin-determined : (κs : Lfts 1) (a : Dens κs settings-begin-kinds.ps) (r r′ : ℤ)
     (x x′ : AtExit (endedOf 1 settings-begin-kinds.ps settings-begin-kinds.r) κs)
     → settings-begin-reads.Post κs a r x → settings-begin-reads.Post κs a r′ x′ → (r ≡ r′) × (x .1 .1 .1 .0 .now ≡ x′ .1 .1 .1 .0 .now)
@@ -141,7 +142,8 @@ atc2-settings-read-determined κs a r r′ x x′ p q = (p .0 ∙ sym (q .0), p 
 pub atc2-settings-line-determined : Fixed 1 settings-line-kinds.ps settings-line-kinds.r settings-line-reads.Post
 atc2-settings-line-determined κs a r r′ x x′ p q = p ∙ sym q
 
--- `state` is the first of the arguments of `atc2_ride_begin` and of `atc2_ride_list`, `text` and `out` the sixth and the seventh of the latter.
+-- `state` is the first of the arguments of `atc2_ride_begin` and of `atc2_ride_list`, `text` and
+-- `out` the sixth and the seventh of the latter.
 pub atc2-ride-begin-determined : (κs : Lfts 1) (a : Dens κs ride-begin-kinds.ps) (r r′ : ℤ)
     (x x′ : AtExit (endedOf 1 ride-begin-kinds.ps ride-begin-kinds.r) κs)
     → ride-begin-reads.Post κs a r x → ride-begin-reads.Post κs a r′ x′ → (r ≡ r′) × (x .0 .now ≡ x′ .0 .now)
@@ -164,7 +166,8 @@ pub atc2-ride-known-determined : (κs : Lfts 2) (a : Dens κs ride-known-kinds.p
     → ride-known-reads.Post κs a r x → ride-known-reads.Post κs a r′ x′ → (r ≡ r′) × (x .1 .0 .now ≡ x′ .1 .0 .now)
 atc2-ride-known-determined κs a r r′ x x′ p q = (p .0 ∙ sym (q .0), p .1 ∙ sym (q .1))
 
--- `ear` is the first of the arguments, `records` the fourth of `atc2_record` and the second of `atc2_record_end`, `out` comes after it.
+-- `ear` is the first of the arguments, `records` the fourth of `atc2_record` and the second of
+-- `atc2_record_end`, `out` comes after it.
 pub atc2-record-begin-determined : (κs : Lfts 1) (a : Dens κs record-begin-kinds.ps) (r r′ : ℤ)
     (x x′ : AtExit (endedOf 1 record-begin-kinds.ps record-begin-kinds.r) κs)
     → record-begin-reads.Post κs a r x → record-begin-reads.Post κs a r′ x′ → (r ≡ r′) × (x .0 .now ≡ x′ .0 .now)

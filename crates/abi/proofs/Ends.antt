@@ -1,4 +1,5 @@
--- The end of a ride in a lent text: no line has more than 160 bytes, and one that has room is put whole.
+-- The end of a ride in a lent text: no line has more than 160 bytes, and one that has room is put
+-- whole.
 -- Assumes nothing.
 use Prim.Native.Nat.{ℕ, _+_, _≤_, _<_}
 use mathlib.Core.Path.{_≡_, refl, sym, ap, _∙_}

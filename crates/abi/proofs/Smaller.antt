@@ -1,4 +1,5 @@
--- What `compact` answers: a length that is not above the trace's, or, under the store of a plain gap, 19 or 16.
+-- What `compact` answers: a length that is not above the trace's, or, under the store of a plain
+-- gap, 19 or 16.
 -- Assumes nothing.
 use Prim.Native.Nat.{ℕ, _%_, _≤_}
 use native.Mathlib.Omega.{arith}

@@ -9,7 +9,8 @@ use Rattle.contact.specs.Contacts.{Handed, handed, noFurther}
 use Rattle.contact.specs.Judge.{Contact, read, marker}
 use Rattle.abi.specs.Face.{asOne}
 
--- The search that a lent array holds: next bit, bits left, history, of which the low sixteen bits count.
+-- The search that a lent array holds: next bit, bits left, history, of which the low sixteen bits
+-- count.
 abbrev pub searchIn : List ℕ → Search
 searchIn lent = record { next = getD lent 0 0; left = getD lent 1 0; history = getD lent 2 0 % 65536 }
 
@@ -45,8 +46,8 @@ abbrev pub judgedNumber : Contact → ℕ
 judgedNumber (read words first count) = 1
 judgedNumber marker = 2
 
--- Into `out` go the telegram, the first place and the number of places. (A place's words are accepted: the second line is
--- never met.)
+-- Into `out` go the telegram, the first place and the number of places. (A place's words are
+-- accepted: the second line is never met.)
 abbrev pub judgedPut : Contact → List ℕ → List ℕ
 judgedPut (read (gives m) first count) before = asOne m ∷ first ∷ count ∷ []
 judgedPut (read (refuses b) first count) before = before

@@ -1,4 +1,5 @@
--- How an answer becomes C's numbers: the number that a call returns, and what it leaves in an array that it was lent.
+-- How an answer becomes C's numbers: the number that a call returns, and what it leaves in an array
+-- that it was lent.
 -- Assumes nothing.
 use Prim.Native.Nat.{ℕ, _+_, _*_, _%_}
 use mathlib.Core.List.{List, [], _∷_}
@@ -18,7 +19,8 @@ abbrev pub returned : {A : Type 0} → (A → ℕ) → Outcome A → ℤ
 returned numberOf (gives x) = pos (numberOf x)
 returned numberOf (refuses n) = negℤ (pos n)
 
--- What a call leaves in a lent array: what is put there of what is given; a refusal leaves it as it was.
+-- What a call leaves in a lent array: what is put there of what is given; a refusal leaves it as it
+-- was.
 abbrev pub left : {A : Type 0} → (A → List ℕ → List ℕ) → Outcome A → List ℕ → List ℕ
 left put (gives x) before = put x before
 left put (refuses n) before = before
@@ -32,7 +34,8 @@ abbrev pub asOne : Telegram → ℕ
 asOne (Telegram.Figures x y z) = x * 65536 + y * 256 + z
 asOne (Telegram.Number m) = 12 * 65536 + m
 
--- What three words read, as an answer; which word was refused, and whether its ones were odd or even, is not told.
+-- What three words read, as an answer; which word was refused, and whether its ones were odd or
+-- even, is not told.
 abbrev pub told : Received → Outcome Telegram
 told (gives m) = gives m
 told (refuses (badWord word (why n ones))) = refuses n
@@ -50,7 +53,8 @@ onesNumber unsaid = 0
 onesNumber (are Parity.Odd) = 1
 onesNumber (are Parity.Even) = 2
 
--- Why three words are refused, as one number: 0 if they read, else the refusal's number + 16 * the letter of the bad word + 256 * its parity.
+-- Why three words are refused, as one number: 0 if they read, else the refusal's number + 16 * the
+-- letter of the bad word + 256 * its parity.
 abbrev pub whyNumber : Received → ℕ
 whyNumber (gives m) = 0
 whyNumber (refuses (badWord word (why n ones))) = n + 16 * letterNumber word + 256 * onesNumber ones
@@ -59,7 +63,8 @@ whyNumber (refuses (badWord word (why n ones))) = n + 16 * letterNumber word + 2
 abbrev pub wordRead : ℕ → ℕ → Answer Why ℕ
 wordRead word isLong = pick (eqb isLong 0) (readShort (word % 256)) (readLong word)
 
--- Why a word is refused, as one number: 0 if it reads, else the refusal's number + 256 * its parity.
+-- Why a word is refused, as one number: 0 if it reads, else the refusal's number + 256 * its
+-- parity.
 abbrev pub wordNumber : Answer Why ℕ → ℕ
 wordNumber (gives x) = 0
 wordNumber (refuses (why n ones)) = n + 256 * onesNumber ones
@@ -68,7 +73,8 @@ wordNumber (refuses (why n ones)) = n + 256 * onesNumber ones
 abbrev pub foundNumber : Single → ℕ
 foundNumber place = 0
 
--- .. and put into `out`: where it is, and its telegram. (A place's words are accepted: the second line is never met.)
+-- .. and put into `out`: where it is, and its telegram. (A place's words are accepted: the second
+-- line is never met.)
 abbrev pub foundPut : Single → List ℕ → List ℕ
 foundPut (at place (gives m)) before = place ∷ asOne m ∷ []
 foundPut (at place (refuses b)) before = before

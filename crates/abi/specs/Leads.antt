@@ -11,7 +11,8 @@ use Rattle.ear_bytes.specs.Ears.{earBytes, earIn}
 use Rattle.ear_bytes.specs.Hearing.{Written, hear}
 use Rattle.abi.specs.Face.{left}
 
--- What hearing a lead comes to: that the store is in order, or its own refusal; and what is written then.
+-- What hearing a lead comes to: that the store is in order, or its own refusal; and what is written
+-- then.
 pub record Heard : Type 0 where
   pub answer : Outcome Kept
   pub written : Written
@@ -20,7 +21,8 @@ pub record Heard : Type 0 where
 abbrev pub heard : List ℕ → List ℕ → List ℕ → List ℕ → Heard
 heard ear store lead records = record { answer = judged (storeIn store); written = hear (earIn ear) (storeIn store) lead records }
 
--- What is left in the lent bytes of the ear, the room for records, and `out`: bytes of the lead that are used, sixteen a frame, and bytes of records.
+-- What is left in the lent bytes of the ear, the room for records, and `out`: bytes of the lead
+-- that are used, sixteen a frame, and bytes of records.
 abbrev pub earLeft : Heard → List ℕ → List ℕ
 earLeft h before = left (λ k b. earBytes (h .written .wrote .hearing)) (h .answer) before
 

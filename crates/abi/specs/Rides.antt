@@ -17,7 +17,8 @@ use Rattle.abi.specs.Face.{left}
 abbrev pub styleOf : ℕ → Style
 styleOf style = pick (eqb style 0) plain withReasons
 
--- The listing of a trace from the record with this number on, by the ride and the settings in lent bytes, into a lent text.
+-- The listing of a trace from the record with this number on, by the ride and the settings in lent
+-- bytes, into a lent text.
 abbrev pub listed : List ℕ → List ℕ → List ℕ → ℕ → ℕ → List ℕ → Listing
 listed ride store trace number style text = list (styleOf style) (rideIn ride) (storeIn store) number trace text
 

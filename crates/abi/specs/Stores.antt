@@ -27,8 +27,8 @@ thenHolds (refuses n) after before = before
 abbrev pub storeAfter : Change → Store → Store
 storeAfter change before = thenHolds (change .answer) (change .store) before
 
--- What a text comes to, as an answer: the documents have no number for a line that is unreadable, a text that is too long and a first place that is not
--- 0; here 100, 101 and 102.
+-- What a text comes to, as an answer: the documents have no number for a line that is unreadable, a
+-- text that is too long and a first place that is not 0; here 100, 101 and 102.
 abbrev pub howAnswer : Condition → Outcome Kept
 howAnswer Condition.Fine = gives kept
 howAnswer (Condition.Refused n) = refuses n

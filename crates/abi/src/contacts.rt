@@ -25,7 +25,8 @@ pub extern "C" fn atc2_begin(buf: &[u8], start: usize, len: usize, search: &mut 
     }
 }
 
-// 1, with the next contact in `out` and what follows it in `search`; 0 if no further one opens; -5 or -9.
+// 1, with the next contact in `out` and what follows it in `search`; 0 if no further one opens; -5
+// or -9.
 #[no_mangle]
 pub extern "C" fn atc2_next_contact(buf: &[u8], search: &mut [u64; 3], out: &mut [u64; 2]) -> i32
     ensures { λ r. ⌜ r ≡ returned nextNumber (nextContact (now (buf .entry)) (searchIn (now (search .entry)))) ⌝ }
@@ -54,7 +55,8 @@ pub extern "C" fn atc2_next_contact(buf: &[u8], search: &mut [u64; 3], out: &mut
     }
 }
 
-// 1, with the telegram, its first place and the number of its places in `out`; 2 for a marker; -4, -5, -7 or -8.
+// 1, with the telegram, its first place and the number of its places in `out`; 2 for a marker; -4,
+// -5, -7 or -8.
 #[no_mangle]
 pub extern "C" fn atc2_judge(
     buf: &[u8],

@@ -23,8 +23,9 @@ pub extern "C" fn atc2_record_begin(ear: &mut [u8; 184]) -> i32
     0
 }
 
-// 0, with as many records of the lead's whole frames in `records` as have room, the hearing then in `ear`, and in `out` how many bytes of the lead are used
-// and how many of records are written; the store's own refusal.
+// 0, with as many records of the lead's whole frames in `records` as have room, the hearing then in
+// `ear`, and in `out` how many bytes of the lead are used and how many of records are written; the
+// store's own refusal.
 #[no_mangle]
 pub extern "C" fn atc2_record(
     ear: &mut [u8; 184],
@@ -55,7 +56,8 @@ pub extern "C" fn atc2_record(
     }
 }
 
-// 0, with as many records of the lead's end in `records` as have room, the hearing then in `ear`, and in `out` how many bytes of records are written.
+// 0, with as many records of the lead's end in `records` as have room, the hearing then in `ear`,
+// and in `out` how many bytes of records are written.
 #[no_mangle]
 pub extern "C" fn atc2_record_end(
     ear: &mut [u8; 184],

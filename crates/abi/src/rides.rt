@@ -32,8 +32,8 @@ pub extern "C" fn atc2_ride_begin(state: &mut [u8; 144]) -> i32
     0
 }
 
-// 0, with the lines of as many records as surely have room in `text`, how many records and bytes in `out`, and the ride after them in `state`; the store's own
-// refusal, or -16.
+// 0, with the lines of as many records as surely have room in `text`, how many records and bytes in
+// `out`, and the ride after them in `state`; the store's own refusal, or -16.
 #[no_mangle]
 pub extern "C" fn atc2_ride_list(
     state: &mut [u8; 144],
@@ -69,7 +69,8 @@ pub extern "C" fn atc2_ride_list(
     }
 }
 
-// The bytes of the line that the end of the ride gives, with that line at the start of `text`: 0 if no group is open; -21 if it has no room.
+// The bytes of the line that the end of the ride gives, with that line at the start of `text`: 0 if
+// no group is open; -21 if it has no room.
 #[no_mangle]
 pub extern "C" fn atc2_ride_end(state: &[u8; 144], style: u8, text: &mut [u8]) -> i32
     ensures { λ r. ⌜ r ≡ returned itself (ending (styleOf style) (rideIn (now (state .entry))) (now (text .entry))) ⌝ }
@@ -85,7 +86,8 @@ pub extern "C" fn atc2_ride_end(state: &[u8; 144], style: u8, text: &mut [u8]) -
     ride_text::put_end(reasons, held, text, 0) as i32
 }
 
-// 0, with the odometer, linking's distance and place, main speed, target and number in `out`; 2^64 - 1 where nothing is set.
+// 0, with the odometer, linking's distance and place, main speed, target and number in `out`; 2^64
+// - 1 where nothing is set.
 #[no_mangle]
 pub extern "C" fn atc2_ride_known(state: &[u8; 144], out: &mut [u64; 6]) -> i32
     ensures { λ r. ⌜ r ≡ pos 0 ⌝ }

@@ -59,8 +59,8 @@ pub extern "C" fn atc2_settings_add(
     }
 }
 
-// 0, with the store of a text's settings in `store`; the refusal of its first bad line, -100 if it is
-// unreadable, -102 if it is the first and its place is not 0, -101 for a text that is too long.
+// 0, with the store of a text's settings in `store`; the refusal of its first bad line, -100 if it
+// is unreadable, -102 if it is the first and its place is not 0, -101 for a text that is too long.
 #[no_mangle]
 pub extern "C" fn atc2_settings_read(text: &[u8], store: &mut [u8; 1032]) -> i32
     ensures { λ r. ⌜ r ≡ returned keptNumber (changeOf (sheet (now (text .entry))) .answer) ⌝ }

@@ -6,7 +6,8 @@ ghost use Rattle.compaction.specs.Compact.{compact};
 ghost use Rattle.abi.specs.Face.{returned, itself};
 use compaction::Size;
 
-// The new length of the trace, compacted for a fresh ride with this gap (a store of one version; no ride looks at its sync pair); -19 or -16.
+// The new length of the trace, compacted for a fresh ride with this gap (a store of one version; no
+// ride looks at its sync pair); -19 or -16.
 #[no_mangle]
 pub extern "C" fn atc2_compact(gap: u32, trace: &mut [u8]) -> i64
     ensures { λ r. ⌜ r ≡ returned itself (compact freshRide (plain gap) (now (trace .entry)) .answer) ⌝ }

@@ -73,7 +73,8 @@ fn of_long(read: LongRead) -> u32
     }
 }
 
-// 0 if a received word reads, the long one or, where `wide` is 0, the short one in its low byte; else why not.
+// 0 if a received word reads, the long one or, where `wide` is 0, the short one in its low byte;
+// else why not.
 #[no_mangle]
 pub extern "C" fn atc2_why_word(word: u16, wide: u8) -> i32
     ensures { λ r. ⌜ r ≡ pos (wordNumber (wordRead word wide)) ⌝ }

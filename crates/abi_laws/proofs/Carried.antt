@@ -1,5 +1,5 @@
--- What a list decides of an answer, it decides of whatever is told of that answer; a number below 0 tells of a refusal, which leaves a lent
--- array as it was.
+-- What a list decides of an answer, it decides of whatever is told of that answer; a number below 0
+-- tells of a refusal, which leaves a lent array as it was.
 -- Assumes nothing.
 use mathlib.Core.Path.{_≡_, refl, sym, ap, subst, _∙_}
 use mathlib.Core.Bool.{Bool, true, false}

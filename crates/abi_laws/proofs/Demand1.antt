@@ -1,4 +1,5 @@
--- Demand 1 holds for the face for C: each contract hands over what is returned of a specification, and demands has how that one is decided.
+-- Demand 1 holds for the face for C: each contract hands over what is returned of a specification,
+-- and demands has how that one is decided.
 -- Assumes nothing.
 use mathlib.Core.Path.{_≡_, refl, sym, ap, ap₂, subst, _∙_}
 use mathlib.Core.Bool.{false}

@@ -1,4 +1,5 @@
--- The laws of leads from C: each contract hands over what is returned, left and read back; a call after the other hands over the records of the rest.
+-- The laws of leads from C: each contract hands over what is returned, left and read back; a call
+-- after the other hands over the records of the rest.
 -- Assumes nothing.
 use Prim.Native.Nat.{ℕ, _+_, _*_, _/_, _≤_, _<_}
 use mathlib.Core.Path.{_≡_, refl, sym, ap, ap₂, subst, _∙_}

@@ -1,4 +1,5 @@
--- The hypotheses on a lead are met: an ear is begun, hears a lead without a whole frame, and its end has no record.
+-- The hypotheses on a lead are met: an ear is begun, hears a lead without a whole frame, and its
+-- end has no record.
 -- Assumes nothing.
 use Prim.Native.Nat.{ℕ, _≤_}
 use mathlib.Core.Path.{_≡_, refl, sym, ap, _∙_}

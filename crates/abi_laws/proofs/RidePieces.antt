@@ -1,4 +1,5 @@
--- Pieces make no difference: each call's text is that of the records that it took, and what is left of the trace are the records after them.
+-- Pieces make no difference: each call's text is that of the records that it took, and what is left
+-- of the trace are the records after them.
 -- Assumes nothing.
 use Prim.Native.Nat.{ℕ, suc, _+_, _*_, _/_, _%_, _≤_}
 use native.Mathlib.Omega.{arith}

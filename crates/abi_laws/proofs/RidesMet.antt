@@ -1,5 +1,6 @@
--- The hypotheses on pieces are met: a ride is begun; and any trace of whole records is listed by one call with room for all of it, where the ride after it reads back from
--- its bytes, as every ride does that `ride_bytes` is handed.
+-- The hypotheses on pieces are met: a ride is begun; and any trace of whole records is listed by
+-- one call with room for all of it, where the ride after it reads back from its bytes, as every
+-- ride does that `ride_bytes` is handed.
 -- Assumes nothing.
 use Prim.Native.Nat.{ℕ, _+_, _*_, _/_, _%_, _≤_}
 use native.Mathlib.Omega.{arith}

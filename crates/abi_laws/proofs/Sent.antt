@@ -1,4 +1,5 @@
--- What C is handed out is what `find` and `judge` hand out, which demands shows to be the telegram sent.
+-- What C is handed out is what `find` and `judge` hand out, which demands shows to be the telegram
+-- sent.
 -- Assumes nothing.
 use Prim.Native.Nat.{ℕ}
 use mathlib.Core.Path.{_≡_, refl, sym, ap, _∙_}

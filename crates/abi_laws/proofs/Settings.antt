@@ -1,4 +1,5 @@
--- The laws of the settings from C: each contract hands over what is returned, left and read back, and demands has how the store's functions decide.
+-- The laws of the settings from C: each contract hands over what is returned, left and read back,
+-- and demands has how the store's functions decide.
 -- Assumes nothing.
 use mathlib.Core.Path.{_≡_, sym, ap, subst, _∙_}
 use mathlib.Core.Bool.{Bool}

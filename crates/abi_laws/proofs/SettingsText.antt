@@ -1,4 +1,5 @@
--- What is returned is the number of what the text comes to, and settings_text_laws has how its lines decide that.
+-- What is returned is the number of what the text comes to, and settings_text_laws has how its
+-- lines decide that.
 -- Assumes nothing.
 use Prim.Native.Nat.{ℕ}
 use mathlib.Core.Path.{_≡_, refl, ap, _∙_}

@@ -1,5 +1,6 @@
--- What the contracts of the functions for C allow: the number r that a call returns and, for each array that it was lent to be written,
--- what it held before and holds after. (`Post`, `RefT` and `Lfts`: see crates/demands/specs/Contracts.antt.)
+-- What the contracts of the functions for C allow: the number r that a call returns and, for each
+-- array that it was lent to be written, what it held before and holds after. (`Post`, `RefT` and
+-- `Lfts`: see crates/demands/specs/Contracts.antt.)
 -- Assumes nothing.
 use Prim.Native.Nat.{ℕ}
 use mathlib.Core.Path.{_≡_}
@@ -76,21 +77,24 @@ abbrev pub Distance : ℕ → ℕ → ℤ → Type 0
 Distance by figure r =
     (e : AtExit (endedOf 0 distance-kinds.ps distance-kinds.r) tt) × distance-reads.Post tt (by, (figure, tt)) r e
 
--- `atc2_find` may return r for this stretch of the buffer b and these sync words, and leave `after` in `out`, which held `before`.
+-- `atc2_find` may return r for this stretch of the buffer b and these sync words, and leave `after`
+-- in `out`, which held `before`.
 abbrev pub Find : List ℕ → ℕ → ℕ → ℕ → ℕ → List ℕ → ℤ → List ℕ → Type 0
 Find b start len s t before r after =
     (κs : Lfts 2) × (buf : RefT (List ℕ)) × (out : RefT (List ℕ)) × (e : AtExit (endedOf 2 find-kinds.ps find-kinds.r) κs)
     × (now buf ≡ b) × (now out ≡ before) × (now (e .1 .1 .1 .1 .1 .0) ≡ after)
     × find-reads.Post κs (buf, (start, (len, (s, (t, (out, tt)))))) r e
 
--- `atc2_begin` may return r for this stretch of the buffer b, and leave `after` in `search`, which held `before`.
+-- `atc2_begin` may return r for this stretch of the buffer b, and leave `after` in `search`, which
+-- held `before`.
 abbrev pub Begin : List ℕ → ℕ → ℕ → List ℕ → ℤ → List ℕ → Type 0
 Begin b start len before r after =
     (κs : Lfts 2) × (buf : RefT (List ℕ)) × (search : RefT (List ℕ)) × (e : AtExit (endedOf 2 begin-kinds.ps begin-kinds.r) κs)
     × (now buf ≡ b) × (now search ≡ before) × (now (e .1 .1 .1 .0) ≡ after)
     × begin-reads.Post κs (buf, (start, (len, (search, tt)))) r e
 
--- `atc2_next_contact` may return r for the search in `search` over the buffer b, leave `moved` there, and `after` in `out`, which held `before`.
+-- `atc2_next_contact` may return r for the search in `search` over the buffer b, leave `moved`
+-- there, and `after` in `out`, which held `before`.
 abbrev pub NextContact : List ℕ → List ℕ → List ℕ → ℤ → List ℕ → List ℕ → Type 0
 NextContact b from before r moved after =
     (κs : Lfts 3) × (buf : RefT (List ℕ)) × (search : RefT (List ℕ)) × (out : RefT (List ℕ))
@@ -98,14 +102,16 @@ NextContact b from before r moved after =
     × (now buf ≡ b) × (now search ≡ from) × (now out ≡ before) × (now (e .1 .0) ≡ moved) × (now (e .1 .1 .0) ≡ after)
     × next-reads.Post κs (buf, (search, (out, tt))) r e
 
--- `atc2_judge` may return r for this stretch of the buffer b and these sync words, and leave `after` in `out`, which held `before`.
+-- `atc2_judge` may return r for this stretch of the buffer b and these sync words, and leave
+-- `after` in `out`, which held `before`.
 abbrev pub Judge : List ℕ → ℕ → ℕ → ℕ → ℕ → List ℕ → ℤ → List ℕ → Type 0
 Judge b start len s t before r after =
     (κs : Lfts 2) × (buf : RefT (List ℕ)) × (out : RefT (List ℕ)) × (e : AtExit (endedOf 2 judge-kinds.ps judge-kinds.r) κs)
     × (now buf ≡ b) × (now out ≡ before) × (now (e .1 .1 .1 .1 .1 .0) ≡ after)
     × judge-reads.Post κs (buf, (start, (len, (s, (t, (out, tt)))))) r e
 
--- `atc2_write_balise` may return r for these figures, sync words and this number, and leave `after` in `out`, which held `before`.
+-- `atc2_write_balise` may return r for these figures, sync words and this number, and leave `after`
+-- in `out`, which held `before`.
 abbrev pub WriteBalise : ℕ → ℕ → ℕ → ℕ → ℕ → ℕ → List ℕ → ℤ → List ℕ → Type 0
 WriteBalise x y z s t n before r after =
     (κs : Lfts 1) × (out : RefT (List ℕ)) × (e : AtExit (endedOf 1 write-balise-kinds.ps write-balise-kinds.r) κs)
@@ -122,19 +128,22 @@ Compact gap before r after =
 abbrev pub WhyWord : ℕ → ℕ → ℤ → Type 0
 WhyWord word wide r = (e : AtExit (endedOf 0 why-word-kinds.ps why-word-kinds.r) tt) × why-word-reads.Post tt (word, (wide, tt)) r e
 
--- `atc2_settings_begin` may return r for these settings, and leave `after` in `store`, which held `before`.
+-- `atc2_settings_begin` may return r for these settings, and leave `after` in `store`, which held
+-- `before`.
 abbrev pub SettingsBegin : ℕ → ℕ → ℕ → List ℕ → ℤ → List ℕ → Type 0
 SettingsBegin gap s t before r after =
     (κs : Lfts 1) × (store : RefT (List ℕ)) × (e : AtExit (endedOf 1 settings-begin-kinds.ps settings-begin-kinds.r) κs)
     × (now store ≡ before) × (now (e .1 .1 .1 .0) ≡ after) × settings-begin-reads.Post κs (gap, (s, (t, (store, tt)))) r e
 
--- `atc2_settings_add` may return r for this version, and leave `after` in `store`, which held `before`.
+-- `atc2_settings_add` may return r for this version, and leave `after` in `store`, which held
+-- `before`.
 abbrev pub SettingsAdd : Version → List ℕ → ℤ → List ℕ → Type 0
 SettingsAdd v before r after =
     (κs : Lfts 1) × (store : RefT (List ℕ)) × (e : AtExit (endedOf 1 settings-add-kinds.ps settings-add-kinds.r) κs)
     × (now store ≡ before) × (now (e .0) ≡ after) × settings-add-reads.Post κs (store, (v .place, (v .gap, (v .s, (v .t, tt))))) r e
 
--- `atc2_settings_read` may return r for this text, and leave `after` in `store`, which held `before`.
+-- `atc2_settings_read` may return r for this text, and leave `after` in `store`, which held
+-- `before`.
 abbrev pub SettingsRead : List ℕ → List ℕ → ℤ → List ℕ → Type 0
 SettingsRead text before r after =
     (κs : Lfts 2) × (lent : RefT (List ℕ)) × (store : RefT (List ℕ)) × (e : AtExit (endedOf 2 settings-read-kinds.ps settings-read-kinds.r) κs)

@@ -1,5 +1,6 @@
--- Demand 1 for C and C++: each function of the face decides by the same list of refusals as the function that it calls, and returns refusal N
--- as -N; a refusal leaves every lent array as it was. The lists are those of crates/demands/specs/Lists.antt.
+-- Demand 1 for C and C++: each function of the face decides by the same list of refusals as the
+-- function that it calls, and returns refusal N as -N; a refusal leaves every lent array as it was.
+-- The lists are those of crates/demands/specs/Lists.antt.
 -- Assumes nothing.
 use Prim.Native.Nat.{ℕ, suc, _+_, _*_}
 use mathlib.Core.Path.{_≡_}
@@ -27,12 +28,14 @@ toldBy tell (rule ∷ rules) = record { holds = rule .holds; answer = tell (rule
 abbrev pub Told : {A B : Type 0} → (A → B) → (A → Type 0) → B → Type 0
 Told {A} tell Reading r = (o : A) × Reading o × (r ≡ tell o)
 
--- The number r is decided by this list as told in C's numbers, and where no condition holds it is that of a reading.
+-- The number r is decided by this list as told in C's numbers, and where no condition holds it is
+-- that of a reading.
 abbrev pub DecidedAs : {A : Type 0} → (A → ℤ) → (A → Type 0) → List (Rule A) → ℤ → Type 0
 DecidedAs tell Reading rules r = Decided (Told tell Reading) (toldBy tell rules) r
 
--- Each function returns -N for the first number N of its list whose condition holds, and the number of a reading exactly if none does.
--- `atc2_why_telegram` refuses nothing: its number says which row of the telegram's list was the first to hold.
+-- Each function returns -N for the first number N of its list whose condition holds, and the number
+-- of a reading exactly if none does. `atc2_why_telegram` refuses nothing: its number says which row
+-- of the telegram's list was the first to hold.
 pub record Demand1 : Type 0 where
   pub read-short : (w : ℕ) (r : ℤ) → ReadShort w r
       → DecidedAs (λ o. returned itself (numbered o)) (Is (figure 8 (exchanged 8 w))) (rowOf (notCodeWord 8 w) (notCode 8 w) ∷ []) r
@@ -60,7 +63,8 @@ pub record Demand1 : Type 0 where
 abbrev pub Refused : ℤ → Type 0
 Refused r = (n : ℕ) × (r ≡ negℤ (pos (suc n)))
 
--- "lent memory and the running state stay untouched": a call that returns a number below 0 leaves every lent array as it was.
+-- "lent memory and the running state stay untouched": a call that returns a number below 0 leaves
+-- every lent array as it was.
 pub record Untouched : Type 0 where
   pub find : (b : List ℕ) (start len s t : ℕ) (before : List ℕ) (r : ℤ) (after : List ℕ) → Find b start len s t before r after → Refused r → after ≡ before
   pub begin : (b : List ℕ) (start len : ℕ) (before : List ℕ) (r : ℤ) (after : List ℕ) → Begin b start len before r after → Refused r → after ≡ before

@@ -1,5 +1,6 @@
--- Leads from C (docs/LEAD.md): demand 1 for the functions that hear one, what a refusal leaves in each lent array, that the lent bytes of an ear read back,
--- and that neither pieces nor rooms make a difference to what is recorded.
+-- Leads from C (docs/LEAD.md): demand 1 for the functions that hear one, what a refusal leaves in
+-- each lent array, that the lent bytes of an ear read back, and that neither pieces nor rooms make
+-- a difference to what is recorded.
 -- Assumes nothing.
 use Prim.Native.Nat.{ℕ, _≤_, _<_}
 use mathlib.Core.Path.{_≡_}
@@ -21,20 +22,23 @@ use Rattle.demands.specs.Stores.{storeRules}
 use Rattle.abi_laws.specs.Demand1.{DecidedAs, Refused}
 use Rattle.abi_laws.specs.LeadsCalls.{RecordBegin, Record, RecordEnd}
 
--- `atc2_record` refuses with the first number of a lent store whose condition holds; the others always answer, with 0.
+-- `atc2_record` refuses with the first number of a lent store whose condition holds; the others
+-- always answer, with 0.
 pub record LeadsDecided : Type 0 where
   pub begin : (before : List ℕ) (r : ℤ) (after : List ℕ) → RecordBegin before r after → r ≡ pos 0
   pub hears : (ear store lead room out : List ℕ) (r : ℤ) (then records told : List ℕ) → Record ear store lead room out r then records told
       → DecidedAs (returned keptNumber) (Is kept) (storeRules (storeIn store) []) r
   pub ends : (ear room out : List ℕ) (r : ℤ) (then records told : List ℕ) → RecordEnd ear room out r then records told → r ≡ pos 0
 
--- "lent memory and the running state stay untouched": a call that returns a number below 0 leaves the ear, the room and `out` as they were.
+-- "lent memory and the running state stay untouched": a call that returns a number below 0 leaves
+-- the ear, the room and `out` as they were.
 abbrev pub LeadsUntouched : Type 0
 LeadsUntouched =
     (ear store lead room out : List ℕ) (r : ℤ) (then records told : List ℕ) → Record ear store lead room out r then records told → Refused r
     → (then ≡ ear) × (records ≡ room) × (told ≡ out)
 
--- After a call the bytes of an ear hold the hearing that was made, or, refused, the one that they held.
+-- After a call the bytes of an ear hold the hearing that was made, or, refused, the one that they
+-- held.
 pub record EarReadsBack : Type 0 where
   pub begin : (before : List ℕ) (r : ℤ) (after : List ℕ) → RecordBegin before r after → earIn after ≡ fresh
   pub hears : (ear store lead room out : List ℕ) (r : ℤ) (then records told : List ℕ) → Record ear store lead room out r then records told
@@ -49,8 +53,8 @@ pub record EarReadsBack : Type 0 where
 
 -- ---- pieces and rooms
 
--- A lead heard call by call: each is lent some bytes from the first on that is not used, and some room. From an ear, the records that were written, and the
--- ear when no whole frame is left.
+-- A lead heard call by call: each is lent some bytes from the first on that is not used, and some
+-- room. From an ear, the records that were written, and the ear when no whole frame is left.
 pub data Heard (store : List ℕ) : List ℕ → List ℕ → List ℕ → List ℕ → Type 0 where
   no-frame : {lead ear : List ℕ} → length lead < 16 → Heard store lead ear [] ear
   call : {ear next last piece room out records later : List ℕ} {used bytes : ℕ} {r : ℤ} (rest : List ℕ)
@@ -63,7 +67,8 @@ pub data Ended : List ℕ → List ℕ → Type 0 where
   call : {ear room out next records later : List ℕ} {bytes : ℕ} {r : ℤ}
       → RecordEnd ear room out r next records (bytes ∷ []) → Ended next later → Ended ear (take bytes records ++ later)
 
--- Whatever the pieces and the rooms: what is written is the trace that the program `record` writes of the whole lead, under a store in order.
+-- Whatever the pieces and the rooms: what is written is the trace that the program `record` writes
+-- of the whole lead, under a store in order.
 abbrev pub LeadAsAWhole : Type 0
 LeadAsAWhole =
     (store lead before ear last first then : List ℕ) (r : ℤ) → judged (storeIn store) ≡ gives kept

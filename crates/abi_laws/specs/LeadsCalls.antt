@@ -21,7 +21,8 @@ RecordBegin before r after =
     (κs : Lfts 1) × (ear : RefT (List ℕ)) × (e : AtExit (endedOf 1 begin-kinds.ps begin-kinds.r) κs)
     × (now ear ≡ before) × (now (e .0) ≡ after) × begin-reads.Post κs (ear, tt) r e
 
--- `atc2_record` may return r for this store and lead, and leave these in the ear, the room for records and `out`, which held those.
+-- `atc2_record` may return r for this store and lead, and leave these in the ear, the room for
+-- records and `out`, which held those.
 abbrev pub Record : List ℕ → List ℕ → List ℕ → List ℕ → List ℕ → ℤ → List ℕ → List ℕ → List ℕ → Type 0
 Record ear store lead room out r then records told =
     (κs : Lfts 5) × (the-ear : RefT (List ℕ)) × (the-store : RefT (List ℕ)) × (the-lead : RefT (List ℕ)) × (the-room : RefT (List ℕ)) × (the-out : RefT (List ℕ))
@@ -30,7 +31,8 @@ Record ear store lead room out r then records told =
     × (now (e .0) ≡ then) × (now (e .1 .1 .1 .0) ≡ records) × (now (e .1 .1 .1 .1 .0) ≡ told)
     × record-reads.Post κs (the-ear, (the-store, (the-lead, (the-room, (the-out, tt))))) r e
 
--- `atc2_record_end` may return r, and leave these in the ear, the room for records and `out`, which held those.
+-- `atc2_record_end` may return r, and leave these in the ear, the room for records and `out`, which
+-- held those.
 abbrev pub RecordEnd : List ℕ → List ℕ → List ℕ → ℤ → List ℕ → List ℕ → List ℕ → Type 0
 RecordEnd ear room out r then records told =
     (κs : Lfts 3) × (the-ear : RefT (List ℕ)) × (the-room : RefT (List ℕ)) × (the-out : RefT (List ℕ))

@@ -1,4 +1,5 @@
--- Rides from C: demand 1 for the functions that ride, what a refusal leaves, that the bytes between two calls are the ride, and that pieces make no difference.
+-- Rides from C: demand 1 for the functions that ride, what a refusal leaves, that the bytes between
+-- two calls are the ride, and that pieces make no difference.
 -- Assumes nothing.
 use Prim.Native.Nat.{ℕ}
 use mathlib.Core.Path.{_≡_}
@@ -21,7 +22,8 @@ use Rattle.demands.specs.Stores.{Good, traceRules}
 use Rattle.abi_laws.specs.Demand1.{DecidedAs, Refused}
 use Rattle.abi_laws.specs.RideCalls.{RideBegin, RideList, RideEnd, RideKnown, InPieces}
 
--- A listing refuses as `list` does: the store's own refusals, then 16. The end refuses a text without room with 21. A ride is always begun, and what it knows always told.
+-- A listing refuses as `list` does: the store's own refusals, then 16. The end refuses a text
+-- without room with 21. A ride is always begun, and what it knows always told.
 pub record RidesDecided : Type 0 where
   pub begin : (before : List ℕ) (r : ℤ) (after : List ℕ) → RideBegin before r after → r ≡ pos 0
   pub list : (ride store trace : List ℕ) (number style : ℕ) (before out : List ℕ) (r : ℤ) (moved after counts : List ℕ)
@@ -31,13 +33,15 @@ pub record RidesDecided : Type 0 where
       DecidedAs {A = Outcome ℕ} (returned itself) (Is size) (row 21 (ltb (length before) size) ∷ []) r
   pub known : (ride before : List ℕ) (r : ℤ) (after : List ℕ) → RideKnown ride before r after → r ≡ pos 0
 
--- "lent memory and the running state stay untouched": a call that returns a number below 0 leaves every lent array as it was.
+-- "lent memory and the running state stay untouched": a call that returns a number below 0 leaves
+-- every lent array as it was.
 pub record RidesUntouched : Type 0 where
   pub list : (ride store trace : List ℕ) (number style : ℕ) (before out : List ℕ) (r : ℤ) (moved after counts : List ℕ)
       → RideList ride store trace number style before out r moved after counts → Refused r → (moved ≡ ride) × (after ≡ before) × (counts ≡ out)
   pub end : (ride : List ℕ) (style : ℕ) (before : List ℕ) (r : ℤ) (after : List ℕ) → RideEnd ride style before r after → Refused r → after ≡ before
 
--- The bytes are the ride: after a call they hold the one that was begun or moved on, refused, the one that they held; and what is known is that ride's.
+-- The bytes are the ride: after a call they hold the one that was begun or moved on, refused, the
+-- one that they held; and what is known is that ride's.
 pub record RidesHeld : Type 0 where
   pub begin : (before : List ℕ) (r : ℤ) (after : List ℕ) → RideBegin before r after → rideIn after ≡ freshRide
   pub list : (ride store trace : List ℕ) (number style : ℕ) (before out : List ℕ) (r : ℤ) (moved after counts : List ℕ)
@@ -49,8 +53,9 @@ pub record RidesHeld : Type 0 where
       → listed ride store trace number style before .answer ≡ gives taken → RideList ride store trace number style before out r moved after counts
       → moved ≡ rideBytes (rideIn moved)
 
--- Whatever the pieces and the room: the texts put one after the other are the text of the whole trace, and the bytes at the end hold the ride after it; begun
--- afresh and ended, they are the lines of the trace and of its end.
+-- Whatever the pieces and the room: the texts put one after the other are the text of the whole
+-- trace, and the bytes at the end hold the ride after it; begun afresh and ended, they are the
+-- lines of the trace and of its end.
 pub record RidesInPieces : Type 0 where
   pub on : (store ride : List ℕ) (number style : ℕ) (trace text last : List ℕ) → Good (storeIn store) → InPieces store style ride number trace text last →
       let all : Told = tellOver (styleOf style) (gapAt (storeIn store)) (rideIn ride) number (records trace) in

@@ -1,5 +1,6 @@
--- Settings and single words from C: demand 1 for the functions that make a store in lent bytes, what a refusal leaves there, and that what they made
--- reads back as the store that was made. Bytes that none of them made are some store, which is judged as a lent store is: 25, 19, 24, 4, 18.
+-- Settings and single words from C: demand 1 for the functions that make a store in lent bytes,
+-- what a refusal leaves there, and that what they made reads back as the store that was made. Bytes
+-- that none of them made are some store, which is judged as a lent store is: 25, 19, 24, 4, 18.
 -- Assumes nothing.
 use Prim.Native.Nat.{ℕ, _≤_, _%_}
 use mathlib.Core.Path.{_≡_}
@@ -24,8 +25,9 @@ use Rattle.demands.specs.Stores.{settingsRules, versionRules, storeRules}
 use Rattle.abi_laws.specs.Calls.{WhyWord, SettingsBegin, SettingsAdd, SettingsRead}
 use Rattle.abi_laws.specs.Demand1.{DecidedAs, Refused}
 
--- Each refuses with the first number of its list whose condition holds, as the function that it calls does. `atc2_why_word` refuses nothing: its number
--- says whether the word is a code word, and the parity of its ones if not.
+-- Each refuses with the first number of its list whose condition holds, as the function that it
+-- calls does. `atc2_why_word` refuses nothing: its number says whether the word is a code word, and
+-- the parity of its ones if not.
 pub record SettingsDecided : Type 0 where
   pub short-word : (word : ℕ) (r : ℤ) → WhyWord word 0 r
       → DecidedAs (λ (o : Answer Why ℕ). pos (wordNumber o)) (Is (figure 8 (exchanged 8 (word % 256)))) (rowOf (notCodeWord 8 (word % 256)) (notCode 8 (word % 256)) ∷ []) r
@@ -37,14 +39,15 @@ pub record SettingsDecided : Type 0 where
       → DecidedAs (returned keptNumber) (Is kept)
       (storeRules (storeIn before) (versionRules (lastPlace (storeIn before)) v (row 25 (full (storeIn before .count)) ∷ []))) r
 
--- "lent memory and the running state stay untouched": a call that returns a number below 0 leaves the bytes as they were.
+-- "lent memory and the running state stay untouched": a call that returns a number below 0 leaves
+-- the bytes as they were.
 pub record SettingsUntouched : Type 0 where
   pub begin : (gap s t : ℕ) (before : List ℕ) (r : ℤ) (after : List ℕ) → SettingsBegin gap s t before r after → Refused r → after ≡ before
   pub add : (v : Version) (before : List ℕ) (r : ℤ) (after : List ℕ) → SettingsAdd v before r after → Refused r → after ≡ before
   pub read : (text before : List ℕ) (r : ℤ) (after : List ℕ) → SettingsRead text before r after → Refused r → after ≡ before
 
--- Bytes and store are each other's inverse where the library made them: after a call the bytes hold the store that was made, or, refused, the one
--- that they held.
+-- Bytes and store are each other's inverse where the library made them: after a call the bytes hold
+-- the store that was made, or, refused, the one that they held.
 pub record ReadsBack : Type 0 where
   pub begin : (gap s t : ℕ) (before : List ℕ) (r : ℤ) (after : List ℕ) → SettingsBegin gap s t before r after
       → storeIn after ≡ storeAfter (store.begin gap s t) (storeIn before)

@@ -1,4 +1,5 @@
--- Demand 1 for settings as a text from C: `atc2_settings_read` decides by the list of `settings_text::read`, line by line, and returns the number of the first line that is bad.
+-- Demand 1 for settings as a text from C: `atc2_settings_read` decides by the list of
+-- `settings_text::read`, line by line, and returns the number of the first line that is bad.
 -- Assumes nothing.
 use Prim.Native.Nat.{ℕ}
 use mathlib.Core.List.{List}
@@ -14,8 +15,8 @@ use Rattle.demands.specs.Rules.{Is}
 use Rattle.abi_laws.specs.Calls.{SettingsRead}
 use Rattle.abi_laws.specs.Demand1.{DecidedAs}
 
--- What a text comes to as C's number: 0, or that of its fault: refusal N as -N; a line that is unreadable as -100, a text that is too long as -101, a first place that
--- is not 0 as -102.
+-- What a text comes to as C's number: 0, or that of its fault: refusal N as -N; a line that is
+-- unreadable as -100, a text that is too long as -101, a first place that is not 0 as -102.
 abbrev pub sheetNumber : Answer Fault Store → ℤ
 sheetNumber (gives store) = pos 0
 sheetNumber (refuses fault) = returned keptNumber (howAnswer (fault .how))

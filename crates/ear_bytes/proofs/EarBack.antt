@@ -1,4 +1,5 @@
--- A hearing reads back from the bytes of its figures: each figure does, and is as small as its type.
+-- A hearing reads back from the bytes of its figures: each figure does, and is as small as its
+-- type.
 -- Assumes nothing.
 use Prim.Native.Nat.{ℕ, _+_, _%_, _<_}
 use mathlib.Core.Path.{_≡_, refl, sym, ap, _∙_}

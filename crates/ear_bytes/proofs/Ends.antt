@@ -1,4 +1,5 @@
--- At the lead's end: what is written, and then what is left, is all; and where nothing is written though there is room, nothing is left.
+-- At the lead's end: what is written, and then what is left, is all; and where nothing is written
+-- though there is room, nothing is left.
 -- Assumes nothing.
 use Prim.Native.Nat.{ℕ, zero, suc, _≤_}
 use mathlib.Core.Path.{_≡_, refl, sym, ap, _∙_}

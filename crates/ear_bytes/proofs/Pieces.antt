@@ -1,4 +1,5 @@
--- What is written of a piece, and then what comes of the rest, is what comes of the whole: the first record in a piece is the first in the lead.
+-- What is written of a piece, and then what comes of the rest, is what comes of the whole: the
+-- first record in a piece is the first in the lead.
 -- Assumes nothing.
 use Prim.Native.Nat.{ℕ, zero, suc, _+_, _-_, _*_, _≤_}
 use mathlib.Core.Path.{_≡_, refl, sym, ap, subst, _∙_}

@@ -1,4 +1,5 @@
--- An ear as bytes: 23 figures, each of eight bytes. A case of an answer is a figure of its own, 0 for the first one.
+-- An ear as bytes: 23 figures, each of eight bytes. A case of an answer is a figure of its own, 0
+-- for the first one.
 -- Assumes nothing.
 use Prim.Native.Nat.{ℕ, _%_}
 use mathlib.Core.Bool.{Bool, true, false, not}
@@ -21,7 +22,8 @@ abbrev pub telegramFigures : Telegram → List ℕ
 telegramFigures (Telegram.Figures x y z) = 0 ∷ x ∷ y ∷ z ∷ []
 telegramFigures (Telegram.Number m) = 1 ∷ m ∷ 0 ∷ 0 ∷ []
 
--- The places of a contact as ten: 0 for none; 1, the three words, the first place, how many there are, and their telegram; 2 where two differ.
+-- The places of a contact as ten: 0 for none; 1, the three words, the first place, how many there
+-- are, and their telegram; 2 where two differ.
 abbrev pub placesFigures : Places → List ℕ
 placesFigures Places.NoPlace = 0 ∷ 0 ∷ 0 ∷ 0 ∷ 0 ∷ 0 ∷ 0 ∷ 0 ∷ 0 ∷ 0 ∷ []
 placesFigures (Places.Alike telegram x y z first count) = 1 ∷ x ∷ y ∷ z ∷ first ∷ count ∷ telegramFigures telegram
@@ -47,8 +49,8 @@ abbrev pub lastPlace : Last → ℕ
 lastPlace Last.Never = 0
 lastPlace (Last.At place) = place
 
--- The figures of a hearing: the latest sixteen bits, the odometer, that at which the open contact opened, the bit to go on from, the last
--- record's odometer, and where the ear stands.
+-- The figures of a hearing: the latest sixteen bits, the odometer, that at which the open contact
+-- opened, the bit to go on from, the last record's odometer, and where the ear stands.
 unfoldable pub figuresOf : Hearing → List ℕ
 figuresOf hearing =
     let tape = hearing .tape in

@@ -1,5 +1,6 @@
--- A lead heard as far as the room for its records goes (docs/LEAD.md, "Recording"): record after record as `recording` asks for them, until the
--- frames are used or the room has no place for one record more.
+-- A lead heard as far as the room for its records goes (docs/LEAD.md, "Recording"): record after
+-- record as `recording` asks for them, until the frames are used or the room has no place for one
+-- record more.
 -- Assumes nothing.
 use Prim.Native.Nat.{ℕ, zero, suc, _*_, _/_}
 use mathlib.Core.List.{List, [], _∷_, _++_}
@@ -59,7 +60,8 @@ someOfEnd (suc n) k i tape = afterEnding k i (finish tape) (someOfEnd n k i)
 
 -- ---- into a lent buffer
 
--- What was written: the hearing then, how many frames are used, how many bytes of records stand in the buffer; and the buffer then.
+-- What was written: the hearing then, how many frames are used, how many bytes of records stand in
+-- the buffer; and the buffer then.
 pub record Written : Type 0 where
   pub wrote : Wrote
   pub buffer : List ℕ

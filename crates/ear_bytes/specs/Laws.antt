@@ -17,8 +17,8 @@ toCome hearing store lead = overFrames store lead (hearing .tape) 0 (hearing .bi
 abbrev pub wroteOf : Written → List ℕ
 wroteOf w = take (w .wrote .bytes) (w .buffer)
 
--- Of a lead some bytes are lent, with some room: what is written, and then what comes of the rest, from the first frame on that is not used, is what comes
--- of the whole.
+-- Of a lead some bytes are lent, with some room: what is written, and then what comes of the rest,
+-- from the first frame on that is not used, is what comes of the whole.
 abbrev pub AnyRoom : Type 0
 AnyRoom =
     (hearing : Hearing) (store : Store) (piece rest buffer : List ℕ) →

@@ -1,9 +1,11 @@
-// A hearing at the lead (docs/LEAD.md) for a caller that lends memory: its state as bytes that the caller keeps, and its records into a lent buffer.
-// Every figure of a hearing is eight bytes, the highest first.
-// Promises: what is made of a hearing reads back as that hearing; any bytes at all read as some hearing; pieces of any length and rooms of any size give
-// the records of the whole lead.
-// Specification: specs/Ears.antt (the figures of a hearing, and the hearing in some bytes), specs/Hearing.antt (the records that have room),
-// specs/Sizes.antt (how large the figures can be); what is promised of pieces and rooms: specs/Laws.antt.
+// A hearing at the lead (docs/LEAD.md) for a caller that lends memory: its state as bytes that the
+// caller keeps, and its records into a lent buffer. Every figure of a hearing is eight bytes, the
+// highest first.
+// Promises: what is made of a hearing reads back as that hearing; any bytes at all read as some
+// hearing; pieces of any length and rooms of any size give the records of the whole lead.
+// Specification: specs/Ears.antt (the figures of a hearing, and the hearing in some bytes),
+// specs/Hearing.antt (the records that have room), specs/Sizes.antt (how large the figures can be);
+// what is promised of pieces and rooms: specs/Laws.antt.
 ghost use mathlib.Core.Path.{_≡_};
 ghost use Rattle.ear_bytes.specs.Ears.{earBytes, earIn};
 ghost use Rattle.ear_bytes.specs.Hearing.{fresh, hear, end};
@@ -22,7 +24,8 @@ pub struct Hearing {
     pub bit: usize,
 }
 
-// What a call wrote: the hearing then, how many frames of the piece are used, and how many bytes of records stand in the buffer.
+// What a call wrote: the hearing then, how many frames of the piece are used, and how many bytes of
+// records stand in the buffer.
 pub struct Wrote {
     pub hearing: Hearing,
     pub frames: usize,
@@ -55,8 +58,9 @@ pub fn fresh() -> Hearing
     Hearing { tape, bit: 0 }
 }
 
-// The records of a piece of the lead at the start of a buffer, from where the hearing stands, until its whole frames are used or there is no room for a
-// record more. A frame that is not used is to be lent again, as the first of the next piece.
+// The records of a piece of the lead at the start of a buffer, from where the hearing stands, until
+// its whole frames are used or there is no room for a record more. A frame that is not used is to
+// be lent again, as the first of the next piece.
 pub fn hear(hearing: Hearing, store: Store, lead: &[u8], buffer: &mut [u8]) -> Wrote
     ensures { λ r. ⌜ says r (now (buffer .exit)) ≡ hear hearing store (now (lead .entry)) (now (buffer .entry)) ⌝ }
 {

@@ -1,5 +1,5 @@
--- A ride as bytes: the odometer and what is known, six figures that a caller may see; then the group's count and last place, the places of its five kept
--- balises, and what was heard at each.
+-- A ride as bytes: the odometer and what is known, six figures that a caller may see; then the
+-- group's count and last place, the places of its five kept balises, and what was heard at each.
 -- Assumes nothing.
 use Prim.Native.Nat.{ℕ, _+_, _%_}
 use mathlib.Core.List.{List, [], _∷_, _++_, map}
@@ -16,7 +16,8 @@ knownFigures ride =
     ride .odometer ∷ distanceFigure (ride .known .linking) ∷ fromFigure (ride .known .linking)
     ∷ toldFigure (ride .known .main) ∷ toldFigure (ride .known .target) ∷ numberFigure (ride .known .number) ∷ []
 
--- A group: its count, its last place, the places of the balises that it keeps, and what was heard at each.
+-- A group: its count, its last place, the places of the balises that it keeps, and what was heard
+-- at each.
 unfoldable pub groupFigures : Group → List ℕ
 groupFigures g =
     g .count ∷ g .last ∷ map (λ (b : Balise). b .place) (g .kept) ++ map (λ (b : Balise). heardFigure (b .heard)) (g .kept)

@@ -1,4 +1,5 @@
--- What a ride holds, thing by thing as figures, and back: any figure at all is some speed, number, linking or balise.
+-- What a ride holds, thing by thing as figures, and back: any figure at all is some speed, number,
+-- linking or balise.
 -- Assumes nothing.
 use Prim.Native.Nat.{ℕ, _+_, _*_, _/_, _%_}
 use lib.Dec.{eqb, ltb}
@@ -45,7 +46,8 @@ fromFigure (Linking.Set distance from) = from
 unfoldable pub linkingOf : ℕ → ℕ → Linking
 linkingOf distance from = pick (ltb distance 4294967296) (Linking.Set distance (from % 4294967296)) Linking.Unset
 
--- What was heard at a balise: its three words as 24 bits, the first highest; the next figure for a marker.
+-- What was heard at a balise: its three words as 24 bits, the first highest; the next figure for a
+-- marker.
 abbrev pub heardFigure : Heard → ℕ
 heardFigure (Heard.Words x y z) = x * 65536 + y * 256 + z
 heardFigure Heard.Marker = 16777216

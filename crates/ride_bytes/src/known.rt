@@ -47,7 +47,8 @@ fn linking_figures(linking: Linking) -> [u64; 2]
     }
 }
 
-// The odometer, linking's distance and place, main speed, target and number; 2^64 - 1 where nothing is set.
+// The odometer, linking's distance and place, main speed, target and number; 2^64 - 1 where nothing
+// is set.
 pub fn known_figures(ride: Ride) -> [u64; 6]
     ensures { λ r. ⌜ r ≡ knownFigures ride ⌝ }
     ensures { λ r. ⌜ (ride .odometer % 4294967296 ≡ ride .odometer) × (knownOf (λ i. getD r i 0) ≡ ride .known) ⌝ }

@@ -1,6 +1,8 @@
-// A ride as bytes that a caller lends and keeps, in figures of eight bytes, and what it knows as figures that a caller may see.
+// A ride as bytes that a caller lends and keeps, in figures of eight bytes, and what it knows as
+// figures that a caller may see.
 // Promises: what is made of a ride reads back as that ride; any bytes at all read as some ride.
-// Specification: specs/Things.antt (a speed, a number, linking, a balise as figures), Rides.antt (the figures of a ride, and the ride in some bytes).
+// Specification: specs/Things.antt (a speed, a number, linking, a balise as figures), Rides.antt
+// (the figures of a ride, and the ride in some bytes).
 ghost use mathlib.Core.Path.{_≡_};
 ghost use Rattle.ride_bytes.specs.Rides.{rideBytes, rideIn};
 

@@ -1,4 +1,5 @@
--- The laws of figures and bytes: a figure below 2^64 reads back from its eight bytes, whatever its place among others.
+-- The laws of figures and bytes: a figure below 2^64 reads back from its eight bytes, whatever its
+-- place among others.
 -- Assumes nothing.
 use Prim.Native.Nat.{ℕ, zero, suc, _+_, _-_, _*_, _/_, _%_, _^_, _<_, _≤_}
 use mathlib.Core.Path.{_≡_, refl, sym, ap, ap₂, subst, _∙_}

@@ -23,7 +23,8 @@ figuresOf versions count = each 128 (λ j. versionFigure (getD versions (j / 4) 
 unfoldable pub storeBytes : Store → List ℕ
 storeBytes store = spread 1032 (figuresOf (store .versions) (store .count))
 
--- Version i of the store in some bytes: the low bits of its figures count, as many as a place, a gap and a sync word have.
+-- Version i of the store in some bytes: the low bits of its figures count, as many as a place, a
+-- gap and a sync word have.
 abbrev pub versionAt : List ℕ → ℕ → Version
 versionAt bytes i =
     record {

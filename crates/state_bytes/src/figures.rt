@@ -31,7 +31,8 @@ fn nth(figures: &[u64], i: usize) -> u64
     0
 }
 
-// Some figures in a row into bytes, eight for each; bytes beyond the last figure are 0. Where there are eight for it, each figure reads back.
+// Some figures in a row into bytes, eight for each; bytes beyond the last figure are 0. Where there
+// are eight for it, each figure reads back.
 pub fn spread(figures: &[u64], bytes: &mut [u8])
     ensures { λ _. ⌜ now (bytes .exit) ≡ spread (length (now (bytes .entry))) (now (figures .entry)) ⌝ }
     ensures { λ _. ⌜ ((i : ℕ) → i < length (now (bytes .entry)) / 8 → figureAt (now (bytes .exit)) i ≡ getD (now (figures .entry)) i 0) ⌝ }

@@ -1,6 +1,8 @@
-// A store of settings as bytes that a caller lends and keeps, and figures as bytes for any other state: every figure is eight bytes, the highest first.
+// A store of settings as bytes that a caller lends and keeps, and figures as bytes for any other
+// state: every figure is eight bytes, the highest first.
 // Promises: what is made of a store reads back as that store; any bytes at all read as some store.
-// Specification: specs/Figures.antt (figures and bytes), Stores.antt (the figures of a store, and the store in some bytes).
+// Specification: specs/Figures.antt (figures and bytes), Stores.antt (the figures of a store, and
+// the store in some bytes).
 ghost use mathlib.Core.Path.{_≡_};
 ghost use Rattle.state_bytes.specs.Stores.{storeBytes, storeIn};
 

@@ -1,4 +1,5 @@
--- `atc2_write_balise` returns the number of bytes, or the refusal, and leaves the buffer, as `write` does.
+-- `atc2_write_balise` returns the number of bytes, or the refusal, and leaves the buffer, as
+-- `write` does.
 -- Assumes nothing.
 use mathlib.Core.Path.{_≡_, sym, ap, _∙_}
 use mathlib.Core.List.{List}

@@ -1,4 +1,5 @@
--- `atc2_begin` returns 0 and leaves the beginning of a search, or returns the refusal and leaves `search`, as `begin` answers.
+-- `atc2_begin` returns 0 and leaves the beginning of a search, or returns the refusal and leaves
+-- `search`, as `begin` answers.
 -- Assumes nothing.
 use Rattle.contact.specs.Says.{saysSearchBegun}
 use Rattle.abi.specs.Contacts.{begunNumber, begunPut}

@@ -1,4 +1,5 @@
--- `atc2_judge` returns 1 and leaves what was read, or returns 2 or the refusal and leaves `out`, as `judge` answers.
+-- `atc2_judge` returns 1 and leaves what was read, or returns 2 or the refusal and leaves `out`, as
+-- `judge` answers.
 -- Assumes nothing.
 use mathlib.Core.Path.{_∙_, ap}
 use Prim.Native.Nat.{ℕ}

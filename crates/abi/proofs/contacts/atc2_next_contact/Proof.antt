@@ -1,4 +1,5 @@
--- `atc2_next_contact` returns 1, leaves the contact and moves the search on, or leaves both arrays, as `next_contact` answers.
+-- `atc2_next_contact` returns 1, leaves the contact and moves the search on, or leaves both arrays,
+-- as `next_contact` answers.
 -- Assumes nothing.
 use mathlib.Core.Path.{_≡_}
 use mathlib.Core.List.{List}

@@ -1,4 +1,5 @@
--- `atc2_distance` returns the distance, or the refusal, as `distance` answers; every distance of the table fits an `i32`.
+-- `atc2_distance` returns the distance, or the refusal, as `distance` answers; every distance of
+-- the table fits an `i32`.
 -- Assumes nothing.
 use mathlib.Core.Path.{_∙_, sym, ap}
 use Prim.Native.Nat.{_^_, _<_}

@@ -1,4 +1,5 @@
--- `atc2_record` asks the store for place 0, hears the lead, and leaves what is written; or returns the store's refusal and leaves what was lent.
+-- `atc2_record` asks the store for place 0, hears the lead, and leaves what is written; or returns
+-- the store's refusal and leaves what was lent.
 -- Assumes nothing.
 use Prim.Native.Nat.{ℕ, _*_, _^_, _≤_, _<_}
 use native.Mathlib.Nat.{mul-one}

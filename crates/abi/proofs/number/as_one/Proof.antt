@@ -1,4 +1,5 @@
--- Each case is the sum that `asOne` names; a byte is below 256 and a number below 65536, so it stays below 2 ^ 24.
+-- Each case is the sum that `asOne` names; a byte is below 256 and a number below 65536, so it
+-- stays below 2 ^ 24.
 -- Assumes nothing.
 use mathlib.Core.Path.{sym, ap}
 use native.Mathlib.Omega.{arith}

@@ -1,4 +1,5 @@
--- `atc2_ride_end` puts the text of the end into a space of its own first, to know its length, and then into the lent one, if it fits there.
+-- `atc2_ride_end` puts the text of the end into a space of its own first, to know its length, and
+-- then into the lent one, if it fits there.
 -- Assumes nothing.
 use Prim.Native.Nat.{ℕ, _≤_, _<_, _^_}
 use mathlib.Core.Path.{_≡_, refl, sym, ap, ap₂, subst, _∙_}

@@ -1,4 +1,5 @@
--- `atc2_ride_list` lists with the ride and the settings that the bytes hold, and leaves the ride after it; refused, all stays.
+-- `atc2_ride_list` lists with the ride and the settings that the bytes hold, and leaves the ride
+-- after it; refused, all stays.
 -- Assumes nothing.
 use Prim.Native.Nat.{ℕ}
 use mathlib.Core.Path.{_≡_, refl, sym, ap, ap₂, _∙_}

@@ -1,4 +1,5 @@
--- `atc2_settings_add` leaves the store that `add` makes of the lent one, or returns its refusal and leaves what was lent.
+-- `atc2_settings_add` leaves the store that `add` makes of the lent one, or returns its refusal and
+-- leaves what was lent.
 -- Assumes nothing.
 use Prim.Native.Nat.{ℕ}
 use mathlib.Core.Path.{_≡_, refl, sym, ap, _∙_}

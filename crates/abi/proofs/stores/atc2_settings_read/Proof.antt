@@ -1,4 +1,5 @@
--- `atc2_settings_read` leaves the store that the text makes, or returns what is wrong with its first bad line and leaves what was lent.
+-- `atc2_settings_read` leaves the store that the text makes, or returns what is wrong with its
+-- first bad line and leaves what was lent.
 -- Assumes nothing.
 use Prim.Native.Nat.{ℕ}
 use mathlib.Core.Path.{_≡_, refl, sym, ap, _∙_}

@@ -1,4 +1,5 @@
--- `atc2_find` returns 0 and leaves the place with its telegram, or returns the refusal and leaves `out`, as `find` answers.
+-- `atc2_find` returns 0 and leaves the place with its telegram, or returns the refusal and leaves
+-- `out`, as `find` answers.
 -- Assumes nothing.
 use mathlib.Core.Path.{_∙_, ap}
 use Prim.Native.Nat.{ℕ}

@@ -1,4 +1,5 @@
--- `atc2_read_telegram` returns the telegram as one number, or the refusal of the first bad word, as `read` answers.
+-- `atc2_read_telegram` returns the telegram as one number, or the refusal of the first bad word, as
+-- `read` answers.
 -- Assumes nothing.
 use mathlib.Core.Path.{_∙_, ap}
 use Prim.Native.Nat.{_<_}

@@ -1,4 +1,5 @@
--- `atc2_compact` returns the new length, or the refusal, and leaves the trace, as `compact` does for a fresh ride.
+-- `atc2_compact` returns the new length, or the refusal, and leaves the trace, as `compact` does
+-- for a fresh ride.
 -- Assumes nothing.
 use mathlib.Core.Path.{_≡_, sym, ap, subst, _∙_}
 use mathlib.Core.List.{List}

@@ -1,4 +1,5 @@
--- Each case is the sum that `whyNumber` names; letters and parities are small, so it stays below 1024.
+-- Each case is the sum that `whyNumber` names; letters and parities are small, so it stays below
+-- 1024.
 -- Assumes nothing.
 use mathlib.Core.Path.{_≡_, sym, ap, ap₂, _∙_}
 use Prim.Native.Nat.{ℕ, _+_, _*_}
