@@ -23,9 +23,10 @@ use Rattle.ride_text.specs.declared.Done.{Done}
 use Rattle.ride_drawing.specs.declared.Pen.{Pen}
 use Rattle.ride_drawing.specs.Strip.{onStrip}
 use Rattle.ride_drawing.specs.Sign.{title}
+use Rattle.ride_drawing.specs.declared.Plan.{Plan}
 use Rattle.ride_drawing.specs.declared.Drawing.{Drawing}
 use Rattle.ride_drawing.specs.declared.Drawn.{Drawn}
-use Rattle.ride_drawing.specs.Drawing.{Element, plain, mark, drawStep, drawEnd}
+use Rattle.ride_drawing.specs.Drawing.{Element, plain, mark, entry, extra, drawStep, drawEnd}
 use Rattle.ride_drawing.specs.Draw.{textOf, drawOver, roomFor, draw}
 use Rattle.ride_drawing.specs.Says.{saysDrawn}
 
@@ -36,11 +37,13 @@ abbrev pub signed : List Element → List Line
 signed [] = []
 signed (plain pieces ∷ es) = signed es
 signed (mark closed line edge place ∷ es) = line ∷ signed es
+signed (entry i e edge ∷ es) = signed es
+signed (extra s edge ∷ es) = signed es
 
 -- The signs of a ride are its lines, each once and in their order; so are those of its end.
 pub record OneSign : Type 0 where
-  pub over : (gaps : ℕ → ℕ) (pen : Pen) (ride : Ride) (number : ℕ) (rs : List (List ℕ)) → signed (drawOver gaps pen ride number rs .elements) ≡ rideOver gaps ride number rs .lines
-  pub ending : (pen : Pen) (ride : Ride) → signed (drawEnd pen ride) ≡ end ride .lines
+  pub over : (plan : Plan) (gaps : ℕ → ℕ) (pen : Pen) (ride : Ride) (number : ℕ) (rs : List (List ℕ)) → signed (drawOver plan gaps pen ride number rs .elements) ≡ rideOver gaps ride number rs .lines
+  pub ending : (plan : Plan) (pen : Pen) (ride : Ride) → signed (drawEnd plan pen ride) ≡ end ride .lines
 
 -- ---- any blocks give the whole
 
@@ -52,8 +55,8 @@ pub record Call : Type 0 where
   pub after : List ℕ
 
 -- The contract of `draw` allows it.
-abbrev pub Allowed : Store → Drawing → Call → Type 0
-Allowed store d c = saysDrawn (c .answer) (c .after) ≡ draw d store (c .block) (c .before)
+abbrev pub Allowed : Plan → Store → Drawing → Call → Type 0
+Allowed plan store d c = saysDrawn (c .answer) (c .after) ≡ draw plan d store (c .block) (c .before)
 
 -- How many records a call took, and how many bytes it wrote; a refused one none.
 abbrev pub tookOf : Done → ℕ
@@ -73,9 +76,9 @@ pub record Lent (left : List (List ℕ)) (c : Call) : Type 0 where
   pub whole : eqb (length (c .block) % 8) 0 ≡ true
 
 -- These are calls of `draw` over some records: each goes on where the one before ended, with what that one did not take, until none is left.
-abbrev pub ByCalls : Store → Drawing → List (List ℕ) → List Call → Type 0
-ByCalls store d left [] = left ≡ []
-ByCalls store d left (c ∷ cs) = Lent left c × Allowed store d c × ByCalls store (c .answer .drawing) (drop (tookOf (c .answer .done)) left) cs
+abbrev pub ByCalls : Plan → Store → Drawing → List (List ℕ) → List Call → Type 0
+ByCalls plan store d left [] = left ≡ []
+ByCalls plan store d left (c ∷ cs) = Lent left c × Allowed plan store d c × ByCalls plan store (c .answer .drawing) (drop (tookOf (c .answer .done)) left) cs
 
 -- The texts that they write, one after the other, and where the drawing stands after them.
 abbrev pub written : List Call → List ℕ
@@ -89,18 +92,18 @@ afterCalls d (c ∷ cs) = afterCalls (c .answer .drawing) cs
 -- Whatever blocks `draw` is called with, and whatever room it has, what the calls write is the text of the elements of the whole ride, each of whose lines has one sign
 -- in it, and the drawing stands where that ends; and a call with room for one record takes one, so that the calls come to an end.
 pub record Blocks : Type 0 where
-  pub whole : (store : Store) (d : Drawing) (rs : List (List ℕ)) (calls : List Call) → judged store ≡ gives kept → ByCalls store d rs calls →
-      let p = drawOver (gapAt store) (d .pen) (d .ride) (d .number) rs in
+  pub whole : (plan : Plan) (store : Store) (d : Drawing) (rs : List (List ℕ)) (calls : List Call) → judged store ≡ gives kept → ByCalls plan store d rs calls →
+      let p = drawOver plan (gapAt store) (d .pen) (d .ride) (d .number) rs in
       (written calls ≡ textOf (p .elements))
       × (signed (p .elements) ≡ rideOver (gapAt store) (d .ride) (d .number) rs .lines)
       × (afterCalls d calls ≡ record { ride = p .ride; number = d .number + length rs; pen = p .pen })
-  pub goes-on : (store : Store) (d : Drawing) (rs : List (List ℕ)) (c : Call) → judged store ≡ gives kept → Lent rs c → Allowed store d c → 1 ≤ length (records (c .block))
+  pub goes-on : (plan : Plan) (store : Store) (d : Drawing) (rs : List (List ℕ)) (c : Call) → judged store ≡ gives kept → Lent rs c → Allowed plan store d c → 1 ≤ length (records (c .block))
       → roomFor ≤ length (c .before) → d .number < largest64 → 1 ≤ tookOf (c .answer .done)
 
 -- No record adds more than the room that is kept for it, whatever it gives, and neither does the end.
 pub record Bounded : Type 0 where
-  pub step : (pen : Pen) (ride : Ride) (number : ℕ) (given : Given) (closed : Group) (after : Ride) → length (textOf (drawStep pen ride number (saysGiven given) closed after)) ≤ roomFor
-  pub ending : (pen : Pen) (ride : Ride) → length (textOf (drawEnd pen ride)) ≤ roomFor
+  pub step : (plan : Plan) (pen : Pen) (ride : Ride) (number : ℕ) (given : Given) (closed : Group) (after : Ride) → length (textOf (drawStep plan pen ride number (saysGiven given) closed after)) ≤ roomFor
+  pub ending : (plan : Plan) (pen : Pen) (ride : Ride) → length (textOf (drawEnd plan pen ride)) ≤ roomFor
 
 -- ---- at its place, or at the edge
 

@@ -13,11 +13,14 @@ ghost use Rattle.ride_drawing.specs.Says.{freshPen, saysDrawn};
 mod lines;
 mod places;
 mod records;
+mod rows;
 mod signs;
 mod spans;
 mod steps;
 mod strips;
+mod ways;
 
+use acceptance::Acceptance;
 use ride::Ride;
 use ride_text::Done;
 use settings::Asked;
@@ -28,6 +31,12 @@ pub struct Pen {
     pub edge: u64,
     pub from: u64,
     pub is_open: bool,
+}
+
+// A plan of the test track, to be drawn as a row over the strips: the run over it once the whole ride was taken; or that none is given.
+pub struct Plan {
+    pub run: Acceptance,
+    pub asked: bool,
 }
 
 // Where a drawing stands: the ride, the next record's number, and the pen.
@@ -57,8 +66,14 @@ pub fn fresh_pen() -> Pen
 
 // What the trace's records add to the strips, as text at the start of out, of as many records as surely have room, each treated with the gap in force at its own
 // odometer; where the drawing stands then, how many records and bytes; or the settings' own refusal, then 16, with nothing taken.
-pub fn draw(drawing: Drawing, store: Store, trace: &[u8], out: &mut [u8]) -> Drawn
-    ensures { λ r. ⌜ saysDrawn r (now (out .exit)) ≡ draw drawing store (now (trace .entry)) (now (out .entry)) ⌝ }
+pub fn draw(
+    plan: Plan,
+    drawing: Drawing,
+    store: Store,
+    trace: &[u8],
+    out: &mut [u8],
+) -> Drawn
+    ensures { λ r. ⌜ saysDrawn r (now (out .exit)) ≡ draw plan drawing store (now (trace .entry)) (now (out .entry)) ⌝ }
 {
     let asked = settings::at(store, 0);
     match asked {
@@ -73,20 +88,20 @@ pub fn draw(drawing: Drawing, store: Store, trace: &[u8], out: &mut [u8]) -> Dra
                     done: Done::Length,
                 };
             }
-            records::over(drawing, store, held, trace, out)
+            records::over(plan, drawing, store, held, trace, out)
         }
     }
 }
 
 // What the end of the ride adds to the strips, likewise; the place after it.
-pub fn draw_end(pen: Pen, ride: Ride, buf: &mut [u8], at: usize) -> usize
-    ensures { λ r. ⌜ came r (now (buf .exit)) ≡ puts (pieces (drawEnd pen ride)) (now (buf .entry)) at ⌝ }
+pub fn draw_end(plan: Plan, pen: Pen, ride: Ride, buf: &mut [u8], at: usize) -> usize
+    ensures { λ r. ⌜ came r (now (buf .exit)) ≡ puts (pieces (drawEnd plan pen ride)) (now (buf .entry)) at ⌝ }
 {
     let ended = ride::end(ride);
     let lines = ended.lines;
     let closed = ended.closed;
     let after = ended.ride;
-    let next = lines::put_lines(pen, ride, closed, lines, buf, at);
+    let next = lines::put_lines(plan, pen, ride, closed, lines, buf, at);
     let last = lines::after_lines(pen, lines, ride.odometer);
-    steps::put_last(last, after, buf, next)
+    steps::put_rest(plan, last, after, buf, next)
 }

@@ -9,6 +9,7 @@ ghost use Rattle.ride_drawing.specs.Draw.{drawTaken};
 ghost use Rattle.ride_drawing.specs.Says.{saysDrawn};
 use crate::Drawing;
 use crate::Drawn;
+use crate::Plan;
 use crate::steps::pen_after;
 use crate::steps::put_step;
 use ride::Reply;
@@ -18,9 +19,9 @@ use settings::Store;
 
 // The records in turn, up to the last, while there is room for what one more may add and the next number fits. The store is asked only where an
 // odometer leaves the places of the settings that are held; one version alone is in force throughout.
-pub fn over(drawing: Drawing, store: Store, first: Held, trace: &[u8], out: &mut [u8]) -> Drawn
+pub fn over(plan: Plan, drawing: Drawing, store: Store, first: Held, trace: &[u8], out: &mut [u8]) -> Drawn
     requires { ⌜ (judged store ≡ gives kept) × (first ≡ heldAt store 0) ⌝ }
-    ensures { λ r. ⌜ saysDrawn r (now (out .exit)) ≡ drawTaken (gapAt store) drawing (records (now (trace .entry))) (now (out .entry)) ⌝ }
+    ensures { λ r. ⌜ saysDrawn r (now (out .exit)) ≡ drawTaken plan (gapAt store) drawing (records (now (trace .entry))) (now (out .entry)) ⌝ }
 {
     let count = trace.len() / 8;
     let throughout = store.count == 1;
@@ -30,7 +31,7 @@ pub fn over(drawing: Drawing, store: Store, first: Held, trace: &[u8], out: &mut
     let mut held = first;
     let mut i: usize = 0;
     let mut at: usize = 0;
-    while (i < count) & ((out.len() - at >= 8192) & (next < u64::MAX)) {
+    while (i < count) & ((out.len() - at >= 524288) & (next < u64::MAX)) {
         if !throughout {
             let odometer = ride::odometer_at(trace, i);
             if settings::leaves(held, odometer) {
@@ -44,7 +45,7 @@ pub fn over(drawing: Drawing, store: Store, first: Held, trace: &[u8], out: &mut
         };
         let closed = treated.closed;
         let after = treated.ride;
-        at = put_step(pen, now, next, given, closed, after, out, at);
+        at = put_step(plan, pen, now, next, given, closed, after, out, at);
         pen = pen_after(pen, now.odometer, given, after);
         now = after;
         next += 1;
