@@ -1,5 +1,6 @@
 // The strips of a ride, block by block.
 ghost use mathlib.Core.Path.{_≡_};
+ghost use Prim.Native.Nat.{_≤_};
 ghost use lib.ListN.{length};
 use console::Goes;
 use ride_drawing::Drawing;
@@ -20,7 +21,9 @@ struct Stand {
 }
 
 // How many of so many records were drawn, once they are written: none where that fails.
-fn written(done: Done, most: usize, out: &[u8]) -> usize {
+fn written(done: Done, most: usize, out: &[u8]) -> usize
+    ensures { λ r. ⌜ r ≤ most ⌝ }
+{
     match done {
         Done::Took { records, bytes } => {
             if records > most {

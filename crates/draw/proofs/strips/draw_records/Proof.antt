@@ -1,40 +1,62 @@
--- `draw_records` draws record after record; the buffer keeps its length.
-use Prim.Native.Nat.{ℕ, _-_, _/_, _<_}
+-- `draw_records` draws the records that are left, as many at once as have room; the buffer keeps its length.
+-- Assumes nothing.
+use Prim.Native.Nat.{ℕ, _+_, _-_, _/_, _≤_}
 use mathlib.Core.Path.{_≡_, refl, _∙_}
 use native.Mathlib.Omega.{arith}
-use lib.Dec.{ltb}
 use lib.ListN.{length}
-use borrow.Author.Tests.{ltb-true}
-use Rattle.words.proofs.Linear.{and-parts}
 use Rattle.draw.proofs.strips.draw_records.Statement.{statement}
 use Rattle.draw.proofs.strips.draw_records.Tie as tie
 
 abbrev Inv-loop : tie.InvT-loop
-Inv-loop store records out₀ drawing₀ at₀ i₀ out drawing at i = length out ≡ length out₀
+Inv-loop store records out₀ drawing₀ i₀ out drawing i = (length out ≡ length out₀) × (i ≤ length records / 8)
 
 abbrev μ-loop : tie.MeasureT-loop
-μ-loop store records out₀ drawing₀ at₀ i₀ out drawing at i = length records / 8 - i
+μ-loop store records out₀ drawing₀ i₀ out drawing i = length records / 8 - i
 
 loop-holds : tie.Need-loop-holds Inv-loop μ-loop
-loop-holds c = refl
+loop-holds c = (refl, omega arith)
 
--- a record is left
-left : (c : tie.In-loop Inv-loop μ-loop) → c .before .loop .i < length (c .before .before .before .before .before .args .records .now) / 8
-left c = ltb-true _ _ (and-parts (ltb (c .before .loop .i) (length (c .before .before .before .before .before .args .records .now) / 8)) (ltb (c .before .loop .at) 18446744073709551615) (c .loop-test .taken) .0)
+-- after a call the buffer has the length that it had
+kept : (c : tie.After-draw Inv-loop μ-loop) → length (c .draw .last .1 .1 .1 .0) ≡ length (c .before .before .before .before .before .before .before .before .args .out .now)
+kept c = c .draw .kept .1 .1 .1 .0 ∙ c .before .before .before .before .loop .inv .0
 
-add-i : tie.Need-add-i Inv-loop μ-loop
-add-i c = omega (arith, left (c .before .before .before .before .before .before .before))
-
-loop-less : tie.Need-loop-less Inv-loop μ-loop
-loop-less c = omega (arith, left (c .before .before .before .before .before .before .before))
-
-loop-again : tie.Need-loop-again Inv-loop μ-loop
-loop-again c =
-    let d = c .before .before .before .before .before in
-    d .draw-record .kept .1 .1 .1 .1 .0 ∙ d .before .before .before .loop .inv
+sub-written : tie.Need-sub-written Inv-loop μ-loop
+sub-written c = omega (arith, c .before .before .before .before .before .before .before .loop .inv .1)
 
 same-length : tie.Need-same-length Inv-loop μ-loop
-same-length c = c .before .loop .inv
+same-length c = kept (c .before .before .before .before .before .before)
+
+-- no more was drawn than was left
+within : (c : tie.Else1 Inv-loop μ-loop) →
+    let l = c .before .before .before .before .before .before .before .before .before .before in
+    l .loop .i + c .before .written .result ≤ length (l .before .before .before .before .args .records .now) / 8
+within c =
+    let l = c .before .before .before .before .before .before .before .before .before .before in
+    omega (arith, c .before .written .ensures, l .loop .inv .1)
+
+add-i : tie.Need-add-i Inv-loop μ-loop
+add-i c = omega (arith, within c)
+
+loop-less : tie.Need-loop-less Inv-loop μ-loop
+loop-less c = omega (arith, within c, c .if1 .left)
+
+loop-again : tie.Need-loop-again Inv-loop μ-loop
+loop-again c = (kept (c .before .before .before .before .before .before), within c)
+
+same-length-2 : tie.Need-same-length-2 Inv-loop μ-loop
+same-length-2 c = c .before .loop .inv .0
 
 pub draw-records-spec : {M : Type 1} → statement M
-draw-records-spec = tie.close (tie.spec Inv-loop μ-loop loop-holds (λ c κs. tt) (λ c κs. tt) add-i loop-less loop-again same-length (λ c. tt))
+draw-records-spec =
+    tie.close
+    (tie.spec
+    Inv-loop
+    μ-loop
+    loop-holds
+    (λ c. omega (arith, c .loop-test .taken)) (λ c. omega (arith, c .loop-test .taken)) (λ c. omega (arith, c .loop-test .taken)) (λ c. omega (arith, c .loop-test .taken)) (λ c κs. tt) sub-written
+    (λ c κs. tt) same-length
+    (λ c. tt) add-i
+    loop-less
+    loop-again
+    same-length-2
+    (λ c. tt))

@@ -6,7 +6,7 @@ use Rattle.draw.proofs.strips.room.Statement.{statement}
 use Rattle.draw.proofs.strips.room.Tie as tie
 
 returns : tie.Need-returns
-returns c = sym (length-replicate {A = ℕ} 131072 0)
+returns c = sym (length-replicate {A = ℕ} 1048576 0)
 
 pub room-spec : {M : Type 1} → statement M
 room-spec = tie.close (tie.spec returns)
