@@ -1,5 +1,6 @@
 pub mod Putting
 pub mod Cases
+pub mod Entries
 pub mod Turns
 pub mod Bounds
 pub mod Short

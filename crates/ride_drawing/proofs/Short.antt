@@ -28,7 +28,7 @@ use Rattle.ride_drawing.specs.Strip.{isFurther, arrive}
 use Rattle.ride_drawing.specs.Span.{span}
 use Rattle.ride_drawing.specs.Sign.{sign}
 use Rattle.ride_drawing.specs.Row.{row, entrySign, isExtra, extraSign, isOnTheWay, furthest}
-use Rattle.ride_drawing.specs.Drawing.{Element, plain, mark, entry, extra, pieces, way, Past, onItsWay, past, wayPast, extraMark, placeOf, reached, afterLine, afterLines, onItsStrip, drawLines, certain, inTheRow, drawRefused, drawAccepted, drawStep, lastStrip, theRest, drawEnd}
+use Rattle.ride_drawing.specs.Drawing.{Element, plain, mark, entry, extra, pieces, way, Past, comeBy, past, wayPast, extraMark, placeOf, reached, afterLine, afterLines, onItsStrip, drawLines, certain, inTheRow, drawRefused, drawAccepted, drawStep, lastStrip, theRest, drawEnd}
 use Rattle.ride_drawing.specs.Draw.{textOf, roomFor}
 use Rattle.ride_drawing.specs.Laws.{Bounded}
 use Rattle.ride_drawing.proofs.Putting.{pieces-append}
@@ -63,22 +63,29 @@ unfolding bytes
 bytes-extra s edge es = omega (arith, size-append (extraSign s edge) (pieces es), extra-size s edge)
 
 -- An entry that the pen comes by, with the strip that it may need,
+by-size : (began : Pen) (i : ℕ) (e : Entry) (place until : ℕ) (known : Known) (pen : Pen) → bytes (comeBy began i e place until known pen .elements) ≤ 2048
+unfolding comeBy
+by-size began i e place until known pen = go (isOnTheWay began place e)
+  where
+    edge : ℕ
+    edge = arrive pen (e .place) until .edge
+    w : List (List ℕ)
+    w = way pen (e .place) until known
+    on : Past
+    on = record { elements = plain w ∷ entry i e edge ∷ []; pen = arrive pen (e .place) until }
+    by : Past
+    by = record { elements = []; pen = pen }
+    go : (b : Bool) → bytes (pick b on by .elements) ≤ 2048
+    go true = omega (arith, bytes-plain w (entry i e edge ∷ []), bytes-entry i e edge [], bytes-none, way-size pen (e .place) until known)
+    go false = omega (arith, bytes-none)
+
 past-size : (began : Pen) (es : List Entry) (pen : Pen) (i place until : ℕ) (known : Known) → bytes (past began pen i es place until known .elements) ≤ 2048 * length es
 unfolding past
 past-size began [] pen i place until known = omega (arith, bytes-none)
 past-size began (e ∷ es) pen i place until known =
-    go (isOnTheWay began place e) (past-size began es (arrive pen (e .place) until) (suc i) place until known) (past-size began es pen (suc i) place until known)
-  where
-    on : Past
-    on = past began (arrive pen (e .place) until) (suc i) es place until known
-    by : Past
-    by = past began pen (suc i) es place until known
-    go : (b : Bool) → bytes (on .elements) ≤ 2048 * length es → bytes (by .elements) ≤ 2048 * length es → bytes (pick b (onItsWay pen i e until known on) by .elements) ≤ 2048 * suc (length es)
-    go true x y =
-        let edge : ℕ = arrive pen (e .place) until .edge in
-        let w : List (List ℕ) = way pen (e .place) until known in
-        omega (arith, bytes-plain w (entry i e edge ∷ on .elements), bytes-entry i e edge (on .elements), way-size pen (e .place) until known)
-    go false x y = omega arith
+    let here : Past = comeBy began i e place until known pen in
+    let rest : Past = past began (here .pen) (suc i) es place until known in
+    omega (arith, bytes-append (here .elements) (rest .elements), by-size began i e place until known pen, past-size began es (here .pen) (suc i) place until known)
 
 -- all of them,
 row-most : (plan : Plan) → length (row plan) ≤ 64

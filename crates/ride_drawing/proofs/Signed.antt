@@ -18,7 +18,7 @@ use Rattle.ride_drawing.specs.declared.Plan.{Plan}
 use Rattle.ride_drawing.specs.Strip.{isFurther, arrive}
 use Rattle.ride_drawing.specs.Span.{span}
 use Rattle.ride_drawing.specs.Row.{row, isExtra, isOnTheWay, furthest}
-use Rattle.ride_drawing.specs.Drawing.{Element, plain, mark, entry, extra, way, Past, onItsWay, past, wayPast, extraMark, placeOf, reached, afterLine, afterLines, onItsStrip, drawLines, certain, inTheRow, drawRefused, drawAccepted, drawStep, lastStrip, theRest, drawEnd}
+use Rattle.ride_drawing.specs.Drawing.{Element, plain, mark, entry, extra, way, Past, comeBy, past, wayPast, extraMark, placeOf, reached, afterLine, afterLines, onItsStrip, drawLines, certain, inTheRow, drawRefused, drawAccepted, drawStep, lastStrip, theRest, drawEnd}
 use Rattle.ride_drawing.specs.Draw.{stepPen, stepElements, drawOver}
 use Rattle.ride_drawing.specs.Laws.{signed, OneSign}
 
@@ -30,19 +30,25 @@ signed-append (entry i e edge ∷ es) fs = signed-append es fs
 signed-append (extra s edge ∷ es) fs = signed-append es fs
 
 -- What the pen comes by on its way is no line,
+by-signed : (began : Pen) (i : ℕ) (e : Entry) (place until : ℕ) (known : Known) (pen : Pen) → signed (comeBy began i e place until known pen .elements) ≡ []
+unfolding comeBy
+by-signed began i e place until known pen = go (isOnTheWay began place e)
+  where
+    on : Past
+    on = record { elements = plain (way pen (e .place) until known) ∷ entry i e (arrive pen (e .place) until .edge) ∷ []; pen = arrive pen (e .place) until }
+    by : Past
+    by = record { elements = []; pen = pen }
+    go : (b : Bool) → signed (pick b on by .elements) ≡ []
+    go true = refl
+    go false = refl
+
 past-signed : (began : Pen) (es : List Entry) (pen : Pen) (i place until : ℕ) (known : Known) → signed (past began pen i es place until known .elements) ≡ []
 unfolding past
 past-signed began [] pen i place until known = refl
 past-signed began (e ∷ es) pen i place until known =
-    go (isOnTheWay began place e) (past-signed began es (arrive pen (e .place) until) (suc i) place until known) (past-signed began es pen (suc i) place until known)
-  where
-    on : Past
-    on = past began (arrive pen (e .place) until) (suc i) es place until known
-    by : Past
-    by = past began pen (suc i) es place until known
-    go : (b : Bool) → signed (on .elements) ≡ [] → signed (by .elements) ≡ [] → signed (pick b (onItsWay pen i e until known on) by .elements) ≡ []
-    go true x y = x
-    go false x y = y
+    let here : Past = comeBy began i e place until known pen in
+    signed-append (here .elements) (past began (here .pen) (suc i) es place until known .elements)
+    ∙ ap₂ (λ (x y : List Line). x ++ y) (by-signed began i e place until known pen) (past-signed began es (here .pen) (suc i) place until known)
 
 way-signed : (plan : Plan) (pen : Pen) (place until : ℕ) (known : Known) → signed (wayPast plan pen place until known) ≡ []
 unfolding wayPast

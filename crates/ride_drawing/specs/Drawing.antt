@@ -64,18 +64,20 @@ pub record Past : Type 0 where
   pub elements : List Element
   pub pen : Pen
 
--- An entry on the strip of its place: the way there, and its sign.
-abbrev pub onItsWay : Pen → ℕ → Entry → ℕ → Known → Past → Past
-onItsWay pen i e until known rest =
-    record { elements = plain (way pen (e .place) until known) ∷ entry i e (arrive pen (e .place) until .edge) ∷ rest .elements; pen = rest .pen }
+-- An entry on the pen's way to a place, from where it began: the way there, and its sign on the strip of its place; any other is left.
+unfoldable pub comeBy : Pen → ℕ → Entry → ℕ → ℕ → Known → Pen → Past
+comeBy began i e place until known pen =
+    pick (isOnTheWay began place e)
+    (record { elements = plain (way pen (e .place) until known) ∷ entry i e (arrive pen (e .place) until .edge) ∷ []; pen = arrive pen (e .place) until })
+    (record { elements = []; pen = pen })
 
 -- The entries that the pen, from where it began, comes by on its way to a place, the first with this index: one in a kilometre without a strip gets a strip of its own.
 unfoldable pub past : Pen → Pen → ℕ → List Entry → ℕ → ℕ → Known → Past
 past began pen i [] place until known = record { elements = []; pen = pen }
 past began pen i (e ∷ es) place until known =
-    pick (isOnTheWay began place e)
-    (onItsWay pen i e until known (past began (arrive pen (e .place) until) (suc i) es place until known))
-    (past began pen (suc i) es place until known)
+    let here : Past = comeBy began i e place until known pen in
+    let rest : Past = past began (here .pen) (suc i) es place until known in
+    record { elements = here .elements ++ rest .elements; pen = rest .pen }
 
 -- The way to a place past the entries of a plan.
 unfoldable pub wayPast : Plan → Pen → ℕ → ℕ → Known → List Element

@@ -80,13 +80,13 @@ fn has_met(plan: Plan, place: u64) -> bool
     let run = plan.run;
     let mut found = false;
     let mut i: usize = 0;
-    while (i < 64) & !found {
+    while i < 64 {
         let reported = acceptance::report(run, i);
         let Reported::Entry(entry) = reported else {
             break;
         };
         let met = entry.met;
-        found = is_by(place, met);
+        found = found | is_by(place, met);
         i += 1;
     }
     found

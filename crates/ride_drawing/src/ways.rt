@@ -4,7 +4,7 @@ ghost use Rattle.text.specs.Put.{came};
 ghost use Rattle.ride_drawing.specs.declared.Pen.{Pen};
 ghost use Rattle.ride_drawing.specs.Pieces.{puts};
 ghost use Rattle.ride_drawing.specs.Row.{row, isOnTheWay};
-ghost use Rattle.ride_drawing.specs.Drawing.{pieces, past, wayPast};
+ghost use Rattle.ride_drawing.specs.Drawing.{pieces, comeBy, past, wayPast};
 use crate::Pen;
 use crate::Plan;
 use crate::places::arrive;
@@ -29,6 +29,31 @@ fn is_on_the_way(pen: Pen, place: u64, entry: Entry) -> bool
     is_further(pen, own) & (own / 10000 <= place / 10000)
 }
 
+// An entry on the pen's way to a place, or not.
+fn come_by(
+    began: Pen,
+    i: usize,
+    entry: Entry,
+    place: u64,
+    until: u64,
+    known: Known,
+    pen: Pen,
+    buf: &mut [u8],
+    at: usize,
+) -> Went
+    ensures { λ r. ⌜ came (r .next) (now (buf .exit)) ≡ puts (pieces (comeBy began i entry place until known pen .elements)) (now (buf .entry)) at ⌝ }
+    ensures { λ r. ⌜ r .pen ≡ comeBy began i entry place until known pen .pen ⌝ }
+{
+    if !is_on_the_way(began, place, entry) {
+        return Went { pen, next: at };
+    }
+    let own = entry.place as u64;
+    let there = arrive(pen, own, until);
+    let a = put_way(pen, own, until, known, buf, at);
+    let next = put_entry(i, entry, there.edge, buf, a);
+    Went { pen: there, next }
+}
+
 // The entries that the pen comes by on its way to a place.
 pub fn pass(
     plan: Plan,
@@ -51,12 +76,9 @@ pub fn pass(
         let Reported::Entry(entry) = reported else {
             break;
         };
-        if is_on_the_way(pen, place, entry) {
-            let own = entry.place as u64;
-            let a = put_way(now, own, until, known, buf, next);
-            now = arrive(now, own, until);
-            next = put_entry(i, entry, now.edge, buf, a);
-        }
+        let went = come_by(pen, i, entry, place, until, known, now, buf, next);
+        now = went.pen;
+        next = went.next;
         i += 1;
     }
     Went { pen: now, next }

@@ -16,7 +16,7 @@ returns : tie.Need-returns
 unfolding onItsStrip
 returns c =
     let p0 = c .before .before in
-    let p1 = p0 .before .before in
+    let p1 = p0 .before .before .before .before in
     let p2 = p1 .before .before .before .before in
     let p3 = p2 .before .before in
     let p4 = p3 .before .before .before in
