@@ -259,9 +259,17 @@ entry-size i e edge =
     let last : List (List ℕ) = rowNumber x (oneMore i) in
     let d : List (List ℕ) = metres (codes "' x='") x ++ last in
     let t : List ℕ = codes "</title><use href='#s" ++ decimal (entryShape (e .met)) in
-    omega
-    (arith, size-one (codes "<g class='e'><title>") (entryTitle i e ∷ t ∷ d), size-one (entryTitle i e) (t ∷ d), size-one t d, size-append (metres (codes "' x='") x) last, entry-title i e,
-    worded (codes "</title><use href='#s") (entryShape (e .met)), metres-size (codes "' x='") x, row-size x (oneMore i))
+    omega (
+      arith,
+      size-one (codes "<g class='e'><title>") (entryTitle i e ∷ t ∷ d),
+      size-one (entryTitle i e) (t ∷ d),
+      size-one t d,
+      size-append (metres (codes "' x='") x) last,
+      entry-title i e,
+      worded (codes "</title><use href='#s") (entryShape (e .met)),
+      metres-size (codes "' x='") x,
+      row-size x (oneMore i),
+    )
 
 kind-size : (k : Kind) → length (kindWord k) ≤ 10
 unfolding kindWord
@@ -279,6 +287,15 @@ extra-size s edge =
     let d : List (List ℕ) = metres (codes "' x='") x ++ last in
     let t : List ℕ = codes "<g class='e'><title>" ++ decimal (s .place) in
     let u : List ℕ = codes " extra</title><use href='#s32" in
-    omega
-    (arith, size-one t (kindWord (s .kind) ∷ u ∷ d), size-one (kindWord (s .kind)) (u ∷ d), size-one u d, size-append (metres (codes "' x='") x) last, size-one (codes "'/></g>\n") [], size-none,
-    worded (codes "<g class='e'><title>") (s .place), kind-size (s .kind), metres-size (codes "' x='") x)
+    omega (
+      arith,
+      size-one t (kindWord (s .kind) ∷ u ∷ d),
+      size-one (kindWord (s .kind)) (u ∷ d),
+      size-one u d,
+      size-append (metres (codes "' x='") x) last,
+      size-one (codes "'/></g>\n") [],
+      size-none,
+      worded (codes "<g class='e'><title>") (s .place),
+      kind-size (s .kind),
+      metres-size (codes "' x='") x,
+    )

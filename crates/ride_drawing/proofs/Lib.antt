@@ -9,5 +9,6 @@ pub mod Judging
 pub mod Signed
 pub mod Blocks
 pub mod AtItsPlace
+pub mod Entered
 pub mod Safe
 pub mod Determined

@@ -69,12 +69,16 @@ by-size began i e place until known pen = go (isOnTheWay began place e)
   where
     edge : ℕ
     edge = arrive pen (e .place) until .edge
+
     w : List (List ℕ)
     w = way pen (e .place) until known
+
     on : Past
     on = record { elements = plain w ∷ entry i e edge ∷ []; pen = arrive pen (e .place) until }
+
     by : Past
     by = record { elements = []; pen = pen }
+
     go : (b : Bool) → bytes (pick b on by .elements) ≤ 2048
     go true = omega (arith, bytes-plain w (entry i e edge ∷ []), bytes-entry i e edge [], bytes-none, way-size pen (e .place) until known)
     go false = omega (arith, bytes-none)
@@ -106,8 +110,10 @@ past-way plan pen place until known = go (isFurther pen place)
   where
     p : Past
     p = past pen pen 0 (row plan) place until known
+
     w : List (List ℕ)
     w = way (p .pen) place until known
+
     go : (b : Bool) → bytes (pick b (p .elements ++ plain w ∷ []) []) ≤ 132672
     go true = omega (arith, bytes-append (p .elements) (plain w ∷ []), bytes-plain w [], bytes-none, all-size plan pen place until known, way-size (p .pen) place until known)
     go false = omega (arith, bytes-none)
@@ -131,9 +137,15 @@ one-size plan pen known closed l place =
     let s : List (List ℕ) = span (there .edge) (there .from) (reached there l place) known in
     let x : List Element = extraMark plan l (there .edge) in
     let m : List Element = mark closed l (there .edge) place ∷ x in
-    omega
-    (arith, bytes-append (wayPast plan pen place place known) (plain s ∷ m), past-way plan pen place place known, bytes-plain s m, bytes-mark closed l (there .edge) place x, extra-most plan l (there .edge),
-    span-size (there .edge) (there .from) (reached there l place) known)
+    omega (
+      arith,
+      bytes-append (wayPast plan pen place place known) (plain s ∷ m),
+      past-way plan pen place place known,
+      bytes-plain s m,
+      bytes-mark closed l (there .edge) place x,
+      extra-most plan l (there .edge),
+      span-size (there .edge) (there .from) (reached there l place) known,
+    )
 
 -- two lines at most,
 module _ (plan : Plan) (known then : Known) (closed : Group) (odometer : ℕ) where
@@ -189,9 +201,12 @@ unfolding drawAccepted
 accepted-size plan pen ride ls closed after =
     let lines : List Element = drawLines plan pen (ride .known) (end ride .ride .known) closed (saysLines ls) (ride .odometer) in
     let there : Pen = afterLines pen (saysLines ls) (ride .odometer) in
-    omega
-    (arith, bytes-append lines (wayPast plan there (after .odometer) (certain after) (after .known)), lines-size plan (ride .known) (end ride .ride .known) closed (ride .odometer) pen ls,
-    past-way plan there (after .odometer) (certain after) (after .known))
+    omega (
+      arith,
+      bytes-append lines (wayPast plan there (after .odometer) (certain after) (after .known)),
+      lines-size plan (ride .known) (end ride .ride .known) closed (ride .odometer) pen ls,
+      past-way plan there (after .odometer) (certain after) (after .known),
+    )
 
 -- all have room.
 pub step-size : (plan : Plan) (pen : Pen) (ride : Ride) (number : ℕ) (given : Given) (closed : Group) (after : Ride)

@@ -36,8 +36,10 @@ by-signed began i e place until known pen = go (isOnTheWay began place e)
   where
     on : Past
     on = record { elements = plain (way pen (e .place) until known) ∷ entry i e (arrive pen (e .place) until .edge) ∷ []; pen = arrive pen (e .place) until }
+
     by : Past
     by = record { elements = []; pen = pen }
+
     go : (b : Bool) → signed (pick b on by .elements) ≡ []
     go true = refl
     go false = refl
@@ -56,6 +58,7 @@ way-signed plan pen place until known = go (isFurther pen place)
   where
     p : Past
     p = past pen pen 0 (row plan) place until known
+
     go : (b : Bool) → signed (pick b (p .elements ++ plain (way (p .pen) place until known) ∷ []) []) ≡ []
     go true = signed-append (p .elements) (plain (way (p .pen) place until known) ∷ []) ∙ append-nil (signed (p .elements)) ∙ past-signed pen (row plan) pen 0 place until known
     go false = refl

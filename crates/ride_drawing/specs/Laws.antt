@@ -5,9 +5,9 @@ use mathlib.Core.Path.{_≡_}
 use mathlib.Core.Bool.{Bool, true, not, _&&_}
 use mathlib.Core.List.{List, [], _∷_, _++_}
 use lib.Dec.{eqb}
-use lib.ListN.{length, take, drop}
+use lib.ListN.{length, take, drop, getD}
 use Rattle.words.specs.Limits.{largest64}
-use Rattle.words.specs.Answer.{gives}
+use Rattle.words.specs.Answer.{gives, pick}
 use Rattle.group.specs.declared.Group.{Group}
 use Rattle.settings.specs.declared.Store.{Store}
 use Rattle.settings.specs.Versions.{kept}
@@ -20,15 +20,17 @@ use Rattle.ride.specs.Step.{end}
 use Rattle.ride.specs.Says.{saysGiven}
 use Rattle.ride.specs.Over.{records, rideOver}
 use Rattle.ride_text.specs.declared.Done.{Done}
+use Rattle.acceptance.specs.Plan.{noEntry}
 use Rattle.ride_drawing.specs.declared.Pen.{Pen}
-use Rattle.ride_drawing.specs.Strip.{onStrip}
+use Rattle.ride_drawing.specs.Strip.{onStrip, edgeOf}
 use Rattle.ride_drawing.specs.Sign.{title}
 use Rattle.ride_drawing.specs.declared.Plan.{Plan}
 use Rattle.ride_drawing.specs.declared.Drawing.{Drawing}
 use Rattle.ride_drawing.specs.declared.Drawn.{Drawn}
+use Rattle.ride_drawing.specs.Row.{row, furthest}
 use Rattle.ride_drawing.specs.Drawing.{Element, plain, mark, entry, extra, drawStep, drawEnd}
 use Rattle.ride_drawing.specs.Draw.{textOf, drawOver, roomFor, draw}
-use Rattle.ride_drawing.specs.Says.{saysDrawn}
+use Rattle.ride_drawing.specs.Says.{freshPen, saysDrawn}
 
 -- ---- every line has one sign
 
@@ -44,6 +46,24 @@ signed (extra s edge ∷ es) = signed es
 pub record OneSign : Type 0 where
   pub over : (plan : Plan) (gaps : ℕ → ℕ) (pen : Pen) (ride : Ride) (number : ℕ) (rs : List (List ℕ)) → signed (drawOver plan gaps pen ride number rs .elements) ≡ rideOver gaps ride number rs .lines
   pub ending : (plan : Plan) (pen : Pen) (ride : Ride) → signed (drawEnd plan pen ride) ≡ end ride .lines
+
+-- ---- every entry of a plan has one sign
+
+-- How many signs the entry with this index has among some elements.
+abbrev pub signsOf : ℕ → List Element → ℕ
+signsOf k [] = 0
+signsOf k (plain pieces ∷ es) = signsOf k es
+signsOf k (mark closed line edge place ∷ es) = signsOf k es
+signsOf k (extra s edge ∷ es) = signsOf k es
+signsOf k (entry i e edge ∷ es) = pick (eqb k i) 1 0 + signsOf k es
+
+-- In the picture of a whole ride with its end each entry of the plan, whose place has 32 bits, has exactly one sign; and on the strip of its kilometre a place
+-- lies at its own distance, never at the edge.
+pub record OneEntry : Type 0 where
+  pub once : (plan : Plan) (gaps : ℕ → ℕ) (ride : Ride) (number : ℕ) (rs : List (List ℕ)) (k : ℕ) → k < length (row plan) → getD (row plan) k noEntry .place ≤ furthest →
+      let p = drawOver plan gaps freshPen ride number rs in
+      signsOf k (p .elements ++ drawEnd plan (p .pen) (p .ride)) ≡ 1
+  pub there : (place : ℕ) → onStrip (edgeOf place) place + edgeOf place ≡ place + 1000
 
 -- ---- any blocks give the whole
 

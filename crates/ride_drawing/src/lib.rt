@@ -66,13 +66,7 @@ pub fn fresh_pen() -> Pen
 
 // What the trace's records add to the strips, as text at the start of out, of as many records as surely have room, each treated with the gap in force at its own
 // odometer; where the drawing stands then, how many records and bytes; or the settings' own refusal, then 16, with nothing taken.
-pub fn draw(
-    plan: Plan,
-    drawing: Drawing,
-    store: Store,
-    trace: &[u8],
-    out: &mut [u8],
-) -> Drawn
+pub fn draw(plan: Plan, drawing: Drawing, store: Store, trace: &[u8], out: &mut [u8]) -> Drawn
     ensures { λ r. ⌜ saysDrawn r (now (out .exit)) ≡ draw plan drawing store (now (trace .entry)) (now (out .entry)) ⌝ }
 {
     let asked = settings::at(store, 0);

@@ -73,9 +73,27 @@ pub fn put_lines(
     let known = ride.known;
     match lines {
         Lines::None => at,
-        Lines::One(a) => put_line(plan, pen, known, closed, a, place_of(a, ride.odometer), buf, at),
+        Lines::One(a) => put_line(
+            plan,
+            pen,
+            known,
+            closed,
+            a,
+            place_of(a, ride.odometer),
+            buf,
+            at,
+        ),
         Lines::Two(a, b) => {
-            let next = put_line(plan, pen, known, closed, a, place_of(a, ride.odometer), buf, at);
+            let next = put_line(
+                plan,
+                pen,
+                known,
+                closed,
+                a,
+                place_of(a, ride.odometer),
+                buf,
+                at,
+            );
             let there = after_line(pen, a, ride.odometer);
             let then = known_then(ride);
             put_line(

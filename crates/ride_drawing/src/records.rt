@@ -19,7 +19,14 @@ use settings::Store;
 
 // The records in turn, up to the last, while there is room for what one more may add and the next number fits. The store is asked only where an
 // odometer leaves the places of the settings that are held; one version alone is in force throughout.
-pub fn over(plan: Plan, drawing: Drawing, store: Store, first: Held, trace: &[u8], out: &mut [u8]) -> Drawn
+pub fn over(
+    plan: Plan,
+    drawing: Drawing,
+    store: Store,
+    first: Held,
+    trace: &[u8],
+    out: &mut [u8],
+) -> Drawn
     requires { ⌜ (judged store ≡ gives kept) × (first ≡ heldAt store 0) ⌝ }
     ensures { λ r. ⌜ saysDrawn r (now (out .exit)) ≡ drawTaken plan (gapAt store) drawing (records (now (trace .entry))) (now (out .entry)) ⌝ }
 {

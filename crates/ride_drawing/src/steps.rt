@@ -139,15 +139,7 @@ pub fn put_rest(plan: Plan, pen: Pen, ride: Ride, buf: &mut [u8], at: usize) -> 
     ensures { λ r. ⌜ came r (now (buf .exit)) ≡ puts (pieces (theRest plan pen ride)) (now (buf .entry)) at ⌝ }
 {
     let known = ride.known;
-    let went = pass(
-        plan,
-        pen,
-        4294967295,
-        ride.odometer as u64,
-        known,
-        buf,
-        at,
-    );
+    let went = pass(plan, pen, 4294967295, ride.odometer as u64, known, buf, at);
     let there = went.pen;
     put_last(there, ride, buf, went.next)
 }
