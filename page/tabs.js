@@ -22,7 +22,7 @@ const TABS = {
     controls: () => (given.plan && drawsPlans ? [row(make('label', {}, make('input', { type: 'checkbox', id: 'withPlan', checked: given.withPlan, onchange: (e) => { given.withPlan = e.target.checked; refresh(); } }), ' with the plan ' + given.plan.name + ', tolerance ' + given.tolerance + ' dm'))] : []),
     async run() {
       const call = new Call(), plan = given.plan && given.withPlan && drawsPlans ? ['-p', call.name(given.plan), given.tolerance] : [];
-      const r = await Bench.run('draw', [...plan, ...call.ride()], call.files), shown = r.stdout.length && r.stdout.length <= 8000000, frame = shown ? framed(r.stdout) : null;
+      const ride = call.ride(), settings = ride[0] === '-s' ? 2 : 0, r = await Bench.run('draw', [...ride.slice(0, settings), ...plan, ...ride.slice(settings)], call.files), shown = r.stdout.length && r.stdout.length <= 8000000, frame = shown ? framed(r.stdout) : null;
       const body = frame ? [frame] : r.stdout.length ? [hint('The picture has ' + number(r.stdout.length) + ' bytes, too many to show here. Save it, and open the file.')] : [];
       show(block(r, { body, save: 'ride.html', saveWords: 'Save the picture', into: 'ride.html', print: frame ? () => frame.contentWindow.print() : undefined }));
     },

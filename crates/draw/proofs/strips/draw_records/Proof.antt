@@ -8,17 +8,17 @@ use Rattle.draw.proofs.strips.draw_records.Statement.{statement}
 use Rattle.draw.proofs.strips.draw_records.Tie as tie
 
 abbrev Inv-loop : tie.InvT-loop
-Inv-loop store records out₀ drawing₀ i₀ out drawing i = (length out ≡ length out₀) × (i ≤ length records / 8)
+Inv-loop plan store records out₀ drawing₀ i₀ out drawing i = (length out ≡ length out₀) × (i ≤ length records / 8)
 
 abbrev μ-loop : tie.MeasureT-loop
-μ-loop store records out₀ drawing₀ i₀ out drawing i = length records / 8 - i
+μ-loop plan store records out₀ drawing₀ i₀ out drawing i = length records / 8 - i
 
 loop-holds : tie.Need-loop-holds Inv-loop μ-loop
 loop-holds c = (refl, omega arith)
 
 -- after a call the buffer has the length that it had
-kept : (c : tie.After-draw Inv-loop μ-loop) → length (c .draw .last .1 .1 .1 .0) ≡ length (c .before .before .before .before .before .before .before .before .args .out .now)
-kept c = c .draw .kept .1 .1 .1 .0 ∙ c .before .before .before .before .loop .inv .0
+kept : (c : tie.After-draw Inv-loop μ-loop) → length (c .draw .last .1 .1 .1 .1 .0) ≡ length (c .before .before .before .before .before .before .before .before .args .out .now)
+kept c = c .draw .kept .1 .1 .1 .1 .0 ∙ c .before .before .before .before .loop .inv .0
 
 sub-written : tie.Need-sub-written Inv-loop μ-loop
 sub-written c = omega (arith, c .before .before .before .before .before .before .before .loop .inv .1)
