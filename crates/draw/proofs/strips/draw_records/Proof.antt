@@ -1,6 +1,6 @@
 -- `draw_records` draws the records that are left, as many at once as have room; the buffer keeps its length.
 -- Assumes nothing.
-use Prim.Native.Nat.{ℕ, _+_, _-_, _/_, _≤_}
+use Prim.Native.Nat.{ℕ, _+_, _-_, _/_, _≤_, _<_}
 use mathlib.Core.Path.{_≡_, refl, _∙_}
 use native.Mathlib.Omega.{arith}
 use lib.ListN.{length}
@@ -34,8 +34,14 @@ within c =
     let l = c .before .before .before .before .before .before .before .before .before .before in
     omega (arith, c .before .written .ensures, l .loop .inv .1)
 
+-- a count of the block's records fits
+fits : (l : tie.At-loop Inv-loop μ-loop) (k : ℕ) → k ≤ length (l .before .before .before .before .args .records .now) / 8 → k < 18446744073709551616
+fits l k h = omega arith
+
 add-i : tie.Need-add-i Inv-loop μ-loop
-add-i c = omega (arith, within c)
+add-i c =
+    let l = c .before .before .before .before .before .before .before .before .before .before in
+    omega (arith, fits l (l .loop .i + c .before .written .result) (within c))
 
 loop-less : tie.Need-loop-less Inv-loop μ-loop
 loop-less c = omega (arith, within c, c .if1 .left)
