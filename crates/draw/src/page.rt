@@ -80,8 +80,8 @@ fn put_row() -> bool {
     write(
         b"<svg width='0' height='0' style='position:absolute'><defs><g id='s30'><path class='b' d='M0 17l-7 -12h14z'/></g>
 <g id='s31'><path class='p' d='M0 16l-6 -10h12z'/></g>
-<g id='s32'><path class='f' d='M0 4v14M-7 11h14'/></g></defs></svg>
-<p><span class='i'><svg class='j' viewBox='-12 -7 24 36'><use href='#s30'/></svg>entry of the plan, met</span> <span class='i'><svg class='j' viewBox='-12 -7 24 36'><use href='#s31'/></svg>absent</span> <span class='i'><svg class='j' viewBox='-12 -7 24 36'><use href='#s32'/></svg>extra group</span></p>\n",
+<g id='s32'><path class='f' d='M0 19v10M-5 24h10'/></g></defs></svg>
+<p><span class='i'><svg class='j' viewBox='-12 -7 24 36'><use href='#s30'/></svg>entry of the plan, met</span> <span class='i'><svg class='j' viewBox='-12 -7 24 36'><use href='#s31'/></svg>absent</span> <span class='i'><svg class='j' viewBox='-12 6 24 36'><use href='#s32'/></svg>extra group</span></p>\n",
     )
 }
 
