@@ -1,4 +1,5 @@
-// What stands in every page: the head, the shapes of the signs, the legend, and what stands around the listing. The words hold no quotes but single ones.
+// What stands in every page: the head, the shapes of the signs, the legend, and what stands around
+// the listing. The words hold no quotes but single ones.
 
 // Words to standard output.
 fn write(words: &[u8]) -> bool {
@@ -32,7 +33,8 @@ fn put_grid() -> bool {
     )
 }
 
-// The signs of groups above the line: a signal unmarked, first, early, good and late, a warning board, an annulled one, a line board, a route board.
+// The signs of groups above the line: a signal unmarked, first, early, good and late, a warning
+// board, an annulled one, a line board, a route board.
 fn put_present() -> bool {
     write(
         b"<g id='s1'><path class='n' d='M0 156V145'/><circle class='p' cy='138' r='7'/></g>
@@ -69,12 +71,22 @@ fn put_legend() -> bool {
 <span class='i'><svg class='j' viewBox='-12 152 24 36'><use href='#s11'/></svg><svg class='j' viewBox='-12 152 24 36'><use href='#s16'/></svg><svg class='j' viewBox='-12 152 24 36'><use href='#s17'/></svg><svg class='j' viewBox='-12 152 24 36'><use href='#s18'/></svg>opposite</span>
 <span class='i'><svg class='j' viewBox='-12 138 24 36'><use href='#s20'/></svg>fault</span> <span class='i'><svg class='j' viewBox='-12 138 24 36'><use href='#s21'/></svg>missed</span> <span class='i'><svg class='j' viewBox='-12 178 24 36'><use href='#s22'/></svg>record refused</span>
 <span class='i'><svg class='j' viewBox='0 0 48 36'><rect class='d' x='2' y='4' width='44' height='28'/><path class='c' d='M24 4v28'/></svg> next signal due</span> <span class='i'><svg class='j' viewBox='0 0 48 36'><g class='m'><path d='M2 18h44'/></g></svg> main speed, km/h</span> <span class='i'><svg class='j' viewBox='0 0 48 36'><g class='t'><path d='M2 18h44'/></g></svg> target</span></p>
-<p>",
+",
+    )
+}
+
+// The signs of the row over the strips, and what they stand for.
+fn put_row() -> bool {
+    write(
+        b"<svg width='0' height='0' style='position:absolute'><defs><g id='s30'><path class='b' d='M0 17l-7 -12h14z'/></g>
+<g id='s31'><path class='p' d='M0 16l-6 -10h12z'/></g>
+<g id='s32'><path class='f' d='M0 19v10M-5 24h10'/></g></defs></svg>
+<p><span class='i'><svg class='j' viewBox='-12 -7 24 36'><use href='#s30'/></svg>entry of the plan, met</span> <span class='i'><svg class='j' viewBox='-12 -7 24 36'><use href='#s31'/></svg>absent</span> <span class='i'><svg class='j' viewBox='-12 6 24 36'><use href='#s32'/></svg>extra group</span></p>\n",
     )
 }
 
 // All before the strips, up to the row of records that are refused before any is accepted.
-pub fn put_head() -> bool {
+pub fn put_head(is_planned: bool) -> bool {
     if !put_style() {
         return false;
     }
@@ -87,12 +99,29 @@ pub fn put_head() -> bool {
     if !put_opposite() {
         return false;
     }
-    put_legend()
+    if !put_legend() {
+        return false;
+    }
+    if is_planned {
+        if !put_row() {
+            return false;
+        }
+    }
+    write(b"<p>")
 }
 
 // The end of that row, where there is no strip.
 pub fn put_no_strip() -> bool {
     write(b"</p>\n<pre>")
+}
+
+// What stands before and after the verdict on a ride with a plan.
+pub fn put_verdict() -> bool {
+    write(b"<pre>")
+}
+
+pub fn put_verdict_end() -> bool {
+    write(b"</pre>\n")
 }
 
 // What stands before the listing.

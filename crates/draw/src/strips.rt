@@ -4,6 +4,7 @@ ghost use Prim.Native.Nat.{_≤_};
 ghost use lib.ListN.{length};
 use console::Goes;
 use ride_drawing::Drawing;
+use ride_drawing::Plan;
 use ride_text::Done;
 use settings::Store;
 
@@ -40,11 +41,11 @@ fn written(done: Done, most: usize, out: &[u8]) -> usize
 }
 
 // The records of a block: as many at once as have room.
-fn draw_records(from: Stand, store: Store, records: &[u8], out: &mut [u8]) -> Stand {
+fn draw_records(plan: Plan, from: Stand, store: Store, records: &[u8], out: &mut [u8]) -> Stand {
     let mut drawing = from.drawing;
     let mut i: usize = 0;
     while i < records.len() / 8 {
-        let drawn = ride_drawing::draw(drawing, store, &records[i * 8..], out);
+        let drawn = ride_drawing::draw(plan, drawing, store, &records[i * 8..], out);
         let done = drawn.done;
         drawing = drawn.drawing;
         let took = written(done, records.len() / 8 - i, out);
@@ -63,13 +64,13 @@ fn draw_records(from: Stand, store: Store, records: &[u8], out: &mut [u8]) -> St
 }
 
 // What comes after the last block: the end of the ride, or what failed.
-fn finish(how: Goes, stand: Stand, out: &mut [u8]) -> bool {
+fn finish(plan: Plan, how: Goes, stand: Stand, out: &mut [u8]) -> bool {
     match how {
         Goes::End => {
             let drawing = stand.drawing;
             let pen = drawing.pen;
             let ride = drawing.ride;
-            let n = ride_drawing::draw_end(pen, ride, out, 0);
+            let n = ride_drawing::draw_end(plan, pen, ride, out, 0);
             console::put(b"draw", out, n)
         }
         Goes::CannotOpen(number) => {
@@ -85,9 +86,11 @@ fn finish(how: Goes, stand: Stand, out: &mut [u8]) -> bool {
     }
 }
 
-// All records of the cards, whose lengths were kept, as one ride, and its end. A proved loop has to end, and nothing says that a file does: so it
-// counts its turns down from a number that no run uses up.
+// All records of the cards, whose lengths were kept, as one ride, and its end. A proved loop has to
+// end, and nothing says that a file does: so it counts its turns down from a number that no run
+// uses up.
 fn draw_blocks(
+    plan: Plan,
     drawing: Drawing,
     store: Store,
     first: usize,
@@ -104,13 +107,13 @@ fn draw_blocks(
     while turns > 0 {
         let got = console::next_block(pass, lengths, block);
         let read = got.read;
-        stand = draw_records(stand, store, &block[..read], out);
+        stand = draw_records(plan, stand, store, &block[..read], out);
         if !stand.is_good {
             return false;
         }
         let how = got.how;
         let Goes::More = how else {
-            return finish(how, stand, out);
+            return finish(plan, how, stand, out);
         };
         pass = got.pass;
         turns -= 1;
@@ -120,6 +123,7 @@ fn draw_blocks(
 
 // The strips of the cards' ride, from a fresh one.
 pub fn draw_cards(
+    plan: Plan,
     store: Store,
     first: usize,
     lengths: &[u64],
@@ -133,5 +137,5 @@ pub fn draw_cards(
         number: 1,
         pen,
     };
-    draw_blocks(drawing, store, first, lengths, block, out)
+    draw_blocks(plan, drawing, store, first, lengths, block, out)
 }

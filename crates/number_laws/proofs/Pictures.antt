@@ -13,6 +13,7 @@ use Rattle.settings.specs.Store.{judged}
 use Rattle.settings.specs.At.{gapAt}
 use Rattle.ride.specs.Over.{records}
 use Rattle.ride_text.specs.Says.{saysDone}
+use Rattle.ride_drawing.specs.declared.Plan.{Plan}
 use Rattle.ride_drawing.specs.declared.Drawing.{Drawing}
 use Rattle.ride_drawing.specs.declared.Drawn.{Drawn}
 use Rattle.ride_drawing.specs.Draw.{Block, drawOf, drawTaken, undrawn, judgedFirst, draw}
@@ -36,17 +37,17 @@ left-so (gives j) true d out k n given e = absurd (gives-not (sym (given .1) ∙
 left-so (gives j) false d out k n given e = let same : 16 ≡ n = cc in ap (undrawn d out) same
 left-so (refuses m) b d out k n given e = let same : m ≡ n = cc in ap (undrawn d out) same
 
-module _ (d : Drawing) (store : Store) (block before : List ℕ) (r : Drawn) (after : List ℕ) (c : DrawInto d store block before r after) where
+module _ (plan : Plan) (d : Drawing) (store : Store) (block before : List ℕ) (r : Drawn) (after : List ℕ) (c : DrawInto plan d store block before r after) where
   -- as many records as have room
   abbrev all : Block
-  all = drawTaken (gapAt store) d (records block) before
+  all = drawTaken plan (gapAt store) d (records block) before
 
   abbrev tests : Block
   tests = judgedFirst d before (judged store) (pick (eqb (length block % 8) 0) all (undrawn d before 16))
 
   is : saysDrawn r after ≡ tests
   unfolding draw
-  is = ap (saysDrawn r) (sym (c .6)) ∙ c .7 ∙ ap₂ (λ (x y : List ℕ). draw d store x y) (c .4) (c .5)
+  is = ap (saysDrawn r) (sym (c .6)) ∙ c .7 ∙ ap₂ (λ (x y : List ℕ). draw plan d store x y) (c .4) (c .5)
 
   made : Given (all .answer)
   unfolding drawOf
@@ -66,5 +67,5 @@ module _ (d : Drawing) (store : Store) (block before : List ℕ) (r : Drawn) (af
 pub pictures-decided : PicturesDecided
 pictures-decided = record {
   draw = decided;
-  untouched = λ d store block before r after n c. stays d store block before r after c n;
+  untouched = λ plan d store block before r after n c. stays plan d store block before r after c n;
 }

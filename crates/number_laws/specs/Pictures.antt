@@ -11,6 +11,7 @@ use denote.Triple.Clauses.{AtExit}
 use Rattle.words.specs.Answer.{refuses}
 use Rattle.settings.specs.declared.Store.{Store}
 use Rattle.ride_text.specs.Says.{saysDone}
+use Rattle.ride_drawing.specs.declared.Plan.{Plan}
 use Rattle.ride_drawing.specs.declared.Drawing.{Drawing}
 use Rattle.ride_drawing.specs.declared.Drawn.{Drawn}
 use Rattle.ride_drawing.proofs.draw.Kinds as draw-kinds
@@ -20,15 +21,15 @@ use Rattle.demands.specs.Stores.{traceRules}
 
 -- The contract of `draw` allows the answer r for this block of records, and that the lent buffer,
 -- which held `before`, holds `after` then.
-abbrev pub DrawInto : Drawing → Store → List ℕ → List ℕ → Drawn → List ℕ → Type 0
-DrawInto drawing store block before r after =
+abbrev pub DrawInto : Plan → Drawing → Store → List ℕ → List ℕ → Drawn → List ℕ → Type 0
+DrawInto plan drawing store block before r after =
     (κs : Lfts 2) × (lent : RefT (List ℕ)) × (out : RefT (List ℕ)) × (e : AtExit (endedOf 2 draw-kinds.ps draw-kinds.r) κs)
-    × (now lent ≡ block) × (now out ≡ before) × (now (e .1 .1 .1 .0) ≡ after)
-    × draw-reads.Post κs (drawing, (store, (lent, (out, tt)))) r e
+    × (now lent ≡ block) × (now out ≡ before) × (now (e .1 .1 .1 .1 .0) ≡ after)
+    × draw-reads.Post κs (plan, (drawing, (store, (lent, (out, tt))))) r e
 
 pub record PicturesDecided : Type 0 where
-  pub draw : (drawing : Drawing) (store : Store) (block before : List ℕ) (r : Drawn) (after : List ℕ) → DrawInto drawing store block before r after
+  pub draw : (plan : Plan) (drawing : Drawing) (store : Store) (block before : List ℕ) (r : Drawn) (after : List ℕ) → DrawInto plan drawing store block before r after
       → Decided Given (traceRules store block) (saysDone (r .done))
   -- what is refused stays as it was
-  pub untouched : (drawing : Drawing) (store : Store) (block before : List ℕ) (r : Drawn) (after : List ℕ) (n : ℕ) → DrawInto drawing store block before r after
+  pub untouched : (plan : Plan) (drawing : Drawing) (store : Store) (block before : List ℕ) (r : Drawn) (after : List ℕ) (n : ℕ) → DrawInto plan drawing store block before r after
       → saysDone (r .done) ≡ refuses n → (r .drawing ≡ drawing) × (after ≡ before)

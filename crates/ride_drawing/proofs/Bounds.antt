@@ -1,4 +1,5 @@
--- What a record adds has the room that is kept for it: each piece has its words and a few numbers, and a record has two lines at most.
+-- What a record adds has the room that is kept for it: each piece has its words and a few numbers,
+-- and a record has two lines at most.
 -- Assumes nothing.
 use Prim.Native.Nat.{ℕ, _+_, _-_, _*_, _/_, _%_, _≤_}
 use native.Mathlib.Omega.{arith}
@@ -12,12 +13,18 @@ use Rattle.words.specs.Answer.{pick}
 use Rattle.text.specs.Text.{codes, decimal}
 use Rattle.text.proofs.Decimal.{decimal-length}
 use Rattle.group_rows.specs.declared.Direction.{Direction}
+use Rattle.group_rows.specs.declared.Kind.{Kind}
 use Rattle.group.specs.declared.Number.{Number}
 use Rattle.group.specs.declared.Told.{Told}
 use Rattle.group.specs.declared.Group.{Group}
 use Rattle.ride.specs.declared.Known.{Known}
 use Rattle.ride.specs.declared.Linking.{Linking}
 use Rattle.ride.specs.declared.Line.{Line}
+use Rattle.ride.specs.declared.Seen.{Seen}
+use Rattle.acceptance.specs.declared.Entry.{Entry}
+use Rattle.acceptance.specs.Taking.{oneMore}
+use Rattle.acceptance_text.specs.Lines.{kindWord, entryLine}
+use Rattle.acceptance_text.proofs.Pieces.{entry-length}
 use Rattle.ride_text.specs.Style.{withReasons}
 use Rattle.ride_text.specs.Text.{lineText}
 use Rattle.ride_text.proofs.Longest.{line-within}
@@ -26,6 +33,7 @@ use Rattle.ride_drawing.specs.Pieces.{whole, metres}
 use Rattle.ride_drawing.specs.Strip.{onStrip, lesser, greater, isFurther, heading, closing, between}
 use Rattle.ride_drawing.specs.Span.{height, speedLine, speedOf, level, due, middle, band, span}
 use Rattle.ride_drawing.specs.Sign.{title, shape, beside, numberBeside, placeBeside, label, sign}
+use Rattle.ride_drawing.specs.Row.{entryShape, entryTitle, rowNumber, entrySign, extraSign}
 use Rattle.ride_drawing.specs.Drawing.{leaving, way}
 use Rattle.ride_drawing.proofs.Turns.{whole-append}
 
@@ -230,4 +238,65 @@ sign-size g l edge place =
       worded (codes "</title><use href='#s") (shape l),
       metres-size (codes "' x='") x,
       label-size l edge x,
+    )
+
+-- ---- the row
+
+entry-title : (i : ℕ) (e : Entry) → length (entryTitle i e) ≤ 128
+unfolding entryTitle
+entry-title i e =
+    let t : List ℕ = entryLine i e in
+    let less : length t - 1 ≤ length t = omega arith in
+    omega (arith, length-take-le (length t - 1) t less, entry-length i e)
+
+row-size : (x n : ℕ) → size (rowNumber x n) ≤ 120
+unfolding size
+row-size x n = simp length-append (omega (arith, decimal-length (x / 10), decimal-length (x % 10), decimal-length n))
+
+pub entry-size : (i : ℕ) (e : Entry) (edge : ℕ) → size (entrySign i e edge) ≤ 400
+unfolding entrySign
+entry-size i e edge =
+    let x : ℕ = onStrip edge (e .place) in
+    let last : List (List ℕ) = rowNumber x (oneMore i) in
+    let d : List (List ℕ) = metres (codes "' x='") x ++ last in
+    let t : List ℕ = codes "</title><use href='#s" ++ decimal (entryShape (e .met)) in
+    omega (
+      arith,
+      size-one (codes "<g class='e'><title>") (entryTitle i e ∷ t ∷ d),
+      size-one (entryTitle i e) (t ∷ d),
+      size-one t d,
+      size-append (metres (codes "' x='") x) last,
+      entry-title i e,
+      worded (codes "</title><use href='#s") (entryShape (e .met)),
+      metres-size (codes "' x='") x,
+      row-size x (oneMore i),
+    )
+
+kind-size : (k : Kind) → length (kindWord k) ≤ 10
+unfolding kindWord
+kind-size Kind.Signal = omega arith
+kind-size Kind.Warning = omega arith
+kind-size Kind.Annulled = omega arith
+kind-size Kind.Line = omega arith
+kind-size Kind.Route = omega arith
+
+pub extra-size : (s : Seen) (edge : ℕ) → size (extraSign s edge) ≤ 200
+unfolding extraSign
+extra-size s edge =
+    let x : ℕ = onStrip edge (s .place) in
+    let last : List (List ℕ) = codes "'/></g>\n" ∷ [] in
+    let d : List (List ℕ) = metres (codes "' x='") x ++ last in
+    let t : List ℕ = codes "<g class='e'><title>" ++ decimal (s .place) in
+    let u : List ℕ = codes " extra</title><use href='#s32" in
+    omega (
+      arith,
+      size-one t (kindWord (s .kind) ∷ u ∷ d),
+      size-one (kindWord (s .kind)) (u ∷ d),
+      size-one u d,
+      size-append (metres (codes "' x='") x) last,
+      size-one (codes "'/></g>\n") [],
+      size-none,
+      worded (codes "<g class='e'><title>") (s .place),
+      kind-size (s .kind),
+      metres-size (codes "' x='") x,
     )

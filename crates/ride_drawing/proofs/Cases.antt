@@ -19,6 +19,7 @@ use Rattle.ride.specs.declared.Mark.{Mark}
 use Rattle.ride.specs.declared.Known.{Known}
 use Rattle.ride.specs.declared.Line.{Line}
 use Rattle.ride_drawing.specs.declared.Pen.{Pen}
+use Rattle.ride_drawing.specs.declared.Plan.{Plan}
 use Rattle.ride_drawing.specs.Pieces.{metres}
 use Rattle.ride_drawing.specs.Strip.{lesser, onStrip, arrive}
 use Rattle.ride_drawing.specs.Span.{speedLine, level, middle}
@@ -88,15 +89,15 @@ after-is pen line odometer place from there e f g =
     ∙ ap (λ (t : Pen). penOf (t .edge) (reached t line place) (t .is_open)) f
     ∙ ap (λ (q : ℕ). penOf (arrive pen q q .edge) (reached (arrive pen q q) line q) (arrive pen q q .is_open)) e
 
-pub one-drawn : (pen : Pen) (known then : Known) (closed : Group) (l : Line) (odometer : ℕ)
-    → pieces (onItsStrip pen known closed l (placeOf l odometer)) ≡ pieces (drawLines pen known then closed (l ∷ []) odometer)
+pub one-drawn : (plan : Plan) (pen : Pen) (known then : Known) (closed : Group) (l : Line) (odometer : ℕ)
+    → pieces (onItsStrip plan pen known closed l (placeOf l odometer)) ≡ pieces (drawLines plan pen known then closed (l ∷ []) odometer)
 unfolding drawLines
-one-drawn pen known then closed l odometer = ap pieces (sym (append-nil (onItsStrip pen known closed l (placeOf l odometer))))
+one-drawn plan pen known then closed l odometer = ap pieces (sym (append-nil (onItsStrip plan pen known closed l (placeOf l odometer))))
 
-pub two-drawn : (pen : Pen) (known then : Known) (closed : Group) (l m : Line) (odometer : ℕ)
-    → pieces (onItsStrip pen known closed l (placeOf l odometer)) ++ pieces (onItsStrip (afterLine pen l odometer) then closed m (placeOf m odometer))
-    ≡ pieces (drawLines pen known then closed (l ∷ m ∷ []) odometer)
+pub two-drawn : (plan : Plan) (pen : Pen) (known then : Known) (closed : Group) (l m : Line) (odometer : ℕ)
+    → pieces (onItsStrip plan pen known closed l (placeOf l odometer)) ++ pieces (onItsStrip plan (afterLine pen l odometer) then closed m (placeOf m odometer))
+    ≡ pieces (drawLines plan pen known then closed (l ∷ m ∷ []) odometer)
 unfolding drawLines
-two-drawn pen known then closed l m odometer =
-    ap (λ (ps : List (List ℕ)). pieces (onItsStrip pen known closed l (placeOf l odometer)) ++ ps) (one-drawn (afterLine pen l odometer) then then closed m odometer)
-    ∙ pieces-append (onItsStrip pen known closed l (placeOf l odometer)) (drawLines (afterLine pen l odometer) then then closed (m ∷ []) odometer)
+two-drawn plan pen known then closed l m odometer =
+    ap (λ (ps : List (List ℕ)). pieces (onItsStrip plan pen known closed l (placeOf l odometer)) ++ ps) (one-drawn plan (afterLine pen l odometer) then then closed m odometer)
+    ∙ pieces-append (onItsStrip plan pen known closed l (placeOf l odometer)) (drawLines plan (afterLine pen l odometer) then then closed (m ∷ []) odometer)

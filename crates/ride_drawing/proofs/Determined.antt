@@ -1,4 +1,5 @@
--- Each contract fixes its function's whole answer and the lent buffer then: any two answers that it allows are equal, and so are the buffers.
+-- Each contract fixes its function's whole answer and the lent buffer then: any two answers that it
+-- allows are equal, and so are the buffers.
 -- Assumes nothing.
 use mathlib.Core.Path.{_≡_, sym, ap, _∙_}
 use mathlib.Core.List.{List}
@@ -30,15 +31,15 @@ drawn-back : (r : Drawn) (out : List ℕ) → _≡_ {A = Drawn} (record { drawin
 drawn-back r out = ap (λ (d : Done). record { drawing = r .drawing; done = d }) (done-back (r .done))
 
 pub draw-determined : (κs : Lfts 2) (a : Dens κs draw-kinds.ps) (r r′ : Drawn) (x x′ : AtExit (endedOf 2 draw-kinds.ps draw-kinds.r) κs)
-    → draw-reads.Post κs a r x → draw-reads.Post κs a r′ x′ → (r ≡ r′) × (now (x .1 .1 .1 .0) ≡ now (x′ .1 .1 .1 .0))
+    → draw-reads.Post κs a r x → draw-reads.Post κs a r′ x′ → (r ≡ r′) × (now (x .1 .1 .1 .1 .0) ≡ now (x′ .1 .1 .1 .1 .0))
 draw-determined κs a r r′ x x′ p q =
-    let b : List ℕ = now (x .1 .1 .1 .0) in
-    let b′ : List ℕ = now (x′ .1 .1 .1 .0) in
+    let b : List ℕ = now (x .1 .1 .1 .1 .0) in
+    let b′ : List ℕ = now (x′ .1 .1 .1 .1 .0) in
     let same : saysDrawn r b ≡ saysDrawn r′ b′ = p ∙ sym q in
     (sym (drawn-back r b) ∙ ap (λ (k : Block). record { drawing = k .drawing; done = doneOf (k .answer) }) same ∙ drawn-back r′ b′, ap (λ (k : Block). k .out) same)
 
 pub draw-end-determined : (κs : Lfts 1) (a : Dens κs draw-end-kinds.ps) (r r′ : ℕ) (x x′ : AtExit (endedOf 1 draw-end-kinds.ps draw-end-kinds.r) κs)
-    → draw-end-reads.Post κs a r x → draw-end-reads.Post κs a r′ x′ → (r ≡ r′) × (now (x .1 .1 .0) ≡ now (x′ .1 .1 .0))
+    → draw-end-reads.Post κs a r x → draw-end-reads.Post κs a r′ x′ → (r ≡ r′) × (now (x .1 .1 .1 .0) ≡ now (x′ .1 .1 .1 .0))
 draw-end-determined κs a r r′ x x′ p q =
-    let same : texts.came r (now (x .1 .1 .0)) ≡ texts.came r′ (now (x′ .1 .1 .0)) = p ∙ sym q in
+    let same : texts.came r (now (x .1 .1 .1 .0)) ≡ texts.came r′ (now (x′ .1 .1 .1 .0)) = p ∙ sym q in
     (ap (λ (v : texts.Put). v .next) same, ap (λ (v : texts.Put). v .buffer) same)

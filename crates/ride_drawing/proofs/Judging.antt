@@ -12,18 +12,19 @@ use Rattle.settings.specs.Versions.{kept}
 use Rattle.settings.specs.Store.{judged}
 use Rattle.settings.specs.At.{gapAt}
 use Rattle.ride.specs.Over.{records}
+use Rattle.ride_drawing.specs.declared.Plan.{Plan}
 use Rattle.ride_drawing.specs.declared.Drawing.{Drawing}
 use Rattle.ride_drawing.specs.Draw.{drawTaken, undrawn, draw}
 
-pub draw-refused : (d : Drawing) (store : Store) (trace out : List ℕ) (n : ℕ) → judged store ≡ refuses n → undrawn d out n ≡ draw d store trace out
+pub draw-refused : (plan : Plan) (d : Drawing) (store : Store) (trace out : List ℕ) (n : ℕ) → judged store ≡ refuses n → undrawn d out n ≡ draw plan d store trace out
 unfolding draw
-draw-refused d store trace out n e = rw e
+draw-refused plan d store trace out n e = rw e
 
-pub draw-length : (d : Drawing) (store : Store) (trace out : List ℕ) → judged store ≡ gives kept → eqb (length trace % 8) 0 ≡ false → undrawn d out 16 ≡ draw d store trace out
+pub draw-length : (plan : Plan) (d : Drawing) (store : Store) (trace out : List ℕ) → judged store ≡ gives kept → eqb (length trace % 8) 0 ≡ false → undrawn d out 16 ≡ draw plan d store trace out
 unfolding draw
-draw-length d store trace out e h = rw (e, h)
+draw-length plan d store trace out e h = rw (e, h)
 
-pub draw-taken : (d : Drawing) (store : Store) (trace out : List ℕ) → judged store ≡ gives kept → eqb (length trace % 8) 0 ≡ true
-    → drawTaken (gapAt store) d (records trace) out ≡ draw d store trace out
+pub draw-taken : (plan : Plan) (d : Drawing) (store : Store) (trace out : List ℕ) → judged store ≡ gives kept → eqb (length trace % 8) 0 ≡ true
+    → drawTaken plan (gapAt store) d (records trace) out ≡ draw plan d store trace out
 unfolding draw
-draw-taken d store trace out e h = rw (e, h)
+draw-taken plan d store trace out e h = rw (e, h)

@@ -1,5 +1,6 @@
 pub mod Putting
 pub mod Cases
+pub mod Entries
 pub mod Turns
 pub mod Bounds
 pub mod Short
@@ -8,5 +9,6 @@ pub mod Judging
 pub mod Signed
 pub mod Blocks
 pub mod AtItsPlace
+pub mod Entered
 pub mod Safe
 pub mod Determined

@@ -21,7 +21,7 @@ then b at t ts e f = f ∙ ap (λ (p : Put). puts ts (p .buffer) (p .next)) e
 pub alone : {x : List ℕ} {m : ℕ} (b : List ℕ) (at : ℕ) (t : List ℕ) → came m x ≡ put t b at → came m x ≡ puts (t ∷ []) b at
 alone {x} {m} b at t e = then b at t [] e (none x m)
 
-puts-append : (ts us : List (List ℕ)) (b : List ℕ) (at : ℕ) → puts (ts ++ us) b at ≡ puts us (puts ts b at .buffer) (puts ts b at .next)
+pub puts-append : (ts us : List (List ℕ)) (b : List ℕ) (at : ℕ) → puts (ts ++ us) b at ≡ puts us (puts ts b at .buffer) (puts ts b at .next)
 unfolding puts
 puts-append [] us b at = refl
 puts-append (t ∷ ts) us b at = puts-append ts us (put t b at .buffer) (put t b at .next)

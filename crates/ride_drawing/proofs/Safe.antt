@@ -28,7 +28,12 @@ use Rattle.telegram.specs.Telegram.{badWord}
 use Rattle.group_reason.specs.Reason.{Amiss, unreadable, word, balises, bad, opens, figure, Explained, noReason, because}
 use Rattle.group_reason.specs.Explain.{explain}
 use Rattle.group_reason.specs.Text.{letter, refusedAs, badly, baliseAt, soMany, reasonText}
+use Rattle.acceptance.specs.declared.Met.{Met}
+use Rattle.acceptance.specs.declared.Entry.{Entry}
+use Rattle.acceptance.specs.Taking.{oneMore}
+use Rattle.acceptance_text.specs.Lines.{kindWord, metWords, entryLine}
 use Rattle.ride_drawing.specs.Sign.{title}
+use Rattle.ride_drawing.specs.Row.{entryTitle, extraTitle}
 use Rattle.ride_drawing.specs.Laws.{isSafe, areSafe, NoEscape}
 
 -- A text that needs no escape.
@@ -184,5 +189,33 @@ title-safe : (g : Group) (l : Line) → areSafe (title g l) ≡ true
 unfolding title
 title-safe g l = cut (length (lineText withReasons g l) - 1) (lineText withReasons g l) (line-safe (whyText g) l (why-safe g) .is)
 
+-- ---- the row
+
+word-safe : (k : Kind) → Safe (kindWord k)
+unfolding kindWord areSafe
+word-safe Kind.Signal = record { is = refl }
+word-safe Kind.Warning = record { is = refl }
+word-safe Kind.Annulled = record { is = refl }
+word-safe Kind.Line = record { is = refl }
+word-safe Kind.Route = record { is = refl }
+
+met-safe : (m : Met) → Safe (metWords m)
+unfolding metWords areSafe
+met-safe Met.Absent = words " absent\n" refl
+met-safe (Met.At place) = join (join (words " met at " refl) (number-of place)) (words "\n" refl)
+
+entry-line-safe : (i : ℕ) (e : Entry) → Safe (entryLine i e)
+unfolding entryLine areSafe
+entry-line-safe i e =
+    join (join (join (join (join (words "entry " refl) (number-of (oneMore i))) (words " at " refl)) (number-of (e .place))) (word-safe (e .kind))) (met-safe (e .met))
+
+entry-safe : (i : ℕ) (e : Entry) → areSafe (entryTitle i e) ≡ true
+unfolding entryTitle
+entry-safe i e = cut (length (entryLine i e) - 1) (entryLine i e) (entry-line-safe i e .is)
+
+extra-safe : (s : Seen) → areSafe (extraTitle s) ≡ true
+unfolding areSafe
+extra-safe s = join (join (number-of (s .place)) (word-safe (s .kind))) (words " extra" refl) .is
+
 pub no-escape : NoEscape
-no-escape = record { titles = title-safe }
+no-escape = record { titles = title-safe; entries = entry-safe; extras = extra-safe }

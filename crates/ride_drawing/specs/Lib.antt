@@ -2,6 +2,7 @@ pub mod Pieces
 pub mod Strip
 pub mod Span
 pub mod Sign
+pub mod Row
 pub mod Drawing
 pub mod Draw
 pub mod Says

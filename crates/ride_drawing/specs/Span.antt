@@ -1,5 +1,6 @@
--- What is known between two places, drawn on a strip: the speeds as lines on a scale of 0 to 270, the main one whole and the target dashed, each
--- with its figure where it begins; and where the next signal is due.
+-- What is known between two places, drawn on a strip: the speeds as lines on a scale of 0 to 270,
+-- the main one whole and the target dashed, each with its figure where it begins; and where the
+-- next signal is due.
 -- Assumes nothing.
 use Prim.Native.Nat.{ℕ, _+_, _-_, _*_, _/_}
 use mathlib.Core.Bool.{Bool, _&&_}
@@ -48,7 +49,8 @@ middle edge from to at =
     (metres (codes "<path class='c' d='M") (onStrip edge at) ++ codes " 124v64'/>\n" ∷ [])
     []
 
--- Where the next signal is due: "the band from 4/5 to 6/5 of the distance, and its middle, as far as the linking lasts".
+-- Where the next signal is due: "the band from 4/5 to 6/5 of the distance, and its middle, as far
+-- as the linking lasts".
 unfoldable pub band : Linking → ℕ → ℕ → ℕ → List (List ℕ)
 band Linking.Unset edge from to = []
 band (Linking.Set distance a) edge from to =

@@ -1,5 +1,5 @@
--- The strips of a page: one for each kilometre in which a record was accepted or a line has its place, 1 unit a metre, with a margin of 100 m
--- on the left. Places and edges are in dm.
+-- The strips of a page: one for each kilometre in which a record was accepted or a line has its
+-- place, 1 unit a metre, with a margin of 100 m on the left. Places and edges are in dm.
 -- Assumes nothing.
 use Prim.Native.Nat.{ℕ, suc, _+_, _-_, _*_, _/_}
 use mathlib.Core.Bool.{Bool, not, _||_}
@@ -16,8 +16,9 @@ lesser a b = pick (leb a b) a b
 abbrev pub greater : ℕ → ℕ → ℕ
 greater a b = pick (leb a b) b a
 
--- Where a place lies on the strip with this left edge, in dm from the left side of the picture: behind the margin of 1000, at most at the
--- right edge; a place before the margin lies at the picture's left side.
+-- Where a place lies on the strip with this left edge, in dm from the left side of the picture:
+-- behind the margin of 1000, at most at the right edge; a place before the margin lies at the
+-- picture's left side.
 unfoldable pub onStrip : ℕ → ℕ → ℕ
 onStrip edge place = pick (leb edge place) (1000 + lesser (place - edge) 10000) (1000 - (edge - place))
 

@@ -7,13 +7,15 @@ ghost use Rattle.ride_drawing.specs.declared.Pen.{Pen};
 ghost use Rattle.ride_drawing.specs.Pieces.{puts};
 ghost use Rattle.ride_drawing.specs.Drawing.{pieces, onItsStrip, drawLines, afterLines};
 use crate::Pen;
+use crate::Plan;
 use crate::places::after_line;
 use crate::places::arrive;
 use crate::places::place_of;
 use crate::places::reached;
+use crate::rows::put_extra;
 use crate::signs::put_sign;
 use crate::spans::put_span;
-use crate::strips::put_way;
+use crate::ways::put_way_past;
 use group::Group;
 use ride::Known;
 use ride::Line;
@@ -22,6 +24,7 @@ use ride::Ride;
 
 // A line on the strip of its place.
 fn put_line(
+    plan: Plan,
     pen: Pen,
     known: Known,
     closed: Group,
@@ -30,10 +33,10 @@ fn put_line(
     buf: &mut [u8],
     at: usize,
 ) -> usize
-    ensures { λ r. ⌜ came r (now (buf .exit)) ≡ puts (pieces (onItsStrip pen known closed line place)) (now (buf .entry)) at ⌝ }
+    ensures { λ r. ⌜ came r (now (buf .exit)) ≡ puts (pieces (onItsStrip plan pen known closed line place)) (now (buf .entry)) at ⌝ }
 {
     let there = arrive(pen, place, place);
-    let a = put_way(pen, place, place, known, buf, at);
+    let a = put_way_past(plan, pen, place, place, known, buf, at);
     let b = put_span(
         there.edge,
         there.from,
@@ -42,7 +45,8 @@ fn put_line(
         buf,
         a,
     );
-    put_sign(closed, line, there.edge, place, buf, b)
+    let c = put_sign(closed, line, there.edge, place, buf, b);
+    put_extra(plan, line, there.edge, buf, c)
 }
 
 // What is known once an open group has closed.
@@ -56,6 +60,7 @@ fn known_then(ride: Ride) -> Known
 
 // Lines in order, where this group closed, in this state.
 pub fn put_lines(
+    plan: Plan,
     pen: Pen,
     ride: Ride,
     closed: Group,
@@ -63,17 +68,36 @@ pub fn put_lines(
     buf: &mut [u8],
     at: usize,
 ) -> usize
-    ensures { λ r. ⌜ came r (now (buf .exit)) ≡ puts (pieces (drawLines pen (ride .known) (end ride .ride .known) closed (saysLines lines) (ride .odometer))) (now (buf .entry)) at ⌝ }
+    ensures { λ r. ⌜ came r (now (buf .exit)) ≡ puts (pieces (drawLines plan pen (ride .known) (end ride .ride .known) closed (saysLines lines) (ride .odometer))) (now (buf .entry)) at ⌝ }
 {
     let known = ride.known;
     match lines {
         Lines::None => at,
-        Lines::One(a) => put_line(pen, known, closed, a, place_of(a, ride.odometer), buf, at),
+        Lines::One(a) => put_line(
+            plan,
+            pen,
+            known,
+            closed,
+            a,
+            place_of(a, ride.odometer),
+            buf,
+            at,
+        ),
         Lines::Two(a, b) => {
-            let next = put_line(pen, known, closed, a, place_of(a, ride.odometer), buf, at);
+            let next = put_line(
+                plan,
+                pen,
+                known,
+                closed,
+                a,
+                place_of(a, ride.odometer),
+                buf,
+                at,
+            );
             let there = after_line(pen, a, ride.odometer);
             let then = known_then(ride);
             put_line(
+                plan,
                 there,
                 then,
                 closed,

@@ -9,6 +9,7 @@ ghost use Rattle.ride_drawing.specs.Draw.{drawTaken};
 ghost use Rattle.ride_drawing.specs.Says.{saysDrawn};
 use crate::Drawing;
 use crate::Drawn;
+use crate::Plan;
 use crate::steps::pen_after;
 use crate::steps::put_step;
 use ride::Reply;
@@ -16,10 +17,18 @@ use ride_text::Done;
 use settings::Held;
 use settings::Store;
 
-// The records in turn, up to the last, while there is room for what one more may add and the next number fits.
-pub fn over(drawing: Drawing, store: Store, first: Held, trace: &[u8], out: &mut [u8]) -> Drawn
+// The records in turn, up to the last, while there is room for what one more may add and the next
+// number fits.
+pub fn over(
+    plan: Plan,
+    drawing: Drawing,
+    store: Store,
+    first: Held,
+    trace: &[u8],
+    out: &mut [u8],
+) -> Drawn
     requires { ⌜ (judged store ≡ gives kept) × (first ≡ heldAt store 0) ⌝ }
-    ensures { λ r. ⌜ saysDrawn r (now (out .exit)) ≡ drawTaken (gapAt store) drawing (records (now (trace .entry))) (now (out .entry)) ⌝ }
+    ensures { λ r. ⌜ saysDrawn r (now (out .exit)) ≡ drawTaken plan (gapAt store) drawing (records (now (trace .entry))) (now (out .entry)) ⌝ }
 {
     let count = trace.len() / 8;
     let mut now = drawing.ride;
@@ -28,7 +37,7 @@ pub fn over(drawing: Drawing, store: Store, first: Held, trace: &[u8], out: &mut
     let mut held = first;
     let mut i: usize = 0;
     let mut at: usize = 0;
-    while (i < count) & ((out.len() - at >= 8192) & (next < u64::MAX)) {
+    while (i < count) & ((out.len() - at >= 524288) & (next < u64::MAX)) {
         held = ride::held_at(store, held, trace, i);
         let treated = ride::treat_at(now, held.gap, trace, i);
         let reply = treated.reply;
@@ -37,7 +46,7 @@ pub fn over(drawing: Drawing, store: Store, first: Held, trace: &[u8], out: &mut
         };
         let closed = treated.closed;
         let after = treated.ride;
-        at = put_step(pen, now, next, given, closed, after, out, at);
+        at = put_step(plan, pen, now, next, given, closed, after, out, at);
         pen = pen_after(pen, now.odometer, given, after);
         now = after;
         next += 1;

@@ -72,7 +72,7 @@ fn shape(line: Line) -> u64
 }
 
 // A length without the newline.
-fn without_newline(n: usize) -> usize
+pub fn without_newline(n: usize) -> usize
     ensures { λ r. ⌜ r ≡ n - 1 ⌝ }
 {
     if n > 0 { n - 1 } else { 0 }

@@ -5,15 +5,17 @@ ghost use Rattle.ride.specs.declared.Line.{Line};
 ghost use Rattle.ride.specs.Says.{saysWrong, saysLines, saysGiven};
 ghost use Rattle.ride_drawing.specs.declared.Pen.{Pen};
 ghost use Rattle.ride_drawing.specs.Pieces.{puts};
-ghost use Rattle.ride_drawing.specs.Drawing.{pieces, drawRefused, drawAccepted, drawStep, penAfter, lastStrip};
+ghost use Rattle.ride_drawing.specs.Drawing.{pieces, drawRefused, drawAccepted, drawStep, penAfter, lastStrip, theRest};
 use crate::Pen;
+use crate::Plan;
 use crate::lines::after_lines;
 use crate::lines::put_lines;
 use crate::places::arrive;
 use crate::places::certain;
 use crate::signs::put_sign;
 use crate::spans::put_span;
-use crate::strips::put_way;
+use crate::ways::pass;
+use crate::ways::put_way_past;
 use group::Group;
 use ride::Given;
 use ride::Line;
@@ -54,6 +56,7 @@ fn put_refused(
 
 // The lines of an accepted record, and the way to its odometer.
 fn put_accepted(
+    plan: Plan,
     pen: Pen,
     ride: Ride,
     lines: Lines,
@@ -62,16 +65,25 @@ fn put_accepted(
     buf: &mut [u8],
     at: usize,
 ) -> usize
-    ensures { λ r. ⌜ came r (now (buf .exit)) ≡ puts (pieces (drawAccepted pen ride (saysLines lines) closed after)) (now (buf .entry)) at ⌝ }
+    ensures { λ r. ⌜ came r (now (buf .exit)) ≡ puts (pieces (drawAccepted plan pen ride (saysLines lines) closed after)) (now (buf .entry)) at ⌝ }
 {
-    let a = put_lines(pen, ride, closed, lines, buf, at);
+    let a = put_lines(plan, pen, ride, closed, lines, buf, at);
     let there = after_lines(pen, lines, ride.odometer);
     let known = after.known;
-    put_way(there, after.odometer as u64, certain(after), known, buf, a)
+    put_way_past(
+        plan,
+        there,
+        after.odometer as u64,
+        certain(after),
+        known,
+        buf,
+        a,
+    )
 }
 
 // What a record adds.
 pub fn put_step(
+    plan: Plan,
     pen: Pen,
     ride: Ride,
     number: u64,
@@ -81,7 +93,7 @@ pub fn put_step(
     buf: &mut [u8],
     at: usize,
 ) -> usize
-    ensures { λ r. ⌜ came r (now (buf .exit)) ≡ puts (pieces (drawStep pen ride number (saysGiven given) closed after)) (now (buf .entry)) at ⌝ }
+    ensures { λ r. ⌜ came r (now (buf .exit)) ≡ puts (pieces (drawStep plan pen ride number (saysGiven given) closed after)) (now (buf .entry)) at ⌝ }
 {
     match given {
         Given::Refused(wrong) => put_refused(
@@ -92,7 +104,7 @@ pub fn put_step(
             buf,
             at,
         ),
-        Given::Lines(lines) => put_accepted(pen, ride, lines, closed, after, buf, at),
+        Given::Lines(lines) => put_accepted(plan, pen, ride, lines, closed, after, buf, at),
     }
 }
 
@@ -111,7 +123,7 @@ pub fn pen_after(pen: Pen, odometer: u32, given: Given, after: Ride) -> Pen
 }
 
 // The end of the last strip.
-pub fn put_last(pen: Pen, ride: Ride, buf: &mut [u8], at: usize) -> usize
+fn put_last(pen: Pen, ride: Ride, buf: &mut [u8], at: usize) -> usize
     ensures { λ r. ⌜ came r (now (buf .exit)) ≡ puts (lastStrip pen ride) (now (buf .entry)) at ⌝ }
 {
     if !pen.is_open {
@@ -120,4 +132,14 @@ pub fn put_last(pen: Pen, ride: Ride, buf: &mut [u8], at: usize) -> usize
     let known = ride.known;
     let a = put_span(pen.edge, pen.from, ride.odometer as u64, known, buf, at);
     put(b"</svg></div>\n", buf, a)
+}
+
+// The entries that are left, and the end of the last strip.
+pub fn put_rest(plan: Plan, pen: Pen, ride: Ride, buf: &mut [u8], at: usize) -> usize
+    ensures { λ r. ⌜ came r (now (buf .exit)) ≡ puts (pieces (theRest plan pen ride)) (now (buf .entry)) at ⌝ }
+{
+    let known = ride.known;
+    let went = pass(plan, pen, 4294967295, ride.odometer as u64, known, buf, at);
+    let there = went.pen;
+    put_last(there, ride, buf, went.next)
 }

@@ -15,7 +15,7 @@ returns c =
     let q = h .before .before in
     let a = q .before .before .before .args in
     let held = held-given (a .store) 0 _ (sym (q .at .ensures) ∙ ap saysAsked (h .asked2 .given .1)) in
-    draw-length (a .drawing) (a .store) (a .trace .now) (a .out .now) (held .0) (ne-eqb _ _ (c .if1 .taken))
+    draw-length (a .plan) (a .drawing) (a .store) (a .trace .now) (a .out .now) (held .0) (ne-eqb _ _ (c .if1 .taken))
 
 over-requires : tie.Need-over-requires
 over-requires c κs =
@@ -29,7 +29,7 @@ returns-2 c =
     let v = c .before in
     let q = v .before .before in
     let a = q .before .before .before .args in
-    draw-refused (a .drawing) (a .store) (a .trace .now) (a .out .now) _
+    draw-refused (a .plan) (a .drawing) (a .store) (a .trace .now) (a .out .now) _
     (store-refused (a .store) _ (sym (q .at .ensures) ∙ ap saysAsked (v .asked .given .1)))
 
 returns-3 : tie.Need-returns-3
@@ -40,7 +40,7 @@ returns-3 c =
     let q = h .before .before in
     let a = q .before .before .before .args in
     let held = held-given (a .store) 0 _ (sym (q .at .ensures) ∙ ap saysAsked (h .asked2 .given .1)) in
-    o .over .ensures ∙ draw-taken (a .drawing) (a .store) (a .trace .now) (a .out .now) (held .0) (eq-eqb _ _ (e .if1 .left))
+    o .over .ensures ∙ draw-taken (a .plan) (a .drawing) (a .store) (a .trace .now) (a .out .now) (held .0) (eq-eqb _ _ (e .if1 .left))
 
 pub draw-spec : {M : Type 1} → statement M
 draw-spec =

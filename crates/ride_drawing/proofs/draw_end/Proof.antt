@@ -2,8 +2,8 @@
 -- Assumes nothing.
 use mathlib.Core.Path.{ap, _∙_}
 use Rattle.ride.specs.Step.{End, end}
-use Rattle.ride_drawing.proofs.Putting.{none, after, all-as, pieces-append}
-use Rattle.ride_drawing.specs.Drawing.{pieces, drawLines, afterLines, lastStrip, drawEnd}
+use Rattle.ride_drawing.proofs.Putting.{after, all-as, pieces-append}
+use Rattle.ride_drawing.specs.Drawing.{pieces, drawLines, afterLines, theRest, drawEnd}
 use Rattle.ride_drawing.specs.declared.Pen.{Pen}
 use borrow.Author.Needs.{needs}
 use Rattle.ride_drawing.proofs.draw_end.Statement.{statement}
@@ -18,16 +18,14 @@ returns c =
     let p4 = p3 .before .before .before .before in
     let a = p4 .before .before .args in
     let e = end (a .ride) in
-    let lines = drawLines (a .pen) (a .ride .known) (e .ride .known) (e .closed) (e .lines) (a .ride .odometer) in
+    let lines = drawLines (a .plan) (a .pen) (a .ride .known) (e .ride .known) (e .closed) (e .lines) (a .ride .odometer) in
     all-as _ _ (pieces-append lines _)
     (after _ _ _ _
-    (all-as _ _ (ap (λ (x : End). pieces (drawLines (a .pen) (a .ride .known) (e .ride .known) (x .closed) (x .lines) (a .ride .odometer))) (p4 .end .ensures)) (p3 .put-lines .ensures))
-    (after _ _ _ _
+    (all-as _ _ (ap (λ (x : End). pieces (drawLines (a .plan) (a .pen) (a .ride .known) (e .ride .known) (x .closed) (x .lines) (a .ride .odometer))) (p4 .end .ensures)) (p3 .put-lines .ensures))
     (all-as _ _
-    (ap (λ (p : Pen). lastStrip p (p4 .end .result .ride)) (p2 .after-lines .ensures)
-    ∙ ap (λ (x : End). lastStrip (afterLines (a .pen) (x .lines) (a .ride .odometer)) (x .ride)) (p4 .end .ensures))
-    (p1 .put-last .ensures))
-    (none _ _)))
+    (ap (λ (p : Pen). pieces (theRest (a .plan) p (p4 .end .result .ride))) (p2 .after-lines .ensures)
+    ∙ ap (λ (x : End). pieces (theRest (a .plan) (afterLines (a .pen) (x .lines) (a .ride .odometer)) (x .ride))) (p4 .end .ensures))
+    (p1 .put-rest .ensures)))
 
 pub draw-end-spec : {M : Type 1} → statement M
 draw-end-spec =

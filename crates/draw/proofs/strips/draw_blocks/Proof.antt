@@ -1,4 +1,5 @@
--- `draw_blocks` draws block after block, and counts its turns down. The two buffers keep their lengths.
+-- `draw_blocks` draws block after block, and counts its turns down. The two buffers keep their
+-- lengths.
 use Prim.Native.Nat.{ℕ, _≤_}
 use mathlib.Core.Path.{_≡_, refl, sym, _∙_}
 use mathlib.Core.List.{List}
@@ -14,10 +15,10 @@ abbrev same : List ℕ → List ℕ → Type 0
 same now before = length now ≡ length before
 
 abbrev Inv-loop : tie.InvT-loop
-Inv-loop store first lengths block₀ out₀ stand₀ pass₀ turns₀ block out stand pass turns = same block block₀ × same out out₀
+Inv-loop plan store first lengths block₀ out₀ stand₀ pass₀ turns₀ block out stand pass turns = same block block₀ × same out out₀
 
 abbrev μ-loop : tie.MeasureT-loop
-μ-loop store first lengths block₀ out₀ stand₀ pass₀ turns₀ block out stand pass turns = turns
+μ-loop plan store first lengths block₀ out₀ stand₀ pass₀ turns₀ block out stand pass turns = turns
 
 loop-holds : tie.Need-loop-holds Inv-loop μ-loop
 loop-holds c = (refl, refl)
@@ -36,11 +37,11 @@ slice-aggregate-draw-records c = sym (length-take-le _ _ (within (c .before .bef
 kept : (c : tie.After-draw-records Inv-loop μ-loop) →
     let n = c .before .before .before .before .before in
     let a = n .before .before .before .before .before .before .before .before .args in
-    same (n .next-block .last .1 .1 .0) (a .block .now) × same (c .draw-records .last .1 .1 .1 .0) (a .out .now)
+    same (n .next-block .last .1 .1 .0) (a .block .now) × same (c .draw-records .last .1 .1 .1 .1 .0) (a .out .now)
 kept c =
     let n = c .before .before .before .before .before in
     let l = n .before .before .before in
-    (n .next-block .kept .1 .1 .0 ∙ l .loop .inv .0, c .draw-records .kept .1 .1 .1 .0 ∙ l .loop .inv .1)
+    (n .next-block .kept .1 .1 .0 ∙ l .loop .inv .0, c .draw-records .kept .1 .1 .1 .1 .0 ∙ l .loop .inv .1)
 
 same-length : tie.Need-same-length Inv-loop μ-loop
 same-length c = kept (c .before .before .before .before) .0
@@ -52,7 +53,7 @@ same-length-3 : tie.Need-same-length-3 Inv-loop μ-loop
 same-length-3 c = kept (c .before .before .before .before .before .before .before .before .before) .0
 
 same-length-4 : tie.Need-same-length-4 Inv-loop μ-loop
-same-length-4 c = c .before .before .finish .kept .1 .1 .0 ∙ kept (c .before .before .before .before .before .before .before .before .before) .1
+same-length-4 c = c .before .before .finish .kept .1 .1 .1 .0 ∙ kept (c .before .before .before .before .before .before .before .before .before) .1
 
 loop-again : tie.Need-loop-again Inv-loop μ-loop
 loop-again c = kept (c .before .before .before .before .before .before .before)

@@ -1,6 +1,7 @@
--- `draw_records` draws the records that are left, as many at once as have room; the buffer keeps its length.
+-- `draw_records` draws the records that are left, as many at once as have room; the buffer keeps
+-- its length.
 -- Assumes nothing.
-use Prim.Native.Nat.{ℕ, _+_, _-_, _/_, _≤_}
+use Prim.Native.Nat.{ℕ, _+_, _-_, _/_, _≤_, _<_}
 use mathlib.Core.Path.{_≡_, refl, _∙_}
 use native.Mathlib.Omega.{arith}
 use lib.ListN.{length}
@@ -8,17 +9,17 @@ use Rattle.draw.proofs.strips.draw_records.Statement.{statement}
 use Rattle.draw.proofs.strips.draw_records.Tie as tie
 
 abbrev Inv-loop : tie.InvT-loop
-Inv-loop store records out₀ drawing₀ i₀ out drawing i = (length out ≡ length out₀) × (i ≤ length records / 8)
+Inv-loop plan store records out₀ drawing₀ i₀ out drawing i = (length out ≡ length out₀) × (i ≤ length records / 8)
 
 abbrev μ-loop : tie.MeasureT-loop
-μ-loop store records out₀ drawing₀ i₀ out drawing i = length records / 8 - i
+μ-loop plan store records out₀ drawing₀ i₀ out drawing i = length records / 8 - i
 
 loop-holds : tie.Need-loop-holds Inv-loop μ-loop
 loop-holds c = (refl, omega arith)
 
 -- after a call the buffer has the length that it had
-kept : (c : tie.After-draw Inv-loop μ-loop) → length (c .draw .last .1 .1 .1 .0) ≡ length (c .before .before .before .before .before .before .before .before .args .out .now)
-kept c = c .draw .kept .1 .1 .1 .0 ∙ c .before .before .before .before .loop .inv .0
+kept : (c : tie.After-draw Inv-loop μ-loop) → length (c .draw .last .1 .1 .1 .1 .0) ≡ length (c .before .before .before .before .before .before .before .before .args .out .now)
+kept c = c .draw .kept .1 .1 .1 .1 .0 ∙ c .before .before .before .before .loop .inv .0
 
 sub-written : tie.Need-sub-written Inv-loop μ-loop
 sub-written c = omega (arith, c .before .before .before .before .before .before .before .loop .inv .1)
@@ -34,8 +35,14 @@ within c =
     let l = c .before .before .before .before .before .before .before .before .before .before in
     omega (arith, c .before .written .ensures, l .loop .inv .1)
 
+-- a count of the block's records fits
+fits : (l : tie.At-loop Inv-loop μ-loop) (k : ℕ) → k ≤ length (l .before .before .before .before .args .records .now) / 8 → k < 18446744073709551616
+fits l k h = omega arith
+
 add-i : tie.Need-add-i Inv-loop μ-loop
-add-i c = omega (arith, within c)
+add-i c =
+    let l = c .before .before .before .before .before .before .before .before .before .before in
+    omega (arith, fits l (l .loop .i + c .before .written .result) (within c))
 
 loop-less : tie.Need-loop-less Inv-loop μ-loop
 loop-less c = omega (arith, within c, c .if1 .left)

@@ -2,8 +2,8 @@
 -- Assumes nothing.
 use mathlib.Core.Path.{ap, _∙_}
 use Prim.Native.Nat.{ℕ}
-use Rattle.ride_drawing.proofs.Putting.{none, after, all-as}
-use Rattle.ride_drawing.specs.Drawing.{reached, onItsStrip}
+use Rattle.ride_drawing.proofs.Putting.{after, all-as, pieces-append}
+use Rattle.ride_drawing.specs.Drawing.{pieces, wayPast, extraMark, reached, onItsStrip}
 use Rattle.ride_drawing.specs.Sign.{sign}
 use Rattle.ride_drawing.specs.Span.{span}
 use Rattle.ride_drawing.specs.Strip.{arrive}
@@ -15,22 +15,24 @@ use Rattle.ride_drawing.proofs.lines.put_line.Tie as tie
 returns : tie.Need-returns
 unfolding onItsStrip
 returns c =
-    let p1 = c .before .before in
+    let p0 = c .before .before in
+    let p1 = p0 .before .before .before .before in
     let p2 = p1 .before .before .before .before in
     let p3 = p2 .before .before in
     let p4 = p3 .before .before .before in
     let p5 = p4 .before .before in
     let a = p5 .before .before .args in
-    after _ _ _ _ (p4 .put-way .ensures)
+    all-as _ _ (pieces-append (wayPast (a .plan) (a .pen) (a .place) (a .place) (a .known)) _)
+    (after _ _ _ _ (p4 .put-way-past .ensures)
     (after _ _ _ _
     (all-as _ _
     (ap (λ (v : ℕ). span (p5 .arrive .result .edge) (p5 .arrive .result .from) v (a .known)) (p3 .reached .ensures)
     ∙ ap (λ (t : Pen). span (t .edge) (t .from) (reached t (a .line) (a .place)) (a .known)) (p5 .arrive .ensures))
     (p2 .put-span .ensures))
-    (after _ _ _ _ (all-as _ _ (ap (λ (t : Pen). sign (a .closed) (a .line) (t .edge) (a .place)) (p5 .arrive .ensures)) (p1 .put-sign .ensures)) (none _ _)))
+    (after _ _ _ _ (all-as _ _ (ap (λ (t : Pen). sign (a .closed) (a .line) (t .edge) (a .place)) (p5 .arrive .ensures)) (p1 .put-sign .ensures)) (all-as _ _ (ap (λ (t : Pen). pieces (extraMark (a .plan) (a .line) (t .edge))) (p5 .arrive .ensures)) (p0 .put-extra .ensures)))))
 
 pub put-line-spec : {M : Type 1} → statement M
 put-line-spec =
     tie.close
     (tie.spec
-    (λ c κs. search needs) (λ c κs. search needs) (λ c κs. search needs) (λ c κs. search needs) (λ c κs. search needs) (λ c. search needs) returns)
+    (λ c κs. search needs) (λ c κs. search needs) (λ c κs. search needs) (λ c κs. search needs) (λ c κs. search needs) (λ c κs. search needs) (λ c. search needs) returns)

@@ -18,7 +18,7 @@ returns : tie.Need-returns
 unfolding drawLines
 returns c =
     let a = c .before .before .before .before .args in
-    none-as _ _ (ap (λ (ls : Lines). pieces (drawLines (a .pen) (a .ride .known) (end (a .ride) .ride .known) (a .closed) (saysLines ls) (a .ride .odometer))) (sym (c .enum-told .given .1)))
+    none-as _ _ (ap (λ (ls : Lines). pieces (drawLines (a .plan) (a .pen) (a .ride .known) (end (a .ride) .ride .known) (a .closed) (saysLines ls) (a .ride .odometer))) (sym (c .enum-told .given .1)))
 
 returns-2 : tie.Need-returns-2
 returns-2 c =
@@ -28,9 +28,9 @@ returns-2 c =
     let a = p3 .before .before .before .before .args in
     let l = p3 .lines .given .0 .0 in
     all-as _ _
-    (ap (λ (p : ℕ). pieces (onItsStrip (a .pen) (a .ride .known) (a .closed) l p)) (p2 .place-of .ensures)
-    ∙ one-drawn (a .pen) (a .ride .known) (end (a .ride) .ride .known) (a .closed) l (a .ride .odometer)
-    ∙ ap (λ (ls : Lines). pieces (drawLines (a .pen) (a .ride .known) (end (a .ride) .ride .known) (a .closed) (saysLines ls) (a .ride .odometer))) (sym (p3 .lines .given .1)))
+    (ap (λ (p : ℕ). pieces (onItsStrip (a .plan) (a .pen) (a .ride .known) (a .closed) l p)) (p2 .place-of .ensures)
+    ∙ one-drawn (a .plan) (a .pen) (a .ride .known) (end (a .ride) .ride .known) (a .closed) l (a .ride .odometer)
+    ∙ ap (λ (ls : Lines). pieces (drawLines (a .plan) (a .pen) (a .ride .known) (end (a .ride) .ride .known) (a .closed) (saysLines ls) (a .ride .odometer))) (sym (p3 .lines .given .1)))
     (p1 .put-line .ensures)
 
 returns-3 : tie.Need-returns-3
@@ -46,13 +46,13 @@ returns-3 c =
     let l = p7 .lines2 .given .0 .0 in
     let m = p7 .lines2 .given .0 .1 .0 in
     all-as _ _
-    (two-drawn (a .pen) (a .ride .known) (end (a .ride) .ride .known) (a .closed) l m (a .ride .odometer)
-    ∙ ap (λ (ls : Lines). pieces (drawLines (a .pen) (a .ride .known) (end (a .ride) .ride .known) (a .closed) (saysLines ls) (a .ride .odometer))) (sym (p7 .lines2 .given .1)))
+    (two-drawn (a .plan) (a .pen) (a .ride .known) (end (a .ride) .ride .known) (a .closed) l m (a .ride .odometer)
+    ∙ ap (λ (ls : Lines). pieces (drawLines (a .plan) (a .pen) (a .ride .known) (end (a .ride) .ride .known) (a .closed) (saysLines ls) (a .ride .odometer))) (sym (p7 .lines2 .given .1)))
     (after _ _ _ _
-    (all-as _ _ (ap (λ (p : ℕ). pieces (onItsStrip (a .pen) (a .ride .known) (a .closed) l p)) (p6 .place-of2 .ensures)) (p5 .put-line2 .ensures))
+    (all-as _ _ (ap (λ (p : ℕ). pieces (onItsStrip (a .plan) (a .pen) (a .ride .known) (a .closed) l p)) (p6 .place-of2 .ensures)) (p5 .put-line2 .ensures))
     (all-as _ _
-    (ap (λ (p : ℕ). pieces (onItsStrip (p4 .after-line .result) (p3 .known-then .result) (a .closed) m p)) (p2 .place-of3 .ensures)
-    ∙ ap₂ (λ (q : Pen) (k : Known). pieces (onItsStrip q k (a .closed) m (placeOf m (a .ride .odometer)))) (p4 .after-line .ensures) (p3 .known-then .ensures))
+    (ap (λ (p : ℕ). pieces (onItsStrip (a .plan) (p4 .after-line .result) (p3 .known-then .result) (a .closed) m p)) (p2 .place-of3 .ensures)
+    ∙ ap₂ (λ (q : Pen) (k : Known). pieces (onItsStrip (a .plan) q k (a .closed) m (placeOf m (a .ride .odometer)))) (p4 .after-line .ensures) (p3 .known-then .ensures))
     (p1 .put-line3 .ensures)))
 
 pub put-lines-spec : {M : Type 1} → statement M

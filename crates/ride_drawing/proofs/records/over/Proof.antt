@@ -1,4 +1,5 @@
--- `over` takes the records one by one, with what is held for each: the drawing from each of them on is the whole.
+-- `over` takes the records one by one, with what is held for each: the drawing from each of them on
+-- is the whole.
 -- Assumes nothing.
 use mathlib.Core.Path.{_≡_, refl, sym, ap, _∙_}
 use mathlib.Core.List.{List}
@@ -30,16 +31,16 @@ use Rattle.ride_drawing.proofs.records.over.Statement.{statement}
 use Rattle.ride_drawing.proofs.records.over.Tie as tie
 
 abbrev Inv-loop : tie.InvT-loop
-Inv-loop store trace out₀ count now₀ pen₀ next₀ held₀ i₀ at₀ out now pen next held i at =
+Inv-loop plan store trace out₀ count now₀ pen₀ next₀ held₀ i₀ at₀ out now pen next held i at =
     (at ≤ length out)
     × (length out ≡ length out₀)
     × (next ≤ 18446744073709551615)
     × (i ≤ length trace / 8)
     × Holding store held
-    × (fromHere (gapAt store) pen now next i at (leftOf trace (length trace / 8) i) out ≡ fromHere (gapAt store) pen₀ now₀ next₀ 0 0 (leftOf trace (length trace / 8) 0) out₀)
+    × (fromHere plan (gapAt store) pen now next i at (leftOf trace (length trace / 8) i) out ≡ fromHere plan (gapAt store) pen₀ now₀ next₀ 0 0 (leftOf trace (length trace / 8) 0) out₀)
 
 abbrev μ-loop : tie.MeasureT-loop
-μ-loop store trace out₀ count now₀ pen₀ next₀ held₀ i₀ at₀ out now pen next held i at = length trace / 8 - i
+μ-loop plan store trace out₀ count now₀ pen₀ next₀ held₀ i₀ at₀ out now pen next held i at = length trace / 8 - i
 
 loop-holds : tie.Need-loop-holds Inv-loop μ-loop
 loop-holds c =
@@ -60,11 +61,11 @@ test c =
 -- a record that is taken has room, and a next number
 room : (c : tie.In-loop Inv-loop μ-loop) →
     let l = c .before .loop in
-    (l .at + 8192 ≤ length (l .out)) × (l .next < 18446744073709551615)
+    (l .at + 524288 ≤ length (l .out)) × (l .next < 18446744073709551615)
 room c =
     let l = c .before .loop in
-    let parts = both (leb 8192 (length (l .out) - l .at)) (ltb (l .next) 18446744073709551615) (test c .1) in
-    (omega (arith, leb-true 8192 (length (l .out) - l .at) (parts .0)), ltb-true _ _ (parts .1))
+    let parts = both (leb 524288 (length (l .out) - l .at)) (ltb (l .next) 18446744073709551615) (test c .1) in
+    (omega (arith, leb-true 524288 (length (l .out) - l .at) (parts .0)), ltb-true _ _ (parts .1))
 
 -- the turn of a record
 turn : (t : tie.After-treat-at Inv-loop μ-loop) →
@@ -123,44 +124,44 @@ loop-again c =
     let stepped = one .step in
     let ride-is : after ≡ treat ride (gaps (odometerOf r)) r .ride = ap (λ (x : Step). x .ride) stepped in
     let pen-is : c .pen-after .result ≡ stepPen pen ride (stepAt gaps ride r) = c .pen-after .ensures ∙ ap (stepPen pen ride) stepped in
-    let es : List Element = stepElements pen ride next (stepAt gaps ride r) in
+    let es : List Element = stepElements (s .args .plan) pen ride next (stepAt gaps ride r) in
     let w : List ℕ = textOf es in
-    let are : drawStep pen ride next (saysGiven given) closed after ≡ es = ap (stepElements pen ride next) stepped in
+    let are : drawStep (s .args .plan) pen ride next (saysGiven given) closed after ≡ es = ap (stepElements (s .args .plan) pen ride next) stepped in
     let enough = room (t .before .before) in
-    let fits : at + length w ≤ length out = omega (arith, step-size pen ride next given closed after, ap (λ (x : List Element). length (textOf x)) are) in
-    let own : at + length (textOf (drawStep pen ride next (saysGiven given) closed after)) ≤ length out = omega (arith, step-size pen ride next given closed after) in
-    let standing = stands own (p .put-step .ensures ∙ fitting (pieces (drawStep pen ride next (saysGiven given) closed after)) out at own) in
+    let fits : at + length w ≤ length out = omega (arith, step-size (s .args .plan) pen ride next given closed after, ap (λ (x : List Element). length (textOf x)) are) in
+    let own : at + length (textOf (drawStep (s .args .plan) pen ride next (saysGiven given) closed after)) ≤ length out = omega (arith, step-size (s .args .plan) pen ride next given closed after) in
+    let standing = stands own (p .put-step .ensures ∙ fitting (pieces (drawStep (s .args .plan) pen ride next (saysGiven given) closed after)) out at own) in
     let at-is : p .put-step .result ≡ at + length w = standing .put .0 ∙ ap (λ (x : List Element). at + length (textOf x)) are in
-    let out-is : p .put-step .last .1 .1 .1 .1 .1 .1 .0 ≡ placed w out at = standing .put .1 ∙ ap (λ (x : List Element). placed (textOf x) out at) are in
-    let length-is : length (p .put-step .last .1 .1 .1 .1 .1 .1 .0) ≡ length out = ap length out-is ∙ placed-length w out at fits in
+    let out-is : p .put-step .last .1 .1 .1 .1 .1 .1 .1 .0 ≡ placed w out at = standing .put .1 ∙ ap (λ (x : List Element). placed (textOf x) out at) are in
+    let length-is : length (p .put-step .last .1 .1 .1 .1 .1 .1 .1 .0) ≡ length out = ap length out-is ∙ placed-length w out at fits in
     let number-is : next + 1 ≡ suc next = add-one next in
-    let here : fromHere gaps (c .pen-after .result) after (next + 1) (i + 1) (p .put-step .result) rest (p .put-step .last .1 .1 .1 .1 .1 .1 .0)
-    ≡ fromHere gaps (stepPen pen ride (stepAt gaps ride r)) (treat ride (gaps (odometerOf r)) r .ride) (suc next) (i + 1) (at + length w) rest (placed w out at) = cc in (
+    let here : fromHere (s .args .plan) gaps (c .pen-after .result) after (next + 1) (i + 1) (p .put-step .result) rest (p .put-step .last .1 .1 .1 .1 .1 .1 .1 .0)
+    ≡ fromHere (s .args .plan) gaps (stepPen pen ride (stepAt gaps ride r)) (treat ride (gaps (odometerOf r)) r .ride) (suc next) (i + 1) (at + length w) rest (placed w out at) = cc in (
       omega arith,
       length-is ∙ l .loop .inv .1,
       omega arith,
       omega (arith, one .there),
       one .holding,
       here
-          ∙ sym (from-next gaps pen ride next i at r rest out (test (t .before .before) .1) fits)
-          ∙ ap (λ (rs : List (List ℕ)). fromHere gaps pen ride next i at rs out) (sym (left-next trace (length trace / 8) i (one .there)))
+          ∙ sym (from-next (s .args .plan) gaps pen ride next i at r rest out (test (t .before .before) .1) fits)
+          ∙ ap (λ (rs : List (List ℕ)). fromHere (s .args .plan) gaps pen ride next i at rs out) (sym (left-next trace (length trace / 8) i (one .there)))
           ∙ l .loop .inv .5,
     )
 
 -- where no record more is taken, the drawing is whole
 whole : (l : tie.At-loop Inv-loop μ-loop) →
     let a = l .before .before .before .before .before .args in
-    taken (gapAt (a .store)) (l .loop .pen) (l .loop .now) (l .loop .next) (length (l .loop .out) - l .loop .at) (leftOf (a .trace .now) (length (a .trace .now) / 8) (l .loop .i)) ≡ 0
+    taken (a .plan) (gapAt (a .store)) (l .loop .pen) (l .loop .now) (l .loop .next) (length (l .loop .out) - l .loop .at) (leftOf (a .trace .now) (length (a .trace .now) / 8) (l .loop .i)) ≡ 0
     → block (l .loop .i) (l .loop .at) (l .loop .now) (l .loop .next) (l .loop .pen) (l .loop .out)
-    ≡ drawTaken (gapAt (a .store)) (a .drawing) (records (a .trace .now)) (a .out .now)
+    ≡ drawTaken (a .plan) (gapAt (a .store)) (a .drawing) (records (a .trace .now)) (a .out .now)
 whole l none =
     let a = l .before .before .before .before .before .args in
     let gaps = gapAt (a .store) in
     let trace = a .trace .now in
-    from-last gaps (l .loop .pen) (l .loop .now) (l .loop .next) (l .loop .i) (l .loop .at) (leftOf trace (length trace / 8) (l .loop .i)) (l .loop .out) none
+    from-last (a .plan) gaps (l .loop .pen) (l .loop .now) (l .loop .next) (l .loop .i) (l .loop .at) (leftOf trace (length trace / 8) (l .loop .i)) (l .loop .out) none
     ∙ l .loop .inv .5
-    ∙ from-first gaps (a .drawing) (leftOf trace (length trace / 8) 0) (a .out .now)
-    ∙ ap (λ (rs : List (List ℕ)). drawTaken gaps (a .drawing) rs (a .out .now)) (left-all trace)
+    ∙ from-first (a .plan) gaps (a .drawing) (leftOf trace (length trace / 8) 0) (a .out .now)
+    ∙ ap (λ (rs : List (List ℕ)). drawTaken (a .plan) gaps (a .drawing) rs (a .out .now)) (left-all trace)
 
 same-length : tie.Need-same-length Inv-loop μ-loop
 same-length c = c .before .loop .inv .1
@@ -170,7 +171,7 @@ returns c =
     let l = c .before in
     let a = l .before .before .before .before .before .args in
     let trace = a .trace .now in
-    whole l (no-more (gapAt (a .store)) (l .loop .pen) (l .loop .now) (l .loop .next) (length (l .loop .out) - l .loop .at) trace (length trace / 8) (l .loop .i) (c .loop-test .left))
+    whole l (no-more (a .plan) (gapAt (a .store)) (l .loop .pen) (l .loop .now) (l .loop .next) (length (l .loop .out) - l .loop .at) trace (length trace / 8) (l .loop .i) (c .loop-test .left))
 
 same-length-2 : tie.Need-same-length-2 Inv-loop μ-loop
 same-length-2 c = c .before .before .before .before .loop .inv .1
@@ -182,7 +183,7 @@ returns-2 c =
     let a = l .before .before .before .before .before .args in
     let trace = a .trace .now in
     whole l
-    (none-left (gapAt (a .store)) (l .loop .pen) (l .loop .now) (l .loop .next) (length (l .loop .out) - l .loop .at) trace (length trace / 8) (l .loop .i)
+    (none-left (a .plan) (gapAt (a .store)) (l .loop .pen) (l .loop .now) (l .loop .next) (length (l .loop .out) - l .loop .at) trace (length trace / 8) (l .loop .i)
     (turned-past _ _ _ _ _ _ _ (turn t) (c .match .keys2)))
 
 pub over-spec : {M : Type 1} → statement M

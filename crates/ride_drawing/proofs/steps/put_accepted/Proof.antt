@@ -4,8 +4,8 @@ use mathlib.Core.Path.{ap₂}
 use Prim.Native.Nat.{ℕ}
 use Rattle.ride.specs.Says.{saysLines}
 use Rattle.ride.specs.Step.{end}
-use Rattle.ride_drawing.proofs.Putting.{none, after, all-as, pieces-append}
-use Rattle.ride_drawing.specs.Drawing.{way, drawLines, certain, drawAccepted}
+use Rattle.ride_drawing.proofs.Putting.{after, all-as, pieces-append}
+use Rattle.ride_drawing.specs.Drawing.{pieces, wayPast, drawLines, certain, drawAccepted}
 use Rattle.ride_drawing.specs.declared.Pen.{Pen}
 use borrow.Author.Needs.{needs}
 use Rattle.ride_drawing.proofs.steps.put_accepted.Statement.{statement}
@@ -19,12 +19,10 @@ returns c =
     let p3 = p2 .before .before .before in
     let p4 = p3 .before .before .before in
     let a = p4 .before .before .before .args in
-    let lines = drawLines (a .pen) (a .ride .known) (end (a .ride) .ride .known) (a .closed) (saysLines (a .lines)) (a .ride .odometer) in
+    let lines = drawLines (a .plan) (a .pen) (a .ride .known) (end (a .ride) .ride .known) (a .closed) (saysLines (a .lines)) (a .ride .odometer) in
     all-as _ _ (pieces-append lines _)
     (after _ _ _ _ (p4 .put-lines .ensures)
-    (after _ _ _ _
-    (all-as _ _ (ap₂ (λ (p : Pen) (u : ℕ). way p (a .after .odometer) u (a .after .known)) (p3 .after-lines .ensures) (p2 .certain .ensures)) (p1 .put-way .ensures))
-    (none _ _)))
+    (all-as _ _ (ap₂ (λ (p : Pen) (u : ℕ). pieces (wayPast (a .plan) p (a .after .odometer) u (a .after .known))) (p3 .after-lines .ensures) (p2 .certain .ensures)) (p1 .put-way-past .ensures)))
 
 pub put-accepted-spec : {M : Type 1} → statement M
 put-accepted-spec =

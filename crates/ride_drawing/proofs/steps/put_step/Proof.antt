@@ -19,7 +19,7 @@ returns c =
     let a = p3 .before .before .before .args in
     all-as _ _
     (ap (λ (n : ℕ). pieces (drawRefused (a .pen) (a .ride .odometer) (a .closed) (Line.Record (a .number) n))) (p2 .refusal .ensures)
-    ∙ ap (λ (g : Given). pieces (drawStep (a .pen) (a .ride) (a .number) (saysGiven g) (a .closed) (a .after))) (sym (p3 .given .given .1)))
+    ∙ ap (λ (g : Given). pieces (drawStep (a .plan) (a .pen) (a .ride) (a .number) (saysGiven g) (a .closed) (a .after))) (sym (p3 .given .given .1)))
     (p1 .put-refused .ensures)
 
 returns-2 : tie.Need-returns-2
@@ -27,7 +27,7 @@ returns-2 c =
     let p1 = c .before .before in
     let p2 = p1 .before .before .before in
     let a = p2 .before .before .before .args in
-    all-as _ _ (ap (λ (g : Given). pieces (drawStep (a .pen) (a .ride) (a .number) (saysGiven g) (a .closed) (a .after))) (sym (p2 .given2 .given .1))) (p1 .put-accepted .ensures)
+    all-as _ _ (ap (λ (g : Given). pieces (drawStep (a .plan) (a .pen) (a .ride) (a .number) (saysGiven g) (a .closed) (a .after))) (sym (p2 .given2 .given .1))) (p1 .put-accepted .ensures)
 
 pub put-step-spec : {M : Type 1} → statement M
 put-step-spec =
