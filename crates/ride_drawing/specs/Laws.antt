@@ -1,5 +1,5 @@
 -- What is promised of a drawing: every line has one sign, at its place or at the strip's edge, and
--- no title needs an escape.
+-- so has every entry of a plan; no title needs an escape.
 -- Assumes nothing.
 use Prim.Native.Nat.{ℕ, suc, _+_, _%_, _≤_, _<_}
 use mathlib.Core.Path.{_≡_}

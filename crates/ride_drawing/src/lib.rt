@@ -1,11 +1,12 @@
 // A ride as strips of a page, one for each kilometre: what each record adds to them, and the end of
-// the ride.
+// the ride; over the strips the entries of a plan, where one is given.
 // Promises: every line of the ride that has a place has one sign, at its place or at the strip's
-// edge; its title is the line as `explain` writes it; any blocks give the whole; no record adds
-// more than the room that is kept for it; the bytes around a text stay.
+// edge; its title is the line as `explain` writes it; every entry of the plan has one sign, at its
+// place; any blocks give the whole; no record adds more than the room that is kept for it; the
+// bytes around a text stay.
 // Specification: specs/Pieces.antt (text in pieces), Strip.antt (the strips), Span.antt (speeds,
-// and where a signal is due), Sign.antt (the signs), Drawing.antt (a record and the end), Draw.antt
-// (a block of records), Laws.antt (the promises).
+// and where a signal is due), Sign.antt (the signs), Row.antt (a plan's entries), Drawing.antt (a
+// record and the end), Draw.antt (a block of records), Laws.antt (the promises).
 ghost use mathlib.Core.Path.{_≡_};
 ghost use Rattle.text.specs.Put.{came};
 ghost use Rattle.ride_drawing.specs.Pieces.{puts};

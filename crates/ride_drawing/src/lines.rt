@@ -73,39 +73,17 @@ pub fn put_lines(
     let known = ride.known;
     match lines {
         Lines::None => at,
-        Lines::One(a) => put_line(
-            plan,
-            pen,
-            known,
-            closed,
-            a,
-            place_of(a, ride.odometer),
-            buf,
-            at,
-        ),
+        Lines::One(a) => {
+            let place = place_of(a, ride.odometer);
+            put_line(plan, pen, known, closed, a, place, buf, at)
+        }
         Lines::Two(a, b) => {
-            let next = put_line(
-                plan,
-                pen,
-                known,
-                closed,
-                a,
-                place_of(a, ride.odometer),
-                buf,
-                at,
-            );
+            let place = place_of(a, ride.odometer);
+            let next = put_line(plan, pen, known, closed, a, place, buf, at);
             let there = after_line(pen, a, ride.odometer);
             let then = known_then(ride);
-            put_line(
-                plan,
-                there,
-                then,
-                closed,
-                b,
-                place_of(b, ride.odometer),
-                buf,
-                next,
-            )
+            let behind = place_of(b, ride.odometer);
+            put_line(plan, there, then, closed, b, behind, buf, next)
         }
     }
 }
