@@ -1,0 +1,86 @@
+// What a line holds as a page to look at and to print: each contact as strips of its bits, with the
+// words of its telegrams; then the listing as `listen` writes it.
+// Promises: it is safe and it ends; contacts are those of the crate antenna, what stands for each is
+// that of contact_drawing, lines are those of antenna_text and contact_text.
+// Specification: none of its own; what cannot be said of a program's reads and writes stands in
+// docs/EXCEPTIONS.md.
+mod page;
+mod pieces;
+
+use console::sync_word;
+use figures::Byte;
+use libc::SEEK_SET;
+use pieces::Went;
+use telegram::Pair;
+
+// The argument of the line's file.
+const FILE: usize = 1;
+
+// Goes over the line from its beginning; whether that went well. What went wrong is said.
+fn go_over(fd: i32, draws: bool, s: u8, t: u8) -> bool {
+    if libc::lseek(fd, 0, SEEK_SET) != 0 {
+        console::only_once(b"scope", FILE);
+        return false;
+    }
+    let went = pieces::all(fd, draws, s, t);
+    match went {
+        Went::Well => true,
+        Went::Unread => {
+            console::cannot_read(b"scope", FILE);
+            false
+        }
+        Went::Unwritten => {
+            console::cannot_write(b"scope");
+            false
+        }
+    }
+}
+
+// The page of the open file, which is gone over twice.
+fn draw(fd: i32, s: u8, t: u8) {
+    if libc::lseek(fd, 0, SEEK_SET) != 0 {
+        console::only_once(b"scope", FILE);
+        return;
+    }
+    if !page::put_head() {
+        return;
+    }
+    if !go_over(fd, true, s, t) {
+        return;
+    }
+    if !page::put_listing() {
+        return;
+    }
+    if go_over(fd, false, s, t) {
+        page::put_foot();
+    }
+}
+
+// The line named, if the sync pair is good.
+fn open(s: u8, t: u8) {
+    let Pair::Good = telegram::good_pair(s, t) else {
+        console::refuse_here(b"scope", 4);
+        return;
+    };
+    let fd = console::open_card(FILE);
+    if fd < 0 {
+        console::cannot_open(b"scope", FILE);
+        return;
+    }
+    draw(fd, s, t);
+    libc::close(fd);
+}
+
+fn main() {
+    if os::arg_count() != 4 {
+        console::usage(b"scope", b"scope FILE S S*");
+        return;
+    }
+    let Byte::Is(s) = sync_word(b"scope", b"S", 2) else {
+        return;
+    };
+    let Byte::Is(t) = sync_word(b"scope", b"S*", 3) else {
+        return;
+    };
+    open(s, t);
+}
