@@ -1,8 +1,6 @@
 -- Each contract fixes the whole answer: any two that it allows are equal.
 -- Assumes nothing.
-use Prim.Native.Nat.{ℕ}
 use mathlib.Core.Path.{_≡_, refl, sym, ap, ap₂, _∙_}
-use contract.Lifetimes.{Lfts}
 use borrow.Fn.Kinds.{Dens, endedOf}
 use denote.Triple.Clauses.{AtExit}
 use lib.Dec.{eqb}
@@ -13,7 +11,7 @@ use Rattle.acceptance.specs.declared.Planned.{Planned}
 use Rattle.acceptance.specs.declared.Took.{Took}
 use Rattle.acceptance.specs.declared.Reported.{Reported}
 use Rattle.acceptance.specs.declared.Sums.{Sums}
-use Rattle.acceptance.specs.Plan.{Good, good, Planning}
+use Rattle.acceptance.specs.Plan.{Good, Planning}
 use Rattle.acceptance.specs.Says.{saysPlanJudged, saysPlanned}
 use Rattle.acceptance.proofs.plan.Kinds as plan-kinds
 use Rattle.acceptance.proofs.plan.Reads as plan-reads
@@ -44,8 +42,7 @@ same-planned p q e =
     let same : p .judged ≡ q .judged = sym (judged-back (p .judged)) ∙ ap (λ (x : Planning). judgedBy (x .answer)) e ∙ judged-back (q .judged) in
     ap₂ (λ (a : Acceptance) (j : PlanJudged). record { plan = a; judged = j }) (ap (λ (x : Planning). x .plan) e) same
 
-pub plan-determined : (κs : Lfts 1) (a : Dens κs plan-kinds.ps) (r r′ : Planned) (x x′ : AtExit (endedOf 1 plan-kinds.ps plan-kinds.r) κs)
-    → plan-reads.Post κs a r x → plan-reads.Post κs a r′ x′ → r ≡ r′
+pub plan-determined : Fixed 1 plan-kinds.ps plan-kinds.r plan-reads.Post
 plan-determined κs a r r′ x x′ p q = same-planned r r′ (p ∙ sym q)
 
 pub take-determined : (a : Dens tt take-kinds.ps) (r r′ : Took) (x x′ : AtExit (endedOf 0 take-kinds.ps take-kinds.r) tt)

@@ -2,14 +2,9 @@
 -- equal.
 -- Assumes nothing.
 use mathlib.Core.Path.{_≡_, refl, sym, ap, _∙_}
-use Prim.Native.Nat.{ℕ}
 use lib.Dec.{eqb}
-use contract.Lifetimes.{Lfts}
 use denote.Ref.{now}
-use borrow.Fn.Kinds.{Dens, endedOf}
-use denote.Triple.Clauses.{AtExit}
 use Rattle.words.specs.Answer.{Outcome, gives, refuses, pick}
-use Rattle.text.specs.Put.{Put, came}
 use Rattle.audibility.specs.Sound.{Heard, audible, broken}
 use Rattle.audibility.specs.Says.{saysSound}
 use Rattle.audibility.specs.declared.Sound.{Sound}
@@ -19,6 +14,8 @@ use Rattle.audibility.proofs.put_telegram.Kinds as put-telegram-kinds
 use Rattle.audibility.proofs.put_telegram.Reads as put-telegram-reads
 use Rattle.audibility.proofs.put_count.Kinds as put-count-kinds
 use Rattle.audibility.proofs.put_count.Reads as put-count-reads
+use Rattle.words.proofs.Told.{Fixed, FixedWith}
+use Rattle.text.proofs.Putting.{same-put}
 
 -- From what an answer says, the answer.
 abbrev soundFrom : Outcome Heard → Sound
@@ -33,18 +30,11 @@ sound-back Sound.TooLarge = refl
 sound-back Sound.Fifteen = refl
 sound-back Sound.NotSeven = refl
 
-pub sound-of-determined : (κs : Lfts 0) (a : Dens κs sound-of-kinds.ps) (r r′ : Sound) (x x′ : AtExit (endedOf 0 sound-of-kinds.ps sound-of-kinds.r) κs)
-    → sound-of-reads.Post κs a r x → sound-of-reads.Post κs a r′ x′ → r ≡ r′
+pub sound-of-determined : Fixed 0 sound-of-kinds.ps sound-of-kinds.r sound-of-reads.Post
 sound-of-determined κs a r r′ x x′ p q = sym (sound-back r) ∙ ap soundFrom (p ∙ sym q) ∙ sound-back r′
 
-pub put-telegram-determined : (κs : Lfts 1) (a : Dens κs put-telegram-kinds.ps) (r r′ : ℕ) (x x′ : AtExit (endedOf 1 put-telegram-kinds.ps put-telegram-kinds.r) κs)
-    → put-telegram-reads.Post κs a r x → put-telegram-reads.Post κs a r′ x′ → (r ≡ r′) × (now (x .1 .1 .1 .0) ≡ now (x′ .1 .1 .1 .0))
-put-telegram-determined κs a r r′ x x′ p q =
-    let same : came r (now (x .1 .1 .1 .0)) ≡ came r′ (now (x′ .1 .1 .1 .0)) = p ∙ sym q in
-    (ap (λ (v : Put). v .next) same, ap (λ (v : Put). v .buffer) same)
+pub put-telegram-determined : FixedWith 1 put-telegram-kinds.ps put-telegram-kinds.r put-telegram-reads.Post (λ κs x. now (x .1 .1 .1 .0))
+put-telegram-determined κs a r r′ x x′ p q = same-put (p ∙ sym q)
 
-pub put-count-determined : (κs : Lfts 1) (a : Dens κs put-count-kinds.ps) (r r′ : ℕ) (x x′ : AtExit (endedOf 1 put-count-kinds.ps put-count-kinds.r) κs)
-    → put-count-reads.Post κs a r x → put-count-reads.Post κs a r′ x′ → (r ≡ r′) × (now (x .1 .1 .0) ≡ now (x′ .1 .1 .0))
-put-count-determined κs a r r′ x x′ p q =
-    let same : came r (now (x .1 .1 .0)) ≡ came r′ (now (x′ .1 .1 .0)) = p ∙ sym q in
-    (ap (λ (v : Put). v .next) same, ap (λ (v : Put). v .buffer) same)
+pub put-count-determined : FixedWith 1 put-count-kinds.ps put-count-kinds.r put-count-reads.Post (λ κs x. now (x .1 .1 .0))
+put-count-determined κs a r r′ x x′ p q = same-put (p ∙ sym q)

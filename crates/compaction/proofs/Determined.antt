@@ -5,10 +5,7 @@ use Prim.Native.Nat.{ℕ}
 use mathlib.Core.Path.{_≡_, refl, sym, ap, _∙_}
 use mathlib.Core.List.{List}
 use lib.Dec.{eqb}
-use contract.Lifetimes.{Lfts}
 use denote.Ref.{now}
-use borrow.Fn.Kinds.{Dens, endedOf}
-use denote.Triple.Clauses.{AtExit}
 use Rattle.words.specs.Answer.{Outcome, gives, refuses, pick}
 use Rattle.settings.specs.declared.Bad.{Bad}
 use Rattle.settings.proofs.Determined.{badOf}
@@ -21,6 +18,7 @@ use Rattle.compaction.proofs.compact.Kinds as compact-kinds
 use Rattle.compaction.proofs.compact.Reads as compact-reads
 use Rattle.compaction.proofs.compact_block.Kinds as block-kinds
 use Rattle.compaction.proofs.compact_block.Reads as block-reads
+use Rattle.words.proofs.Told.{FixedWith}
 
 -- From what an answer says, the answer.
 abbrev pub sizeOf : Outcome ℕ → Size
@@ -52,14 +50,10 @@ block-back r b = ap (λ (s : Size). record { waiting = r .waiting; size = s }) (
 same-compaction : (r r′ : Compacted) (b b′ : List ℕ) → saysCompacted r b ≡ saysCompacted r′ b′ → (r ≡ r′) × (b ≡ b′)
 same-compaction r r′ b b′ e = (sym (compacted-back r b) ∙ ap compactedOf e ∙ compacted-back r′ b′, ap (λ (c : Compaction). c .buffer) e)
 
-pub compact-determined : (κs : Lfts 1) (a : Dens κs compact-kinds.ps) (r r′ : Compacted)
-    (x x′ : AtExit (endedOf 1 compact-kinds.ps compact-kinds.r) κs)
-    → compact-reads.Post κs a r x → compact-reads.Post κs a r′ x′ → (r ≡ r′) × (now (x .1 .1 .0) ≡ now (x′ .1 .1 .0))
+pub compact-determined : FixedWith 1 compact-kinds.ps compact-kinds.r compact-reads.Post (λ κs x. now (x .1 .1 .0))
 compact-determined κs a r r′ x x′ p q = same-compaction r r′ (now (x .1 .1 .0)) (now (x′ .1 .1 .0)) (p ∙ sym q)
 
-pub compact-block-determined : (κs : Lfts 1) (a : Dens κs block-kinds.ps) (r r′ : Block)
-    (x x′ : AtExit (endedOf 1 block-kinds.ps block-kinds.r) κs)
-    → block-reads.Post κs a r x → block-reads.Post κs a r′ x′ → (r ≡ r′) × (now (x .1 .1 .0) ≡ now (x′ .1 .1 .0))
+pub compact-block-determined : FixedWith 1 block-kinds.ps block-kinds.r block-reads.Post (λ κs x. now (x .1 .1 .0))
 compact-block-determined κs a r r′ x x′ p q =
     let same : saysBlock r (now (x .1 .1 .0)) ≡ saysBlock r′ (now (x′ .1 .1 .0)) = p ∙ sym q in
     (sym (block-back r (now (x .1 .1 .0))) ∙ ap blockOf same ∙ block-back r′ (now (x′ .1 .1 .0)), ap (λ (s : Settling). s .buffer) same)

@@ -5,18 +5,13 @@ use mathlib.Core.Path.{_≡_, refl, sym, ap, _∙_}
 use mathlib.Core.List.{List, [], _∷_, _++_}
 use native.Mathlib.Omega.{arith}
 use Rattle.text.specs.Put.{Put, put, came}
-use Rattle.ride_drawing.specs.Pieces.{puts}
-use Rattle.ride_drawing.proofs.Putting.{none}
+use Rattle.text.specs.Pieces.{puts}
+use Rattle.text.proofs.Putting.{none, puts-append}
 use mathlib.Core.Bool.{Bool, true, false}
 use lib.Dec.{ltb}
 use borrow.Author.Tests.{ltb-false}
 use Rattle.words.specs.Answer.{pick}
 use Rattle.contact_drawing.specs.Strips.{each, drawn}
-
-puts-append : (ts us : List (List ℕ)) (b : List ℕ) (at : ℕ) → puts (ts ++ us) b at ≡ puts us (puts ts b at .buffer) (puts ts b at .next)
-unfolding puts
-puts-append [] us b at = refl
-puts-append (t ∷ ts) us b at = puts-append ts us (put t b at .buffer) (put t b at .next)
 
 more : (f : ℕ → List (List ℕ)) (i n k : ℕ) → k ≡ suc n → each f i k ≡ f i ++ each f (i + 1) n
 unfolding each

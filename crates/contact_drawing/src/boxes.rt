@@ -6,7 +6,7 @@ ghost use Rattle.text.specs.Put.{put, came};
 ghost use Rattle.text.specs.Text.{decimal};
 ghost use Rattle.telegram.specs.Stretch.{bitsAt};
 ghost use Rattle.telegram.specs.Place.{find};
-ghost use Rattle.ride_drawing.specs.Pieces.{puts};
+ghost use Rattle.text.specs.Pieces.{puts};
 ghost use Rattle.contact_drawing.specs.Strips.{isFound, boxes, telegramOf, each};
 use crate::sums;
 use telegram::Found;

@@ -2,11 +2,11 @@
 // telegrams.
 // Promises: what stands in the page for a contact is fixed to the letter; each piece is put whole or
 // not at all; bytes around it stay.
-// Specification: specs/Strips.antt (what is drawn); pieces in a buffer are `ride_drawing`'s
+// Specification: specs/Strips.antt (what is drawn); pieces in a buffer are `text`'s
 // specs/Pieces.antt.
 ghost use mathlib.Core.Path.{_≡_};
 ghost use Rattle.text.specs.Put.{came};
-ghost use Rattle.ride_drawing.specs.Pieces.{puts};
+ghost use Rattle.text.specs.Pieces.{puts};
 ghost use Rattle.contact_drawing.specs.Strips.{strips};
 
 mod boxes;

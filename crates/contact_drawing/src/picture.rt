@@ -2,7 +2,7 @@
 ghost use mathlib.Core.Path.{_≡_};
 ghost use Prim.Native.Nat.{_+_, _≤_};
 ghost use Rattle.text.specs.Put.{came};
-ghost use Rattle.ride_drawing.specs.Pieces.{puts};
+ghost use Rattle.text.specs.Pieces.{puts};
 ghost use Rattle.contact_drawing.specs.Strips.{cutAt, strip, each, waveform, picture};
 use crate::boxes;
 use crate::sums;

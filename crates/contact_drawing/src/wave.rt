@@ -4,7 +4,7 @@ ghost use Prim.Native.Nat.{_+_, _≤_};
 ghost use lib.ListN.{getD};
 ghost use Rattle.text.specs.Put.{put, came};
 ghost use Rattle.telegram.specs.Stretch.{bitAt};
-ghost use Rattle.ride_drawing.specs.Pieces.{puts};
+ghost use Rattle.text.specs.Pieces.{puts};
 ghost use Rattle.contact_drawing.specs.Strips.{level, bitOf, each};
 use text::put;
 

@@ -1,16 +1,11 @@
 -- Each contract fixes its function's whole answer: any two answers that it allows are equal.
 -- Assumes nothing.
-use mathlib.Core.Path.{_≡_, refl, sym, ap, _∙_}
-use Prim.Native.Nat.{ℕ}
+use mathlib.Core.Path.{_≡_, refl, sym, _∙_}
 use denote.Ref.{now}
 use lib.Dec.{eqb}
-use contract.Lifetimes.{Lfts}
-use borrow.Fn.Kinds.{Dens, endedOf}
-use denote.Triple.Clauses.{AtExit}
 use Rattle.words.specs.Answer.{pick}
 use Rattle.words.specs.Why.{why, are, unsaid}
-use Rattle.words.proofs.Told.{Fixed, told}
-use Rattle.text.specs.Put.{Put, came}
+use Rattle.words.proofs.Told.{Fixed, told, FixedWith}
 use Rattle.telegram.specs.Telegram.{badWord}
 use Rattle.group_reason.specs.declared.BadBalise.{BadBalise}
 use Rattle.group_reason.specs.declared.Reason.{Reason}
@@ -20,6 +15,7 @@ use Rattle.group_reason.proofs.explain.Kinds as explain-kinds
 use Rattle.group_reason.proofs.explain.Reads as explain-reads
 use Rattle.group_reason.proofs.put_reason.Kinds as put-reason-kinds
 use Rattle.group_reason.proofs.put_reason.Reads as put-reason-reads
+use Rattle.text.proofs.Putting.{same-put}
 
 -- From what an answer says, the answer.
 pub badly : Amiss → BadBalise
@@ -52,9 +48,5 @@ reason-back (Reason.NoDistance i place) = refl
 pub explain-determined : Fixed 0 explain-kinds.ps explain-kinds.r explain-reads.Post
 explain-determined κs a r r′ x x′ p q = told saysReason reason reason-back r r′ p q
 
-pub put-reason-determined : (κs : Lfts 1) (a : Dens κs put-reason-kinds.ps) (r r′ : ℕ)
-    (x x′ : AtExit (endedOf 1 put-reason-kinds.ps put-reason-kinds.r) κs)
-    → put-reason-reads.Post κs a r x → put-reason-reads.Post κs a r′ x′ → (r ≡ r′) × (now (x .1 .0) ≡ now (x′ .1 .0))
-put-reason-determined κs a r r′ x x′ p q =
-    let same : came r (now (x .1 .0)) ≡ came r′ (now (x′ .1 .0)) = p ∙ sym q in
-    (ap (λ (v : Put). v .next) same, ap (λ (v : Put). v .buffer) same)
+pub put-reason-determined : FixedWith 1 put-reason-kinds.ps put-reason-kinds.r put-reason-reads.Post (λ κs x. now (x .1 .0))
+put-reason-determined κs a r r′ x x′ p q = same-put (p ∙ sym q)

@@ -3,14 +3,10 @@
 -- Assumes nothing.
 use Prim.Native.Nat.{ℕ}
 use mathlib.Core.Path.{_≡_, refl, sym, ap, _∙_}
-use mathlib.Core.Bool.{Bool, true, false}
 use mathlib.Core.List.{List}
-use contract.Lifetimes.{Lfts}
-use borrow.Fn.Kinds.{Dens, endedOf}
-use denote.Triple.Clauses.{AtExit}
 use denote.Ref.{now}
 use Rattle.words.specs.Answer.{Outcome, gives, refuses, pick}
-use Rattle.words.proofs.Told.{Fixed}
+use Rattle.words.proofs.Told.{Fixed, FixedWith}
 use Rattle.settings.specs.declared.Bad.{Bad}
 use Rattle.settings.proofs.Determined.{badOf}
 use Rattle.lead_text.specs.declared.HowFar.{HowFar}
@@ -51,12 +47,8 @@ same-written r r′ out out′ e = (sym (written-back r out) ∙ ap writtenOf e 
 pub fresh-determined : Fixed 0 fresh-kinds.ps fresh-kinds.r fresh-reads.Post
 fresh-determined κs a r r′ x x′ p q = p ∙ sym q
 
-pub list-frames-determined : (κs : Lfts 2) (a : Dens κs frames-kinds.ps) (r r′ : Written)
-    (x x′ : AtExit (endedOf 2 frames-kinds.ps frames-kinds.r) κs)
-    → frames-reads.Post κs a r x → frames-reads.Post κs a r′ x′ → (r ≡ r′) × (now (x .1 .1 .1 .0) ≡ now (x′ .1 .1 .1 .0))
+pub list-frames-determined : FixedWith 2 frames-kinds.ps frames-kinds.r frames-reads.Post (λ κs x. now (x .1 .1 .1 .0))
 list-frames-determined κs a r r′ x x′ p q = same-written r r′ (now (x .1 .1 .1 .0)) (now (x′ .1 .1 .1 .0)) (p ∙ sym q)
 
-pub list-end-determined : (κs : Lfts 1) (a : Dens κs end-kinds.ps) (r r′ : Written)
-    (x x′ : AtExit (endedOf 1 end-kinds.ps end-kinds.r) κs)
-    → end-reads.Post κs a r x → end-reads.Post κs a r′ x′ → (r ≡ r′) × (now (x .1 .1 .0) ≡ now (x′ .1 .1 .0))
+pub list-end-determined : FixedWith 1 end-kinds.ps end-kinds.r end-reads.Post (λ κs x. now (x .1 .1 .0))
 list-end-determined κs a r r′ x x′ p q = same-written r r′ (now (x .1 .1 .0)) (now (x′ .1 .1 .0)) (p ∙ sym q)

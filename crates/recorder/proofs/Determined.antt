@@ -1,19 +1,15 @@
 -- The contract fixes the whole answer, the bytes too: any two answers that it allows are equal.
 -- Assumes nothing.
-use mathlib.Core.Path.{_≡_, refl, sym, ap, ap₂, _∙_}
-use mathlib.Core.List.{List}
-use Prim.Native.Nat.{ℕ}
+use mathlib.Core.Path.{_≡_, refl, sym, ap, _∙_}
 use lib.Dec.{eqb}
-use contract.Lifetimes.{Lfts}
-use borrow.Fn.Kinds.{Dens, endedOf}
-use denote.Triple.Clauses.{AtExit}
 use Rattle.words.specs.Answer.{Outcome, gives, refuses, pick}
-use Rattle.recorder.specs.Record.{Made, made, Recording}
+use Rattle.recorder.specs.Record.{Made, Recording}
 use Rattle.recorder.specs.Says.{saysWent, saysRecorded}
 use Rattle.recorder.specs.declared.Went.{Went}
 use Rattle.recorder.specs.declared.Recorded.{Recorded}
 use Rattle.recorder.proofs.record_of.Kinds as kinds
 use Rattle.recorder.proofs.record_of.Reads as reads
+use Rattle.words.proofs.Told.{Fixed}
 
 -- From what an answer says, the answer.
 abbrev pub wentOf : Outcome Made → Went
@@ -34,6 +30,5 @@ recordedOf r = record { bytes = r .bytes; went = wentOf (r .answer) }
 pub recorded-back : (r : Recorded) → recordedOf (saysRecorded r) ≡ r
 recorded-back r = ap (λ (w : Went). record { bytes = r .bytes; went = w }) (went-back (r .went))
 
-pub record-of-determined : (κs : Lfts 0) (a : Dens κs kinds.ps) (r r′ : Recorded) (x x′ : AtExit (endedOf 0 kinds.ps kinds.r) κs)
-    → reads.Post κs a r x → reads.Post κs a r′ x′ → r ≡ r′
+pub record-of-determined : Fixed 0 kinds.ps kinds.r reads.Post
 record-of-determined κs a r r′ x x′ p q = sym (recorded-back r) ∙ ap recordedOf (p ∙ sym q) ∙ recorded-back r′

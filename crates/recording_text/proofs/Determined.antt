@@ -3,11 +3,8 @@
 use mathlib.Core.Path.{_≡_, sym, ap, _∙_}
 use Prim.Native.Nat.{ℕ}
 use mathlib.Core.List.{List}
-use contract.Lifetimes.{Lfts}
 use denote.Ref.{now}
-use borrow.Fn.Kinds.{Dens, endedOf}
-use denote.Triple.Clauses.{AtExit}
-use Rattle.words.proofs.Told.{Fixed}
+use Rattle.words.proofs.Told.{Fixed, FixedWith}
 use Rattle.text.specs.Put.{Put, came}
 use Rattle.recording_text.proofs.no_frames.Kinds as no-frames-kinds
 use Rattle.recording_text.proofs.no_frames.Reads as no-frames-reads
@@ -38,10 +35,8 @@ count-record-determined κs a r r′ x x′ p q = p ∙ sym q
 same-put : {r r′ : ℕ} {x x′ : List ℕ} → came r x ≡ came r′ x′ → (r ≡ r′) × (x ≡ x′)
 same-put e = (ap (λ (v : Put). v .next) e, ap (λ (v : Put). v .buffer) e)
 
-pub put-first-determined : (κs : Lfts 1) (a : Dens κs put-first-kinds.ps) (r r′ : ℕ) (x x′ : AtExit (endedOf 1 put-first-kinds.ps put-first-kinds.r) κs)
-    → put-first-reads.Post κs a r x → put-first-reads.Post κs a r′ x′ → (r ≡ r′) × (now (x .1 .1 .0) ≡ now (x′ .1 .1 .0))
+pub put-first-determined : FixedWith 1 put-first-kinds.ps put-first-kinds.r put-first-reads.Post (λ κs x. now (x .1 .1 .0))
 put-first-determined κs a r r′ x x′ p q = same-put (p ∙ sym q)
 
-pub put-end-determined : (κs : Lfts 1) (a : Dens κs put-end-kinds.ps) (r r′ : ℕ) (x x′ : AtExit (endedOf 1 put-end-kinds.ps put-end-kinds.r) κs)
-    → put-end-reads.Post κs a r x → put-end-reads.Post κs a r′ x′ → (r ≡ r′) × (now (x .1 .1 .1 .0) ≡ now (x′ .1 .1 .1 .0))
+pub put-end-determined : FixedWith 1 put-end-kinds.ps put-end-kinds.r put-end-reads.Post (λ κs x. now (x .1 .1 .1 .0))
 put-end-determined κs a r r′ x x′ p q = same-put (p ∙ sym q)

@@ -29,7 +29,8 @@ use Rattle.ride_text.specs.Style.{withReasons}
 use Rattle.ride_text.specs.Text.{lineText}
 use Rattle.ride_text.proofs.Longest.{line-within}
 use Rattle.ride_drawing.specs.declared.Pen.{Pen}
-use Rattle.ride_drawing.specs.Pieces.{whole, metres}
+use Rattle.text.specs.Pieces.{whole}
+use Rattle.ride_drawing.specs.Metres.{metres}
 use Rattle.ride_drawing.specs.Strip.{onStrip, lesser, greater, isFurther, heading, closing, between}
 use Rattle.ride_drawing.specs.Span.{height, speedLine, speedOf, level, due, middle, band, span}
 use Rattle.ride_drawing.specs.Sign.{title, shape, beside, numberBeside, placeBeside, label, sign}

@@ -20,12 +20,12 @@ use Rattle.ride.specs.declared.Known.{Known}
 use Rattle.ride.specs.declared.Line.{Line}
 use Rattle.ride_drawing.specs.declared.Pen.{Pen}
 use Rattle.ride_drawing.specs.declared.Plan.{Plan}
-use Rattle.ride_drawing.specs.Pieces.{metres}
+use Rattle.ride_drawing.specs.Metres.{metres}
 use Rattle.ride_drawing.specs.Strip.{lesser, onStrip, arrive}
 use Rattle.ride_drawing.specs.Span.{speedLine, level, middle}
 use Rattle.ride_drawing.specs.Sign.{kindShape}
 use Rattle.ride_drawing.specs.Drawing.{pieces, placeOf, reached, afterLine, onItsStrip, drawLines}
-use Rattle.ride_drawing.proofs.Putting.{pieces-append}
+use Rattle.ride_drawing.proofs.Elements.{pieces-append}
 
 -- The lesser of two is at most the second.
 pub lesser-most : (a b : ℕ) → lesser a b ≤ b

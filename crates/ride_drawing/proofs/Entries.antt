@@ -24,11 +24,12 @@ use Rattle.acceptance.specs.Taking.{planned, isPresent}
 use Rattle.acceptance.specs.Report.{report}
 use Rattle.ride_drawing.specs.declared.Pen.{Pen}
 use Rattle.ride_drawing.specs.declared.Plan.{Plan}
-use Rattle.ride_drawing.specs.Pieces.{puts}
+use Rattle.text.specs.Pieces.{puts}
 use Rattle.ride_drawing.specs.Strip.{arrive}
 use Rattle.ride_drawing.specs.Row.{row, entrySign, isBy, hasMet, isExtra, extraSign, isOnTheWay}
 use Rattle.ride_drawing.specs.Drawing.{pieces, way, Past, comeBy, past, extraMark}
-use Rattle.ride_drawing.proofs.Putting.{puts-append, pieces-append}
+use Rattle.text.proofs.Putting.{puts-append}
+use Rattle.ride_drawing.proofs.Elements.{pieces-append}
 
 -- The entries of a run's plan that are drawn.
 abbrev pub rowOf : Acceptance → List Entry

@@ -1,10 +1,9 @@
-pub mod Putting
+pub mod Elements
 pub mod Cases
 pub mod Entries
 pub mod Turns
 pub mod Bounds
 pub mod Short
-pub mod Fitting
 pub mod Judging
 pub mod Signed
 pub mod Blocks

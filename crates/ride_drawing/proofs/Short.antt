@@ -31,7 +31,7 @@ use Rattle.ride_drawing.specs.Row.{row, entrySign, isExtra, extraSign, i
 use Rattle.ride_drawing.specs.Drawing.{Element, plain, mark, entry, extra, pieces, way, Past, comeBy, past, wayPast, extraMark, placeOf, reached, afterLine, afterLines, onItsStrip, drawLines, certain, inTheRow, drawRefused, drawAccepted, drawStep, lastStrip, theRest, drawEnd}
 use Rattle.ride_drawing.specs.Draw.{textOf, roomFor}
 use Rattle.ride_drawing.specs.Laws.{Bounded}
-use Rattle.ride_drawing.proofs.Putting.{pieces-append}
+use Rattle.ride_drawing.proofs.Elements.{pieces-append}
 use Rattle.ride_drawing.proofs.Bounds.{size, size-none, size-one, size-append, span-size, way-size, sign-size, entry-size, extra-size}
 
 -- The bytes of some elements.

@@ -20,7 +20,7 @@ use Rattle.text.proofs.Placing.{placed-none, placed-length, placed-join}
 use Rattle.ride_drawing.specs.declared.Pen.{Pen}
 use Rattle.ride_drawing.specs.declared.Plan.{Plan}
 use Rattle.ride_drawing.specs.declared.Drawing.{Drawing}
-use Rattle.ride_drawing.specs.Pieces.{whole}
+use Rattle.text.specs.Pieces.{whole}
 use Rattle.ride_drawing.specs.Drawing.{Element, piecesOf, pieces}
 use Rattle.ride_drawing.specs.Draw.{textOf, stepElements, stepPen, Picture, drawOver, isTaken, taken, Block, drawOf}
 

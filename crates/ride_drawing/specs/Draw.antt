@@ -21,7 +21,7 @@ use Rattle.ride_text.specs.List.{Taken}
 use Rattle.ride_drawing.specs.declared.Pen.{Pen}
 use Rattle.ride_drawing.specs.declared.Plan.{Plan}
 use Rattle.ride_drawing.specs.declared.Drawing.{Drawing}
-use Rattle.ride_drawing.specs.Pieces.{whole}
+use Rattle.text.specs.Pieces.{whole}
 use Rattle.ride_drawing.specs.Drawing.{Element, pieces, drawStep, penAfter}
 
 -- The text of some elements.

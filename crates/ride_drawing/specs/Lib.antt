@@ -1,4 +1,4 @@
-pub mod Pieces
+pub mod Metres
 pub mod Strip
 pub mod Span
 pub mod Sign

@@ -16,7 +16,7 @@ use Rattle.acceptance.specs.Taking.{planned, isPresent, oneMore}
 use Rattle.acceptance_text.specs.Lines.{kindWord, entryLine}
 use Rattle.ride_drawing.specs.declared.Pen.{Pen}
 use Rattle.ride_drawing.specs.declared.Plan.{Plan}
-use Rattle.ride_drawing.specs.Pieces.{metres}
+use Rattle.ride_drawing.specs.Metres.{metres}
 use Rattle.ride_drawing.specs.Strip.{onStrip, isFurther}
 
 -- The entries of a plan, of which there are at most 64.

@@ -16,7 +16,7 @@ use Rattle.ride.specs.declared.Seen.{Seen}
 use Rattle.ride.specs.declared.Line.{Line}
 use Rattle.ride_text.specs.Style.{withReasons}
 use Rattle.ride_text.specs.Text.{lineText}
-use Rattle.ride_drawing.specs.Pieces.{metres}
+use Rattle.ride_drawing.specs.Metres.{metres}
 use Rattle.ride_drawing.specs.Strip.{onStrip}
 
 -- The shape of a signal, by its mark,

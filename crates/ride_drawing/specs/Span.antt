@@ -11,7 +11,7 @@ use Rattle.text.specs.Text.{codes, decimal}
 use Rattle.group.specs.declared.Told.{Told}
 use Rattle.ride.specs.declared.Linking.{Linking}
 use Rattle.ride.specs.declared.Known.{Known}
-use Rattle.ride_drawing.specs.Pieces.{metres}
+use Rattle.ride_drawing.specs.Metres.{metres}
 use Rattle.ride_drawing.specs.Strip.{lesser, greater, onStrip}
 
 -- How far down a speed stands: 270 at 28 and 0 at 118.

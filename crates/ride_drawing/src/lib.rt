@@ -4,12 +4,12 @@
 // edge; its title is the line as `explain` writes it; every entry of the plan has one sign, at its
 // place; any blocks give the whole; no record adds more than the room that is kept for it; the
 // bytes around a text stay.
-// Specification: specs/Pieces.antt (text in pieces), Strip.antt (the strips), Span.antt (speeds,
-// and where a signal is due), Sign.antt (the signs), Row.antt (a plan's entries), Drawing.antt (a
-// record and the end), Draw.antt (a block of records), Laws.antt (the promises).
+// Specification: specs/Strip.antt (the strips), Span.antt (speeds, and where a signal is due),
+// Sign.antt (the signs), Row.antt (a plan's entries), Drawing.antt (a record and the end), Draw.antt
+// (a block of records), Laws.antt (the promises).
 ghost use mathlib.Core.Path.{_≡_};
 ghost use Rattle.text.specs.Put.{came};
-ghost use Rattle.ride_drawing.specs.Pieces.{puts};
+ghost use Rattle.text.specs.Pieces.{puts};
 ghost use Rattle.ride_drawing.specs.Drawing.{pieces, drawEnd};
 ghost use Rattle.ride_drawing.specs.Draw.{draw};
 ghost use Rattle.ride_drawing.specs.Says.{freshPen, saysDrawn};

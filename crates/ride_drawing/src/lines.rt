@@ -4,7 +4,7 @@ ghost use Rattle.text.specs.Put.{came};
 ghost use Rattle.ride.specs.Says.{saysLines};
 ghost use Rattle.ride.specs.Step.{end};
 ghost use Rattle.ride_drawing.specs.declared.Pen.{Pen};
-ghost use Rattle.ride_drawing.specs.Pieces.{puts};
+ghost use Rattle.text.specs.Pieces.{puts};
 ghost use Rattle.ride_drawing.specs.Drawing.{pieces, onItsStrip, drawLines, afterLines};
 use crate::Pen;
 use crate::Plan;

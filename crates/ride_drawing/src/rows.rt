@@ -4,7 +4,7 @@ ghost use Rattle.text.specs.Put.{put, came};
 ghost use Rattle.acceptance_text.specs.Lines.{kindWord};
 ghost use Rattle.acceptance.specs.Taking.{isPresent};
 ghost use Rattle.ride.specs.declared.Line.{Line};
-ghost use Rattle.ride_drawing.specs.Pieces.{puts};
+ghost use Rattle.text.specs.Pieces.{puts};
 ghost use Rattle.ride_drawing.specs.Row.{row, entryShape, entryTitle, rowNumber, entrySign, isBy, hasMet, isExtra, extraSign};
 ghost use Rattle.ride_drawing.specs.Drawing.{pieces, extraMark};
 use crate::Plan;

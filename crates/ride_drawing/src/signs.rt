@@ -3,7 +3,7 @@ ghost use mathlib.Core.Path.{_≡_};
 ghost use Prim.Native.Nat.{_-_};
 ghost use Rattle.text.specs.Put.{put, came};
 ghost use Rattle.ride.specs.declared.Line.{Line};
-ghost use Rattle.ride_drawing.specs.Pieces.{puts};
+ghost use Rattle.text.specs.Pieces.{puts};
 ghost use Rattle.ride_drawing.specs.Sign.{markShape, kindShape, seenShape, shape, title, beside, numberBeside, placeBeside, label, sign};
 use crate::places::on_strip;
 use crate::spans::put_metres;

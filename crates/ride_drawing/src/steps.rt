@@ -4,7 +4,7 @@ ghost use Rattle.text.specs.Put.{came};
 ghost use Rattle.ride.specs.declared.Line.{Line};
 ghost use Rattle.ride.specs.Says.{saysWrong, saysLines, saysGiven};
 ghost use Rattle.ride_drawing.specs.declared.Pen.{Pen};
-ghost use Rattle.ride_drawing.specs.Pieces.{puts};
+ghost use Rattle.text.specs.Pieces.{puts};
 ghost use Rattle.ride_drawing.specs.Drawing.{pieces, drawRefused, drawAccepted, drawStep, penAfter, lastStrip, theRest};
 use crate::Pen;
 use crate::Plan;

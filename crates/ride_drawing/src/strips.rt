@@ -3,7 +3,7 @@ ghost use mathlib.Core.Path.{_≡_};
 ghost use Prim.Native.Nat.{_-_, _/_, _<_};
 ghost use Rattle.text.specs.Put.{came};
 ghost use Rattle.ride_drawing.specs.declared.Pen.{Pen};
-ghost use Rattle.ride_drawing.specs.Pieces.{puts};
+ghost use Rattle.text.specs.Pieces.{puts};
 ghost use Rattle.ride_drawing.specs.Strip.{heading, between};
 ghost use Rattle.ride_drawing.specs.Drawing.{leaving, way};
 use crate::Pen;

@@ -2,7 +2,7 @@
 ghost use mathlib.Core.Path.{_≡_};
 ghost use Rattle.text.specs.Put.{came};
 ghost use Rattle.ride_drawing.specs.declared.Pen.{Pen};
-ghost use Rattle.ride_drawing.specs.Pieces.{puts};
+ghost use Rattle.text.specs.Pieces.{puts};
 ghost use Rattle.ride_drawing.specs.Row.{row, isOnTheWay};
 ghost use Rattle.ride_drawing.specs.Drawing.{pieces, comeBy, past, wayPast};
 use crate::Pen;

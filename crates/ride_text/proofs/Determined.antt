@@ -5,9 +5,6 @@ use mathlib.Core.Path.{_≡_, refl, sym, ap, _∙_}
 use mathlib.Core.List.{List}
 use Prim.Native.Nat.{ℕ}
 use lib.Dec.{eqb}
-use contract.Lifetimes.{Lfts}
-use borrow.Fn.Kinds.{Dens, endedOf}
-use denote.Triple.Clauses.{AtExit}
 use denote.Ref.{now}
 use Rattle.words.specs.Answer.{Outcome, gives, refuses, pick}
 use Rattle.text.specs.Put.{Put, came}
@@ -25,6 +22,7 @@ use Rattle.ride_text.proofs.put_end.Kinds as put-end-kinds
 use Rattle.ride_text.proofs.put_end.Reads as put-end-reads
 use Rattle.ride_text.proofs.list.Kinds as list-kinds
 use Rattle.ride_text.proofs.list.Reads as list-reads
+use Rattle.words.proofs.Told.{FixedWith}
 
 -- From what an answer says, the answer.
 abbrev pub doneOf : Outcome Taken → Done
@@ -50,24 +48,16 @@ listed-back r out = ap (λ (d : Done). record { ride = r .ride; number = r .numb
 same-put : (n n′ : ℕ) (b b′ : List ℕ) → came n b ≡ came n′ b′ → (n ≡ n′) × (b ≡ b′)
 same-put n n′ b b′ e = (ap (λ (p : Put). p .next) e, ap (λ (p : Put). p .buffer) e)
 
-pub put-line-determined : (κs : Lfts 1) (a : Dens κs put-line-kinds.ps) (r r′ : ℕ)
-    (x x′ : AtExit (endedOf 1 put-line-kinds.ps put-line-kinds.r) κs)
-    → put-line-reads.Post κs a r x → put-line-reads.Post κs a r′ x′ → (r ≡ r′) × (now (x .1 .0) ≡ now (x′ .1 .0))
+pub put-line-determined : FixedWith 1 put-line-kinds.ps put-line-kinds.r put-line-reads.Post (λ κs x. now (x .1 .0))
 put-line-determined κs a r r′ x x′ p q = same-put r r′ (now (x .1 .0)) (now (x′ .1 .0)) (p ∙ sym q)
 
-pub put-styled-determined : (κs : Lfts 1) (a : Dens κs put-styled-kinds.ps) (r r′ : ℕ)
-    (x x′ : AtExit (endedOf 1 put-styled-kinds.ps put-styled-kinds.r) κs)
-    → put-styled-reads.Post κs a r x → put-styled-reads.Post κs a r′ x′ → (r ≡ r′) × (now (x .1 .1 .1 .0) ≡ now (x′ .1 .1 .1 .0))
+pub put-styled-determined : FixedWith 1 put-styled-kinds.ps put-styled-kinds.r put-styled-reads.Post (λ κs x. now (x .1 .1 .1 .0))
 put-styled-determined κs a r r′ x x′ p q = same-put r r′ (now (x .1 .1 .1 .0)) (now (x′ .1 .1 .1 .0)) (p ∙ sym q)
 
-pub put-end-determined : (κs : Lfts 1) (a : Dens κs put-end-kinds.ps) (r r′ : ℕ)
-    (x x′ : AtExit (endedOf 1 put-end-kinds.ps put-end-kinds.r) κs)
-    → put-end-reads.Post κs a r x → put-end-reads.Post κs a r′ x′ → (r ≡ r′) × (now (x .1 .1 .0) ≡ now (x′ .1 .1 .0))
+pub put-end-determined : FixedWith 1 put-end-kinds.ps put-end-kinds.r put-end-reads.Post (λ κs x. now (x .1 .1 .0))
 put-end-determined κs a r r′ x x′ p q = same-put r r′ (now (x .1 .1 .0)) (now (x′ .1 .1 .0)) (p ∙ sym q)
 
-pub list-determined : (κs : Lfts 2) (a : Dens κs list-kinds.ps) (r r′ : Listed)
-    (x x′ : AtExit (endedOf 2 list-kinds.ps list-kinds.r) κs)
-    → list-reads.Post κs a r x → list-reads.Post κs a r′ x′ → (r ≡ r′) × (now (x .1 .1 .1 .1 .1 .0) ≡ now (x′ .1 .1 .1 .1 .1 .0))
+pub list-determined : FixedWith 2 list-kinds.ps list-kinds.r list-reads.Post (λ κs x. now (x .1 .1 .1 .1 .1 .0))
 list-determined κs a r r′ x x′ p q =
     let same : saysListed r (now (x .1 .1 .1 .1 .1 .0)) ≡ saysListed r′ (now (x′ .1 .1 .1 .1 .1 .0)) = p ∙ sym q in (
       sym (listed-back r (now (x .1 .1 .1 .1 .1 .0))) ∙ ap listedOf same ∙ listed-back r′ (now (x′ .1 .1 .1 .1 .1 .0)),

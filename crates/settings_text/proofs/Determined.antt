@@ -1,14 +1,7 @@
 -- Each contract fixes the whole answer and every lent byte: any two that it allows are equal.
 -- Assumes nothing.
-use mathlib.Core.Path.{_≡_, sym, ap, _∙_}
-use Prim.Native.Nat.{ℕ}
-use contract.Lifetimes.{Lfts}
+use mathlib.Core.Path.{sym, _∙_}
 use denote.Ref.{now}
-use borrow.Fn.Kinds.{Dens, endedOf}
-use denote.Triple.Clauses.{AtExit}
-use Rattle.text.specs.Put.{Put, came}
-use Rattle.settings_text.specs.declared.Taken.{Taken}
-use Rattle.settings_text.specs.declared.Sheet.{Sheet}
 use Rattle.settings_text.proofs.take.Kinds as take-kinds
 use Rattle.settings_text.proofs.take.Reads as take-reads
 use Rattle.settings_text.proofs.taking.no_store.Kinds as no-store-kinds
@@ -19,7 +12,8 @@ use Rattle.settings_text.proofs.read.Kinds as read-kinds
 use Rattle.settings_text.proofs.read.Reads as read-reads
 use Rattle.settings_text.proofs.put_told.Kinds as put-told-kinds
 use Rattle.settings_text.proofs.put_told.Reads as put-told-reads
-use Rattle.words.proofs.Told.{Fixed}
+use Rattle.words.proofs.Told.{Fixed, FixedWith}
+use Rattle.text.proofs.Putting.{same-put}
 
 pub take-determined : Fixed 0 take-kinds.ps take-kinds.r take-reads.Post
 take-determined κs a r r′ x x′ p q = p ∙ sym q
@@ -33,9 +27,5 @@ is-fine-determined κs a r r′ x x′ p q = p ∙ sym q
 pub read-determined : Fixed 1 read-kinds.ps read-kinds.r read-reads.Post
 read-determined κs a r r′ x x′ p q = p ∙ sym q
 
-pub put-told-determined : (κs : Lfts 1) (a : Dens κs put-told-kinds.ps) (r r′ : ℕ)
-    (x x′ : AtExit (endedOf 1 put-told-kinds.ps put-told-kinds.r) κs)
-    → put-told-reads.Post κs a r x → put-told-reads.Post κs a r′ x′ → (r ≡ r′) × (now (x .1 .1 .0) ≡ now (x′ .1 .1 .0))
-put-told-determined κs a r r′ x x′ p q =
-    let same : came r (now (x .1 .1 .0)) ≡ came r′ (now (x′ .1 .1 .0)) = p ∙ sym q in
-    (ap (λ (v : Put). v .next) same, ap (λ (v : Put). v .buffer) same)
+pub put-told-determined : FixedWith 1 put-told-kinds.ps put-told-kinds.r put-told-reads.Post (λ κs x. now (x .1 .1 .0))
+put-told-determined κs a r r′ x x′ p q = same-put (p ∙ sym q)

@@ -1,4 +1,6 @@
 pub mod Decimal
 pub mod Placing
 pub mod Standing
+pub mod Putting
+pub mod Fitting
 pub mod Determined

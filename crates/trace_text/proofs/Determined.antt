@@ -2,15 +2,10 @@
 -- allows are equal.
 -- Assumes nothing.
 use mathlib.Core.Path.{_≡_, refl, sym, ap, _∙_}
-use Prim.Native.Nat.{ℕ}
 use lib.Dec.{eqb}
-use contract.Lifetimes.{Lfts}
 use denote.Ref.{now}
-use borrow.Fn.Kinds.{Dens, endedOf}
-use denote.Triple.Clauses.{AtExit}
 use Rattle.words.specs.Answer.{Outcome, gives, refuses, pick}
-use Rattle.words.proofs.Told.{Fixed}
-use Rattle.text.specs.Put.{Put, came}
+use Rattle.words.proofs.Told.{Fixed, FixedWith}
 use Rattle.trace_text.specs.Record.{Made, Recording}
 use Rattle.trace_text.specs.Says.{saysMakingWent, saysRecorded}
 use Rattle.trace_text.specs.declared.MakingWent.{MakingWent}
@@ -25,6 +20,7 @@ use Rattle.trace_text.proofs.put_record.Kinds as put-record-kinds
 use Rattle.trace_text.proofs.put_record.Reads as put-record-reads
 use Rattle.trace_text.proofs.put_thing.Kinds as put-thing-kinds
 use Rattle.trace_text.proofs.put_thing.Reads as put-thing-reads
+use Rattle.text.proofs.Putting.{same-put}
 
 -- From what an answer says, the answer.
 abbrev pub howOf : Outcome Made → MakingWent
@@ -51,16 +47,8 @@ record-of-determined κs a r r′ x x′ p q = sym (recorded-back r) ∙ ap reco
 pub thing-at-determined : Fixed 1 thing-at-kinds.ps thing-at-kinds.r thing-at-reads.Post
 thing-at-determined κs a r r′ x x′ p q = p ∙ sym q
 
-pub put-record-determined : (κs : Lfts 1) (a : Dens κs put-record-kinds.ps) (r r′ : ℕ)
-    (x x′ : AtExit (endedOf 1 put-record-kinds.ps put-record-kinds.r) κs)
-    → put-record-reads.Post κs a r x → put-record-reads.Post κs a r′ x′ → (r ≡ r′) × (now (x .1 .1 .1 .0) ≡ now (x′ .1 .1 .1 .0))
-put-record-determined κs a r r′ x x′ p q =
-    let same : came r (now (x .1 .1 .1 .0)) ≡ came r′ (now (x′ .1 .1 .1 .0)) = p ∙ sym q in
-    (ap (λ (v : Put). v .next) same, ap (λ (v : Put). v .buffer) same)
+pub put-record-determined : FixedWith 1 put-record-kinds.ps put-record-kinds.r put-record-reads.Post (λ κs x. now (x .1 .1 .1 .0))
+put-record-determined κs a r r′ x x′ p q = same-put (p ∙ sym q)
 
-pub put-thing-determined : (κs : Lfts 1) (a : Dens κs put-thing-kinds.ps) (r r′ : ℕ)
-    (x x′ : AtExit (endedOf 1 put-thing-kinds.ps put-thing-kinds.r) κs)
-    → put-thing-reads.Post κs a r x → put-thing-reads.Post κs a r′ x′ → (r ≡ r′) × (now (x .1 .1 .0) ≡ now (x′ .1 .1 .0))
-put-thing-determined κs a r r′ x x′ p q =
-    let same : came r (now (x .1 .1 .0)) ≡ came r′ (now (x′ .1 .1 .0)) = p ∙ sym q in
-    (ap (λ (v : Put). v .next) same, ap (λ (v : Put). v .buffer) same)
+pub put-thing-determined : FixedWith 1 put-thing-kinds.ps put-thing-kinds.r put-thing-reads.Post (λ κs x. now (x .1 .1 .0))
+put-thing-determined κs a r r′ x x′ p q = same-put (p ∙ sym q)

@@ -2,17 +2,12 @@
 -- that it allows are equal.
 -- Assumes nothing.
 use mathlib.Core.Path.{_≡_, refl, sym, ap, _∙_}
-use Prim.Native.Nat.{ℕ}
 use lib.Dec.{eqb}
-use contract.Lifetimes.{Lfts}
 use denote.Ref.{now}
-use borrow.Fn.Kinds.{Dens, endedOf}
-use denote.Triple.Clauses.{AtExit}
 use Rattle.words.specs.Answer.{Answer, gives, refuses, pick}
-use Rattle.words.proofs.Told.{Fixed, told}
+use Rattle.words.proofs.Told.{Fixed, told, FixedWith}
 use Rattle.track_lead.specs.declared.Way.{Way}
 use Rattle.track_lead.specs.declared.Taken.{Taken}
-use Rattle.track_lead.specs.declared.Wrote.{Wrote}
 use Rattle.track_lead.specs.Way.{Bad, refused, tooNear}
 use Rattle.track_lead.specs.Feed.{Writing}
 use Rattle.track_lead.specs.Says.{saysTaken}
@@ -64,8 +59,7 @@ begin-determined κs a x y at-x at-y p q = p ∙ sym q
 pub passes-determined : Fixed 0 passes-kinds.ps passes-kinds.r passes-reads.Post
 passes-determined κs a x y at-x at-y p q = p ∙ sym q
 
-pub write-determined : (κs : Lfts 1) (a : Dens κs write-kinds.ps) (r r′ : Wrote) (x x′ : AtExit (endedOf 1 write-kinds.ps write-kinds.r) κs)
-    → write-reads.Post κs a r x → write-reads.Post κs a r′ x′ → (r ≡ r′) × (now (x .1 .1 .0) ≡ now (x′ .1 .1 .0))
+pub write-determined : FixedWith 1 write-kinds.ps write-kinds.r write-reads.Post (λ κs x. now (x .1 .1 .0))
 write-determined κs a r r′ x x′ p q =
     let same = p ∙ sym q in
     (ap (λ (w : Writing). record { feed = w .feed; count = w .count }) same, ap (λ (w : Writing). w .buffer) same)

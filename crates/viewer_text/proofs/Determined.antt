@@ -1,13 +1,7 @@
 -- Each contract fixes the whole answer: any two that it allows are equal.
 -- Assumes nothing.
-use mathlib.Core.Path.{_≡_, sym, ap, _∙_}
-use Prim.Native.Nat.{ℕ}
-use contract.Lifetimes.{Lfts}
+use mathlib.Core.Path.{sym, _∙_}
 use denote.Ref.{now}
-use borrow.Fn.Kinds.{Dens, endedOf}
-use denote.Triple.Clauses.{AtExit}
-use Rattle.text.specs.Put.{Put, came}
-use Rattle.viewer_text.specs.declared.commands.Command.{Command}
 use Rattle.viewer_text.proofs.put_state.Kinds as put-state-kinds
 use Rattle.viewer_text.proofs.put_state.Reads as put-state-reads
 use Rattle.viewer_text.proofs.commands.read.Kinds as read-kinds
@@ -24,14 +18,11 @@ use Rattle.viewer_text.proofs.finding.has.Kinds as has-kinds
 use Rattle.viewer_text.proofs.finding.has.Reads as has-reads
 use Rattle.viewer_text.proofs.seeking.seek.Kinds as seek-kinds
 use Rattle.viewer_text.proofs.seeking.seek.Reads as seek-reads
-use Rattle.words.proofs.Told.{Fixed}
+use Rattle.words.proofs.Told.{Fixed, FixedWith}
+use Rattle.text.proofs.Putting.{same-put}
 
-pub put-state-determined : (κs : Lfts 1) (a : Dens κs put-state-kinds.ps) (r r′ : ℕ)
-    (x x′ : AtExit (endedOf 1 put-state-kinds.ps put-state-kinds.r) κs)
-    → put-state-reads.Post κs a r x → put-state-reads.Post κs a r′ x′ → (r ≡ r′) × (now (x .1 .1 .1 .1 .0) ≡ now (x′ .1 .1 .1 .1 .0))
-put-state-determined κs a r r′ x x′ p q =
-    let same : came r (now (x .1 .1 .1 .1 .0)) ≡ came r′ (now (x′ .1 .1 .1 .1 .0)) = p ∙ sym q in
-    (ap (λ (v : Put). v .next) same, ap (λ (v : Put). v .buffer) same)
+pub put-state-determined : FixedWith 1 put-state-kinds.ps put-state-kinds.r put-state-reads.Post (λ κs x. now (x .1 .1 .1 .1 .0))
+put-state-determined κs a r r′ x x′ p q = same-put (p ∙ sym q)
 
 pub read-determined : Fixed 1 read-kinds.ps read-kinds.r read-reads.Post
 read-determined κs a r r′ x x′ p q = p ∙ sym q
@@ -48,16 +39,8 @@ has-determined κs a r r′ x x′ p q = p ∙ sym q
 pub seek-determined : Fixed 2 seek-kinds.ps seek-kinds.r seek-reads.Post
 seek-determined κs a r r′ x x′ p q = p ∙ sym q
 
-pub put-next-determined : (κs : Lfts 2) (a : Dens κs put-next-kinds.ps) (r r′ : ℕ)
-    (x x′ : AtExit (endedOf 2 put-next-kinds.ps put-next-kinds.r) κs)
-    → put-next-reads.Post κs a r x → put-next-reads.Post κs a r′ x′ → (r ≡ r′) × (now (x .1 .1 .0) ≡ now (x′ .1 .1 .0))
-put-next-determined κs a r r′ x x′ p q =
-    let same : came r (now (x .1 .1 .0)) ≡ came r′ (now (x′ .1 .1 .0)) = p ∙ sym q in
-    (ap (λ (v : Put). v .next) same, ap (λ (v : Put). v .buffer) same)
+pub put-next-determined : FixedWith 2 put-next-kinds.ps put-next-kinds.r put-next-reads.Post (λ κs x. now (x .1 .1 .0))
+put-next-determined κs a r r′ x x′ p q = same-put (p ∙ sym q)
 
-pub put-beside-determined : (κs : Lfts 2) (a : Dens κs put-beside-kinds.ps) (r r′ : ℕ)
-    (x x′ : AtExit (endedOf 2 put-beside-kinds.ps put-beside-kinds.r) κs)
-    → put-beside-reads.Post κs a r x → put-beside-reads.Post κs a r′ x′ → (r ≡ r′) × (now (x .1 .1 .1 .0) ≡ now (x′ .1 .1 .1 .0))
-put-beside-determined κs a r r′ x x′ p q =
-    let same : came r (now (x .1 .1 .1 .0)) ≡ came r′ (now (x′ .1 .1 .1 .0)) = p ∙ sym q in
-    (ap (λ (v : Put). v .next) same, ap (λ (v : Put). v .buffer) same)
+pub put-beside-determined : FixedWith 2 put-beside-kinds.ps put-beside-kinds.r put-beside-reads.Post (λ κs x. now (x .1 .1 .1 .0))
+put-beside-determined κs a r r′ x x′ p q = same-put (p ∙ sym q)

@@ -14,6 +14,12 @@ Fixed n ps r Post =
     (κs : Lfts n) (a : Dens κs ps) (x y : resT r κs .Denot) (at-x : AtExit (endedOf n ps r) κs) (at-y : AtExit (endedOf n ps r) κs)
     → Post κs a x at-x → Post κs a y at-y → x ≡ y
 
+-- A contract fixes its function's whole answer and what it leaves in lent memory.
+abbrev pub FixedWith : (n : ℕ) (ps : List (PK n)) (r : RK n) → Out n ps r → {M : Type 0} → ((κs : Lfts n) → AtExit (endedOf n ps r) κs → M) → Type 0
+FixedWith n ps r Post memory =
+    (κs : Lfts n) (a : Dens κs ps) (x y : resT r κs .Denot) (at-x : AtExit (endedOf n ps r) κs) (at-y : AtExit (endedOf n ps r) κs)
+    → Post κs a x at-x → Post κs a y at-y → (x ≡ y) × (memory κs at-x ≡ memory κs at-y)
+
 -- What an answer with two cases was, from what it says.
 abbrev pub twoCases : {R A T : Type 0} → (A → T) → (R → T) → Answer R A → T
 twoCases of-given of-refused (gives x) = of-given x

@@ -3,7 +3,7 @@
 use mathlib.Core.Path.{ap₂}
 use Prim.Native.Nat.{ℕ, _≤_}
 use native.Mathlib.Omega.{arith}
-use Rattle.ride_drawing.proofs.Putting.{then, after, all-as}
+use Rattle.text.proofs.Putting.{then, after, all-as}
 use Rattle.contact_drawing.specs.Strips.{drawn, picture, strips}
 use Rattle.contact_drawing.proofs.Each.{drawn-most}
 use borrow.Author.Needs.{needs}

@@ -2,7 +2,8 @@
 -- Assumes nothing.
 use mathlib.Core.Path.{ap, _∙_}
 use Rattle.ride.specs.Step.{End, end}
-use Rattle.ride_drawing.proofs.Putting.{after, all-as, pieces-append}
+use Rattle.text.proofs.Putting.{after, all-as}
+use Rattle.ride_drawing.proofs.Elements.{pieces-append}
 use Rattle.ride_drawing.specs.Drawing.{pieces, drawLines, afterLines, theRest, drawEnd}
 use Rattle.ride_drawing.specs.declared.Pen.{Pen}
 use borrow.Author.Needs.{needs}

@@ -1,7 +1,7 @@
 -- By the length.
 -- Assumes nothing.
 use borrow.Author.Tests.{lt-ltb, le-ltb}
-use Rattle.ride_drawing.proofs.Putting.{none, then, alone}
+use Rattle.text.proofs.Putting.{none, then, alone}
 use Rattle.contact_drawing.specs.Strips.{cutAt}
 use borrow.Author.Needs.{needs}
 use Rattle.contact_drawing.proofs.picture.put_cut.Statement.{statement}

@@ -2,7 +2,7 @@
 -- Assumes nothing.
 use mathlib.Core.Path.{ap}
 use native.Mathlib.Omega.{arith}
-use Rattle.ride_drawing.proofs.Putting.{then, after, all-as}
+use Rattle.text.proofs.Putting.{then, after, all-as}
 use Rattle.contact_drawing.specs.Strips.{telegramOf, each, picture}
 use borrow.Author.Needs.{needs}
 use Rattle.contact_drawing.proofs.picture.put_picture.Statement.{statement}

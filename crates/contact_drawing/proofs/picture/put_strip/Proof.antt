@@ -5,7 +5,7 @@ use mathlib.Core.List.{_++_}
 use Prim.Native.Nat.{ℕ}
 use native.Mathlib.Omega.{arith}
 use Rattle.text.specs.Text.{codes, decimal}
-use Rattle.ride_drawing.proofs.Putting.{then, alone, word-as}
+use Rattle.text.proofs.Putting.{then, alone, word-as}
 use Rattle.contact_drawing.specs.Strips.{strip}
 use borrow.Author.Needs.{needs}
 use Rattle.contact_drawing.proofs.picture.put_strip.Statement.{statement}

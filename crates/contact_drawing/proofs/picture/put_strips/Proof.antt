@@ -4,7 +4,7 @@ use Prim.Native.Nat.{ℕ, _-_}
 use mathlib.Core.Path.{_≡_, refl, ap, _∙_}
 use native.Mathlib.Omega.{arith}
 use lib.ListN.{length}
-use Rattle.ride_drawing.specs.Pieces.{puts}
+use Rattle.text.specs.Pieces.{puts}
 use Rattle.contact_drawing.specs.Strips.{strip, each}
 use Rattle.contact_drawing.proofs.Each.{turn, last}
 use borrow.Author.Needs.{needs}

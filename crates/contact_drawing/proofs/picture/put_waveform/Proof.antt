@@ -1,7 +1,7 @@
 -- The pieces in their order.
 -- Assumes nothing.
 use native.Mathlib.Omega.{arith}
-use Rattle.ride_drawing.proofs.Putting.{then, after, alone}
+use Rattle.text.proofs.Putting.{then, after, alone}
 use Rattle.contact_drawing.specs.Strips.{waveform}
 use borrow.Author.Needs.{needs}
 use Rattle.contact_drawing.proofs.picture.put_waveform.Statement.{statement}

@@ -4,8 +4,8 @@ use Prim.Native.Nat.{ℕ, _-_}
 use mathlib.Core.Path.{_≡_, refl, ap, _∙_}
 use native.Mathlib.Omega.{arith}
 use lib.ListN.{length}
-use Rattle.ride_drawing.specs.Pieces.{puts}
-use Rattle.ride_drawing.proofs.Putting.{alone, word-as}
+use Rattle.text.specs.Pieces.{puts}
+use Rattle.text.proofs.Putting.{alone, word-as}
 use Rattle.contact_drawing.specs.Strips.{level, bitOf, each}
 use Rattle.contact_drawing.proofs.Each.{turn, last}
 use borrow.Author.Needs.{needs}

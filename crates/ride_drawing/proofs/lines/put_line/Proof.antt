@@ -2,7 +2,8 @@
 -- Assumes nothing.
 use mathlib.Core.Path.{ap, _∙_}
 use Prim.Native.Nat.{ℕ}
-use Rattle.ride_drawing.proofs.Putting.{after, all-as, pieces-append}
+use Rattle.text.proofs.Putting.{after, all-as}
+use Rattle.ride_drawing.proofs.Elements.{pieces-append}
 use Rattle.ride_drawing.specs.Drawing.{pieces, wayPast, extraMark, reached, onItsStrip}
 use Rattle.ride_drawing.specs.Sign.{sign}
 use Rattle.ride_drawing.specs.Span.{span}

@@ -24,7 +24,7 @@ use Rattle.text.proofs.Placing.{placed-length}
 use Rattle.text.proofs.Standing.{stands}
 use Rattle.ride_drawing.specs.Drawing.{Element, pieces, drawStep}
 use Rattle.ride_drawing.specs.Draw.{textOf, stepElements, stepPen, isTaken, taken, drawTaken}
-use Rattle.ride_drawing.proofs.Fitting.{fitting}
+use Rattle.text.proofs.Fitting.{fitting}
 use Rattle.ride_drawing.proofs.Short.{step-size}
 use Rattle.ride_drawing.proofs.Turns.{block, fromHere, from-first, from-next, from-last, stepAt, no-more, none-left}
 use Rattle.ride_drawing.proofs.records.over.Statement.{statement}

@@ -5,8 +5,8 @@ use mathlib.Core.Path.{ap, ap₂}
 use Prim.Native.Nat.{ℕ}
 use Rattle.text.specs.Put.{put}
 use Rattle.text.specs.Text.{codes, decimal}
-use Rattle.ride_drawing.proofs.Putting.{then, after, word-as, all-as}
-use Rattle.ride_drawing.specs.Pieces.{metres}
+use Rattle.text.proofs.Putting.{then, after, word-as, all-as}
+use Rattle.ride_drawing.specs.Metres.{metres}
 use Rattle.ride_drawing.specs.Row.{rowNumber, entrySign}
 use borrow.Author.Needs.{needs}
 use Rattle.ride_drawing.proofs.rows.put_entry.Statement.{statement}

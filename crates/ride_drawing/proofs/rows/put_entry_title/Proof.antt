@@ -8,7 +8,7 @@ use Rattle.text.specs.Put.{put}
 use Rattle.acceptance_text.specs.Lines.{entryLine}
 use Rattle.acceptance_text.proofs.Pieces.{entry-length}
 use Rattle.ride_drawing.proofs.Cases.{cut-short}
-use Rattle.ride_drawing.proofs.Putting.{word-as}
+use Rattle.text.proofs.Putting.{word-as}
 use Rattle.ride_drawing.specs.Row.{entryTitle}
 use borrow.Author.Needs.{needs}
 use Rattle.ride_drawing.proofs.rows.put_entry_title.Statement.{statement}

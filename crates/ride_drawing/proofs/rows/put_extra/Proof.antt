@@ -4,7 +4,7 @@ use mathlib.Core.Bool.{true, false}
 use mathlib.Core.Path.{_≡_, sym, ap, _∙_}
 use Rattle.ride.specs.declared.Line.{Line}
 use Rattle.ride_drawing.proofs.Entries.{extra-drawn, extra-none}
-use Rattle.ride_drawing.proofs.Putting.{all-as, none-as}
+use Rattle.text.proofs.Putting.{all-as, none-as}
 use Rattle.ride_drawing.specs.Drawing.{pieces, extraMark}
 use borrow.Author.Needs.{needs}
 use Rattle.ride_drawing.proofs.rows.put_extra.Statement.{statement}

@@ -3,8 +3,8 @@
 use mathlib.Core.Path.{ap}
 use Rattle.text.specs.Put.{put}
 use Rattle.text.specs.Text.{codes}
-use Rattle.ride_drawing.proofs.Putting.{then, alone, after, all-as}
-use Rattle.ride_drawing.specs.Pieces.{metres}
+use Rattle.text.proofs.Putting.{then, alone, after, all-as}
+use Rattle.ride_drawing.specs.Metres.{metres}
 use Rattle.ride_drawing.specs.Row.{extraSign}
 use borrow.Author.Needs.{needs}
 use Rattle.ride_drawing.proofs.rows.put_extra_sign.Statement.{statement}

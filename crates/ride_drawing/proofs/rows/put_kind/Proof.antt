@@ -4,7 +4,7 @@ use mathlib.Core.Path.{sym, ap}
 use Rattle.text.specs.Put.{put}
 use Rattle.group_rows.specs.declared.Kind.{Kind}
 use Rattle.acceptance_text.specs.Lines.{kindWord}
-use Rattle.ride_drawing.proofs.Putting.{word-as}
+use Rattle.text.proofs.Putting.{word-as}
 use borrow.Author.Needs.{needs}
 use Rattle.ride_drawing.proofs.rows.put_kind.Statement.{statement}
 use Rattle.ride_drawing.proofs.rows.put_kind.Tie as tie

@@ -1,7 +1,7 @@
 -- The pieces in their order.
 -- Assumes nothing.
 use Rattle.text.specs.Put.{put}
-use Rattle.ride_drawing.proofs.Putting.{then, alone, after}
+use Rattle.text.proofs.Putting.{then, alone, after}
 use borrow.Author.Needs.{needs}
 use Rattle.ride_drawing.proofs.rows.put_row_number.Statement.{statement}
 use Rattle.ride_drawing.proofs.rows.put_row_number.Tie as tie

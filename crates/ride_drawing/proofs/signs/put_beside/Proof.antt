@@ -6,7 +6,7 @@ use Prim.Native.Nat.{ℕ}
 use Rattle.text.specs.Put.{put}
 use Rattle.text.specs.Text.{codes, decimal}
 use Rattle.group.specs.declared.Number.{Number}
-use Rattle.ride_drawing.proofs.Putting.{then, alone, after, word-as, all-as, none-as}
+use Rattle.text.proofs.Putting.{then, alone, after, word-as, all-as, none-as}
 use Rattle.ride_drawing.specs.Sign.{numberBeside}
 use borrow.Author.Needs.{needs}
 use Rattle.ride_drawing.proofs.signs.put_beside.Statement.{statement}

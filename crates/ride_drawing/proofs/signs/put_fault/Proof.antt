@@ -1,7 +1,7 @@
 -- The pieces in their order.
 -- Assumes nothing.
 use Rattle.text.specs.Put.{put}
-use Rattle.ride_drawing.proofs.Putting.{then, alone, after}
+use Rattle.text.proofs.Putting.{then, alone, after}
 use Rattle.ride_drawing.specs.Sign.{label}
 use borrow.Author.Needs.{needs}
 use Rattle.ride_drawing.proofs.signs.put_fault.Statement.{statement}

@@ -3,8 +3,8 @@
 use Prim.Native.Nat.{_+_, _≤_, _<_}
 use native.Mathlib.Omega.{arith}
 use borrow.Author.Tests.{lt-ltb, le-ltb}
-use Rattle.ride_drawing.proofs.Putting.{alone}
-use Rattle.ride_drawing.specs.Pieces.{puts}
+use Rattle.text.proofs.Putting.{alone}
+use Rattle.text.specs.Pieces.{puts}
 use borrow.Author.Needs.{needs}
 use Rattle.ride_drawing.proofs.signs.put_place.Statement.{statement}
 use Rattle.ride_drawing.proofs.signs.put_place.Tie as tie

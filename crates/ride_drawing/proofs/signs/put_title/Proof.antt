@@ -6,7 +6,7 @@ use lib.Seq.{length-take-le}
 use Rattle.text.proofs.Standing.{Begins, begins}
 use Rattle.text.specs.Put.{put}
 use Rattle.ride_drawing.proofs.Cases.{cut-short}
-use Rattle.ride_drawing.proofs.Putting.{word-as}
+use Rattle.text.proofs.Putting.{word-as}
 use Rattle.ride_drawing.specs.Sign.{title}
 use Rattle.ride_text.proofs.Longest.{line-within}
 use Rattle.ride_text.specs.Style.{withReasons}

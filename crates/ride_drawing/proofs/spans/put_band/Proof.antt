@@ -2,7 +2,7 @@
 -- Assumes nothing.
 use mathlib.Core.Path.{sym, ap}
 use Rattle.ride.specs.declared.Linking.{Linking}
-use Rattle.ride_drawing.proofs.Putting.{all-as, none-as}
+use Rattle.text.proofs.Putting.{all-as, none-as}
 use Rattle.ride_drawing.specs.Span.{band}
 use borrow.Author.Needs.{needs}
 use Rattle.ride_drawing.proofs.spans.put_band.Statement.{statement}

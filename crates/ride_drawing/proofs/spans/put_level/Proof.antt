@@ -4,8 +4,8 @@ use mathlib.Core.Path.{sym, ap, _∙_}
 use borrow.Author.Tests.{le-ltb}
 use Rattle.group.specs.declared.Told.{Told}
 use Rattle.ride_drawing.proofs.Cases.{unknown-level, known-level}
-use Rattle.ride_drawing.proofs.Putting.{all-as, none-as}
-use Rattle.ride_drawing.specs.Pieces.{puts}
+use Rattle.text.proofs.Putting.{all-as, none-as}
+use Rattle.text.specs.Pieces.{puts}
 use Rattle.ride_drawing.specs.Span.{level}
 use borrow.Author.Needs.{needs}
 use Rattle.ride_drawing.proofs.spans.put_level.Statement.{statement}

@@ -1,7 +1,7 @@
 -- The band and its middle.
 -- Assumes nothing.
 use mathlib.Core.Path.{ap, ap₂, _∙_}
-use Rattle.ride_drawing.proofs.Putting.{after, all-as}
+use Rattle.text.proofs.Putting.{after, all-as}
 use Rattle.ride_drawing.specs.Span.{due, band}
 use Rattle.ride_drawing.specs.Strip.{lesser, greater, onStrip}
 use borrow.Author.Needs.{needs}

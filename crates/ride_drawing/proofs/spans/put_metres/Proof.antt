@@ -1,6 +1,6 @@
 -- The metres, and then the decimal.
 -- Assumes nothing.
-use Rattle.ride_drawing.proofs.Putting.{then, alone}
+use Rattle.text.proofs.Putting.{then, alone}
 use borrow.Author.Needs.{needs}
 use Rattle.ride_drawing.proofs.spans.put_metres.Statement.{statement}
 use Rattle.ride_drawing.proofs.spans.put_metres.Tie as tie

@@ -2,7 +2,7 @@
 -- Assumes nothing.
 use Rattle.text.specs.Put.{put}
 use Rattle.ride_drawing.proofs.Cases.{middle-drawn, middle-none}
-use Rattle.ride_drawing.proofs.Putting.{alone, after, all-as, none-as}
+use Rattle.text.proofs.Putting.{alone, after, all-as, none-as}
 use borrow.Author.Needs.{needs}
 use Rattle.ride_drawing.proofs.spans.put_middle.Statement.{statement}
 use Rattle.ride_drawing.proofs.spans.put_middle.Tie as tie

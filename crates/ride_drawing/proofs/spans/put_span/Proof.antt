@@ -2,7 +2,7 @@
 -- Assumes nothing.
 use mathlib.Core.Path.{ap₂}
 use Rattle.text.specs.Text.{codes}
-use Rattle.ride_drawing.proofs.Putting.{after, all-as}
+use Rattle.text.proofs.Putting.{after, all-as}
 use Rattle.ride_drawing.specs.Span.{level, span}
 use borrow.Author.Needs.{needs}
 use Rattle.ride_drawing.proofs.spans.put_span.Statement.{statement}

@@ -5,7 +5,7 @@ use mathlib.Core.Path.{ap}
 use Prim.Native.Nat.{ℕ}
 use Rattle.text.specs.Put.{put}
 use Rattle.text.specs.Text.{codes, decimal}
-use Rattle.ride_drawing.proofs.Putting.{then, alone, after, word-as}
+use Rattle.text.proofs.Putting.{then, alone, after, word-as}
 use Rattle.ride_drawing.specs.Span.{speedLine}
 use borrow.Author.Needs.{needs}
 use Rattle.ride_drawing.proofs.spans.put_speed.Statement.{statement}

@@ -4,7 +4,7 @@ use mathlib.Core.Path.{sym, ap, ap₂, _∙_}
 use Prim.Native.Nat.{ℕ}
 use Rattle.ride.specs.Says.{saysGiven}
 use Rattle.ride.specs.declared.trace.Given.{Given}
-use Rattle.ride_drawing.proofs.Putting.{after}
+use Rattle.text.proofs.Putting.{after}
 use Rattle.ride_drawing.specs.Drawing.{certain, penAfter}
 use Rattle.ride_drawing.specs.Strip.{arrive}
 use Rattle.ride_drawing.specs.declared.Pen.{Pen}

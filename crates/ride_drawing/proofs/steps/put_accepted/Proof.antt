@@ -4,7 +4,8 @@ use mathlib.Core.Path.{ap₂}
 use Prim.Native.Nat.{ℕ}
 use Rattle.ride.specs.Says.{saysLines}
 use Rattle.ride.specs.Step.{end}
-use Rattle.ride_drawing.proofs.Putting.{after, all-as, pieces-append}
+use Rattle.text.proofs.Putting.{after, all-as}
+use Rattle.ride_drawing.proofs.Elements.{pieces-append}
 use Rattle.ride_drawing.specs.Drawing.{pieces, wayPast, drawLines, certain, drawAccepted}
 use Rattle.ride_drawing.specs.declared.Pen.{Pen}
 use borrow.Author.Needs.{needs}

@@ -4,7 +4,7 @@ use mathlib.Core.Bool.{true, false}
 use mathlib.Core.Path.{_≡_}
 use borrow.Author.Tests.{not-true, not-false}
 use Rattle.text.specs.Put.{put}
-use Rattle.ride_drawing.proofs.Putting.{alone, after}
+use Rattle.text.proofs.Putting.{alone, after}
 use Rattle.ride_drawing.specs.Drawing.{lastStrip}
 use borrow.Author.Needs.{needs}
 use Rattle.ride_drawing.proofs.steps.put_last.Statement.{statement}

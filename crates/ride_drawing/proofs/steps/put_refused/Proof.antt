@@ -1,7 +1,7 @@
 -- On the open strip, or in the row.
 -- Assumes nothing.
 use Rattle.text.specs.Put.{put}
-use Rattle.ride_drawing.proofs.Putting.{none, then, alone, after}
+use Rattle.text.proofs.Putting.{none, then, alone, after}
 use Rattle.ride_drawing.specs.Drawing.{inTheRow, drawRefused}
 use borrow.Author.Needs.{needs}
 use Rattle.ride_drawing.proofs.steps.put_refused.Statement.{statement}

@@ -1,7 +1,8 @@
 -- Past the entries that are left, and then the end of the last strip.
 -- Assumes nothing.
 use mathlib.Core.Path.{ap}
-use Rattle.ride_drawing.proofs.Putting.{none, after, all-as, pieces-append}
+use Rattle.text.proofs.Putting.{none, after, all-as}
+use Rattle.ride_drawing.proofs.Elements.{pieces-append}
 use Rattle.ride_drawing.specs.Drawing.{past, lastStrip, theRest}
 use Rattle.ride_drawing.specs.Row.{row, furthest}
 use Rattle.ride_drawing.specs.declared.Pen.{Pen}

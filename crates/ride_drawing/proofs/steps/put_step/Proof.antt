@@ -5,7 +5,7 @@ use Prim.Native.Nat.{ℕ}
 use Rattle.ride.specs.Says.{saysGiven}
 use Rattle.ride.specs.declared.Line.{Line}
 use Rattle.ride.specs.declared.trace.Given.{Given}
-use Rattle.ride_drawing.proofs.Putting.{after, all-as}
+use Rattle.text.proofs.Putting.{after, all-as}
 use Rattle.ride_drawing.specs.Drawing.{pieces, drawRefused, drawStep}
 use borrow.Author.Needs.{needs}
 use Rattle.ride_drawing.proofs.steps.put_step.Statement.{statement}

@@ -2,8 +2,8 @@
 -- Assumes nothing.
 use borrow.Author.Tests.{lt-ltb, le-ltb}
 use Rattle.text.specs.Put.{put}
-use Rattle.ride_drawing.proofs.Putting.{then, alone}
-use Rattle.ride_drawing.specs.Pieces.{puts}
+use Rattle.text.proofs.Putting.{then, alone}
+use Rattle.text.specs.Pieces.{puts}
 use Rattle.ride_drawing.specs.Strip.{between}
 use borrow.Author.Needs.{needs}
 use Rattle.ride_drawing.proofs.strips.put_between.Statement.{statement}

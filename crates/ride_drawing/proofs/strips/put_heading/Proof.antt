@@ -2,7 +2,7 @@
 -- Assumes nothing.
 use native.Mathlib.Omega.{arith}
 use Rattle.text.specs.Put.{put}
-use Rattle.ride_drawing.proofs.Putting.{then, alone}
+use Rattle.text.proofs.Putting.{then, alone}
 use Rattle.ride_drawing.specs.Strip.{heading}
 use borrow.Author.Needs.{needs}
 use Rattle.ride_drawing.proofs.strips.put_heading.Statement.{statement}

@@ -4,7 +4,7 @@ use mathlib.Core.Bool.{true, false}
 use mathlib.Core.Path.{_≡_, ap}
 use borrow.Author.Tests.{not-true, not-false}
 use Rattle.text.specs.Put.{put}
-use Rattle.ride_drawing.proofs.Putting.{then, alone, after, all-as}
+use Rattle.text.proofs.Putting.{then, alone, after, all-as}
 use Rattle.ride_drawing.specs.Drawing.{leaving}
 use Rattle.ride_drawing.specs.Strip.{between}
 use borrow.Author.Needs.{needs}

@@ -3,9 +3,9 @@
 use mathlib.Core.Bool.{true, false}
 use mathlib.Core.Path.{_≡_, sym, _∙_}
 use borrow.Author.Tests.{not-true, not-false}
-use Rattle.ride_drawing.proofs.Putting.{after}
+use Rattle.text.proofs.Putting.{after}
 use Rattle.ride_drawing.specs.Drawing.{way}
-use Rattle.ride_drawing.specs.Pieces.{puts}
+use Rattle.text.specs.Pieces.{puts}
 use Rattle.ride_drawing.specs.Strip.{isFurther}
 use borrow.Author.Needs.{needs}
 use Rattle.ride_drawing.proofs.strips.put_way.Statement.{statement}

@@ -4,7 +4,7 @@ use mathlib.Core.Bool.{true, false}
 use mathlib.Core.Path.{_≡_, sym, _∙_}
 use borrow.Author.Tests.{not-true, not-false}
 use Rattle.ride_drawing.proofs.Entries.{by-none, by-drawn}
-use Rattle.ride_drawing.proofs.Putting.{none, after, all-as, none-as}
+use Rattle.text.proofs.Putting.{none, after, all-as, none-as}
 use borrow.Author.Needs.{needs}
 use Rattle.ride_drawing.proofs.ways.come_by.Statement.{statement}
 use Rattle.ride_drawing.proofs.ways.come_by.Tie as tie

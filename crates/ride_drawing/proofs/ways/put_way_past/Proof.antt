@@ -3,9 +3,10 @@
 use mathlib.Core.Bool.{true, false}
 use mathlib.Core.Path.{_≡_, sym, ap, _∙_}
 use borrow.Author.Tests.{not-true, not-false}
-use Rattle.ride_drawing.proofs.Putting.{none, after, all-as, pieces-append}
+use Rattle.text.proofs.Putting.{none, after, all-as}
+use Rattle.ride_drawing.proofs.Elements.{pieces-append}
 use Rattle.ride_drawing.specs.Drawing.{way, past, wayPast}
-use Rattle.ride_drawing.specs.Pieces.{puts}
+use Rattle.text.specs.Pieces.{puts}
 use Rattle.ride_drawing.specs.Row.{row}
 use Rattle.ride_drawing.specs.Strip.{isFurther}
 use Rattle.ride_drawing.specs.declared.Pen.{Pen}

@@ -1,11 +1,10 @@
 -- Pieces one after the other: what is put after some pieces makes more of them.
 -- Assumes nothing.
 use mathlib.Core.Path.{_≡_, refl, sym, ap, _∙_}
-use mathlib.Core.List.{List, [], _∷_, _++_, append-assoc}
+use mathlib.Core.List.{List, [], _∷_, _++_}
 use Prim.Native.Nat.{ℕ}
 use Rattle.text.specs.Put.{Put, put, came}
-use Rattle.ride_drawing.specs.Pieces.{puts}
-use Rattle.ride_drawing.specs.Drawing.{Element, piecesOf, pieces}
+use Rattle.text.specs.Pieces.{puts}
 
 -- No piece,
 pub none : (b : List ℕ) (at : ℕ) → came at b ≡ puts [] b at
@@ -40,7 +39,6 @@ all-as b at is e = e ∙ ap (λ (v : List (List ℕ)). puts v b at) is
 pub none-as : {ts : List (List ℕ)} (b : List ℕ) (at : ℕ) → [] ≡ ts → came at b ≡ puts ts b at
 none-as b at is = all-as b at is (none b at)
 
--- The pieces of elements after others.
-pub pieces-append : (es fs : List Element) → pieces es ++ pieces fs ≡ pieces (es ++ fs)
-pieces-append [] fs = refl
-pieces-append (e ∷ es) fs = append-assoc (piecesOf e) (pieces es) (pieces fs) ∙ ap (λ (ps : List (List ℕ)). piecesOf e ++ ps) (pieces-append es fs)
+-- The same put: the same place, and the same buffer.
+pub same-put : {r r′ : ℕ} {b b′ : List ℕ} → came r b ≡ came r′ b′ → (r ≡ r′) × (b ≡ b′)
+same-put same = (ap (λ (v : Put). v .next) same, ap (λ (v : Put). v .buffer) same)

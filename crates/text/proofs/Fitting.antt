@@ -6,10 +6,10 @@ use native.Mathlib.Nat.{add-zero}
 use mathlib.Core.Path.{_≡_, refl, sym, ap, _∙_}
 use mathlib.Core.List.{List, [], _∷_, _++_}
 use lib.ListN.{length, length-append}
 use Rattle.text.specs.Put.{Put, put, came}
 use Rattle.text.proofs.Placing.{placed-none}
 use Rattle.text.proofs.Standing.{less, was-put, join, room-after}
-use Rattle.ride_drawing.specs.Pieces.{puts, whole}
+use Rattle.text.specs.Pieces.{puts, whole}
 
 -- what putting a text gives
 gives-it : (t b : List ℕ) (at : ℕ) → came (put t b at .next) (put t b at .buffer) ≡ put t b at
