@@ -8,7 +8,7 @@ use lib.Dec.{leb}
 use borrow.Author.Tests.{le-leb, lt-leb, leb-true, leb-false}
 use Rattle.words.specs.Answer.{pick}
 use Rattle.ride_drawing.specs.Strip.{lesser, onStrip}
-use Rattle.ride_drawing.specs.Laws.{AtItsPlace}
+use Rattle.ride_drawing.specs.Places.{AtItsPlace}
 
 module _ (edge place : ℕ) where
   abbrev at : Bool → ℕ

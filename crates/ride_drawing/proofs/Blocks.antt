@@ -30,7 +30,7 @@ use Rattle.ride_text.specs.Says.{saysDone}
 use Rattle.ride_drawing.specs.declared.Pen.{Pen}
 use Rattle.ride_drawing.specs.declared.Plan.{Plan}
 use Rattle.ride_drawing.specs.declared.Drawing.{Drawing}
-use Rattle.ride_drawing.specs.Drawing.{Element}
+use Rattle.ride_drawing.specs.Element.{Element}
 use Rattle.ride_drawing.specs.Draw.{textOf, stepElements, stepPen, Picture, drawOver, roomFor, isTaken, taken, Block, drawOf, drawTaken, draw}
 use Rattle.ride_drawing.specs.Says.{saysDrawn}
 use Rattle.ride_drawing.specs.Laws.{Call, Allowed, tookOf, bytesOf, Lent, ByCalls, written, afterCalls, Blocks}

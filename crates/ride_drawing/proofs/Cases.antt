@@ -3,12 +3,12 @@
 use mathlib.Core.Path.{_≡_, refl, sym, ap, _∙_}
 use mathlib.Core.Bool.{Bool, true, false, _&&_}
 use mathlib.Core.List.{List, [], _∷_, _++_, append-nil}
-use Prim.Native.Nat.{ℕ, _+_, _-_, _≤_, _<_}
+use Prim.Native.Nat.{ℕ, _-_, _≤_, _<_}
 use native.Mathlib.Omega.{arith}
 use lib.Dec.{leb, ltb}
 use lib.ListN.{length, take}
 use lib.Seq.{take-take}
-use borrow.Author.Tests.{lt-ltb, le-leb, lt-leb, leb-true}
+use borrow.Author.Tests.{lt-ltb, leb-true}
 use Rattle.words.specs.Answer.{pick}
 use Rattle.text.specs.Text.{codes}
 use Rattle.text.proofs.Standing.{Begins, as-long}
@@ -24,7 +24,8 @@ use Rattle.ride_drawing.specs.Metres.{metres}
 use Rattle.ride_drawing.specs.Strip.{lesser, onStrip, arrive}
 use Rattle.ride_drawing.specs.Span.{speedLine, level, middle}
 use Rattle.ride_drawing.specs.Sign.{kindShape}
-use Rattle.ride_drawing.specs.Drawing.{pieces, placeOf, reached, afterLine, onItsStrip, drawLines}
+use Rattle.ride_drawing.specs.Element.{pieces}
+use Rattle.ride_drawing.specs.Drawing.{placeOf, reached, afterLine, onItsStrip, drawLines}
 use Rattle.ride_drawing.proofs.Elements.{pieces-append}
 
 -- The lesser of two is at most the second.
@@ -78,16 +79,16 @@ middle-none edge from to at x e h = rw (← e, h)
 -- ---- lines
 
 -- a pen of its parts
-abbrev pub penOf : ℕ → ℕ → Bool → Pen
-penOf edge from so = record { edge = edge; from = from; is_open = so }
+abbrev pub penOf : ℕ → ℕ → Bool → ℕ → Pen
+penOf edge from so ticks = record { edge = edge; from = from; is_open = so; ticks = ticks }
 
 pub after-is : (pen : Pen) (line : Line) (odometer place from : ℕ) (there : Pen) → place ≡ placeOf line odometer → there ≡ arrive pen place place
-    → from ≡ reached there line place → penOf (there .edge) from (there .is_open) ≡ afterLine pen line odometer
+    → from ≡ reached there line place → penOf (there .edge) from (there .is_open) (there .ticks) ≡ afterLine pen line odometer
 unfolding afterLine
 after-is pen line odometer place from there e f g =
-    ap (λ (v : ℕ). penOf (there .edge) v (there .is_open)) g
-    ∙ ap (λ (t : Pen). penOf (t .edge) (reached t line place) (t .is_open)) f
-    ∙ ap (λ (q : ℕ). penOf (arrive pen q q .edge) (reached (arrive pen q q) line q) (arrive pen q q .is_open)) e
+    ap (λ (v : ℕ). penOf (there .edge) v (there .is_open) (there .ticks)) g
+    ∙ ap (λ (t : Pen). penOf (t .edge) (reached t line place) (t .is_open) (t .ticks)) f
+    ∙ ap (λ (q : ℕ). penOf (arrive pen q q .edge) (reached (arrive pen q q) line q) (arrive pen q q .is_open) (arrive pen q q .ticks)) e
 
 pub one-drawn : (plan : Plan) (pen : Pen) (known then : Known) (closed : Group) (l : Line) (odometer : ℕ)
     → pieces (onItsStrip plan pen known closed l (placeOf l odometer)) ≡ pieces (drawLines plan pen known then closed (l ∷ []) odometer)

@@ -3,7 +3,7 @@
 use mathlib.Core.Path.{_≡_, refl, ap, _∙_}
 use mathlib.Core.List.{List, [], _∷_, _++_, append-assoc}
 use Prim.Native.Nat.{ℕ}
-use Rattle.ride_drawing.specs.Drawing.{Element, piecesOf, pieces}
+use Rattle.ride_drawing.specs.Element.{Element, piecesOf, pieces}
 
 pub pieces-append : (es fs : List Element) → pieces es ++ pieces fs ≡ pieces (es ++ fs)
 pieces-append [] fs = refl

@@ -4,7 +4,7 @@ use Prim.Native.Nat.{ℕ, zero, suc, _+_, _≤_, _<_}
 use native.Mathlib.Omega.{arith}
 use native.Mathlib.Numerals.{add-one}
 use mathlib.Core.Path.{_≡_, refl, ap, sym, _∙_}
-use mathlib.Core.Bool.{Bool, true, false, not, _&&_, _||_}
+use mathlib.Core.Bool.{Bool, true, false, not, _||_}
 use mathlib.Core.List.{List, [], _∷_, _++_, append-nil}
 use lib.Dec.{ltb}
 use lib.ListN.{length, take, drop, getD}
@@ -27,7 +27,9 @@ use Rattle.ride_drawing.specs.declared.Plan.{Plan}
 use Rattle.text.specs.Pieces.{puts}
 use Rattle.ride_drawing.specs.Strip.{arrive}
 use Rattle.ride_drawing.specs.Row.{row, entrySign, isBy, hasMet, isExtra, extraSign, isOnTheWay}
-use Rattle.ride_drawing.specs.Drawing.{pieces, way, Past, comeBy, past, extraMark}
+use Rattle.ride_drawing.specs.Element.{pieces}
+use Rattle.ride_drawing.specs.Way.{way, Past, comeBy, past}
+use Rattle.ride_drawing.specs.Drawing.{extraMark}
 use Rattle.text.proofs.Putting.{puts-append}
 use Rattle.ride_drawing.proofs.Elements.{pieces-append}
 

@@ -1,17 +1,14 @@
 -- No title needs an escape: a line is made of words that have none of the marks, and of digits.
 -- Assumes nothing.
-use mathlib.Core.Path.{_≡_, refl, sym, ap, _∙_}
-use mathlib.Core.Bool.{Bool, true, false, _&&_}
-use mathlib.Core.List.{List, [], _∷_, _++_}
-use Prim.Native.String.{String}
-use Prim.Native.Nat.{ℕ, zero, suc, _+_, _-_, _/_, _%_, _<_}
-use native.Mathlib.Omega.{arith}
-use lib.Dec.{eqb, ltb}
-use lib.ListN.{length, take}
-use borrow.Author.Tests.{ltb-true, ne-eqb}
+use mathlib.Core.Path.{_≡_, refl}
+use mathlib.Core.Bool.{Bool, true, false}
+use mathlib.Core.List.{List, _++_}
+use Prim.Native.Nat.{ℕ, _+_, _-_}
+use lib.Dec.{eqb}
+use lib.ListN.{length}
 use Rattle.words.specs.Answer.{pick}
 use Rattle.words.specs.declared.Parity.{Parity}
-use Rattle.text.specs.Text.{codes, digit, digits, decimal}
+use Rattle.text.specs.Text.{codes, decimal}
 use Rattle.telegram.specs.declared.Word.{Word}
 use Rattle.group_rows.specs.declared.Direction.{Direction}
 use Rattle.group_rows.specs.declared.Kind.{Kind}
@@ -22,7 +19,6 @@ use Rattle.ride.specs.declared.Seen.{Seen}
 use Rattle.ride.specs.declared.Line.{Line}
 use Rattle.ride_text.specs.Style.{withReasons}
 use Rattle.ride_text.specs.Text.{between, kind, mark, number, seen, textWith, whyText, lineText}
-use Rattle.words.proofs.Linear.{and-parts}
 use Rattle.words.specs.Why.{Why, why, are, unsaid}
 use Rattle.telegram.specs.Telegram.{badWord}
 use Rattle.group_reason.specs.Reason.{Amiss, unreadable, word, balises, bad, opens, figure, Explained, noReason, because}
@@ -34,63 +30,8 @@ use Rattle.acceptance.specs.Taking.{oneMore}
 use Rattle.acceptance_text.specs.Lines.{kindWord, metWords, entryLine}
 use Rattle.ride_drawing.specs.Sign.{title}
 use Rattle.ride_drawing.specs.Row.{entryTitle, extraTitle}
-use Rattle.ride_drawing.specs.Laws.{isSafe, areSafe, NoEscape}
-
--- A text that needs no escape.
-record Safe (t : List ℕ) : Type 0 where
-  is : areSafe t ≡ true
-
-more : (c : ℕ) (cs : List ℕ) → isSafe c ≡ true → areSafe cs ≡ true → areSafe (c ∷ cs) ≡ true
-unfolding areSafe
-more c cs e f = ap (λ (b : Bool). b && areSafe cs) e ∙ f
-
-joined : (s t : List ℕ) → areSafe s ≡ true → areSafe t ≡ true → areSafe (s ++ t) ≡ true
-unfolding areSafe
-joined [] t e f = f
-joined (c ∷ s) t e f =
-    let parts = and-parts (isSafe c) (areSafe s) e in
-    more c (s ++ t) (parts .0) (joined s t (parts .1) f)
-
-join : {s t : List ℕ} → Safe s → Safe t → Safe (s ++ t)
-join {s} {t} e f = record { is = joined s t (e .is) (f .is) }
-
-words : (s : String) → areSafe (codes s) ≡ true → Safe (codes s)
-words s e = record { is = e }
-
-cut : (k : ℕ) (t : List ℕ) → areSafe t ≡ true → areSafe (take k t) ≡ true
-unfolding areSafe
-cut zero t e = refl
-cut (suc k) [] e = refl
-cut (suc k) (c ∷ t) e =
-    let parts = and-parts (isSafe c) (areSafe t) e in
-    more c (take k t) (parts .0) (cut k t (parts .1))
-
--- ---- digits
-
-digit-safe : (d : ℕ) → d < 10 → isSafe (digit d) ≡ true
-digit-safe d h =
-    let a : eqb (digit d) 60 ≡ false = ne-eqb (digit d) 60 (λ e. omega arith) in
-    let b : eqb (digit d) 38 ≡ false = ne-eqb (digit d) 38 (λ e. omega arith) in
-    let c : eqb (digit d) 34 ≡ false = ne-eqb (digit d) 34 (λ e. omega arith) in
-    let f : eqb (digit d) 39 ≡ false = ne-eqb (digit d) 39 (λ e. omega arith) in
-    simp (a, b, c, f)
-
-one-safe : (d : ℕ) → d < 10 → Safe (digit d ∷ [])
-unfolding areSafe
-one-safe d h = record { is = more (digit d) [] (digit-safe d h) refl }
-
-digits-by : (s : List ℕ) (n : ℕ) (b : Bool) → ltb n 10 ≡ b → Safe s → Safe (pick b (digit n ∷ []) (s ++ (digit (n % 10) ∷ [])))
-digits-by s n true e f = one-safe n (ltb-true n 10 e)
-digits-by s n false e f = join f (one-safe (n % 10) (omega arith))
-
-digits-safe : (most n : ℕ) → Safe (digits most n)
-unfolding digits areSafe
-digits-safe zero n = record { is = refl }
-digits-safe (suc most) n = digits-by (digits most (n / 10)) n (ltb n 10) refl (digits-safe most (n / 10))
-
-number-of : (n : ℕ) → Safe (decimal n)
-unfolding decimal
-number-of n = digits-safe 20 n
+use Rattle.ride_drawing.specs.Titles.{areSafe, NoEscape}
+use Rattle.ride_drawing.proofs.SafeTexts.{Safe, join, words, cut, digits-safe, number-of}
 
 -- ---- groups
 

@@ -1,7 +1,7 @@
 -- Every line has one sign: the signs of what a step adds are its lines, and those of a ride are
 -- those of its steps.
 -- Assumes nothing.
-use mathlib.Core.Path.{_≡_, refl, sym, ap, ap₂, _∙_}
+use mathlib.Core.Path.{_≡_, refl, ap, ap₂, _∙_}
 use mathlib.Core.Bool.{Bool, true, false}
 use mathlib.Core.List.{List, [], _∷_, _++_, append-nil}
 use Prim.Native.Nat.{ℕ, suc}
@@ -19,7 +19,10 @@ use Rattle.ride_drawing.specs.declared.Plan.{Plan}
 use Rattle.ride_drawing.specs.Strip.{isFurther, arrive}
 use Rattle.ride_drawing.specs.Span.{span}
 use Rattle.ride_drawing.specs.Row.{row, isExtra, isOnTheWay, furthest}
-use Rattle.ride_drawing.specs.Drawing.{Element, plain, mark, entry, extra, way, Past, comeBy, past, wayPast, extraMark, placeOf, reached, afterLine, afterLines, onItsStrip, drawLines, certain, inTheRow, drawRefused, drawAccepted, drawStep, lastStrip, theRest, drawEnd}
+use Rattle.ride_drawing.specs.Element.{Element, plain, mark, entry, extra}
+use Rattle.ride_drawing.specs.Way.{way, Past, comeBy, past, wayPast}
+use Rattle.ride_drawing.specs.Ticks.{inTheRow, onTheTicks, drawRefused}
+use Rattle.ride_drawing.specs.Drawing.{extraMark, placeOf, reached, afterLine, afterLines, onItsStrip, drawLines, certain, drawAccepted, drawStep, lastStrip, theRest, drawEnd}
 use Rattle.ride_drawing.specs.Draw.{stepPen, stepElements, drawOver}
 use Rattle.ride_drawing.specs.Laws.{signed, OneSign}
 
@@ -104,10 +107,10 @@ then-none plan pen known then closed ls odometer es none =
 
 -- A refused record has one sign, on the strip or in the row.
 refused-signed : (pen : Pen) (odometer : ℕ) (closed : Group) (line : Line) → signed (drawRefused pen odometer closed line) ≡ line ∷ []
-unfolding drawRefused inTheRow
+unfolding drawRefused onTheTicks inTheRow
 refused-signed pen odometer closed line = go (pen .is_open)
   where
-    go : (b : Bool) → signed (pick b (mark closed line (pen .edge) odometer ∷ []) (inTheRow closed line)) ≡ line ∷ []
+    go : (b : Bool) → signed (pick b (onTheTicks pen odometer closed line) (inTheRow closed line)) ≡ line ∷ []
     go true = refl
     go false = refl
 

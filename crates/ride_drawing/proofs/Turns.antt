@@ -1,6 +1,6 @@
 -- The drawing record by record: from each record on it comes to the same.
 -- Assumes nothing.
-use Prim.Native.Nat.{ℕ, suc, _+_, _-_, _*_, _≤_, _<_}
+use Prim.Native.Nat.{ℕ, suc, _+_, _-_, _*_, _≤_}
 use native.Mathlib.Omega.{arith}
 use native.Mathlib.Nat.{add-zero, zero-add, sub-zero}
 use mathlib.Core.Path.{_≡_, refl, ap, sym, _∙_}
@@ -21,7 +21,7 @@ use Rattle.ride_drawing.specs.declared.Pen.{Pen}
 use Rattle.ride_drawing.specs.declared.Plan.{Plan}
 use Rattle.ride_drawing.specs.declared.Drawing.{Drawing}
 use Rattle.text.specs.Pieces.{whole}
-use Rattle.ride_drawing.specs.Drawing.{Element, piecesOf, pieces}
+use Rattle.ride_drawing.specs.Element.{Element, piecesOf, pieces}
 use Rattle.ride_drawing.specs.Draw.{textOf, stepElements, stepPen, Picture, drawOver, isTaken, taken, Block, drawOf}
 
 -- ---- the text of elements after others

@@ -22,7 +22,8 @@ use Rattle.ride_drawing.specs.declared.Pen.{Pen}
 use Rattle.ride_drawing.specs.declared.Plan.{Plan}
 use Rattle.ride_drawing.specs.declared.Drawing.{Drawing}
 use Rattle.text.specs.Pieces.{whole}
-use Rattle.ride_drawing.specs.Drawing.{Element, pieces, drawStep, penAfter}
+use Rattle.ride_drawing.specs.Element.{Element, pieces}
+use Rattle.ride_drawing.specs.Drawing.{drawStep, penAfter}
 
 -- The text of some elements.
 abbrev pub textOf : List Element → List ℕ

@@ -1,92 +1,27 @@
 -- The drawing of a ride: what each record adds to the page, and where the pen stands then.
 -- Assumes nothing.
-use Prim.Native.Nat.{ℕ, suc, _+_, _-_, _/_}
-use mathlib.Core.Bool.{Bool, true, false, not}
+use Prim.Native.Nat.{ℕ}
+use mathlib.Core.Bool.{Bool, true, false}
 use mathlib.Core.List.{List, [], _∷_, _++_}
-use lib.Dec.{leb, ltb}
 use Rattle.words.specs.Answer.{Outcome, gives, refuses, pick}
 use Rattle.text.specs.Text.{codes}
 use Rattle.group_rows.specs.declared.Direction.{Direction}
 use Rattle.group_rows.specs.declared.Kind.{Kind}
 use Rattle.group.specs.declared.Group.{Group}
-use Rattle.ride.specs.declared.Seen.{Seen}
 use Rattle.ride.specs.declared.Known.{Known}
 use Rattle.ride.specs.declared.Line.{Line}
 use Rattle.ride.specs.declared.Ride.{Ride}
 use Rattle.ride.specs.State.{isOpen}
 use Rattle.ride.specs.Closing.{firstPlace}
 use Rattle.ride.specs.Step.{Step, end}
-use Rattle.ride.specs.Over.{linesFor}
-use Rattle.acceptance.specs.declared.Entry.{Entry}
 use Rattle.ride_drawing.specs.declared.Pen.{Pen}
 use Rattle.ride_drawing.specs.declared.Plan.{Plan}
-use Rattle.ride_drawing.specs.Strip.{greater, isFurther, arrive, heading, closing, between}
+use Rattle.ride_drawing.specs.Strip.{greater, arrive, closing}
 use Rattle.ride_drawing.specs.Span.{span}
-use Rattle.ride_drawing.specs.Sign.{sign}
-use Rattle.ride_drawing.specs.Row.{row, entrySign, isExtra, extraSign, isOnTheWay, furthest}
-
--- What stands in a page: text that is no sign; the sign of a line, where this group closed, on the
--- strip with this edge at this place; over such a strip the entry with this index, or an extra
--- group.
-pub data Element : Type 0 where
-  plain : List (List ℕ) → Element
-  mark : Group → Line → ℕ → ℕ → Element
-  entry : ℕ → Entry → ℕ → Element
-  extra : Seen → ℕ → Element
-
--- An element's pieces of text.
-abbrev pub piecesOf : Element → List (List ℕ)
-piecesOf (plain pieces) = pieces
-piecesOf (mark closed line edge place) = sign closed line edge place
-piecesOf (entry i e edge) = entrySign i e edge
-piecesOf (extra s edge) = extraSign s edge
-
--- The pieces of some elements.
-abbrev pub pieces : List Element → List (List ℕ)
-pieces [] = []
-pieces (e ∷ es) = piecesOf e ++ pieces es
-
--- ---- from strip to strip
-
--- Before the first strip ends the row of records refused before any accepted one; before any other,
--- what is known is drawn up to the place `until`, and the kilometres without a strip are told.
-unfoldable pub leaving : Pen → ℕ → ℕ → Known → List (List ℕ)
-leaving pen place until known =
-    pick (pen .is_open)
-    (span (pen .edge) (pen .from) until known ++ closing ∷ between (place / 10000 - pen .edge / 10000))
-    (codes "</p>\n" ∷ [])
-
--- The way of the pen to a place: nothing on its own strip, or its end and the head of the place's.
-unfoldable pub way : Pen → ℕ → ℕ → Known → List (List ℕ)
-way pen place until known = pick (isFurther pen place) (leaving pen place until known ++ heading (place / 10000)) []
-
--- What the pen comes by, and where it stands then.
-pub record Past : Type 0 where
-  pub elements : List Element
-  pub pen : Pen
-
--- An entry on the pen's way to a place, from where it began: the way there, and its sign on the
--- strip of its place; any other is left.
-unfoldable pub comeBy : Pen → ℕ → Entry → ℕ → ℕ → Known → Pen → Past
-comeBy began i e place until known pen =
-    pick (isOnTheWay began place e)
-    (record { elements = plain (way pen (e .place) until known) ∷ entry i e (arrive pen (e .place) until .edge) ∷ []; pen = arrive pen (e .place) until })
-    (record { elements = []; pen = pen })
-
--- The entries that the pen, from where it began, comes by on its way to a place, the first with
--- this index: one in a kilometre without a strip gets a strip of its own.
-unfoldable pub past : Pen → Pen → ℕ → List Entry → ℕ → ℕ → Known → Past
-past began pen i [] place until known = record { elements = []; pen = pen }
-past began pen i (e ∷ es) place until known =
-    let here : Past = comeBy began i e place until known pen in
-    let rest : Past = past began (here .pen) (suc i) es place until known in
-    record { elements = here .elements ++ rest .elements; pen = rest .pen }
-
--- The way to a place past the entries of a plan.
-unfoldable pub wayPast : Plan → Pen → ℕ → ℕ → Known → List Element
-wayPast plan pen place until known =
-    let p : Past = past pen pen 0 (row plan) place until known in
-    pick (isFurther pen place) (p .elements ++ plain (way (p .pen) place until known) ∷ []) []
+use Rattle.ride_drawing.specs.Row.{row, isExtra, furthest}
+use Rattle.ride_drawing.specs.Element.{Element, plain, mark, extra}
+use Rattle.ride_drawing.specs.Way.{Past, past, wayPast}
+use Rattle.ride_drawing.specs.Ticks.{drawRefused, ticked, oneTick, ticksAt}
 
 -- ---- a line
 
@@ -123,7 +58,7 @@ reached pen line place = pick (turns line) (greater (pen .from) place) (pen .fro
 unfoldable pub afterLine : Pen → Line → ℕ → Pen
 afterLine pen line odometer =
     let there : Pen = arrive pen (placeOf line odometer) (placeOf line odometer) in
-    record { edge = there .edge; from = reached there line (placeOf line odometer); is_open = there .is_open }
+    record { edge = there .edge; from = reached there line (placeOf line odometer); is_open = there .is_open; ticks = there .ticks }
 
 -- The mark of an extra group, in the row over its strip.
 abbrev pub extraMark : Plan → Line → ℕ → List Element
@@ -159,14 +94,6 @@ afterLines pen (l ∷ ls) odometer = afterLines (afterLine pen l odometer) ls od
 unfoldable pub certain : Ride → ℕ
 certain ride = pick (isOpen (ride .group)) (firstPlace (ride .group)) (ride .odometer)
 
--- A refused record before any accepted one: its sign in a picture of its own, at the head.
-unfoldable pub inTheRow : Group → Line → List Element
-inTheRow closed line = plain (codes "<svg class='r' viewBox='94 188 12 16'>" ∷ []) ∷ mark closed line 0 0 ∷ plain (codes "</svg>\n" ∷ []) ∷ []
-
--- A refused record: a small tick on the pen's strip, at the last accepted odometer.
-unfoldable pub drawRefused : Pen → ℕ → Group → Line → List Element
-drawRefused pen odometer closed line = pick (pen .is_open) (mark closed line (pen .edge) odometer ∷ []) (inTheRow closed line)
-
 -- An accepted record: its lines, and then the pen goes to the strip of its odometer.
 unfoldable pub drawAccepted : Plan → Pen → Ride → List Line → Group → Ride → List Element
 drawAccepted plan pen ride lines closed after =
@@ -180,8 +107,9 @@ drawStep plan pen ride number (gives lines) closed after = drawAccepted plan pen
 
 -- The pen after a record.
 abbrev pub penAfter : Pen → ℕ → Outcome (List Line) → Ride → Pen
-penAfter pen odometer (refuses n) after = pen
-penAfter pen odometer (gives lines) after = arrive (afterLines pen lines odometer) (after .odometer) (certain after)
+penAfter pen odometer (refuses n) after = ticked (oneTick (pen .ticks)) pen
+penAfter pen odometer (gives lines) after =
+    ticked (ticksAt pen odometer (after .odometer)) (arrive (afterLines pen lines odometer) (after .odometer) (certain after))
 
 -- The end of the last strip: what is known is drawn up to the last accepted odometer.
 unfoldable pub lastStrip : Pen → Ride → List (List ℕ)

@@ -1,9 +1,10 @@
--- What is promised of a drawing: every line has one sign, at its place or at the strip's edge, and
--- so has every entry of a plan; no title needs an escape.
+-- What is promised of a drawing: every line has one sign, and so has every entry of a plan; any
+-- blocks give the whole; no record adds more than the room that is kept for it. Of places:
+-- Places.antt; of titles: Titles.antt.
 -- Assumes nothing.
-use Prim.Native.Nat.{ℕ, suc, _+_, _%_, _≤_, _<_}
+use Prim.Native.Nat.{ℕ, _+_, _%_, _≤_, _<_}
 use mathlib.Core.Path.{_≡_}
-use mathlib.Core.Bool.{Bool, true, not, _&&_}
+use mathlib.Core.Bool.{true}
 use mathlib.Core.List.{List, [], _∷_, _++_}
 use lib.Dec.{eqb}
 use lib.ListN.{length, take, drop, getD}
@@ -16,22 +17,20 @@ use Rattle.settings.specs.Store.{judged}
 use Rattle.settings.specs.At.{gapAt}
 use Rattle.ride.specs.declared.Line.{Line}
 use Rattle.ride.specs.declared.Ride.{Ride}
-use Rattle.ride.specs.declared.Seen.{Seen}
 use Rattle.ride.specs.declared.trace.Given.{Given}
 use Rattle.ride.specs.Step.{end}
 use Rattle.ride.specs.Says.{saysGiven}
 use Rattle.ride.specs.Over.{records, rideOver}
 use Rattle.ride_text.specs.declared.Done.{Done}
-use Rattle.acceptance.specs.declared.Entry.{Entry}
 use Rattle.acceptance.specs.Plan.{noEntry}
 use Rattle.ride_drawing.specs.declared.Pen.{Pen}
 use Rattle.ride_drawing.specs.Strip.{onStrip, edgeOf}
-use Rattle.ride_drawing.specs.Sign.{title}
 use Rattle.ride_drawing.specs.declared.Plan.{Plan}
 use Rattle.ride_drawing.specs.declared.Drawing.{Drawing}
 use Rattle.ride_drawing.specs.declared.Drawn.{Drawn}
-use Rattle.ride_drawing.specs.Row.{row, entryTitle, extraTitle, furthest}
-use Rattle.ride_drawing.specs.Drawing.{Element, plain, mark, entry, extra, drawStep, drawEnd}
+use Rattle.ride_drawing.specs.Row.{row, furthest}
+use Rattle.ride_drawing.specs.Element.{Element, plain, mark, entry, extra}
+use Rattle.ride_drawing.specs.Drawing.{drawStep, drawEnd}
 use Rattle.ride_drawing.specs.Draw.{textOf, drawOver, roomFor, draw}
 use Rattle.ride_drawing.specs.Says.{freshPen, saysDrawn}
 
@@ -132,30 +131,3 @@ pub record Blocks : Type 0 where
 pub record Bounded : Type 0 where
   pub step : (plan : Plan) (pen : Pen) (ride : Ride) (number : ℕ) (given : Given) (closed : Group) (after : Ride) → length (textOf (drawStep plan pen ride number (saysGiven given) closed after)) ≤ roomFor
   pub ending : (plan : Plan) (pen : Pen) (ride : Ride) → length (textOf (drawEnd plan pen ride)) ≤ roomFor
-
--- ---- at its place, or at the edge
-
--- On the strip with this edge, from the margin of 1000 dm on and up to 10000 dm, a place lies at
--- its distance from the picture's left side; before that it lies at the left side, and behind it at
--- the right edge.
-pub record AtItsPlace : Type 0 where
-  pub there : (edge place : ℕ) → edge ≤ place + 1000 → place ≤ edge + 10000 → onStrip edge place + edge ≡ place + 1000
-  pub before : (edge place : ℕ) → place + 1000 < edge → onStrip edge place ≡ 0
-  pub behind : (edge place : ℕ) → edge + 10000 < place → onStrip edge place ≡ 11000
-
--- ---- no title needs an escape
-
--- Whether a byte stands for itself in a page: it is no `<`, no `&` and no quote.
-abbrev pub isSafe : ℕ → Bool
-isSafe c = not (eqb c 60) && (not (eqb c 38) && (not (eqb c 34) && not (eqb c 39)))
-
--- Whether all bytes of a text do.
-unfoldable pub areSafe : List ℕ → Bool
-areSafe [] = true
-areSafe (c ∷ cs) = isSafe c && areSafe cs
-
--- No title has one that does not: of a line, of an entry, of an extra group.
-pub record NoEscape : Type 0 where
-  pub titles : (closed : Group) (line : Line) → areSafe (title closed line) ≡ true
-  pub entries : (i : ℕ) (e : Entry) → areSafe (entryTitle i e) ≡ true
-  pub extras : (s : Seen) → areSafe (extraTitle s) ≡ true

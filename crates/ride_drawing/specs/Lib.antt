@@ -3,7 +3,12 @@ pub mod Strip
 pub mod Span
 pub mod Sign
 pub mod Row
+pub mod Element
+pub mod Way
+pub mod Ticks
 pub mod Drawing
 pub mod Draw
 pub mod Says
 pub mod Laws
+pub mod Places
+pub mod Titles

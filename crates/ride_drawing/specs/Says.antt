@@ -10,7 +10,7 @@ use Rattle.ride_drawing.specs.Draw.{Block}
 
 -- A pen before the first strip.
 abbrev pub freshPen : Pen
-freshPen = record { edge = 0; from = 0; is_open = false }
+freshPen = record { edge = 0; from = 0; is_open = false; ticks = 0 }
 
 -- A block drawn: what was taken, where the drawing stands, and the buffer then.
 abbrev pub saysDrawn : Drawn → List ℕ → Block

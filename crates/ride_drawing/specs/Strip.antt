@@ -1,7 +1,7 @@
 -- The strips of a page: one for each kilometre in which a record was accepted or a line has its
 -- place, 1 unit a metre, with a margin of 100 m on the left. Places and edges are in dm.
 -- Assumes nothing.
-use Prim.Native.Nat.{ℕ, suc, _+_, _-_, _*_, _/_}
+use Prim.Native.Nat.{ℕ, zero, suc, _+_, _-_, _*_, _/_, _%_}
 use mathlib.Core.Bool.{Bool, not, _||_}
 use mathlib.Core.List.{List, [], _∷_, _++_}
 use lib.Dec.{leb, ltb}
@@ -33,29 +33,29 @@ isFurther pen place = not (pen .is_open) || ltb (pen .edge / 10000) (place / 100
 -- The pen on the strip of a place, where what is known has been drawn up to the place `until`.
 unfoldable pub arrive : Pen → ℕ → ℕ → Pen
 arrive pen place until =
-    pick (isFurther pen place) (record { edge = edgeOf place; from = lesser until (edgeOf place); is_open = Bool.true }) pen
+    pick (isFurther pen place) (record { edge = edgeOf place; from = lesser until (edgeOf place); is_open = Bool.true; ticks = pen .ticks }) pen
 
--- A figure at a tick: the kilometre, after these words.
-abbrev pub tick : List ℕ → ℕ → List ℕ
-tick words km = words ++ decimal km
+-- The figure at the tick that lies i times 100 m behind the edge: a kilometre with one decimal.
+unfoldable pub figure : ℕ → ℕ → List (List ℕ)
+figure km i =
+    (codes "<text x='" ++ decimal (100 + 100 * i))
+    ∷ (codes "' y='232'>" ++ decimal (km + i / 10))
+    ∷ (codes "." ++ decimal (i % 10))
+    ∷ codes "</text>"
+    ∷ []
+
+-- The figures at n ticks from this one on.
+unfoldable pub figures : ℕ → ℕ → ℕ → List (List ℕ)
+figures km i zero = []
+figures km i (suc n) = figure km i ++ figures km (suc i) n
 
 -- The head of the strip of a kilometre: its title, the grid, and a figure each 100 m.
 unfoldable pub heading : ℕ → List (List ℕ)
 heading km =
-    tick (codes "<h2>km ") km
-    ∷ tick (codes "</h2>\n<div class='s'><svg viewBox='-12 0 1152 220'><use href='#g'/><text x='100' y='216'>") km
-    ∷ tick (codes ".0</text><text x='200' y='216'>") km
-    ∷ tick (codes ".1</text><text x='300' y='216'>") km
-    ∷ tick (codes ".2</text><text x='400' y='216'>") km
-    ∷ tick (codes ".3</text><text x='500' y='216'>") km
-    ∷ tick (codes ".4</text><text x='600' y='216'>") km
-    ∷ tick (codes ".5</text><text x='700' y='216'>") km
-    ∷ tick (codes ".6</text><text x='800' y='216'>") km
-    ∷ tick (codes ".7</text><text x='900' y='216'>") km
-    ∷ tick (codes ".8</text><text x='1000' y='216'>") km
-    ∷ tick (codes ".9</text><text x='1100' y='216'>") (km + 1)
-    ∷ codes ".0</text>\n"
-    ∷ []
+    (codes "<h2>km " ++ decimal km)
+    ∷ codes "</h2>\n<div class='s'><svg viewBox='-12 0 1170 236'><use href='#g'/>"
+    ∷ figures km 0 11
+    ++ codes "\n" ∷ []
 
 -- The end of a strip.
 abbrev pub closing : List ℕ

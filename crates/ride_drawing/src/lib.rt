@@ -5,12 +5,14 @@
 // place; any blocks give the whole; no record adds more than the room that is kept for it; the
 // bytes around a text stay.
 // Specification: specs/Strip.antt (the strips), Span.antt (speeds, and where a signal is due),
-// Sign.antt (the signs), Row.antt (a plan's entries), Drawing.antt (a record and the end), Draw.antt
-// (a block of records), Laws.antt (the promises).
+// Sign.antt (the signs), Row.antt (a plan's entries), Ticks.antt (refused records), Way.antt (from
+// strip to strip), Drawing.antt (a record and the end), Draw.antt (a block of records), Laws.antt
+// (the promises).
 ghost use mathlib.Core.Path.{_≡_};
 ghost use Rattle.text.specs.Put.{came};
 ghost use Rattle.text.specs.Pieces.{puts};
-ghost use Rattle.ride_drawing.specs.Drawing.{pieces, drawEnd};
+ghost use Rattle.ride_drawing.specs.Element.{pieces};
+ghost use Rattle.ride_drawing.specs.Drawing.{drawEnd};
 ghost use Rattle.ride_drawing.specs.Draw.{draw};
 ghost use Rattle.ride_drawing.specs.Says.{freshPen, saysDrawn};
 
@@ -22,6 +24,7 @@ mod signs;
 mod spans;
 mod steps;
 mod strips;
+mod ticks;
 mod ways;
 
 use acceptance::Acceptance;
@@ -31,11 +34,12 @@ use settings::Asked;
 use settings::Store;
 
 // Where the pen stands: the left edge of its strip in dm, the place up to which what is known has
-// been drawn, and whether a strip is open.
+// been drawn, whether a strip is open, and how many ticks lie under the next one.
 pub struct Pen {
     pub edge: u64,
     pub from: u64,
     pub is_open: bool,
+    pub ticks: u8,
 }
 
 // A plan of the test track, to be drawn as a row over the strips: the run over it once the whole
@@ -67,6 +71,7 @@ pub fn fresh_pen() -> Pen
         edge: 0,
         from: 0,
         is_open: false,
+        ticks: 0,
     }
 }
 

@@ -54,6 +54,7 @@ pub fn arrive(pen: Pen, place: u64, until: u64) -> Pen
         edge,
         from: lesser(until, edge),
         is_open: true,
+        ticks: pen.ticks,
     }
 }
 
@@ -123,6 +124,7 @@ pub fn after_line(pen: Pen, line: Line, odometer: u32) -> Pen
         edge: there.edge,
         from: reached(there, line, place),
         is_open: there.is_open,
+        ticks: there.ticks,
     }
 }
 

@@ -5,17 +5,30 @@ ghost use Rattle.settings.specs.Versions.{kept};
 ghost use Rattle.settings.specs.Store.{judged};
 ghost use Rattle.settings.specs.At.{heldAt, gapAt};
 ghost use Rattle.ride.specs.Over.{records};
+ghost use Rattle.ride_text.specs.declared.Done.{Done};
 ghost use Rattle.ride_drawing.specs.Draw.{drawTaken};
 ghost use Rattle.ride_drawing.specs.Says.{saysDrawn};
 use crate::Drawing;
 use crate::Drawn;
+use crate::Pen;
 use crate::Plan;
 use crate::steps::pen_after;
 use crate::steps::put_step;
 use ride::Reply;
+use ride::Ride;
 use ride_text::Done;
 use settings::Held;
 use settings::Store;
+
+// So many records taken and bytes written, and where the drawing stands then.
+fn took(ride: Ride, number: u64, pen: Pen, records: usize, bytes: usize) -> Drawn
+    ensures { λ r. ⌜ r ≡ record { drawing = record { ride = ride; number = number; pen = pen }; done = Done.Took records bytes } ⌝ }
+{
+    Drawn {
+        drawing: Drawing { ride, number, pen },
+        done: Done::Took { records, bytes },
+    }
+}
 
 // The records in turn, up to the last, while there is room for what one more may add and the next
 // number fits.
@@ -52,15 +65,5 @@ pub fn over(
         next += 1;
         i += 1;
     }
-    Drawn {
-        drawing: Drawing {
-            ride: now,
-            number: next,
-            pen,
-        },
-        done: Done::Took {
-            records: i,
-            bytes: at,
-        },
-    }
+    took(now, next, pen, i, at)
 }

@@ -5,15 +5,19 @@ ghost use Rattle.ride.specs.declared.Line.{Line};
 ghost use Rattle.ride.specs.Says.{saysWrong, saysLines, saysGiven};
 ghost use Rattle.ride_drawing.specs.declared.Pen.{Pen};
 ghost use Rattle.text.specs.Pieces.{puts};
-ghost use Rattle.ride_drawing.specs.Drawing.{pieces, drawRefused, drawAccepted, drawStep, penAfter, lastStrip, theRest};
+ghost use Rattle.ride_drawing.specs.Element.{pieces};
+ghost use Rattle.ride_drawing.specs.Drawing.{drawAccepted, drawStep, penAfter, lastStrip, theRest};
 use crate::Pen;
 use crate::Plan;
 use crate::lines::after_lines;
 use crate::lines::put_lines;
 use crate::places::arrive;
 use crate::places::certain;
-use crate::signs::put_sign;
 use crate::spans::put_span;
+use crate::ticks::one_tick;
+use crate::ticks::put_refused;
+use crate::ticks::ticked;
+use crate::ticks::ticks_at;
 use crate::ways::pass;
 use crate::ways::put_way_past;
 use group::Group;
@@ -33,25 +37,6 @@ fn refusal(wrong: Wrong) -> u8
         Wrong::TooHigh => 18,
         Wrong::TooLow => 17,
     }
-}
-
-// A refused record: on the pen's strip, or in the row at the head.
-fn put_refused(
-    pen: Pen,
-    odometer: u32,
-    closed: Group,
-    line: Line,
-    buf: &mut [u8],
-    at: usize,
-) -> usize
-    ensures { λ r. ⌜ came r (now (buf .exit)) ≡ puts (pieces (drawRefused pen odometer closed line)) (now (buf .entry)) at ⌝ }
-{
-    if pen.is_open {
-        return put_sign(closed, line, pen.edge, odometer as u64, buf, at);
-    }
-    let a = put(b"<svg class='r' viewBox='94 188 12 16'>", buf, at);
-    let b = put_sign(closed, line, 0, 0, buf, a);
-    put(b"</svg>\n", buf, b)
 }
 
 // The lines of an accepted record, and the way to its odometer.
@@ -113,12 +98,12 @@ pub fn pen_after(pen: Pen, odometer: u32, given: Given, after: Ride) -> Pen
     ensures { λ r. ⌜ r ≡ penAfter pen odometer (saysGiven given) after ⌝ }
 {
     match given {
-        Given::Refused(_) => pen,
-        Given::Lines(lines) => arrive(
-            after_lines(pen, lines, odometer),
-            after.odometer as u64,
-            certain(after),
-        ),
+        Given::Refused(_) => ticked(one_tick(pen.ticks), pen),
+        Given::Lines(lines) => {
+            let last = after_lines(pen, lines, odometer);
+            let there = arrive(last, after.odometer as u64, certain(after));
+            ticked(ticks_at(pen, odometer, after.odometer), there)
+        }
     }
 }
 

@@ -4,8 +4,8 @@ ghost use Prim.Native.Nat.{_-_, _/_, _<_};
 ghost use Rattle.text.specs.Put.{came};
 ghost use Rattle.ride_drawing.specs.declared.Pen.{Pen};
 ghost use Rattle.text.specs.Pieces.{puts};
-ghost use Rattle.ride_drawing.specs.Strip.{heading, between};
-ghost use Rattle.ride_drawing.specs.Drawing.{leaving, way};
+ghost use Rattle.ride_drawing.specs.Strip.{figure, figures, heading, between};
+ghost use Rattle.ride_drawing.specs.Way.{leaving, way};
 use crate::Pen;
 use crate::places::is_further;
 use crate::spans::put_span;
@@ -13,29 +13,44 @@ use ride::Known;
 use text::put;
 use text::put_number;
 
+// The figure at a tick.
+fn put_figure(km: u64, i: u64, buf: &mut [u8], at: usize) -> usize
+    requires { ⌜ (km < 18446744073709551615) × (i < 11) ⌝ }
+    ensures { λ r. ⌜ came r (now (buf .exit)) ≡ puts (figure km i) (now (buf .entry)) at ⌝ }
+{
+    let a = put_number(b"<text x='", 100 + 100 * i, buf, at);
+    let b = put_number(b"' y='232'>", km + i / 10, buf, a);
+    let c = put_number(b".", i % 10, buf, b);
+    put(b"</text>", buf, c)
+}
+
+// The figures at all ticks.
+fn put_figures(km: u64, buf: &mut [u8], at: usize) -> usize
+    requires { ⌜ km < 18446744073709551615 ⌝ }
+    ensures { λ r. ⌜ came r (now (buf .exit)) ≡ puts (figures km 0 11) (now (buf .entry)) at ⌝ }
+{
+    let mut next = at;
+    let mut i: u64 = 0;
+    while i < 11 {
+        next = put_figure(km, i, buf, next);
+        i += 1;
+    }
+    next
+}
+
 // The head of the strip of a kilometre.
 fn put_heading(km: u64, buf: &mut [u8], at: usize) -> usize
     requires { ⌜ km < 18446744073709551615 ⌝ }
     ensures { λ r. ⌜ came r (now (buf .exit)) ≡ puts (heading km) (now (buf .entry)) at ⌝ }
 {
     let a = put_number(b"<h2>km ", km, buf, at);
-    let b = put_number(
-        b"</h2>\n<div class='s'><svg viewBox='-12 0 1152 220'><use href='#g'/><text x='100' y='216'>",
-        km,
+    let b = put(
+        b"</h2>\n<div class='s'><svg viewBox='-12 0 1170 236'><use href='#g'/>",
         buf,
         a,
     );
-    let c = put_number(b".0</text><text x='200' y='216'>", km, buf, b);
-    let d = put_number(b".1</text><text x='300' y='216'>", km, buf, c);
-    let e = put_number(b".2</text><text x='400' y='216'>", km, buf, d);
-    let f = put_number(b".3</text><text x='500' y='216'>", km, buf, e);
-    let g = put_number(b".4</text><text x='600' y='216'>", km, buf, f);
-    let h = put_number(b".5</text><text x='700' y='216'>", km, buf, g);
-    let i = put_number(b".6</text><text x='800' y='216'>", km, buf, h);
-    let j = put_number(b".7</text><text x='900' y='216'>", km, buf, i);
-    let k = put_number(b".8</text><text x='1000' y='216'>", km, buf, j);
-    let l = put_number(b".9</text><text x='1100' y='216'>", km + 1, buf, k);
-    put(b".0</text>\n", buf, l)
+    let c = put_figures(km, buf, b);
+    put(b"\n", buf, c)
 }
 
 // Between two strips.

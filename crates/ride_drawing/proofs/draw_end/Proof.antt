@@ -4,7 +4,8 @@ use mathlib.Core.Path.{ap, _∙_}
 use Rattle.ride.specs.Step.{End, end}
 use Rattle.text.proofs.Putting.{after, all-as}
 use Rattle.ride_drawing.proofs.Elements.{pieces-append}
-use Rattle.ride_drawing.specs.Drawing.{pieces, drawLines, afterLines, theRest, drawEnd}
+use Rattle.ride_drawing.specs.Element.{pieces}
+use Rattle.ride_drawing.specs.Drawing.{drawLines, afterLines, theRest, drawEnd}
 use Rattle.ride_drawing.specs.declared.Pen.{Pen}
 use borrow.Author.Needs.{needs}
 use Rattle.ride_drawing.proofs.draw_end.Statement.{statement}

@@ -4,7 +4,9 @@ use mathlib.Core.Path.{ap, _∙_}
 use Prim.Native.Nat.{ℕ}
 use Rattle.text.proofs.Putting.{after, all-as}
 use Rattle.ride_drawing.proofs.Elements.{pieces-append}
-use Rattle.ride_drawing.specs.Drawing.{pieces, wayPast, extraMark, reached, onItsStrip}
+use Rattle.ride_drawing.specs.Element.{pieces}
+use Rattle.ride_drawing.specs.Way.{wayPast}
+use Rattle.ride_drawing.specs.Drawing.{extraMark, reached, onItsStrip}
 use Rattle.ride_drawing.specs.Sign.{sign}
 use Rattle.ride_drawing.specs.Span.{span}
 use Rattle.ride_drawing.specs.Strip.{arrive}

@@ -8,7 +8,8 @@ use Rattle.ride.specs.declared.Known.{Known}
 use Rattle.ride.specs.declared.Lines.{Lines}
 use Rattle.ride_drawing.proofs.Cases.{one-drawn, two-drawn}
 use Rattle.text.proofs.Putting.{after, all-as, none-as}
-use Rattle.ride_drawing.specs.Drawing.{pieces, placeOf, onItsStrip, drawLines}
+use Rattle.ride_drawing.specs.Element.{pieces}
+use Rattle.ride_drawing.specs.Drawing.{placeOf, onItsStrip, drawLines}
 use Rattle.ride_drawing.specs.declared.Pen.{Pen}
 use borrow.Author.Needs.{needs}
 use Rattle.ride_drawing.proofs.lines.put_lines.Statement.{statement}

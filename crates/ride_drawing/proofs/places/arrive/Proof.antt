@@ -25,7 +25,7 @@ returns-2 c =
     let p2 = p1 .before in
     let a = p2 .before .args in
     let yes : isFurther (a .pen) (a .place) ≡ true = sym (p2 .is-further .ensures) ∙ not-false _ (p1 .if1 .left) in
-    rw yes (ap (λ (v : ℕ). penOf (a .place / 10000 * 10000) v true) (c .lesser .ensures))
+    rw yes (ap (λ (v : ℕ). penOf (a .place / 10000 * 10000) v true (a .pen .ticks)) (c .lesser .ensures))
 
 pub arrive-spec : {M : Type 1} → statement M
 arrive-spec =

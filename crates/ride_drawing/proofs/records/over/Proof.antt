@@ -6,7 +6,8 @@ use mathlib.Core.List.{List}
 use Prim.Native.Nat.{ℕ, suc, _+_, _-_, _/_, _<_, _≤_}
 use native.Mathlib.Omega.{arith}
 use native.Mathlib.Numerals.{add-one}
-use mathlib.Core.Bool.{Bool, true, _&&_}
+use mathlib.Core.Bool.{true}
+use mathlib.Core.Logic.{⊎-elim}
 use lib.Dec.{leb, ltb}
 use lib.ListN.{length}
 use borrow.Author.Tests.{ltb-true, leb-true}
@@ -22,8 +23,11 @@ use Rattle.ride_text.proofs.Turns.{leftOf, left-next, left-all, both}
 use Rattle.text.specs.Put.{placed}
 use Rattle.text.proofs.Placing.{placed-length}
 use Rattle.text.proofs.Standing.{stands}
-use Rattle.ride_drawing.specs.Drawing.{Element, pieces, drawStep}
+use Rattle.ride_drawing.specs.declared.Drawn.{Drawn}
+use Rattle.ride_drawing.specs.Element.{Element, pieces}
+use Rattle.ride_drawing.specs.Drawing.{drawStep}
 use Rattle.ride_drawing.specs.Draw.{textOf, stepElements, stepPen, isTaken, taken, drawTaken}
+use Rattle.ride_drawing.specs.Says.{saysDrawn}
 use Rattle.text.proofs.Fitting.{fitting}
 use Rattle.ride_drawing.proofs.Short.{step-size}
 use Rattle.ride_drawing.proofs.Turns.{block, fromHere, from-first, from-next, from-last, stepAt, no-more, none-left}
@@ -148,43 +152,36 @@ loop-again c =
           ∙ l .loop .inv .5,
     )
 
--- where no record more is taken, the drawing is whole
-whole : (l : tie.At-loop Inv-loop μ-loop) →
+-- where the loop was left no record more is taken, since its test failed or none stands there: the
+-- drawing is whole
+whole : (c : tie.Left-loop Inv-loop μ-loop) →
+    let l = c .before in
     let a = l .before .before .before .before .before .args in
-    taken (a .plan) (gapAt (a .store)) (l .loop .pen) (l .loop .now) (l .loop .next) (length (l .loop .out) - l .loop .at) (leftOf (a .trace .now) (length (a .trace .now) / 8) (l .loop .i)) ≡ 0
-    → block (l .loop .i) (l .loop .at) (l .loop .now) (l .loop .next) (l .loop .pen) (l .loop .out)
+    block (l .loop .i) (l .loop .at) (l .loop .now) (l .loop .next) (l .loop .pen) (l .loop .out)
     ≡ drawTaken (a .plan) (gapAt (a .store)) (a .drawing) (records (a .trace .now)) (a .out .now)
-whole l none =
+whole c =
+    let l = c .before in
     let a = l .before .before .before .before .before .args in
     let gaps = gapAt (a .store) in
     let trace = a .trace .now in
-    from-last (a .plan) gaps (l .loop .pen) (l .loop .now) (l .loop .next) (l .loop .i) (l .loop .at) (leftOf trace (length trace / 8) (l .loop .i)) (l .loop .out) none
+    let room = length (l .loop .out) - l .loop .at in
+    let left = leftOf trace (length trace / 8) (l .loop .i) in
+    let none : taken (a .plan) gaps (l .loop .pen) (l .loop .now) (l .loop .next) room left ≡ 0 =
+    ⊎-elim
+    (λ w. no-more (a .plan) gaps (l .loop .pen) (l .loop .now) (l .loop .next) room trace (length trace / 8) (l .loop .i) (w .left))
+    (λ w. none-left (a .plan) gaps (l .loop .pen) (l .loop .now) (l .loop .next) room trace (length trace / 8) (l .loop .i)
+    (turned-past _ _ _ _ _ _ _ (turn (record { before = record { before = record { before = l; loop-test = w .0 }; held-at = w .1 }; treat-at = w .2 })) (w .3 .keys2)))
+    (c .loop-test .came) in
+    from-last (a .plan) gaps (l .loop .pen) (l .loop .now) (l .loop .next) (l .loop .i) (l .loop .at) left (l .loop .out) none
     ∙ l .loop .inv .5
     ∙ from-first (a .plan) gaps (a .drawing) (leftOf trace (length trace / 8) 0) (a .out .now)
     ∙ ap (λ (rs : List (List ℕ)). drawTaken (a .plan) gaps (a .drawing) rs (a .out .now)) (left-all trace)
 
 same-length : tie.Need-same-length Inv-loop μ-loop
-same-length c = c .before .loop .inv .1
+same-length c = c .before .before .loop .inv .1
 
 returns : tie.Need-returns Inv-loop μ-loop
-returns c =
-    let l = c .before in
-    let a = l .before .before .before .before .before .args in
-    let trace = a .trace .now in
-    whole l (no-more (a .plan) (gapAt (a .store)) (l .loop .pen) (l .loop .now) (l .loop .next) (length (l .loop .out) - l .loop .at) trace (length trace / 8) (l .loop .i) (c .loop-test .left))
-
-same-length-2 : tie.Need-same-length-2 Inv-loop μ-loop
-same-length-2 c = c .before .before .before .before .loop .inv .1
-
-returns-2 : tie.Need-returns-2 Inv-loop μ-loop
-returns-2 c =
-    let t = c .before in
-    let l = t .before .before .before in
-    let a = l .before .before .before .before .before .args in
-    let trace = a .trace .now in
-    whole l
-    (none-left (a .plan) (gapAt (a .store)) (l .loop .pen) (l .loop .now) (l .loop .next) (length (l .loop .out) - l .loop .at) trace (length trace / 8) (l .loop .i)
-    (turned-past _ _ _ _ _ _ _ (turn t) (c .match .keys2)))
+returns c = ap (λ (r : Drawn). saysDrawn r (c .before .before .loop .out)) (c .took .ensures) ∙ whole (c .before)
 
 pub over-spec : {M : Type 1} → statement M
 over-spec =
@@ -198,7 +195,5 @@ over-spec =
     add-i
     loop-less
     loop-again
-    same-length
-    returns
-    same-length-2
-    returns-2)
+    (λ c κs. tt) same-length
+    returns)

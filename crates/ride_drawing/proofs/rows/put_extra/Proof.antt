@@ -5,7 +5,8 @@ use mathlib.Core.Path.{_≡_, sym, ap, _∙_}
 use Rattle.ride.specs.declared.Line.{Line}
 use Rattle.ride_drawing.proofs.Entries.{extra-drawn, extra-none}
 use Rattle.text.proofs.Putting.{all-as, none-as}
-use Rattle.ride_drawing.specs.Drawing.{pieces, extraMark}
+use Rattle.ride_drawing.specs.Element.{pieces}
+use Rattle.ride_drawing.specs.Drawing.{extraMark}
 use borrow.Author.Needs.{needs}
 use Rattle.ride_drawing.proofs.rows.put_extra.Statement.{statement}
 use Rattle.ride_drawing.proofs.rows.put_extra.Tie as tie

@@ -6,7 +6,9 @@ use Rattle.ride.specs.Says.{saysLines}
 use Rattle.ride.specs.Step.{end}
 use Rattle.text.proofs.Putting.{after, all-as}
 use Rattle.ride_drawing.proofs.Elements.{pieces-append}
-use Rattle.ride_drawing.specs.Drawing.{pieces, wayPast, drawLines, certain, drawAccepted}
+use Rattle.ride_drawing.specs.Element.{pieces}
+use Rattle.ride_drawing.specs.Way.{wayPast}
+use Rattle.ride_drawing.specs.Drawing.{drawLines, certain, drawAccepted}
 use Rattle.ride_drawing.specs.declared.Pen.{Pen}
 use borrow.Author.Needs.{needs}
 use Rattle.ride_drawing.proofs.steps.put_accepted.Statement.{statement}

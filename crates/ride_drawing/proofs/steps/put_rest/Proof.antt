@@ -3,7 +3,8 @@
 use mathlib.Core.Path.{ap}
 use Rattle.text.proofs.Putting.{none, after, all-as}
 use Rattle.ride_drawing.proofs.Elements.{pieces-append}
-use Rattle.ride_drawing.specs.Drawing.{past, lastStrip, theRest}
+use Rattle.ride_drawing.specs.Way.{past}
+use Rattle.ride_drawing.specs.Drawing.{lastStrip, theRest}
 use Rattle.ride_drawing.specs.Row.{row, furthest}
 use Rattle.ride_drawing.specs.declared.Pen.{Pen}
 use borrow.Author.Needs.{needs}

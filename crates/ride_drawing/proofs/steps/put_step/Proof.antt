@@ -6,7 +6,9 @@ use Rattle.ride.specs.Says.{saysGiven}
 use Rattle.ride.specs.declared.Line.{Line}
 use Rattle.ride.specs.declared.trace.Given.{Given}
 use Rattle.text.proofs.Putting.{after, all-as}
-use Rattle.ride_drawing.specs.Drawing.{pieces, drawRefused, drawStep}
+use Rattle.ride_drawing.specs.Element.{pieces}
+use Rattle.ride_drawing.specs.Ticks.{drawRefused}
+use Rattle.ride_drawing.specs.Drawing.{drawStep}
 use borrow.Author.Needs.{needs}
 use Rattle.ride_drawing.proofs.steps.put_step.Statement.{statement}
 use Rattle.ride_drawing.proofs.steps.put_step.Tie as tie

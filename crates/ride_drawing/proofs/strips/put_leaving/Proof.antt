@@ -5,7 +5,7 @@ use mathlib.Core.Path.{_≡_, ap}
 use borrow.Author.Tests.{not-true, not-false}
 use Rattle.text.specs.Put.{put}
 use Rattle.text.proofs.Putting.{then, alone, after, all-as}
-use Rattle.ride_drawing.specs.Drawing.{leaving}
+use Rattle.ride_drawing.specs.Way.{leaving}
 use Rattle.ride_drawing.specs.Strip.{between}
 use borrow.Author.Needs.{needs}
 use Rattle.ride_drawing.proofs.strips.put_leaving.Statement.{statement}

@@ -4,7 +4,7 @@ use mathlib.Core.Bool.{true, false}
 use mathlib.Core.Path.{_≡_, sym, _∙_}
 use borrow.Author.Tests.{not-true, not-false}
 use Rattle.text.proofs.Putting.{after}
-use Rattle.ride_drawing.specs.Drawing.{way}
+use Rattle.ride_drawing.specs.Way.{way}
 use Rattle.text.specs.Pieces.{puts}
 use Rattle.ride_drawing.specs.Strip.{isFurther}
 use borrow.Author.Needs.{needs}

@@ -4,7 +4,7 @@ use Prim.Native.Nat.{ℕ, _+_, _-_, _≤_}
 use native.Mathlib.Omega.{arith}
 use mathlib.Core.Path.{_≡_, refl, sym, _∙_}
 use lib.ListN.{length, drop}
-use Rattle.ride_drawing.specs.Drawing.{past}
+use Rattle.ride_drawing.specs.Way.{past}
 use Rattle.ride_drawing.proofs.Entries.{rowOf, next-entry, no-entry, all-passed, toCome, one-passed, none-left}
 use borrow.Author.Needs.{needs}
 use Rattle.ride_drawing.proofs.ways.pass.Statement.{statement}

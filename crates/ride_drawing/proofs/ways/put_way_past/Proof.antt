@@ -5,7 +5,7 @@ use mathlib.Core.Path.{_≡_, sym, ap, _∙_}
 use borrow.Author.Tests.{not-true, not-false}
 use Rattle.text.proofs.Putting.{none, after, all-as}
 use Rattle.ride_drawing.proofs.Elements.{pieces-append}
-use Rattle.ride_drawing.specs.Drawing.{way, past, wayPast}
+use Rattle.ride_drawing.specs.Way.{way, past, wayPast}
 use Rattle.text.specs.Pieces.{puts}
 use Rattle.ride_drawing.specs.Row.{row}
 use Rattle.ride_drawing.specs.Strip.{isFurther}

@@ -1,18 +1,18 @@
 -- On the open strip, or in the row.
 -- Assumes nothing.
 use Rattle.text.specs.Put.{put}
-use Rattle.text.proofs.Putting.{none, then, alone, after}
-use Rattle.ride_drawing.specs.Drawing.{inTheRow, drawRefused}
+use Rattle.text.proofs.Putting.{then, alone, after}
+use Rattle.ride_drawing.specs.Ticks.{inTheRow, onTheTicks, drawRefused}
 use borrow.Author.Needs.{needs}
-use Rattle.ride_drawing.proofs.steps.put_refused.Statement.{statement}
-use Rattle.ride_drawing.proofs.steps.put_refused.Tie as tie
+use Rattle.ride_drawing.proofs.ticks.put_refused.Statement.{statement}
+use Rattle.ride_drawing.proofs.ticks.put_refused.Tie as tie
 
 returns : tie.Need-returns
-unfolding drawRefused
+unfolding drawRefused onTheTicks
 returns c =
     let p1 = c .before .before in
     let p2 = p1 .before .before in
-    rw (p2 .if1 .taken) (after _ _ _ _ (p1 .put-sign .ensures) (none _ _))
+    rw (p2 .if1 .taken) (p1 .put-tick .ensures)
 
 returns-2 : tie.Need-returns-2
 unfolding drawRefused inTheRow
@@ -21,7 +21,7 @@ returns-2 c =
     let p2 = p1 .before .before .before .before .before in
     let p3 = p2 .before .before .before .before in
     let p4 = p3 .before .before .before in
-    rw (p4 .if1 .left) (then _ _ _ _ (p3 .put .ensures) (after _ _ _ _ (p2 .put-sign2 .ensures) (alone _ _ _ (p1 .put2 .ensures))))
+    rw (p4 .if1 .left) (then _ _ _ _ (p3 .put .ensures) (after _ _ _ _ (p2 .put-sign .ensures) (alone _ _ _ (p1 .put2 .ensures))))
 
 pub put-refused-spec : {M : Type 1} → statement M
 put-refused-spec =

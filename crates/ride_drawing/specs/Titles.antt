@@ -1,0 +1,53 @@
+-- What is promised of titles: each is its line, and none needs an escape.
+-- Assumes nothing.
+use Prim.Native.Nat.{ℕ}
+use Prim.Native.String.{String}
+use mathlib.Core.Path.{_≡_}
+use mathlib.Core.Bool.{Bool, true, not, _&&_}
+use mathlib.Core.List.{List, [], _∷_, _++_}
+use lib.Dec.{eqb}
+use Rattle.text.specs.Text.{codes}
+use Rattle.text.specs.Pieces.{whole}
+use Rattle.group.specs.declared.Group.{Group}
+use Rattle.ride.specs.declared.Line.{Line}
+use Rattle.ride.specs.declared.Seen.{Seen}
+use Rattle.ride_text.specs.Style.{withReasons}
+use Rattle.ride_text.specs.Text.{lineText}
+use Rattle.acceptance.specs.declared.Entry.{Entry}
+use Rattle.acceptance.specs.declared.Role.{Role}
+use Rattle.acceptance_text.specs.Lines.{entryLine, groupLine}
+use Rattle.ride_drawing.specs.Sign.{title, sign}
+use Rattle.ride_drawing.specs.Row.{entryTitle, entrySign, extraTitle, extraSign}
+
+-- ---- each title is its line
+
+-- A sign's text begins with these words, its title, and the end of the title.
+abbrev pub HasTitle : String → List ℕ → List (List ℕ) → Type 0
+HasTitle words title pieces = (rest : List ℕ) × (whole pieces ≡ codes words ++ (title ++ (codes "</title>" ++ rest)))
+
+-- The title of a line's sign is the line as `explain` writes it, without its newline; that of an
+-- entry and of an extra group is the line that `accept` writes of it.
+pub record Titled : Type 0 where
+  pub lines : (closed : Group) (line : Line) (edge place : ℕ) → HasTitle "<g><title>" (title closed line) (sign closed line edge place)
+  pub explained : (closed : Group) (line : Line) → title closed line ++ codes "\n" ≡ lineText withReasons closed line
+  pub entries : (i : ℕ) (e : Entry) (edge : ℕ) → HasTitle "<g class='e'><title>" (entryTitle i e) (entrySign i e edge)
+  pub reported : (i : ℕ) (e : Entry) → entryTitle i e ++ codes "\n" ≡ entryLine i e
+  pub extras : (s : Seen) (edge : ℕ) → HasTitle "<g class='e'><title>" (extraTitle s) (extraSign s edge)
+  pub answered : (s : Seen) → extraTitle s ++ codes "\n" ≡ groupLine (s .place) (s .kind) Role.Extra
+
+-- ---- no title needs an escape
+
+-- Whether a byte stands for itself in a page: it is no `<`, no `&` and no quote.
+abbrev pub isSafe : ℕ → Bool
+isSafe c = not (eqb c 60) && (not (eqb c 38) && (not (eqb c 34) && not (eqb c 39)))
+
+-- Whether all bytes of a text do.
+unfoldable pub areSafe : List ℕ → Bool
+areSafe [] = true
+areSafe (c ∷ cs) = isSafe c && areSafe cs
+
+-- No title has one that does not: of a line, of an entry, of an extra group.
+pub record NoEscape : Type 0 where
+  pub titles : (closed : Group) (line : Line) → areSafe (title closed line) ≡ true
+  pub entries : (i : ℕ) (e : Entry) → areSafe (entryTitle i e) ≡ true
+  pub extras : (s : Seen) → areSafe (extraTitle s) ≡ true
