@@ -1,31 +1,41 @@
 -- The hypotheses on the flips can be computed: beyond the stretch nothing flips, so each is a test
 -- up to its end.
 -- Assumes nothing.
-use mathlib.Core.Path.{_≡_, refl, ap, _∙_}
+use mathlib.Core.Path.{_≡_, refl}
 use mathlib.Core.Bool.{Bool, true, false, _&&_}
-use Prim.Native.Nat.{ℕ, _+_, _*_, _≤_}
+use Prim.Native.Nat.{ℕ, suc, _+_, _-_, _*_, _≤_, _<_}
 use native.Mathlib.Omega.{arith}
 use lib.Dec.{T, eqb, leb, ltb, eqb→eq, leb→le}
-use borrow.Author.Tests.{ltb-true, ltb-false, le-ltb}
-use Rattle.words.specs.Answer.{pick}
+use lib.ListN.{getD}
+use borrow.Author.Tests.{leb-true, ltb-true, ltb-false}
+use Rattle.words.specs.Answer.{gives, pick}
+use Rattle.words.proofs.Linear.{and-parts}
 use Rattle.words.proofs.Ranges.{both, both-left, both-right, upto, below}
-use Rattle.balise_line.specs.Line.{OneBalise, FewFlips, Clean, sentBit, receivedBit, inStretch, unequal, flip, flips, syncFlips, dataFlips}
-use Rattle.balise_line.proofs.Sums.{none-sum}
+use Rattle.telegram.specs.Stretch.{bitAt, inside}
+use Rattle.telegram.specs.Sync.{isGood}
+use Rattle.telegram.specs.Telegram.{telegram}
+use Rattle.balise_line.specs.Line.{OneBalise, Proper, FewFlips, Clean, repeated, sentBit, receivedBit, inStretch, unequal, flip, flips, syncFlips, dataFlips}
+use Rattle.balise_line.proofs.Sums.{none-sum, unequal-same}
 
 -- what is asked of telegram k
 unfoldable pub quietAt : OneBalise → ℕ → Bool
 quietAt o k = both (eqb (syncFlips o k) 0) (leb (dataFlips o k + dataFlips o (k + 1)) 3)
 
 module _ (o : OneBalise) where
-  beyond : (j : ℕ) → o .phase + o .len ≤ j → flip o j ≡ 0
-  unfolding flip inStretch
-  beyond j l =
-      ap (λ (t : Bool). pick (leb (o .phase) j && t) (unequal (receivedBit o j) (sentBit o j)) 0) (le-ltb j (o .phase + o .len) l)
-      ∙ go (leb (o .phase) j)
+  -- A bit that is received as it is sent, where it lies in the stretch, is not flipped;
+  pub unflipped-at : (j : ℕ) → (o .phase ≤ j → j < o .phase + o .len → bitAt (o .buffer) (o .start + (j - o .phase)) ≡ sentBit o j) → flip o j ≡ 0
+  unfolding flip inStretch receivedBit
+  unflipped-at j same = go (leb (o .phase) j && ltb j (o .phase + o .len)) refl
     where
-      go : (t : Bool) → pick (t && false) (unequal (receivedBit o j) (sentBit o j)) 0 ≡ 0
-      go true = refl
-      go false = refl
+      go : (t : Bool) → leb (o .phase) j && ltb j (o .phase + o .len) ≡ t → pick t (unequal (bitAt (o .buffer) (o .start + (j - o .phase))) (sentBit o j)) 0 ≡ 0
+      go false e = refl
+      go true e =
+          let h = and-parts (leb (o .phase) j) (ltb j (o .phase + o .len)) e in
+          unequal-same (bitAt (o .buffer) (o .start + (j - o .phase))) (sentBit o j) (same (leb-true (o .phase) j (h .0)) (ltb-true j (o .phase + o .len) (h .1)))
+
+  -- nor is one beyond it.
+  beyond : (j : ℕ) → o .phase + o .len ≤ j → flip o j ≡ 0
+  beyond j l = unflipped-at j (λ low high. absurd (omega arith))
 
   none-beyond : (j n : ℕ) → o .phase + o .len ≤ j → flips o j n ≡ 0
   unfolding flips
@@ -62,3 +72,17 @@ module _ (o : OneBalise) where
       go : (t : Bool) → ltb j n ≡ t → flip o j ≡ 0
       go true is = eqb→eq (flip o j) 0 (below unflipped n ok j (ltb-true j n is))
       go false is = let h : n ≤ j = ltb-false j n is in beyond j (omega arith)
+
+-- ---- what is asked of a balise
+
+-- Its words are bytes.
+abbrev pub small : OneBalise → Bool
+small o = upto (λ i. ltb (getD (repeated o) i 0) 256) 8
+
+pub proper-computed : (o : OneBalise) → T (small o) → isGood (o .s) (o .t) ≡ true → telegram (o .x) (o .y) (o .z) ≡ gives (o .telegram)
+    → inside (o .buffer) (o .start) (o .len) ≡ true → Proper o
+proper-computed o bytes pair valid taken =
+    record { bytes = (byte 0 (omega arith), byte 4 (omega arith), byte 1 (omega arith), byte 2 (omega arith), byte 3 (omega arith)); pair = pair; valid = valid; taken = taken }
+  where
+    byte : (i : ℕ) → i < 8 → getD (repeated o) i 0 < 256
+    byte i l = leb→le (suc (getD (repeated o) i 0)) 256 (below (λ j. ltb (getD (repeated o) j 0) 256) 8 bytes i l)

@@ -2,20 +2,17 @@
 -- telegram.
 -- Assumes nothing.
 use mathlib.Core.Path.{_≡_, refl, sym, ap, ap₂, _∙_}
-use mathlib.Core.Bool.{Bool, true, false, _&&_}
+use mathlib.Core.Bool.{Bool, true, false}
 use mathlib.Core.List.{List, [], _∷_, _++_, map}
 use Prim.Native.Nat.{ℕ, zero, suc, _+_, _-_, _*_, _/_, _%_, _^_, _≤_, _<_}
 use native.Mathlib.Omega.{arith}
-use lib.Dec.{leb, ltb}
 use lib.ListN.{length, getD, List·getD-append}
-use borrow.Author.Tests.{ltb-true}
 use Rattle.words.specs.Answer.{pick}
 use Rattle.telegram.specs.Stretch.{bitAt}
 use Rattle.telegram.specs.Place.{from, those}
 use Rattle.telegram.specs.declared.Telegram.{Telegram}
-use Rattle.balise_line.specs.Line.{OneBalise, Proper, Clean, sentBit, receivedBit, inStretch, unequal, flip, lineBit, sentAt, placesOf}
-use Rattle.balise_line.proofs.Sums.{unequal-same}
-use Rattle.balise_line.proofs.Places.{and-parts}
+use Rattle.balise_line.specs.Line.{OneBalise, Proper, Clean, sentBit, lineBit, sentAt, placesOf}
+use Rattle.balise_line.proofs.Computed.{unflipped-at}
 use Rattle.balise_line.proofs.Sent.{sent-parts, parts-sent}
 use Rattle.balise_line.proofs.Clean.{true-places}
 use Rattle.telegram.specs.Spelling.{wordsOf}
@@ -44,15 +41,9 @@ module _ (m : Telegram) (s t n : ℕ) (rest : List ℕ) where
 
   -- So nothing is flipped.
   pub is-clean : Clean o
-  unfolding flip inStretch receivedBit
-  is-clean j = go (leb 0 j && ltb j (0 + 8 * (4 * n + 1))) refl
-    where
-      go : (b : Bool) → (leb 0 j && ltb j (0 + 8 * (4 * n + 1))) ≡ b → pick b (unequal (bitAt (bytes ++ rest) (0 + (j - 0))) (sentBit o j)) 0 ≡ 0
-      go false is = refl
-      go true is =
-          let l : j < 0 + 8 * (4 * n + 1) = ltb-true j (0 + 8 * (4 * n + 1)) (and-parts (leb 0 j) (ltb j (0 + 8 * (4 * n + 1))) is .1) in
-          let here : 0 + (j - 0) ≡ j = omega arith in
-          unequal-same (bitAt (bytes ++ rest) (0 + (j - 0))) (sentBit o j) (ap (bitAt (bytes ++ rest)) here ∙ bits-sent j (omega arith))
+  is-clean j =
+      unflipped-at o j
+      (λ low high. let here : 0 + (j - 0) ≡ j = omega arith in ap (bitAt (bytes ++ rest)) here ∙ bits-sent j (omega arith))
 
 -- The writer writes the line.
 pub writes-the-line : WritesTheLine

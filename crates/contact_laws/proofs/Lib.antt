@@ -17,8 +17,7 @@ pub mod Sixty
 pub mod Row
 pub mod Heard
 pub mod Computed
-mod Less
+mod Refused
 mod Eleven
-mod Differ
 mod Limits
 mod Witnesses

@@ -1,12 +1,11 @@
 -- Less does not always do.
 -- Assumes nothing.
-use mathlib.Core.Path.{refl, _∙_}
+use mathlib.Core.Path.{_∙_}
 use native.Mathlib.Omega.{arith}
 use Rattle.contact_laws.specs.Limits.{LessDoesNot}
 use Rattle.contact_laws.proofs.Over.{listened}
-use Rattle.contact_laws.proofs.Less.{short, short-fair, short-answered}
+use Rattle.contact_laws.proofs.Refused.{short, short-fair, short-answered, zeroes-ahead, zeroes-ahead-answered}
 use Rattle.contact_laws.proofs.Eleven.{line, part, two-in-a-row, one-for-both, line-taken}
-use Rattle.contact_laws.proofs.Differ.{zeroes-ahead, zeroes-ahead-answered}
 
 pub less-does-not : LessDoesNot
 less-does-not =

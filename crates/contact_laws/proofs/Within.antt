@@ -1,9 +1,8 @@
 -- The contact over a balise, with two whole telegrams in it, is read as it was sent.
 -- Assumes nothing.
 use Prim.Native.Nat.{ℕ, zero, suc, _+_, _-_, _%_, _≤_, _<_}
-use mathlib.Core.Path.{_≡_, refl, sym, ap, _∙_}
-use mathlib.Core.Bool.{Bool, true, false, _&&_}
-use mathlib.Core.List.{List}
+use mathlib.Core.Path.{_≡_, refl, ap, _∙_}
+use mathlib.Core.Bool.{Bool, true, false}
 use native.Mathlib.Omega.{arith}
 use lib.Dec.{leb, ltb}
 use lib.ListN.{length}
@@ -14,8 +13,9 @@ use Rattle.telegram.specs.Stretch.{bitAt, inside}
 use Rattle.telegram.specs.Place.{isPlace, places}
 use Rattle.telegram.proofs.Taken.{part-taken}
 use Rattle.balise_line.specs.Line.{OneBalise, Proper, Clean, sentBit, receivedBit, inStretch, flip, flips, sum, unequal, lineBit, flipsAt, placesOf}
-use Rattle.balise_line.proofs.Sums.{none-sum, unequal-same, unequal-lt}
-use Rattle.balise_line.proofs.Places.{and-parts, place-parts, parts-place, listed, lists}
+use Rattle.balise_line.proofs.Computed.{unflipped-at}
+use Rattle.balise_line.proofs.Sums.{none-sum, unequal-lt}
+use Rattle.balise_line.proofs.Places.{place-parts, parts-place, listed, lists}
 use Rattle.balise_line.proofs.Sent.{Sent, AllSent, sent-parts, parts-sent}
 use Rattle.balise_line.proofs.TooFew.{few-flips-few}
 use Rattle.balise_line.proofs.Stretch.{all-sent, as-sent}
@@ -98,27 +98,12 @@ module _ (o : OneBalise) (proper : Proper o) (clean : Clean o) (k e : ℕ) (k-lo
       ap (bitAt (o .buffer)) at ∙ received o clean m (omega arith) ∙ ap (sentBit o) line
 
   all-quiet : (j : ℕ) → j < o .phase + o .len → flip all j ≡ 0
-  unfolding flip inStretch receivedBit sentBit
-  all-quiet j less = go (leb (o .phase + k) j && ltb j (o .phase + k + (o .len + e - k))) refl
-    where
-      go : (t : Bool) → leb (o .phase + k) j && ltb j (o .phase + k + (o .len + e - k)) ≡ t
-          → pick t (unequal (bitAt (o .buffer) (o .start + k + (j - (o .phase + k)))) (sentBit all j)) 0 ≡ 0
-      go false q = refl
-      go true q =
-          let h = and-parts (leb (o .phase + k) j) (ltb j (o .phase + k + (o .len + e - k))) q in
-          unequal-same (bitAt (o .buffer) (o .start + k + (j - (o .phase + k)))) (sentBit all j) (as-received j (leb-true (o .phase + k) j (h .0)) less)
+  unfolding sentBit
+  all-quiet j less = unflipped-at all j (λ low high. as-received j low less)
 
   part-clean : Clean part
-  unfolding flip inStretch receivedBit sentBit
-  part-clean j = go (leb (o .phase + k) j && ltb j (o .phase + k + (o .len + 0 - k))) refl
-    where
-      go : (t : Bool) → leb (o .phase + k) j && ltb j (o .phase + k + (o .len + 0 - k)) ≡ t
-          → pick t (unequal (bitAt (o .buffer) (o .start + k + (j - (o .phase + k)))) (sentBit part j)) 0 ≡ 0
-      go false q = refl
-      go true q =
-          let h = and-parts (leb (o .phase + k) j) (ltb j (o .phase + k + (o .len + 0 - k))) q in
-          let high = ltb-true j (o .phase + k + (o .len + 0 - k)) (h .1) in
-          unequal-same (bitAt (o .buffer) (o .start + k + (j - (o .phase + k)))) (sentBit part j) (as-received j (leb-true (o .phase + k) j (h .0)) (omega arith))
+  unfolding sentBit
+  part-clean j = unflipped-at part j (λ low high. as-received j low (omega arith))
 
   -- A place of the contact that ends in the balise's part is one of that part, and back.
   there : (p : ℕ) → p + 40 ≤ o .start + o .len → among p (placesOf all) ≡ true → among p (placesOf part) ≡ true

@@ -17,10 +17,10 @@ use Rattle.balise_line.specs.Line.{OneBalise, Proper, sentBit, lineBit}
 use Rattle.contact_laws.specs.Zeroes.{zeroesSent, Broken}
 use Rattle.contact_laws.specs.Pass.{between, Pass}
 use Rattle.contact_laws.specs.Heard.{endsInFourOnes, NoFalse}
-use Rattle.contact_laws.specs.Row.{Thing, balise, marker, Long, Row}
+use Rattle.contact_laws.specs.Row.{balise, marker, Long, Row}
 use Rattle.contact_laws.proofs.Fair.{no-false}
-use Rattle.contact_laws.proofs.Either.{audible-computed, fairAt, no-false-computed}
-use Rattle.contact_laws.proofs.Computed.{ones-computed, zeroes-computed, clean-computed, pass-computed}
+use Rattle.contact_laws.proofs.Either.{fairAt}
+use Rattle.contact_laws.proofs.Computed.{ones-computed, zeroes-computed, pass-computed, long-computed}
 
 -- Number 127 with the sync words 72 and 0D hex, 200 bits.
 abbrev never : OneBalise
@@ -63,21 +63,9 @@ abbrev second : OneBalise
 second =
     record { buffer = line; start = 88; len = 167; s = 0x72; t = 0x0d; x = 0x17; y = 0x8e; z = 0x5a; telegram = Telegram.Figures 1 8 5; phase = 0 }
 
-second-proper : Proper second
-unfolding isGood differing inside telegram shortWord longWord readWord isCode even count covers exchanged other word figure onwards isCheck
-second-proper = record { bytes = (omega arith, omega arith, omega arith, omega arith, omega arith); pair = refl; valid = refl; taken = refl }
-
 second-long : Long line second
-unfolding zeroesSent sentBit fairAt isPlace areSyncs wordsAt bitsAt lineBit telegram shortWord longWord readWord isCode even count covers exchanged other word figure onwards isCheck
-second-long =
-    record {
-      buffer-is = refl;
-      proper = second-proper;
-      audible = audible-computed second tt;
-      clean = clean-computed second tt;
-      long = omega arith;
-      fair = no-false-computed second (omega arith) tt;
-    }
+unfolding zeroesSent sentBit fairAt isPlace areSyncs wordsAt bitsAt lineBit isGood differing inside telegram shortWord longWord readWord isCode even count covers exchanged other word figure onwards isCheck
+second-long = long-computed second tt refl refl refl tt tt tt tt
 
 marker-and-balise : Row between line 0 272 (marker 16 60 ∷ balise second ∷ [])
 marker-and-balise = (

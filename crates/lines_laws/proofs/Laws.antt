@@ -5,7 +5,6 @@ use mathlib.Core.Bool.{Bool, true, false}
 use mathlib.Core.List.{List, [], _∷_, _++_}
 use Prim.Native.Nat.{ℕ, suc, _+_}
 use native.Mathlib.Omega.{arith}
-use lib.Dec.{eqb}
 use lib.ListN.{length}
 use Rattle.words.specs.Answer.{pick}
 use Rattle.words.proofs.Never.{cannot-be}
@@ -13,10 +12,9 @@ use Rattle.lines.specs.declared.TextLine.{TextLine}
 use Rattle.lines.specs.declared.Reader.{Reader}
 use Rattle.lines.specs.declared.Got.{Got}
 use Rattle.lines.specs.Text.{newline, upTo, onto, cut, linesOf}
-use Rattle.lines.specs.Words.{lineOf}
 use Rattle.lines.specs.Reading.{character, fresh, whole, unfinished, lineFrom}
 use Rattle.lines_laws.specs.Laws.{OneLine, ReadsALine, ReadsTheLast, InBlocks}
-use Rattle.lines_laws.proofs.Wording.{readOn, keeps, reads-words}
+use Rattle.lines_laws.proofs.Wording.{readOn, reads-words}
 
 -- The first character of a stretch without the end of a line is none, and so is what follows.
 first-by : (b : Bool) (c : ℕ) (u cs : List ℕ) → pick b [] (c ∷ u) ≡ c ∷ cs → (b ≡ false) × (u ≡ cs)

@@ -7,13 +7,12 @@ use Prim.Native.Nat.{ℕ, zero, suc, _+_, _-_, _*_, _/_, _%_, _≤_, _<_}
 use native.Mathlib.Omega.{arith}
 use lib.Dec.{eqb, leb, ltb}
 use lib.ListN.{length}
-use borrow.Author.Tests.{eqb-true, leb-true, ltb-true, eq-eqb, ne-eqb}
+use borrow.Author.Tests.{eqb-true, leb-true, eq-eqb, ne-eqb}
 use Rattle.words.specs.Answer.{pick}
 use Rattle.words.proofs.Never.{cannot-be}
 use Rattle.words.proofs.Linear.{and-parts}
 use Rattle.text.specs.Text.{codes}
 use Rattle.figures.specs.Figures.{between}
-use Rattle.lines.specs.declared.Name.{Name}
 use Rattle.lines.specs.Words.{same, name}
 use Rattle.lines.specs.Reading.{noName, lettersOn, spelledOn, named}
 

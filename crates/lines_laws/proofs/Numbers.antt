@@ -1,25 +1,24 @@
 -- A number in decimal is made of digits, which read as that number, digit by digit.
 -- Assumes nothing.
-use mathlib.Core.Path.{_≡_, refl, sym, ap, subst, _∙_}
+use mathlib.Core.Path.{_≡_, refl, subst, _∙_}
 use mathlib.Core.Bool.{Bool, true, false, not, _&&_, _||_}
 use mathlib.Core.List.{List, [], _∷_, _++_}
 use Prim.Native.Nat.{ℕ, zero, suc, _+_, _-_, _*_, _/_, _%_, _^_, _≤_, _<_}
 use native.Mathlib.Nat.{pow-suc}
 use native.Mathlib.Omega.{arith}
-use lib.Dec.{eqb, leb, ltb}
+use lib.Dec.{leb, ltb}
 use lib.ListN.{length}
-use borrow.Author.Tests.{le-leb, ltb-true, ltb-false, lt-ltb, ne-eqb, leb-true}
+use borrow.Author.Tests.{le-leb, ltb-true, lt-ltb, ne-eqb, leb-true}
 use Rattle.words.specs.Answer.{pick}
 use Rattle.words.proofs.Linear.{and-parts}
 use Rattle.text.specs.Text.{digit, digits, decimal}
 use Rattle.text.proofs.Decimal.{decimal-some}
 use Rattle.figures.specs.Figures.{between, allDigits, continued}
 use Rattle.figures.specs.Figures as figures
-use Rattle.figures.specs.declared.Figure.{Figure}
 use Rattle.lines.specs.declared.Number.{Number}
 use Rattle.lines.specs.Text.{blank, newline, hash}
-use Rattle.lines.specs.Words.{largest, numberOf, number}
-use Rattle.lines_laws.specs.Printed.{plain, AWord, NumbersBack}
+use Rattle.lines.specs.Words.{largest, number}
+use Rattle.lines_laws.specs.Printed.{plain, NumbersBack}
 
 -- One digit more.
 is-digit : (d : ℕ) → d < 10 → between 48 57 (digit d) ≡ true

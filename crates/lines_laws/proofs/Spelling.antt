@@ -9,13 +9,13 @@ use lib.Dec.{eqb, leb}
 use lib.ListN.{length}
 use borrow.Author.Tests.{le-leb, lt-leb, leb-true, leb-false, lt-ltb}
 use Rattle.words.specs.Answer.{pick}
-use Rattle.figures.specs.Figures.{between, allDigits, continued, decimal, hex}
+use Rattle.figures.specs.Figures.{between, allDigits, continued, decimal}
 use Rattle.figures.specs.declared.Figure.{Figure}
 use Rattle.figures.proofs.Characters.{grows}
 use Rattle.lines.specs.declared.Number.{Number}
 use Rattle.lines.specs.declared.Letters.{Letters}
 use Rattle.lines.specs.Words.{largest, numberOf, number}
-use Rattle.lines.specs.Reading.{digitOn, numberOn, lettersOn, letterOn, noLetters}
+use Rattle.lines.specs.Reading.{digitOn, numberOn, lettersOn, letterOn}
 
 -- A word after some characters more.
 unfoldable pub spelled : Letters → List ℕ → Letters

@@ -1,14 +1,14 @@
 -- Reading on over block after block is reading on over the text, and each line that ends is what
 -- its words are.
 -- Assumes nothing.
-use mathlib.Core.Path.{_≡_, refl, sym, ap, ap₂, subst, _∙_}
+use mathlib.Core.Path.{_≡_, refl, sym, ap, _∙_}
 use mathlib.Core.Bool.{Bool, true, false, _&&_}
 use mathlib.Core.Logic.{_⊎_, inl, inr}
 use mathlib.Core.List.{List, [], _∷_, _++_, append-assoc, append-nil}
-use Prim.Native.Nat.{ℕ, zero, suc, _+_, _-_, _≤_, _<_}
+use Prim.Native.Nat.{ℕ, zero, suc, _+_, _≤_}
 use native.Mathlib.Omega.{arith}
 use lib.Dec.{eqb, leb}
-use lib.ListN.{length, getD, drop, length-append}
+use lib.ListN.{length, drop}
 use borrow.Author.Tests.{le-leb}
 use Rattle.words.specs.Answer.{pick}
 use Rattle.words.proofs.Never.{cannot-be}
@@ -16,10 +16,9 @@ use Rattle.lines.specs.declared.TextLine.{TextLine}
 use Rattle.lines.specs.declared.Reader.{Reader}
 use Rattle.lines.specs.declared.Got.{Got}
 use Rattle.lines.specs.Text.{newline, onto, cut, linesOf, beginning, linesIn}
-use Rattle.lines.specs.Words.{lineOf}
 use Rattle.lines.specs.Reading.{character, fresh, whole, unfinished, lineFrom, nextLine}
 use Rattle.lines_laws.specs.Calls.{NextLine}
-use Rattle.lines_laws.specs.Texts.{Through, line, used, ThroughAll, none, block, ReadOut, joined, keptOf, AllLines}
+use Rattle.lines_laws.specs.Texts.{Through, line, used, ThroughAll, none, block, joined, keptOf, AllLines}
 use Rattle.lines_laws.proofs.Wording.{readOn, keeps, reads-words}
 
 -- The lines of a text that is read on from a reader to its end.

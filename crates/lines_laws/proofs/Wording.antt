@@ -1,13 +1,13 @@
 -- The words of a line, read character by character, are its words.
 -- Assumes nothing.
-use mathlib.Core.Path.{_≡_, refl, sym, ap, ap₂, _∙_}
+use mathlib.Core.Path.{_≡_, refl, sym, ap, _∙_}
 use mathlib.Core.Bool.{Bool, true, false, _||_}
 use mathlib.Core.List.{List, [], _∷_, _++_, append-assoc, append-nil}
-use Prim.Native.Nat.{ℕ, suc, _+_}
+use Prim.Native.Nat.{ℕ}
 use native.Mathlib.Omega.{arith}
 use lib.Dec.{eqb}
 use lib.ListN.{length}
-use borrow.Author.Tests.{eq-eqb, ne-eqb}
+use borrow.Author.Tests.{ne-eqb}
 use Rattle.words.specs.Answer.{pick}
 use Rattle.figures.specs.Figures.{hex}
 use Rattle.figures.specs.declared.Byte.{Byte}
@@ -20,7 +20,7 @@ use Rattle.lines.specs.declared.Reader.{Reader}
 use Rattle.lines.specs.Text.{blank, hash, upTo, onto, cut, some, wordsOf}
 use Rattle.lines.specs.Words.{number, name, wordOf, noWords, kept, keptAll, lineOf}
 use Rattle.lines.specs.Reading.{lettersOn, spelledOn, letterOn, noLetters, named, byteOf, done, closed, character, fresh}
-use Rattle.lines_laws.proofs.Spelling.{spelled, by-letter, numbersOn, as-number, spelled-number}
+use Rattle.lines_laws.proofs.Spelling.{spelled, by-letter, as-number, spelled-number}
 use Rattle.lines_laws.proofs.Naming.{as-name}
 
 -- ---- what a word is
@@ -68,25 +68,17 @@ as-byte c (d ∷ e ∷ es) =
     let odd : length (c ∷ d ∷ e ∷ es) ≡ 2 → ⊥ = λ z. omega arith in
     simp (three, ne-eqb (length (c ∷ d ∷ e ∷ es)) 2 odd)
 
-from-0 : (c : ℕ) (cs : List ℕ) → numbersOn (noLetters .number) (c ∷ cs) ≡ number (c ∷ cs)
-unfolding noLetters
-from-0 c cs = as-number c cs
-
-name-0 : (c : ℕ) (cs : List ℕ) → named (spelledOn (noLetters .letters) (c ∷ cs)) ≡ name (c ∷ cs)
-unfolding noLetters
-name-0 c cs = as-name (c ∷ cs)
-
 no-count : eqb (noLetters .count) 0 ≡ true
 unfolding noLetters
 no-count = refl
 
 -- A word that was read is what the word is.
 as-word : (c : ℕ) (cs : List ℕ) → done (spelled noLetters (c ∷ cs)) ≡ wordOf (c ∷ cs)
-unfolding done wordOf
+unfolding done wordOf noLetters
 as-word c cs =
     let w : Letters = spelled noLetters (c ∷ cs) in
-    let n : w .number ≡ number (c ∷ cs) = spelled-number noLetters (c ∷ cs) ∙ from-0 c cs in
-    let m : named (w .letters) ≡ name (c ∷ cs) = ap named (spelled-letters noLetters (c ∷ cs)) ∙ name-0 c cs in
+    let n : w .number ≡ number (c ∷ cs) = spelled-number noLetters (c ∷ cs) ∙ as-number c cs in
+    let m : named (w .letters) ≡ name (c ∷ cs) = ap named (spelled-letters noLetters (c ∷ cs)) ∙ as-name (c ∷ cs) in
     ap (λ (x : Number). record { number = x; byte = byteIn w; name = named (w .letters) }) n
     ∙ ap (λ (x : Byte). record { number = number (c ∷ cs); byte = x; name = named (w .letters) }) (as-byte c cs)
     ∙ ap (λ (x : Name). record { number = number (c ∷ cs); byte = hex (c ∷ cs); name = x }) m
@@ -176,11 +168,6 @@ word-over line u cs next =
     ∙ ap (λ (l : List (List ℕ)). keptAll (closed line (spelled noLetters u)) (some l)) (front-none (upTo hash cs))
     ∙ ends line u (cut blank (upTo hash cs))
 
--- The end of the line.
-last-one : (line : TextLine) (u : List ℕ) → closed line (spelled noLetters u) ≡ keptAll line (some (front u (cut blank [])))
-unfolding cut
-last-one line u = at-end line u
-
 by-kind : (b h : Bool) (c : ℕ) (cs : List ℕ) → blank c ≡ b → hash c ≡ h → Comes cs → (line : TextLine) (u : List ℕ)
     → keeps (readOn (pick (b || h) (record { line = closed line (spelled noLetters u); word = noLetters; comment = h }) (record { line = line; word = letterOn (spelled noLetters u) c; comment = false })) cs)
     ≡ keptAll line (some (front u (cut blank (pick h [] (c ∷ upTo hash cs)))))
@@ -198,8 +185,8 @@ by-kind false false c cs eb eh next line u =
     ∙ ap (λ (t : Bool). keptAll line (some (front u (pick t ([] ∷ cut blank (upTo hash cs)) (onto c (cut blank (upTo hash cs))))))) (sym eb)
 
 pub comes : (t : List ℕ) → Comes t
-unfolding readOn character upTo
-comes [] line u = last-one line u
+unfolding readOn character upTo cut
+comes [] line u = at-end line u
 comes (c ∷ cs) line u = by-kind (blank c) (hash c) c cs refl refl (comes cs) line u
 
 -- What is kept of a line that was read from its beginning on.

@@ -7,7 +7,6 @@ use mathlib.Core.Bool.{true}
 use mathlib.Core.List.{List, _∷_, _++_}
 use lib.ListN.{length}
 use Rattle.lines.specs.declared.Reader.{Reader}
-use Rattle.lines.specs.declared.Got.{Got}
 use Rattle.lines.specs.Text.{newline, upTo}
 use Rattle.lines.specs.Words.{lineOf}
 use Rattle.lines.specs.Reading.{fresh, lineFrom}

@@ -7,10 +7,14 @@ use mathlib.Core.Bool.{true}
 use mathlib.Core.List.{List}
 use native.Mathlib.Omega.{arith}
 use lib.Dec.{T, leb, leb→le}
+use Rattle.words.specs.Answer.{gives}
 use Rattle.words.proofs.Ranges.{upto, below}
 use Rattle.telegram.specs.Stretch.{inside}
-use Rattle.balise_line.specs.Line.{OneBalise, Proper}
+use Rattle.telegram.specs.Sync.{isGood}
+use Rattle.telegram.specs.Telegram.{telegram}
+use Rattle.balise_line.specs.Line.{OneBalise}
 use Rattle.balise_line.specs.Forty.{EqualBit}
+use Rattle.balise_line.proofs.Computed.{small, proper-computed}
 use Rattle.contact.specs.Contacts.{contact, quiet, contactsFrom, fromStart}
 use Rattle.contact.specs.Judge.{judge}
 use Rattle.contact.specs.declared.Search.{Search}
@@ -32,21 +36,24 @@ pub pass-computed : (most : ℕ) (o : OneBalise) (from to : ℕ) → from ≤ o 
 pass-computed most o from to low high ok taken =
     record { from-low = low; to-high = high; few = forty-computed most (lineAt o) (o .buffer) from to ok; taken = taken }
 
-pub passed-so : (k most : ℕ) (o : OneBalise) (from to start length : ℕ) (then : Search) (r : Judged) → Proper o → EqualBit o k → NoisyPass most o from to
-    → contactsFrom (o .buffer) (fromStart from (to - from)) ≡ contact start length then quiet → judgedOf (judge (o .buffer) start length (o .s) (o .t)) ≡ r → Passed k most o r
-passed-so k most o from to start length then r proper equal pass is so =
+-- A pass from bit 0 to bit `to`, all of it computed.
+pub passed-so : {k most : ℕ} {o : OneBalise} {r : Judged} (to start length : ℕ) (then : Search)
+    → T (small o) → isGood (o .s) (o .t) ≡ true → telegram (o .x) (o .y) (o .z) ≡ gives (o .telegram) → inside (o .buffer) (o .start) (o .len) ≡ true
+    → EqualBit o k → T (leb (o .start + o .len) to) → T (upto (λ i. leb (flipsIn (lineAt o) (o .buffer) (0 + i) 40) most) (to - 0 - 39)) → inside (o .buffer) 0 (to - 0) ≡ true
+    → contactsFrom (o .buffer) (fromStart 0 (to - 0)) ≡ contact start length then quiet → judgedOf (judge (o .buffer) start length (o .s) (o .t)) ≡ r → Passed k most o r
+passed-so {k} {most} {o} {r} to start length then bytes pair valid within equal high few taken is so =
     record {
-      from = from;
+      from = 0;
       to = to;
-      proper = proper;
+      proper = proper-computed o bytes pair valid within;
       equal-bit = equal;
-      pass = pass;
+      pass = pass-computed most o 0 to (omega arith) (leb→le (o .start + o .len) to high) few taken;
       first = λ w l. record {
         start = start;
         length = length;
         then = then;
         rest = quiet;
-        is = listened (o .buffer) from to w l ∙ is;
+        is = listened (o .buffer) 0 to w l ∙ is;
         answered = λ a called. judges (o .buffer) start length (o .s) (o .t) a called ∙ so;
       };
     }

@@ -5,21 +5,14 @@
 use Prim.Native.Nat.{ℕ}
 use mathlib.Core.Bool.{Bool, true, false}
 use mathlib.Core.List.{List, [], _∷_, _++_}
-use Rattle.words.specs.Answer.{pick}
+use Rattle.words.specs.Answer.{Outcome, gives, refuses, pick}
 use Rattle.text.specs.Text.{codes, decimal}
-use Rattle.text.specs.Put.{Put, put, came}
 use Rattle.group_rows.specs.declared.Direction.{Direction}
 use Rattle.group_rows.specs.declared.Kind.{Kind}
 use Rattle.group.specs.declared.Told.{Told}
 use Rattle.group.specs.declared.Number.{Number}
 use Rattle.group.specs.declared.Content.{Content}
 use Rattle.group.specs.declared.Message.{Message}
-use Rattle.group.specs.declared.GroupJudged.{GroupJudged}
-
--- Pieces put one after the other: each as `text` puts it, where the one before ended.
-unfoldable pub puts : List (List ℕ) → List ℕ → ℕ → Put
-puts [] buffer at = came at buffer
-puts (piece ∷ pieces) buffer at = puts pieces (put piece buffer at .buffer) (put piece buffer at .next)
 
 -- The words for a direction and a kind.
 abbrev pub directionWord : Direction → List ℕ
@@ -66,11 +59,7 @@ messagePieces m =
     ++ numberPieces (m .number)
     ++ contentPieces (m .content)
 
--- The whole answer.
-abbrev pub answerPieces : GroupJudged → List (List ℕ)
-answerPieces (GroupJudged.Accepted m) = messagePieces m
-answerPieces GroupJudged.One = codes "refused 10" ∷ []
-answerPieces GroupJudged.Many = codes "refused 11" ∷ []
-answerPieces GroupJudged.Unread = codes "refused 12" ∷ []
-answerPieces GroupJudged.NoRow = codes "refused 13" ∷ []
-answerPieces GroupJudged.NoDistance = codes "refused 15" ∷ []
+-- The whole answer: the group, or the number with which it is refused.
+abbrev pub answerPieces : Outcome Message → List (List ℕ)
+answerPieces (gives m) = messagePieces m
+answerPieces (refuses n) = (codes "refused " ++ decimal n) ∷ []

@@ -2,7 +2,7 @@
 -- number balise, `17/8E/5A` three words as received, and `1.8.5` three figures.
 -- Assumes nothing.
 use Prim.Native.Nat.{ℕ, _/_, _%_}
-use mathlib.Core.Bool.{Bool, _&&_}
+use mathlib.Core.Bool.{Bool, true, false, _&&_}
 use mathlib.Core.List.{List}
 use lib.Dec.{eqb}
 use lib.ListN.{length, getD}
@@ -37,6 +37,11 @@ byteOf Byte.Odd = Short.Nothing
 unfoldable pub receivedAs : List ℕ → Short
 receivedAs text = byteOf (hex text)
 
+-- A word of three, in hex or as a figure.
+abbrev pub wordAs : Bool → List ℕ → Short
+wordAs true text = receivedAs text
+wordAs false text = sentAs text
+
 -- Three words as one balise's; nothing, if one of them is none.
 abbrev pub wordsOf : Short → Short → Short → Meant
 wordsOf (Short.Word a) (Short.Word b) (Short.Word c) = Meant.Is (Heard.Words a b c)
@@ -58,6 +63,10 @@ numbered x Figure.Odd = Meant.Nothing
 unfoldable pub numberAs : List ℕ → Meant
 numberAs text = numbered (sentAs (field text 110 0)) (decimal (field text 110 1) 65535)
 
+-- Three words, in hex or as figures, with a sign between two.
+unfoldable pub threeAs : Bool → ℕ → List ℕ → Meant
+threeAs inHex sign text = wordsOf (wordAs inHex (field text sign 0)) (wordAs inHex (field text sign 1)) (wordAs inHex (field text sign 2))
+
 -- What was heard at the balise that a text writes: the signs are `M`, 77, `?`, 63, `n`, 110, `/`,
 -- 47, and `.`, 46.
 unfoldable pub heardAs : List ℕ → Meant
@@ -65,5 +74,5 @@ heardAs text =
     pick (isSign text 77) (Meant.Is Heard.Marker)
     (pick (isSign text 63) (Meant.Is Heard.Unreadable)
     (pick (has text 110) (numberAs text)
-    (pick (has text 47) (wordsOf (receivedAs (field text 47 0)) (receivedAs (field text 47 1)) (receivedAs (field text 47 2)))
-    (wordsOf (sentAs (field text 46 0)) (sentAs (field text 46 1)) (sentAs (field text 46 2))))))
+    (pick (has text 47) (threeAs true 47 text)
+    (threeAs false 46 text))))

@@ -1,9 +1,11 @@
 // What judging a group answers, as text into a lent buffer: each function puts its pieces from `at`
 // on, each whole or not at all, and answers the place after them.
 ghost use mathlib.Core.Path.{_≡_};
-ghost use mathlib.Core.List.{[], _∷_};
+ghost use Rattle.words.specs.Answer.{refuses};
 ghost use Rattle.text.specs.Put.{put, came};
-ghost use Rattle.test_rows.specs.Answers.{puts, directionWord, kindWord, toldPieces, distancePieces, contentPieces, balisePieces, numberPieces, messagePieces, answerPieces};
+ghost use Rattle.text.specs.Pieces.{puts};
+ghost use Rattle.group.specs.Says.{saysGroupJudged};
+ghost use Rattle.test_rows.specs.Answers.{directionWord, kindWord, toldPieces, distancePieces, contentPieces, balisePieces, numberPieces, messagePieces, answerPieces};
 use group::Content;
 use group::GroupJudged;
 use group::Message;
@@ -110,17 +112,24 @@ fn message(m: Message, out: &mut [u8], at: usize) -> usize
     content(c, out, after_number)
 }
 
+// A refusal by its number, at the start of out.
+fn refused(n: u64, out: &mut [u8]) -> usize
+    ensures { λ r. ⌜ came r (now (out .exit)) ≡ puts (answerPieces (refuses n)) (now (out .entry)) 0 ⌝ }
+{
+    text::put_number(b"refused ", n, out, 0)
+}
+
 // The whole answer at the start of out, piece by piece, each whole or not at all; answers how many
 // bytes it has.
 pub fn put(j: GroupJudged, out: &mut [u8]) -> usize
-    ensures { λ r. ⌜ came r (now (out .exit)) ≡ puts (answerPieces j) (now (out .entry)) 0 ⌝ }
+    ensures { λ r. ⌜ came r (now (out .exit)) ≡ puts (answerPieces (saysGroupJudged j)) (now (out .entry)) 0 ⌝ }
 {
     match j {
         GroupJudged::Accepted(m) => message(m, out, 0),
-        GroupJudged::One => text::put(b"refused 10", out, 0),
-        GroupJudged::Many => text::put(b"refused 11", out, 0),
-        GroupJudged::Unread => text::put(b"refused 12", out, 0),
-        GroupJudged::NoRow => text::put(b"refused 13", out, 0),
-        GroupJudged::NoDistance => text::put(b"refused 15", out, 0),
+        GroupJudged::One => refused(10, out),
+        GroupJudged::Many => refused(11, out),
+        GroupJudged::Unread => refused(12, out),
+        GroupJudged::NoRow => refused(13, out),
+        GroupJudged::NoDistance => refused(15, out),
     }
 }

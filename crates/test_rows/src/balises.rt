@@ -2,8 +2,7 @@
 // `words`, words in hex stand as they are.
 ghost use mathlib.Core.Path.{_≡_};
 ghost use Rattle.words.specs.Code.{writeLong};
-ghost use Rattle.figures.specs.Fields.{field};
-ghost use Rattle.test_rows.specs.Balises.{isSign, sentAs, receivedAs, wordsOf, numberWord, numberAs, heardAs};
+ghost use Rattle.test_rows.specs.Balises.{isSign, sentAs, receivedAs, wordAs, wordsOf, threeAs, numberWord, numberAs, heardAs};
 use crate::spelling;
 use figures::Byte;
 use figures::Figure;
@@ -53,6 +52,16 @@ fn received(text: &[u8]) -> Short
     }
 }
 
+// A word of three, in hex or as a figure.
+fn word(text: &[u8], in_hex: bool) -> Short
+    ensures { λ r. ⌜ r ≡ wordAs in_hex (now (text .entry)) ⌝ }
+{
+    if in_hex {
+        return received(text);
+    }
+    sent(text)
+}
+
 // Three words as one balise's.
 fn words_of(x: Short, y: Short, z: Short) -> Meant
     ensures { λ r. ⌜ r ≡ wordsOf x y z ⌝ }
@@ -95,22 +104,13 @@ fn number(text: &[u8]) -> Meant
     }
 }
 
-// Three words in hex.
-fn as_received(text: &[u8]) -> Meant
-    ensures { λ r. ⌜ r ≡ wordsOf (receivedAs (field (now (text .entry)) 47 0)) (receivedAs (field (now (text .entry)) 47 1)) (receivedAs (field (now (text .entry)) 47 2)) ⌝ }
+// Three words, in hex or as figures, with a sign between two.
+fn three(text: &[u8], in_hex: bool, sign: u8) -> Meant
+    ensures { λ r. ⌜ r ≡ threeAs in_hex sign (now (text .entry)) ⌝ }
 {
-    let x = received(figures::field(text, b'/', 0));
-    let y = received(figures::field(text, b'/', 1));
-    words_of(x, y, received(figures::field(text, b'/', 2)))
-}
-
-// Three figures.
-fn as_figures(text: &[u8]) -> Meant
-    ensures { λ r. ⌜ r ≡ wordsOf (sentAs (field (now (text .entry)) 46 0)) (sentAs (field (now (text .entry)) 46 1)) (sentAs (field (now (text .entry)) 46 2)) ⌝ }
-{
-    let x = sent(figures::field(text, b'.', 0));
-    let y = sent(figures::field(text, b'.', 1));
-    words_of(x, y, sent(figures::field(text, b'.', 2)))
+    let x = word(figures::field(text, sign, 0), in_hex);
+    let y = word(figures::field(text, sign, 1), in_hex);
+    words_of(x, y, word(figures::field(text, sign, 2), in_hex))
 }
 
 // What was heard at the balise that a text writes; or nothing, where it writes none.
@@ -127,7 +127,7 @@ pub fn heard_of(text: &[u8]) -> Meant
         return number(text);
     }
     if figures::has(text, b'/') {
-        return as_received(text);
+        return three(text, true, b'/');
     }
-    as_figures(text)
+    three(text, false, b'.')
 }

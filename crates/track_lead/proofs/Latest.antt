@@ -1,21 +1,21 @@
 -- The thing over the antenna in a frame: the last that has begun. The places of a text that is
--- taken never fall.
+-- taken never fall, and lie between its way's ends.
 -- Assumes nothing.
-use Prim.Native.Nat.{ℕ, zero, suc, _+_, _-_, _*_, _≤_, _<_, min}
+use Prim.Native.Nat.{ℕ, _+_, _-_, _≤_, _<_, min}
 use mathlib.Core.Path.{_≡_, refl, sym, ap, _∙_, subst}
 use mathlib.Core.Bool.{Bool, true, false, _&&_}
 use mathlib.Core.List.{List, [], _∷_}
 use native.Mathlib.Omega.{arith}
 use native.Mathlib.Nat.{mul-le-mul-left}
-use lib.Dec.{ltb, leb}
-use borrow.Author.Tests.{ltb-true, ltb-false, lt-leb, le-leb}
+use lib.Dec.{ltb}
+use borrow.Author.Tests.{ltb-false, lt-leb, le-leb}
 use Rattle.words.specs.Answer.{Answer, gives, refuses, then, pick}
 use Rattle.words.proofs.Never.{cannot-be}
 use Rattle.track_lead.specs.declared.Thing.{Thing}
 use Rattle.track_lead.specs.declared.Mark.{Mark}
 use Rattle.track_lead.specs.declared.Way.{Way}
-use Rattle.track_lead.specs.Way.{highest, isSent, isNear, firstOf, after, Bad, refused, tooNear, take}
-use Rattle.track_lead.specs.Lead.{Item, wayFrom, Over, firstFrame, latest}
+use Rattle.track_lead.specs.Way.{highest, isSent, isNear, fresh, firstOf, after, Bad, refused, tooNear, take, fromOf, untilOf, from, until}
+use Rattle.track_lead.specs.Lead.{Item, wayFrom, wayOf, Over, firstFrame, latest}
 
 -- ---- places that never fall
 
@@ -86,24 +86,47 @@ taken-all way (item ∷ items) last is =
       first-kept = λ place e. rest .first-kept place (ap (λ (w : Way). w .first) (t .next-is) ∙ ap (λ (m : Mark). firstOf m (item .place)) e);
     }
 
+-- ---- where a way begins and ends
+
+-- A way that has a line.
+pub record Reaches (items : List Item) (way : Way) : Type 0 where
+  pub rising : Rising (from way) (way .last) items
+  pub ends : way .last ≤ until way
+  pub low : until way ≤ highest + 1
+  pub until-is : until way ≡ min (way .last + 10) highest + 1
+
+first-after : (place : ℕ) (thing : Thing) → after fresh place thing .first ≡ Mark.At place
+unfolding after fresh
+first-after place thing = refl
+
+first-place : (item : Item) (items : List Item) (way : Way) → wayOf (item ∷ items) ≡ gives way → way .first ≡ Mark.At (item .place)
+unfolding wayOf wayFrom fresh
+first-place item items way is =
+    let g = given-then (take fresh (item .place) (item .thing)) (λ next. wayFrom next items) way is in
+    let t = taken-so fresh (item .place) (item .thing) (g .0) (g .1) in
+    taken-all (g .0) items way (g .2) .first-kept (item .place) (after-first item t)
+  where
+    after-first : (item : Item) {next : Way} → TakenSo fresh (item .place) (item .thing) next → next .first ≡ Mark.At (item .place)
+    after-first item t = ap (λ (w : Way). w .first) (t .next-is) ∙ first-after (item .place) (item .thing)
+
+pub reaches : (item : Item) (items : List Item) (way : Way) → wayOf (item ∷ items) ≡ gives way → Reaches (item ∷ items) way
+unfolding wayOf fresh from until
+reaches item items way is =
+    let all = taken-all fresh (item ∷ items) way is in
+    let first-is = first-place item items way is in
+    let from-is : fromOf (way .first) ≡ item .place - 10 = ap fromOf first-is in
+    let until-is : untilOf (way .first) (way .last) ≡ min (way .last + 10) highest + 1 = ap (λ (m : Mark). untilOf m (way .last)) first-is in
+    let low = all .low (omega arith) in
+    record {
+      rising = (omega (arith, from-is), all .rising .1);
+      ends = omega (arith, until-is, low);
+      low = omega (arith, until-is);
+      until-is = until-is;
+    }
+
 -- ---- the last that has begun
 
 module _ (n begin : ℕ) where
-  -- Before the first frame of what comes, it is as it was.
-  pub not-yet : (items : List Item) (low high k : ℕ) (over : Over) → Rising low high items → begin ≤ low → k < firstFrame n begin low → latest n begin items k over ≡ over
-  unfolding latest
-  not-yet [] low high k over rising from soon = refl
-  not-yet (item ∷ items) low high k over rising from soon =
-      let later : firstFrame n begin low ≤ firstFrame n begin (item .place) = mul-le-mul-left n (omega (arith, rising .0)) in
-      let none : leb (firstFrame n begin (item .place)) k ≡ false = lt-leb (firstFrame n begin (item .place)) k (omega (arith, later)) in
-      ap (λ (t : Bool). latest n begin items k (pick (isSent (item .thing) && t) (record { thing = item .thing; since = firstFrame n begin (item .place) }) over)) none
-      ∙ ap (λ (t : Bool). latest n begin items k (pick t (record { thing = item .thing; since = firstFrame n begin (item .place) }) over)) (never (isSent (item .thing)))
-      ∙ not-yet items (item .place) high k over (rising .1) (omega (arith, rising .0)) (omega (arith, later))
-    where
-      never : (t : Bool) → (t && false) ≡ false
-      never true = refl
-      never false = refl
-
   -- From its first frame on a thing has begun; a position never does.
   pub begun : (item : Item) (items : List Item) (k : ℕ) (over : Over) → isSent (item .thing) ≡ true → firstFrame n begin (item .place) ≤ k
       → latest n begin (item ∷ items) k over ≡ latest n begin items k (record { thing = item .thing; since = firstFrame n begin (item .place) })
@@ -114,6 +137,7 @@ module _ (n begin : ℕ) where
   unfolding latest
   position item items k over is = simp is
 
+  -- Before it, it has not.
   pub soon : (item : Item) (items : List Item) (k : ℕ) (over : Over) → k < firstFrame n begin (item .place) → latest n begin (item ∷ items) k over ≡ latest n begin items k over
   unfolding latest
   soon item items k over early =
@@ -123,3 +147,11 @@ module _ (n begin : ℕ) where
       never : (t : Bool) → (t && false) ≡ false
       never true = refl
       never false = refl
+
+  -- Before the first frame of what comes, it is as it was.
+  pub not-yet : (items : List Item) (low high k : ℕ) (over : Over) → Rising low high items → begin ≤ low → k < firstFrame n begin low → latest n begin items k over ≡ over
+  unfolding latest
+  not-yet [] low high k over rising from-there early = refl
+  not-yet (item ∷ items) low high k over rising from-there early =
+      let later : firstFrame n begin low ≤ firstFrame n begin (item .place) = mul-le-mul-left n (omega (arith, rising .0)) in
+      soon item items k over (omega (arith, later)) ∙ not-yet items (item .place) high k over (rising .1) (omega (arith, rising .0)) (omega (arith, later))

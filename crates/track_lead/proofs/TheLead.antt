@@ -1,23 +1,20 @@
 -- Block by block and thing by thing, what is written is the lead of the text.
 -- Assumes nothing.
-use Prim.Native.Nat.{ℕ, zero, suc, _+_, _-_, _*_, _/_, _%_, _≤_, _<_, min}
+use Prim.Native.Nat.{ℕ, zero, suc, _+_, _-_, _*_, _≤_, _<_}
 use mathlib.Core.Path.{_≡_, refl, sym, ap, ap₂, _∙_, subst}
 use mathlib.Core.Bool.{Bool, true, false}
 use mathlib.Core.List.{List, [], _∷_, _++_, append-assoc}
 use native.Mathlib.Omega.{arith}
-use native.Mathlib.Nat.{mul-sub, mul-add, mul-le-mul-left}
-use Rattle.words.specs.Answer.{Answer, gives, pick}
+use native.Mathlib.Nat.{mul-sub, mul-le-mul-left}
+use Rattle.words.specs.Answer.{gives, pick}
 use Rattle.track_lead.specs.declared.Thing.{Thing}
-use Rattle.track_lead.specs.declared.Mark.{Mark}
 use Rattle.track_lead.specs.declared.Way.{Way}
 use Rattle.track_lead.specs.declared.Feed.{Feed}
-use Rattle.track_lead.specs.Way.{highest, isSent, fromOf, untilOf, from, until, fresh, take, Bad}
-use Rattle.track_lead.specs.Way as way-specs
-use Rattle.track_lead.specs.Sent.{lineIn}
-use Rattle.track_lead.specs.Feed.{frameOf, Fed, begin, passes, frames}
-use Rattle.track_lead.specs.Lead.{Item, wayFrom, wayOf, Over, firstFrame, latest, nothing, lineAt, odometerAt, frameAt, framesAt, leadOf}
+use Rattle.track_lead.specs.Way.{isSent, from, until, fresh}
+use Rattle.track_lead.specs.Feed.{begin, passes, frames}
+use Rattle.track_lead.specs.Lead.{Item, wayFrom, wayOf, Over, firstFrame, latest, nothing, lineAt, frameAt, framesAt, leadOf}
 use Rattle.track_lead.specs.Laws.{left, allTo, fed, FeedsTheLead}
-use Rattle.track_lead.proofs.Latest.{Rising, rises, TakenSo, taken-so, TakenAll, taken-all, given-then, not-yet, begun, position, soon}
+use Rattle.track_lead.proofs.Latest.{Rising, rises, reaches, not-yet, begun, position, soon}
 use Rattle.track_lead.proofs.Run.{Stands, frameWith, framesWith, runs}
 
 module _ (n s t first : ℕ) (some : 0 < n) where
@@ -151,27 +148,6 @@ module _ (n s t first : ℕ) (some : 0 < n) where
   as-lead zero items k = refl
   as-lead (suc m) items k = ap (λ (l : List ℕ). frameWith n s t first some (latest n first items k nothing) k ++ l) (as-lead m items (k + 1))
 
--- Where a way begins and ends, once it has a line.
-pub record Reaches (items : List Item) (way : Way) : Type 0 where
-  pub rising : Rising (from way) (way .last) items
-  pub ends : way .last ≤ until way
-  pub low : until way ≤ highest + 1
-  pub until-is : until way ≡ min (way .last + 10) highest + 1
-
-first-after : (place : ℕ) (thing : Thing) → way-specs.after fresh place thing .first ≡ Mark.At place
-unfolding way-specs.after fresh
-first-after place thing = refl
-
-first-place : (item : Item) (items : List Item) (way : Way) → wayOf (item ∷ items) ≡ gives way → way .first ≡ Mark.At (item .place)
-unfolding wayOf wayFrom fresh
-first-place item items way is =
-    let g = given-then (take fresh (item .place) (item .thing)) (λ next. wayFrom next items) way is in
-    let t = taken-so fresh (item .place) (item .thing) (g .0) (g .1) in
-    taken-all (g .0) items way (g .2) .first-kept (item .place) (after-first item t)
-  where
-    after-first : (item : Item) {next : Way} → TakenSo fresh (item .place) (item .thing) next → next .first ≡ Mark.At (item .place)
-    after-first item t = ap (λ (w : Way). w .first) (t .next-is) ∙ first-after (item .place) (item .thing)
-
 -- A feed at its beginning stands at frame 0.
 at-the-first : (n s t : ℕ) (way : Way) (some : 0 < n) → Stands n s t (from way) some (begin way n s t) nothing 0
 unfolding begin
@@ -199,22 +175,6 @@ nothing-fed n s t way some is =
     let none : n * (0 - 0) ≡ 0 = omega arith in
     subst (λ (w : Way). fed (begin w n s t) [] (until w) ≡ framesAt n s t (from w) [] 0 (n * (until w - from w))) same
     (ap (λ (m : ℕ). frames (begin fresh n s t) 0 m .bytes) (let e : n * (0 - 0) - 0 ≡ 0 = omega arith in e) ∙ ap (λ (m : ℕ). framesAt n s t 0 [] 0 m) (sym none))
-
--- A way with a line.
-pub reaches : (item : Item) (items : List Item) (way : Way) → wayOf (item ∷ items) ≡ gives way → Reaches (item ∷ items) way
-unfolding wayOf fresh from until
-reaches item items way is =
-    let all = taken-all fresh (item ∷ items) way is in
-    let first-is = first-place item items way is in
-    let from-is : fromOf (way .first) ≡ item .place - 10 = ap fromOf first-is in
-    let until-is : untilOf (way .first) (way .last) ≡ min (way .last + 10) highest + 1 = ap (λ (m : Mark). untilOf m (way .last)) first-is in
-    let low = all .low (omega arith) in
-    record {
-      rising = (omega (arith, from-is), all .rising .1);
-      ends = omega (arith, until-is, low);
-      low = omega (arith, until-is);
-      until-is = until-is;
-    }
 
 pub feeds-the-lead : FeedsTheLead
 unfolding leadOf

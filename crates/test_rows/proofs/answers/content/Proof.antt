@@ -1,6 +1,7 @@
 -- By the content.
 -- Assumes nothing.
-use Rattle.test_rows.proofs.Putting.{alone, after, nothing, by-case}
+use Rattle.text.proofs.Putting.{none, alone, after}
+use Rattle.test_rows.proofs.Choosing.{by-case}
 use Rattle.test_rows.specs.Answers.{contentPieces}
 use borrow.Author.Needs.{needs}
 use Rattle.test_rows.proofs.answers.content.Statement.{statement}
@@ -27,29 +28,14 @@ returns-3 c =
     by-case contentPieces _ _ (k .c3 .given .1) (alone _ _ _ (p .put-number .ensures))
 
 returns-4 : tie.Need-returns-4
-returns-4 c = by-case contentPieces _ _ (c .enum-told .given .1) (nothing _ _)
+returns-4 c = by-case contentPieces _ _ (c .enum-told .given .1) (none _ _)
 
 pub content-spec : {M : Type 1} → statement M
 content-spec =
     tie.close
     (tie.spec
-    (λ c. search needs)
-    (λ c κs. search needs)
-    (λ c. search needs)
-    (λ c κs. search needs)
-    (λ c. search needs)
-    (λ c κs. search needs)
-    (λ c. search needs)
-    (λ c κs. search needs)
-    (λ c. search needs)
-    (λ c. search needs)
-    (λ c. search needs)
-    (λ c κs. search needs)
-    (λ c. search needs)
-    (λ c. search needs)
-    returns
-    (λ c. search needs)
-    returns-2
-    (λ c. search needs)
-    returns-3
+    (λ c. search needs) (λ c κs. search needs) (λ c. search needs) (λ c κs. search needs) (λ c. search needs) (λ c κs. search needs) (λ c. search needs) (λ c κs. search needs)
+    (λ c. search needs) (λ c. search needs) (λ c. search needs) (λ c κs. search needs) (λ c. search needs) (λ c. search needs) returns
+    (λ c. search needs) returns-2
+    (λ c. search needs) returns-3
     returns-4)

@@ -4,7 +4,8 @@ use mathlib.Core.Bool.{Bool}
 use mathlib.Core.List.{[], _∷_, _++_}
 use Rattle.words.specs.Answer.{pick}
 use Rattle.text.specs.Text.{codes, decimal}
-use Rattle.test_rows.proofs.Putting.{both, by-case}
+use Rattle.text.proofs.Putting.{then, alone}
+use Rattle.test_rows.proofs.Choosing.{by-case}
 use borrow.Author.Needs.{needs}
 use Rattle.test_rows.proofs.answers.distance.Statement.{statement}
 use Rattle.test_rows.proofs.answers.distance.Tie as tie
@@ -16,7 +17,7 @@ returns c =
     let p1 = t .before .before .before in
     let s = p1 .before .before .before .before in
     by-case (λ (b : Bool). (codes ", " ++ decimal (s .args .dm)) ∷ pick b (codes " dm preset") (codes " dm") ∷ []) _ _ (t .if1 .taken)
-    (both _ _ _ _ (p1 .put-number .ensures) (p2 .put .ensures))
+    (then _ _ _ _ (p1 .put-number .ensures) (alone _ _ _ (p2 .put .ensures)))
 
 returns-2 : tie.Need-returns-2
 returns-2 c =
@@ -25,19 +26,11 @@ returns-2 c =
     let p1 = t .before .before .before in
     let s = p1 .before .before .before .before in
     by-case (λ (b : Bool). (codes ", " ++ decimal (s .args .dm)) ∷ pick b (codes " dm preset") (codes " dm") ∷ []) _ _ (t .if1 .left)
-    (both _ _ _ _ (p1 .put-number .ensures) (p2 .put2 .ensures))
+    (then _ _ _ _ (p1 .put-number .ensures) (alone _ _ _ (p2 .put2 .ensures)))
 
 pub distance-spec : {M : Type 1} → statement M
 distance-spec =
     tie.close
     (tie.spec
-    (λ c. search needs)
-    (λ c κs. search needs)
-    (λ c. search needs)
-    (λ c κs. search needs)
-    (λ c. search needs)
-    returns
-    (λ c. search needs)
-    (λ c κs. search needs)
-    (λ c. search needs)
-    returns-2)
+    (λ c. search needs) (λ c κs. search needs) (λ c. search needs) (λ c κs. search needs) (λ c. search needs) returns
+    (λ c. search needs) (λ c κs. search needs) (λ c. search needs) returns-2)

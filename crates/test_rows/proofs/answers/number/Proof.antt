@@ -1,13 +1,14 @@
 -- By the number.
 -- Assumes nothing.
-use Rattle.test_rows.proofs.Putting.{alone, nothing, by-case}
+use Rattle.text.proofs.Putting.{none, alone}
+use Rattle.test_rows.proofs.Choosing.{by-case}
 use Rattle.test_rows.specs.Answers.{numberPieces}
 use borrow.Author.Needs.{needs}
 use Rattle.test_rows.proofs.answers.number.Statement.{statement}
 use Rattle.test_rows.proofs.answers.number.Tie as tie
 
 returns : tie.Need-returns
-returns c = by-case numberPieces _ _ (c .enum-told .given .1) (nothing _ _)
+returns c = by-case numberPieces _ _ (c .enum-told .given .1) (none _ _)
 
 returns-2 : tie.Need-returns-2
 returns-2 c =
@@ -19,11 +20,5 @@ pub number-spec : {M : Type 1} → statement M
 number-spec =
     tie.close
     (tie.spec
-    (λ c. search needs)
-    (λ c. search needs)
-    (λ c. search needs)
-    (λ c. search needs)
-    (λ c κs. search needs)
-    returns
-    (λ c. search needs)
-    returns-2)
+    (λ c. search needs) (λ c. search needs) (λ c. search needs) (λ c. search needs) (λ c κs. search needs) returns
+    (λ c. search needs) returns-2)

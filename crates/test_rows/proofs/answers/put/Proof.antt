@@ -1,62 +1,31 @@
 -- By what came of the group.
 -- Assumes nothing.
-use Rattle.test_rows.proofs.Putting.{alone, by-case}
+use Prim.Native.Nat.{ℕ}
+use mathlib.Core.List.{List}
+use Rattle.group.specs.declared.GroupJudged.{GroupJudged}
+use Rattle.group.specs.Says.{saysGroupJudged}
 use Rattle.test_rows.specs.Answers.{answerPieces}
+use Rattle.test_rows.proofs.Choosing.{by-case}
 use borrow.Author.Needs.{needs}
 use Rattle.test_rows.proofs.answers.put.Statement.{statement}
 use Rattle.test_rows.proofs.answers.put.Tie as tie
 
-returns : tie.Need-returns
-returns c =
-    let p = c .before .before in
-    let k = p .before .before .before in
-    by-case answerPieces _ _ (k .j .given .1) (p .message .ensures)
-
-returns-2 : tie.Need-returns-2
-returns-2 c = by-case answerPieces _ _ (c .before .before .before .before .before .enum-told .given .1) (alone _ _ _ (c .before .before .put .ensures))
-
-returns-3 : tie.Need-returns-3
-returns-3 c = by-case answerPieces _ _ (c .before .before .before .before .before .enum-told2 .given .1) (alone _ _ _ (c .before .before .put2 .ensures))
-
-returns-4 : tie.Need-returns-4
-returns-4 c = by-case answerPieces _ _ (c .before .before .before .before .before .enum-told3 .given .1) (alone _ _ _ (c .before .before .put3 .ensures))
-
-returns-5 : tie.Need-returns-5
-returns-5 c = by-case answerPieces _ _ (c .before .before .before .before .before .enum-told4 .given .1) (alone _ _ _ (c .before .before .put4 .ensures))
-
-returns-6 : tie.Need-returns-6
-returns-6 c = by-case answerPieces _ _ (c .before .before .before .before .before .enum-told5 .given .1) (alone _ _ _ (c .before .before .put5 .ensures))
+abbrev pieces : GroupJudged → List (List ℕ)
+pieces j = answerPieces (saysGroupJudged j)
 
 pub put-spec : {M : Type 1} → statement M
 put-spec =
     tie.close
     (tie.spec
-    (λ c. search needs)
-    (λ c κs. search needs)
-    (λ c. search needs)
-    (λ c. search needs)
-    (λ c κs. search needs)
-    (λ c. search needs)
-    (λ c. search needs)
-    (λ c κs. search needs)
-    (λ c. search needs)
-    (λ c. search needs)
-    (λ c κs. search needs)
-    (λ c. search needs)
-    (λ c. search needs)
-    (λ c κs. search needs)
-    (λ c. search needs)
-    (λ c. search needs)
-    (λ c κs. search needs)
-    (λ c. search needs)
-    returns
-    (λ c. search needs)
-    returns-2
-    (λ c. search needs)
-    returns-3
-    (λ c. search needs)
-    returns-4
-    (λ c. search needs)
-    returns-5
-    (λ c. search needs)
-    returns-6)
+    (λ c. search needs) (λ c κs. search needs)
+    (λ c. search needs) (λ c κs. search needs)
+    (λ c. search needs) (λ c κs. search needs)
+    (λ c. search needs) (λ c κs. search needs)
+    (λ c. search needs) (λ c κs. search needs)
+    (λ c. search needs) (λ c κs. search needs)
+    (λ c. search needs) (λ c. by-case pieces _ _ (c .before .before .before .before .before .j .given .1) (c .before .before .message .ensures))
+    (λ c. search needs) (λ c. by-case pieces _ _ (c .before .before .before .before .enum-told .given .1) (c .before .before .refused .ensures))
+    (λ c. search needs) (λ c. by-case pieces _ _ (c .before .before .before .before .enum-told2 .given .1) (c .before .before .refused2 .ensures))
+    (λ c. search needs) (λ c. by-case pieces _ _ (c .before .before .before .before .enum-told3 .given .1) (c .before .before .refused3 .ensures))
+    (λ c. search needs) (λ c. by-case pieces _ _ (c .before .before .before .before .enum-told4 .given .1) (c .before .before .refused4 .ensures))
+    (λ c. search needs) (λ c. by-case pieces _ _ (c .before .before .before .before .enum-told5 .given .1) (c .before .before .refused5 .ensures)))

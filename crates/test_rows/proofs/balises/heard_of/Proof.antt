@@ -36,7 +36,7 @@ returns-4 c =
     let three = four .before .before in
     let two = three .before .before in
     let one = two .before .before in
-    c .as-received .ensures
+    c .three .ensures
     ∙ sym
     (fails _ _ (sym (one .before .is-sign .ensures) ∙ one .if1 .left)
     ∙ fails _ _ (sym (two .before .is-sign2 .ensures) ∙ two .if2 .left)
@@ -50,7 +50,7 @@ returns-5 c =
     let three = four .before .before in
     let two = three .before .before in
     let one = two .before .before in
-    c .as-figures .ensures
+    c .three2 .ensures
     ∙ sym
     (fails _ _ (sym (one .before .is-sign .ensures) ∙ one .if1 .left)
     ∙ fails _ _ (sym (two .before .is-sign2 .ensures) ∙ two .if2 .left)
@@ -61,15 +61,8 @@ pub heard-of-spec : {M : Type 1} → statement M
 heard-of-spec =
     tie.close
     (tie.spec
-    (λ c κs. search needs)
-    returns
-    (λ c κs. search needs)
-    returns-2
-    (λ c κs. search needs)
-    (λ c κs. search needs)
-    returns-3
-    (λ c κs. search needs)
-    (λ c κs. search needs)
-    returns-4
-    (λ c κs. search needs)
-    returns-5)
+    (λ c κs. search needs) returns
+    (λ c κs. search needs) returns-2
+    (λ c κs. search needs) (λ c κs. search needs) returns-3
+    (λ c κs. search needs) (λ c κs. search needs) returns-4
+    (λ c κs. search needs) returns-5)
