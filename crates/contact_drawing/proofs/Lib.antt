@@ -1,2 +1,6 @@
 pub mod Each
 pub mod Determined
+pub mod Boxed
+pub mod Roomy
+pub mod Plain
+pub mod Examples
