@@ -1,5 +1,4 @@
--- No heading needs an escape: a line is made of words that have neither mark, and of digits. And
--- each word is whole on a strip.
+-- No heading needs an escape: a line is made of words that have neither mark, and of digits.
 -- Assumes nothing.
 use mathlib.Core.Path.{_≡_, refl, ap, _∙_}
 use mathlib.Core.Bool.{Bool, true, false, _&&_}
@@ -19,7 +18,7 @@ use Rattle.contact.specs.Says.{saysJudged}
 use Rattle.antenna.specs.Line.{placed}
 use Rattle.contact_text.specs.Lines.{figures, what, heard, refusal}
 use Rattle.antenna_text.specs.Lines.{judgedAs, toldLine, closedBefore, endLine}
-use Rattle.contact_drawing.specs.Laws.{isPlain, arePlain, NoEscape, OnAStrip}
+use Rattle.contact_drawing.specs.Laws.{isPlain, arePlain, NoEscape}
 
 -- A text that needs no escape.
 record Plain (t : List ℕ) : Type 0 where
@@ -97,6 +96,3 @@ ending false = refl
 
 pub no-escape : NoEscape
 no-escape = record { lines = lines; ending = ending }
-
-pub on-a-strip : OnAStrip
-on-a-strip = record { word = λ i n h. (omega arith, omega arith, omega arith) }
