@@ -10,6 +10,8 @@ ghost use Rattle.antenna_text.specs.Lines.{toldLine, closedBefore};
 mod placing;
 
 use contact::Judged;
+pub use placing::first_bit;
+pub use placing::number_at;
 
 // The line of a contact of so many bits that this bit of the line closes, with its first place
 // counted from its first bit, into buf from `at` on, and the place after it; without room buf stays
@@ -17,6 +19,6 @@ use contact::Judged;
 pub fn put_closed(end: u64, bits: usize, judged: Judged, buf: &mut [u8], at: usize) -> usize
     ensures { λ r. ⌜ came r (now (buf .exit)) ≡ put (toldLine (closedBefore end bits judged)) (now (buf .entry)) at ⌝ }
 {
-    let start = placing::less(end as usize, bits);
+    let start = first_bit(end as usize, bits);
     contact_text::put_contact(start, bits, placing::placed(start, judged), buf, at)
 }

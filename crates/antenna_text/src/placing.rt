@@ -6,21 +6,21 @@ ghost use Rattle.antenna.specs.Line.{placed};
 ghost use Rattle.antenna_text.specs.Lines.{shown, judgedAs};
 use contact::Judged;
 
-// The difference, or 0.
-pub fn less(a: usize, b: usize) -> usize
-    ensures { λ r. ⌜ r ≡ a - b ⌝ }
+// The line's number of the first bit of a contact of so many bits that this bit of the line closes.
+pub fn first_bit(end: usize, bits: usize) -> usize
+    ensures { λ r. ⌜ r ≡ end - bits ⌝ }
 {
-    if a < b { 0 } else { a - b }
+    if end < bits { 0 } else { end - bits }
 }
 
-// The sum, up to 2^64 - 1.
-fn sum(a: usize, b: usize) -> usize
-    ensures { λ r. ⌜ r ≡ shown (a + b) ⌝ }
+// The line's number of bit i of a contact that begins at this bit, up to 2^64 - 1.
+pub fn number_at(start: usize, i: usize) -> usize
+    ensures { λ r. ⌜ r ≡ shown (start + i) ⌝ }
 {
-    if a > usize::MAX - b {
+    if start > usize::MAX - i {
         return usize::MAX;
     }
-    a + b
+    start + i
 }
 
 // What was judged, with its first place counted from the first bit of the line.
@@ -34,7 +34,7 @@ pub fn placed(start: usize, judged: Judged) -> Judged
             count,
         } => Judged::Read {
             telegram,
-            first: sum(start, first),
+            first: number_at(start, first),
             count,
         },
         Judged::Marker => Judged::Marker,

@@ -9,7 +9,7 @@ use Rattle.text.specs.Pieces.{puts}
 use Rattle.text.proofs.Putting.{none, puts-append}
 use mathlib.Core.Bool.{Bool, true, false}
 use lib.Dec.{ltb}
-use borrow.Author.Tests.{ltb-false}
+use borrow.Author.Tests.{ltb-true, ltb-false}
 use Rattle.words.specs.Answer.{pick}
 use Rattle.contact_drawing.specs.Strips.{each, drawn}
 
@@ -37,7 +37,7 @@ last f b at i n high =
     let over : n - i ≡ 0 = omega arith in
     none b at ∙ ap (λ (ts : List (List ℕ)). puts ts b at) (sym (none-left f i (n - i) over))
 
--- At most 2,000 bits are drawn.
+-- At most 2,000 bits are drawn, and no more than there are.
 pub drawn-most : (n : ℕ) → drawn n ≤ 2000
 unfolding drawn
 drawn-most n = go (ltb 2000 n) refl
@@ -45,3 +45,11 @@ drawn-most n = go (ltb 2000 n) refl
     go : (t : Bool) → ltb 2000 n ≡ t → pick t 2000 n ≤ 2000
     go true e = omega arith
     go false e = ltb-false 2000 n e
+
+pub drawn-within : (n : ℕ) → drawn n ≤ n
+unfolding drawn
+drawn-within n = go (ltb 2000 n) refl
+  where
+    go : (t : Bool) → ltb 2000 n ≡ t → pick t 2000 n ≤ n
+    go true e = omega (arith, ltb-true 2000 n e)
+    go false e = omega arith

@@ -40,16 +40,22 @@ abbrev pub isFound : Outcome Single → Bool
 isFound (gives single) = true
 isFound (refuses n) = false
 
--- What stands at bit i of the contact: if the forty bits from there on are a telegram, its boxes
--- and the line's number of the bit.
+-- The boxes of the telegram at bit p of the buffer, which are drawn at x, and under them the line's
+-- number of the bit.
+unfoldable pub boxed : List ℕ → ℕ → ℕ → ℕ → ℕ → List (List ℕ)
+boxed b p s x number =
+    (boxes b p s ++ decimal x)
+    ∷ (codes "'/><text y='62' x='" ++ decimal x)
+    ∷ (codes "'>" ++ decimal (shown number))
+    ∷ codes "</text>\n" ∷ []
+
+-- What stands at bit i of the contact: if the forty bits from there on are a telegram, its boxes.
 unfoldable pub telegramOf : List ℕ → ℕ → ℕ → ℕ → ℕ → ℕ → List (List ℕ)
-telegramOf b first start s t i =
-    pick (isFound (find b (first + i) 40 s t))
-    ((boxes b (first + i) s ++ decimal (4 * i))
-    ∷ (codes "'/><text y='62' x='" ++ decimal (4 * i))
-    ∷ (codes "'>" ++ decimal (shown (start + i)))
-    ∷ codes "</text>\n" ∷ [])
-    []
+telegramOf b first start s t i = pick (isFound (find b (first + i) 40 s t)) (boxed b (first + i) s (4 * i) (start + i)) []
+
+-- The boxes of the telegrams among the first n bits of the contact.
+unfoldable pub telegrams : List ℕ → ℕ → ℕ → ℕ → ℕ → ℕ → List (List ℕ)
+telegrams b first start n s t = each (telegramOf b first start s t) 0 (n - 39)
 
 -- The strip k of a contact, with the line's number of its first bit.
 unfoldable pub strip : ℕ → ℕ → List (List ℕ)
@@ -60,6 +66,10 @@ strip start k =
     ∷ (codes "'/><text y='10' x='" ++ decimal (384 * k))
     ∷ (codes "'>" ++ decimal (shown (start + 96 * k)))
     ∷ codes "</text></svg>\n" ∷ []
+
+-- How many strips n bits have.
+abbrev pub stripsOf : ℕ → ℕ
+stripsOf n = (n + 95) / 96
 
 -- What is said of a contact that has more bits than are drawn.
 unfoldable pub cutAt : ℕ → List (List ℕ)
@@ -79,8 +89,8 @@ waveform b first start n =
 unfoldable pub picture : List ℕ → ℕ → ℕ → ℕ → ℕ → ℕ → List (List ℕ)
 picture b first start n s t =
     waveform b first start n
-    ++ (each (telegramOf b first start s t) 0 (n - 39)
-    ++ (codes "</g></defs></svg>\n" ∷ each (strip start) 0 ((n + 95) / 96)))
+    ++ (telegrams b first start n s t
+    ++ (codes "</g></defs></svg>\n" ∷ each (strip start) 0 (stripsOf n)))
 
 -- What stands in the page for the contact of so many bits that bit `end` of the line closes: the
 -- line that is written for it, whether it was cut, and its strips. Its bits are those of the buffer

@@ -8,7 +8,7 @@ ghost use Rattle.telegram.specs.Stretch.{bitsAt};
 ghost use Rattle.telegram.specs.Place.{find};
 ghost use Rattle.text.specs.Pieces.{puts};
 ghost use Rattle.contact_drawing.specs.Strips.{isFound, boxes, telegramOf, each};
-use crate::sums;
+use antenna_text::number_at;
 use telegram::Found;
 use text::put;
 use text::put_number;
@@ -61,7 +61,7 @@ fn put_telegram(
         let x = 4 * i as u64;
         let a = put_boxes(bits, first + i, s, x, buf, at);
         let b = put_number(b"'/><text y='62' x='", x, buf, a);
-        let c = put_number(b"'>", sums::sum(start, i) as u64, buf, b);
+        let c = put_number(b"'>", number_at(start, i) as u64, buf, b);
         return put(b"</text>\n", buf, c);
     }
     at

@@ -2,8 +2,8 @@
 // telegrams.
 // Promises: what stands in the page for a contact is fixed to the letter; each piece is put whole or
 // not at all; bytes around it stay.
-// Specification: specs/Strips.antt (what is drawn); pieces in a buffer are `text`'s
-// specs/Pieces.antt.
+// Specification: specs/Strips.antt (what is drawn), specs/Laws.antt (a box at each place, on a
+// strip, whole; nothing is left out); pieces in a buffer are `text`'s specs/Pieces.antt.
 ghost use mathlib.Core.Path.{_≡_};
 ghost use Rattle.text.specs.Put.{came};
 ghost use Rattle.text.specs.Pieces.{puts};
@@ -37,7 +37,7 @@ pub fn draw(
     let b = antenna_text::put_closed(end, length, judged, buf, a);
     let c = put(b"</h2>\n", buf, b);
     let d = picture::put_cut(length, buf, c);
-    let start = sums::less(end as usize, length);
+    let start = antenna_text::first_bit(end as usize, length);
     picture::put_picture(
         bits,
         first as usize,

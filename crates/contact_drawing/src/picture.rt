@@ -7,6 +7,7 @@ ghost use Rattle.contact_drawing.specs.Strips.{cutAt, strip, each, wavef
 use crate::boxes;
 use crate::sums;
 use crate::wave;
+use antenna_text::number_at;
 use text::put;
 use text::put_number;
 
@@ -31,7 +32,7 @@ fn put_strip(start: usize, k: usize, buf: &mut [u8], at: usize) -> usize
     let b = put_number(b" 0 416 66'><use href='#e' x='", x, buf, a);
     let c = put_number(b"'/><use href='#c", start as u64, buf, b);
     let d = put_number(b"'/><text y='10' x='", x, buf, c);
-    let e = put_number(b"'>", sums::sum(start, 96 * k) as u64, buf, d);
+    let e = put_number(b"'>", number_at(start, 96 * k) as u64, buf, d);
     put(b"</text></svg>\n", buf, e)
 }
 
@@ -82,7 +83,7 @@ pub fn put_picture(
     ensures { λ r. ⌜ came r (now (buf .exit)) ≡ puts (picture (now (bits .entry)) first start n s t) (now (buf .entry)) at ⌝ }
 {
     let a = put_waveform(bits, first, start, n, buf, at);
-    let b = boxes::put_telegrams(bits, first, start, sums::less(n, 39), s, t, buf, a);
+    let b = boxes::put_telegrams(bits, first, start, sums::beginnings(n), s, t, buf, a);
     let c = put(b"</g></defs></svg>\n", buf, b);
     put_strips(start, (n + 95) / 96, buf, c)
 }

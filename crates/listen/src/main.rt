@@ -1,12 +1,9 @@
 // What a line holds, recorded or as it comes: a line of text for each contact as soon as it has
 // closed, in the order heard.
 // Promises: it is safe and it ends; contacts are those of the crate antenna, lines those of
-// antenna_text and contact_text, piece by piece.
-// Specification: none of its own; what the pieces come to is crates/antenna_text/specs/Laws.antt,
-// what cannot be said of a program's reads and writes stands in docs/EXCEPTIONS.md.
-mod out;
-mod pieces;
-
+// antenna_text and contact_text, piece by piece, by line_console.
+// Specification: none of its own; what the pieces come to is crates/antenna_text_laws, what cannot
+// be said of a program's reads and writes stands in docs/EXCEPTIONS.md.
 use console::is_input;
 use console::sync_word;
 use figures::Byte;
@@ -22,9 +19,7 @@ fn listen(fd: i32, s: u8, t: u8) {
         console::refuse_here(b"listen", 4);
         return;
     };
-    if !pieces::all(fd, s, t) {
-        console::cannot_read(b"listen", FILE);
-    }
+    line_console::go_over(b"listen", FILE, fd, false, s, t);
 }
 
 // The line named, with the sync words given.

@@ -1,57 +1,46 @@
 // What a line holds as a page to look at and to print: each contact as strips of its bits, with the
 // words of its telegrams; then the listing as `listen` writes it.
 // Promises: it is safe and it ends; contacts are those of the crate antenna, what stands for each is
-// that of contact_drawing, lines are those of antenna_text and contact_text.
+// that of contact_drawing, lines are those of antenna_text and contact_text, by line_console.
 // Specification: none of its own; what cannot be said of a program's reads and writes stands in
 // docs/EXCEPTIONS.md.
 mod page;
-mod pieces;
 
 use console::sync_word;
 use figures::Byte;
 use libc::SEEK_SET;
-use pieces::Went;
 use telegram::Pair;
 
 // The argument of the line's file.
 const FILE: usize = 1;
 
-// Goes over the line from its beginning; whether that went well. What went wrong is said.
-fn go_over(fd: i32, draws: bool, s: u8, t: u8) -> bool {
+// Whether the open file can be gone over from its beginning; if not, that is said.
+fn begins(fd: i32) -> bool {
     if libc::lseek(fd, 0, SEEK_SET) != 0 {
         console::only_once(b"scope", FILE);
         return false;
     }
-    let went = pieces::all(fd, draws, s, t);
-    match went {
-        Went::Well => true,
-        Went::Unread => {
-            console::cannot_read(b"scope", FILE);
-            false
-        }
-        Went::Unwritten => {
-            console::cannot_write(b"scope");
-            false
-        }
-    }
+    true
 }
 
 // The page of the open file, which is gone over twice.
 fn draw(fd: i32, s: u8, t: u8) {
-    if libc::lseek(fd, 0, SEEK_SET) != 0 {
-        console::only_once(b"scope", FILE);
+    if !begins(fd) {
         return;
     }
     if !page::put_head() {
         return;
     }
-    if !go_over(fd, true, s, t) {
+    if !line_console::go_over(b"scope", FILE, fd, true, s, t) {
         return;
     }
     if !page::put_listing() {
         return;
     }
-    if go_over(fd, false, s, t) {
+    if !begins(fd) {
+        return;
+    }
+    if line_console::go_over(b"scope", FILE, fd, false, s, t) {
         page::put_foot();
     }
 }

@@ -15,7 +15,7 @@ returns c =
     let q = p .before .before in
     let l = q .before in
     let a = l .before .before .args in
-    p .put-contact .ensures ∙ ap (λ (t : List ℕ). put t (a .buf .now) (a .at)) (closed-is (a .end) (a .bits) (a .judged) (l .less .ensures) (q .placed .ensures))
+    p .put-contact .ensures ∙ ap (λ (t : List ℕ). put t (a .buf .now) (a .at)) (closed-is (a .end) (a .bits) (a .judged) (l .first-bit .ensures) (q .placed .ensures))
 
 pub put-closed-spec : {M : Type 1} → statement M
 put-closed-spec = tie.close (tie.spec (λ c κs. search needs) (λ c κs. search needs) (λ c κs. search needs) (λ c. search needs) returns)

@@ -34,7 +34,7 @@ returns c =
     (then _ _ _ _ (p4 .put-closed .ensures)
     (then _ _ _ _ (p3 .put2 .ensures)
     (after _ _ _ _ (p2 .put-cut .ensures)
-    (all-as _ _ (ap₂ (λ (x n : ℕ). picture (a .bits .now) (a .first) x n (a .s) (a .t)) (u .less .ensures) (d .drawn .ensures)) (p1 .put-picture .ensures)))))
+    (all-as _ _ (ap₂ (λ (x n : ℕ). picture (a .bits .now) (a .first) x n (a .s) (a .t)) (u .first-bit .ensures) (d .drawn .ensures)) (p1 .put-picture .ensures)))))
 
 pub draw-spec : {M : Type 1} → statement M
 draw-spec =

@@ -6,7 +6,7 @@ use Rattle.antenna_text.proofs.placing.placed.Statement.{statement}
 use Rattle.antenna_text.proofs.placing.placed.Tie as tie
 
 returns : tie.Need-returns
-returns c = is-read _ (c .before .before .judged .given .1) (c .sum .ensures)
+returns c = is-read _ (c .before .before .judged .given .1) (c .number-at .ensures)
 
 returns-2 : tie.Need-returns-2
 returns-2 c = is-marker _ (c .enum-told .given .1)

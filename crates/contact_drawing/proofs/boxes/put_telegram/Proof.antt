@@ -6,13 +6,13 @@ use Prim.Native.Nat.{ℕ}
 use native.Mathlib.Omega.{arith}
 use Rattle.text.specs.Text.{codes, decimal}
 use Rattle.text.proofs.Putting.{none, then, alone, word-as}
-use Rattle.contact_drawing.specs.Strips.{telegramOf}
+use Rattle.contact_drawing.specs.Strips.{boxed, telegramOf}
 use borrow.Author.Needs.{needs}
 use Rattle.contact_drawing.proofs.boxes.put_telegram.Statement.{statement}
 use Rattle.contact_drawing.proofs.boxes.put_telegram.Tie as tie
 
 returns : tie.Need-returns
-unfolding telegramOf
+unfolding telegramOf boxed
 returns c =
     let p1 = c .before .before in
     let p2 = p1 .before .before .before .before .before in
@@ -23,7 +23,7 @@ returns c =
     simp (sym (q .before .is-telegram .ensures) ∙ q .if1 .taken)
     (then _ _ _ _ (p4 .put-boxes .ensures)
     (then _ _ _ _ (p3 .put-number .ensures)
-    (then _ _ _ _ (word-as _ _ (ap (λ (v : ℕ). codes "'>" ++ decimal v) (u .sum .ensures)) (p2 .put-number2 .ensures))
+    (then _ _ _ _ (word-as _ _ (ap (λ (v : ℕ). codes "'>" ++ decimal v) (u .number-at .ensures)) (p2 .put-number2 .ensures))
     (alone _ _ _ (p1 .put .ensures)))))
 
 returns-2 : tie.Need-returns-2

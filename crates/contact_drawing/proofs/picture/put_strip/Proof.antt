@@ -11,8 +11,8 @@ use borrow.Author.Needs.{needs}
 use Rattle.contact_drawing.proofs.picture.put_strip.Statement.{statement}
 use Rattle.contact_drawing.proofs.picture.put_strip.Tie as tie
 
-mul-sum : tie.Need-mul-sum
-mul-sum c =
+mul-number-at : tie.Need-mul-number-at
+mul-number-at c =
     let q = c .before .before .before .before .before .before .before in
     omega (arith, q .before .before .before .before .before .before .before .before .before .before .before .before .before .before .before .pre)
 
@@ -30,11 +30,11 @@ returns c =
     (then _ _ _ _ (p5 .put-number2 .ensures)
     (then _ _ _ _ (p4 .put-number3 .ensures)
     (then _ _ _ _ (p3 .put-number4 .ensures)
-    (then _ _ _ _ (word-as _ _ (ap (λ (v : ℕ). codes "'>" ++ decimal v) (u .sum .ensures)) (p2 .put-number5 .ensures))
+    (then _ _ _ _ (word-as _ _ (ap (λ (v : ℕ). codes "'>" ++ decimal v) (u .number-at .ensures)) (p2 .put-number5 .ensures))
     (alone _ _ _ (p1 .put .ensures))))))
 
 pub put-strip-spec : {M : Type 1} → statement M
 put-strip-spec =
     tie.close
     (tie.spec
-    (λ c. omega (arith, c .before .pre)) (λ c. search needs) (λ c κs. search needs) (λ c. search needs) (λ c κs. search needs) (λ c. search needs) (λ c κs. search needs) (λ c. search needs) (λ c κs. search needs) (λ c. search needs) mul-sum (λ c κs. search needs) (λ c κs. search needs) (λ c. search needs) (λ c κs. search needs) (λ c. search needs) returns)
+    (λ c. omega (arith, c .before .pre)) (λ c. search needs) (λ c κs. search needs) (λ c. search needs) (λ c κs. search needs) (λ c. search needs) (λ c κs. search needs) (λ c. search needs) (λ c κs. search needs) (λ c. search needs) mul-number-at (λ c κs. search needs) (λ c κs. search needs) (λ c. search needs) (λ c κs. search needs) (λ c. search needs) returns)

@@ -3,8 +3,8 @@
 use mathlib.Core.Path.{_≡_}
 use lib.ListN.{length}
 use borrow.Author.Needs.{needs}
-use Rattle.scope.proofs.pieces.all.Statement.{statement}
-use Rattle.scope.proofs.pieces.all.Tie as tie
+use Rattle.line_console.proofs.pieces.all.Statement.{statement}
+use Rattle.line_console.proofs.pieces.all.Tie as tie
 
 abbrev Inv-loop : tie.InvT-loop
 Inv-loop fd draws s t block₀ buf₀ kept₀ heard₀ turns₀ block buf kept heard turns =
@@ -19,5 +19,5 @@ all-spec =
     (tie.spec
     Inv-loop μ-loop
     (λ c κs. search needs) (λ c κs. search needs) (λ c κs. search needs) (λ c. (search needs, search needs, search needs))
-    (λ c. search needs) (λ c κs. search needs) (λ c. search needs) (λ c. search needs) (λ c κs. search needs) (λ c κs. search needs) (λ c. search needs) (λ c. search needs)
+    (λ c. search needs) (λ c κs. search needs) (λ c. search needs) (λ c. search needs) (λ c κs. search needs) (λ c κs. search needs) (λ c. search needs)
     (λ c. search needs) (λ c. search needs) (λ c. search needs) (λ c κs. (search needs, search needs)) (λ c. search needs) (λ c. search needs) (λ c. search needs) (λ c. (search needs, search needs, search needs)) (λ c. search needs))

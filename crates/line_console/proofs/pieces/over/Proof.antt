@@ -7,22 +7,22 @@ use native.Mathlib.Omega.{arith}
 use lib.ListN.{length}
 use Rattle.antenna_text.proofs.Advancing.{opened-on, closed-on}
 use borrow.Author.Needs.{needs}
-use Rattle.scope.proofs.pieces.over.Statement.{statement}
-use Rattle.scope.proofs.pieces.over.Tie as tie
+use Rattle.line_console.proofs.pieces.over.Statement.{statement}
+use Rattle.line_console.proofs.pieces.over.Tie as tie
 
 abbrev Inv-loop : tie.InvT-loop
-Inv-loop from draws s t piece kept₀ buf₀ bits ear₀ first₀ have₀ out₀ i₀ kept buf ear first have out i =
+Inv-loop from asked piece kept₀ buf₀ bits ear₀ first₀ have₀ text₀ i₀ kept buf ear first have text i =
     (length kept ≡ length kept₀) × (length buf ≡ length buf₀)
 
 abbrev μ-loop : tie.MeasureT-loop
-μ-loop from draws s t piece kept₀ buf₀ bits ear₀ first₀ have₀ out₀ i₀ kept buf ear first have out i = bits - i
+μ-loop from asked piece kept₀ buf₀ bits ear₀ first₀ have₀ text₀ i₀ kept buf ear first have text i = bits - i
 
 mul-bits : tie.Need-mul-bits Inv-loop μ-loop
 mul-bits c = omega (arith, c .before .before .before .pre)
 
 -- How many bits a piece has at most.
-few : (c : tie.After-hear-piece Inv-loop μ-loop) → let s = c .before .before .before .before .before .before .before .before .before .before .before in length (s .args .piece .now) * 8 ≤ 524288
-few c = omega (arith, c .before .before .before .before .before .before .before .before .before .before .before .pre)
+few : (c : tie.After-hear-piece Inv-loop μ-loop) → let s = c .before .before .before .before .before .before .before .before .before .before .before .before in length (s .args .piece .now) * 8 ≤ 524288
+few c = omega (arith, c .before .before .before .before .before .before .before .before .before .before .before .before .pre)
 
 add-i : tie.Need-add-i Inv-loop μ-loop
 add-i c =
@@ -56,7 +56,7 @@ over-spec =
     (tie.spec
     Inv-loop μ-loop
     mul-bits
-    (λ c κs. search needs) (λ c. (search needs, search needs)) (λ c. search needs) (λ c κs. search needs)
+    (λ c κs. search needs) (λ c κs. search needs) (λ c. (search needs, search needs)) (λ c. search needs) (λ c κs. search needs)
     (λ c. search needs) (λ c. search needs) (λ c κs. search needs) add-i loop-less (λ c. (search needs, search needs))
     (λ c. search needs) (λ c κs. search needs) (λ c κs. search needs) add-i-2 loop-less-2 (λ c. (search needs, search needs))
     (λ c. search needs) loop-less-3 (λ c. (search needs, search needs))

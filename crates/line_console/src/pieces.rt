@@ -1,28 +1,26 @@
-// The line, piece by piece: the strips of the contacts, or their lines.
+// The line, piece by piece, as its bytes come.
 ghost use mathlib.Core.Path.{_≡_};
 ghost use Prim.Native.Nat.{_≤_};
 ghost use lib.ListN.{length};
+use crate::out;
+use crate::out::Asked;
+use crate::out::Out;
 use antenna::Ear;
 use antenna::Until;
-use contact::Judged;
-use libc::STDOUT_FILENO;
-
-// Text in the buffer is written when it has so many bytes.
-const ENOUGH: usize = 32768;
+use console::Far;
+use console::go_on_somehow;
+use console::not_begun;
+use console::wipe;
 
 // Where the going over stands: the ear, how many bits were heard before, in which bit of the bytes
-// kept the latest contact begins, how many bytes are kept, and whether all writes succeeded.
+// kept the latest contact begins, how many bytes are kept, how far all that is, and whether all
+// writes so far succeeded.
 struct Heard {
     ear: Ear,
     bits: u64,
     first: u8,
     have: usize,
-    is_good: bool,
-}
-
-// How many bytes of text stand in the buffer, and whether all writes succeeded.
-struct Out {
-    length: usize,
+    far: Far,
     is_good: bool,
 }
 
@@ -49,64 +47,40 @@ fn keep(piece: &[u8], from: usize, kept: &mut [u8], have: usize) -> usize {
     text::put(&piece[from..], kept, have)
 }
 
-// Writes the text where there is enough.
-fn flush(out: Out, enough: usize, buf: &[u8]) -> Out {
-    if out.length < enough {
-        return out;
+// The going over with a piece of so many bits more.
+fn further(from: Heard, ear: Ear, bits: usize, first: u8, have: usize, is_good: bool) -> Heard {
+    let far = from.far;
+    Heard {
+        ear,
+        bits: std::num::wrapping_add_u64(from.bits, bits as u64),
+        first,
+        have,
+        far: go_on_somehow(far, true, bits / 8),
+        is_good,
     }
+}
+
+// No text.
+fn no_text() -> Out {
     Out {
         length: 0,
-        is_good: console::write(STDOUT_FILENO, buf, out.length) & out.is_good,
+        is_good: true,
     }
 }
 
-// What stands for a contact that this bit closes, after the text that stands.
-fn add(
-    out: Out,
-    draws: bool,
-    end: u64,
-    bits: usize,
-    judged: Judged,
-    kept: &[u8],
-    first: u8,
-    s: u8,
-    t: u8,
-    buf: &mut [u8],
-) -> Out {
-    let at = out.length;
-    let is_good = out.is_good;
-    if draws {
-        let length = contact_drawing::draw(end, bits, judged, kept, first, s, t, buf, at);
-        return flush(Out { length, is_good }, ENOUGH, buf);
-    }
-    let length = antenna_text::put_closed(end, bits, judged, buf, at);
-    flush(Out { length, is_good }, ENOUGH, buf)
-}
-
-// What stands for the contacts that close in a piece.
-fn over(
-    from: Heard,
-    draws: bool,
-    s: u8,
-    t: u8,
-    piece: &[u8],
-    kept: &mut [u8],
-    buf: &mut [u8],
-) -> Heard
+// What stands for the contacts that close in a piece is written.
+fn over(from: Heard, asked: Asked, piece: &[u8], kept: &mut [u8], buf: &mut [u8]) -> Heard
     requires { ⌜ length (now piece) ≤ 65536 ⌝ }
 {
     let bits = piece.len() * 8;
     let mut ear = from.ear;
     let mut first = from.first;
     let mut have = keep(piece, 0, kept, from.have);
-    let mut out = Out {
-        length: 0,
-        is_good: true,
-    };
+    let mut text = no_text();
     let mut i: usize = 0;
     while i < bits {
         let here = ear;
-        match antenna::hear_piece(here, piece, i, bits - i, s, t) {
+        match antenna::hear_piece(here, piece, i, bits - i, asked.s, asked.t) {
             Until::Opened { ear: then, at } => {
                 ear = then;
                 first = (at % 8) as u8;
@@ -120,7 +94,7 @@ fn over(
                 judged,
             } => {
                 let end = std::num::wrapping_add_u64(from.bits, at as u64);
-                out = add(out, draws, end, length, judged, kept, first, s, t, buf);
+                text = out::add(text, asked, end, length, judged, kept, first, buf);
                 ear = then;
                 i = at + 1;
             }
@@ -133,22 +107,13 @@ fn over(
             }
         }
     }
-    let last = flush(out, 0, buf);
-    Heard {
-        ear,
-        bits: std::num::wrapping_add_u64(from.bits, bits as u64),
-        first,
-        have,
-        is_good: last.is_good,
-    }
+    further(from, ear, bits, first, have, out::flush(text, buf))
 }
 
 // The same for the front of the block, so many bytes long.
 fn front(
     from: Heard,
-    draws: bool,
-    s: u8,
-    t: u8,
+    asked: Asked,
     block: &[u8],
     count: usize,
     kept: &mut [u8],
@@ -156,23 +121,26 @@ fn front(
 ) -> Heard
     requires { ⌜ (count ≤ length (now block)) × (length (now block) ≤ 65536) ⌝ }
 {
-    over(from, draws, s, t, &block[..count], kept, buf)
+    over(from, asked, &block[..count], kept, buf)
 }
 
-// What is said at the end of the line, if this is the listing.
-fn end(from: Heard, draws: bool) -> bool {
+// What is said at the end of the line, where lines are asked for; whether it was written.
+fn end(from: Heard, draws: bool) -> Went {
+    let far = from.far;
+    wipe(far);
     if draws {
-        return true;
+        return Went::Well;
     }
     let ear = from.ear;
     let stand = ear.stand;
     match stand {
         antenna::Stand::Inside(_) => {
-            let mut line = [0u8; 128];
-            let count = contact_text::put_refusal(9, &mut line, 0);
-            console::write(STDOUT_FILENO, &line, count)
+            if out::refuse(9) {
+                return Went::Well;
+            }
+            Went::Unwritten
         }
-        antenna::Stand::Outside => true,
+        antenna::Stand::Outside => Went::Well,
     }
 }
 
@@ -183,6 +151,7 @@ fn fresh() -> Heard {
         bits: 0,
         first: 0,
         have: 0,
+        far: not_begun(),
         is_good: true,
     }
 }
@@ -194,8 +163,8 @@ pub enum Went {
     Unwritten,
 }
 
-// All that the open file gives. A proved loop has to end, and nothing says that a line does: so it
-// counts its turns down from a number that no run uses up.
+// All that the open file gives, as it comes. A proved loop has to end, and nothing says that a line
+// does: so it counts its turns down from a number that no run uses up.
 pub fn all(fd: i32, draws: bool, s: u8, t: u8) -> Went {
     let mut block = io::large_buffer();
     let mut buf = room();
@@ -209,12 +178,10 @@ pub fn all(fd: i32, draws: bool, s: u8, t: u8) -> Went {
         }
         let count = io::count(got, &block);
         if count == 0 {
-            if end(heard, draws) {
-                return Went::Well;
-            }
-            return Went::Unwritten;
+            return end(heard, draws);
         }
-        heard = front(heard, draws, s, t, &block, count, &mut kept, &mut buf);
+        let asked = Asked { draws, s, t };
+        heard = front(heard, asked, &block, count, &mut kept, &mut buf);
         if !heard.is_good {
             return Went::Unwritten;
         }
