@@ -18,18 +18,19 @@ use Rattle.acceptance.specs.declared.Took.{Took}
 use Rattle.acceptance.specs.Taking.{takeLine}
 use Rattle.acceptance_text.specs.declared.Going.{Going}
 use Rattle.acceptance_text.specs.declared.Progress.{Progress}
+use Rattle.acceptance_text.specs.declared.Advanced.{Advanced}
 use Rattle.acceptance_text.specs.declared.Ending.{Ending}
 use Rattle.acceptance_text.specs.Taking.{Taking, takeAll}
 use Rattle.acceptance_text.specs.Accept.{began, acceptOf, taken, finish}
 use Rattle.acceptance_text.proofs.Ends.{accept-taken, finish-is}
 use Rattle.demands.specs.Output.{recordsIn}
 use Rattle.demands.specs.Stores.{Good}
-use Rattle.demands.specs.Sections.{Whole}
+use Rattle.demands.specs.TraceCalls.{Whole, Call}
 use Rattle.demands.proofs.Beside.Cards.{eights}
 use Rattle.demands.proofs.Witness.CallsMet.{lent}
 use Rattle.acceptance_laws.specs.Contracts.{AcceptInto, FinishInto}
 use Rattle.acceptance_laws.specs.Accepted.{Taken}
-use Rattle.acceptance_laws.specs.Calls.{Call, ByAccept, afterCalls, Last, Ends}
+use Rattle.acceptance_laws.specs.Calls.{ByAccept, afterCalls, Last, Ends}
 use Rattle.acceptance_laws.proofs.Over.{answersTo}
 use Rattle.acceptance_laws.proofs.Blocks.{standing, all-taken}
 
@@ -54,7 +55,7 @@ module _ (going : Going) (store : Store) (card : List ℕ) (good : Good store) (
   abbrev took : Taking
   took = takeAll (began going) (ridden .lines)
 
-  abbrev pub the-call : Call
+  abbrev pub the-call : Call Advanced
   the-call =
       record {
         block = card;
@@ -106,7 +107,7 @@ module _ (going : Going) where
       (enough, (([], tt), lent space, (going, (lent (the-last .after), tt)), refl, refl, sym (finish-is going space enough)))
 
 pub such-calls : (going : Going) (store : Store) (card : List ℕ) → Good store → Whole card
-    → (calls : List Call) × (last : Last) × ByAccept store going card calls × Ends (afterCalls going calls) last
+    → (calls : List (Call Advanced)) × (last : Last) × ByAccept store going card calls × Ends (afterCalls going calls) last
 such-calls going store card good whole =
-    let c : Call = the-call going store card good whole in
+    let c : Call Advanced = the-call going store card good whole in
     (c ∷ [], the-last (c .answer .going), by-one-call going store card good whole, ends-so (c .answer .going))

@@ -6,7 +6,6 @@ pub mod Bounds
 pub mod Short
 pub mod Judging
 pub mod Signed
-pub mod Blocks
 pub mod AtItsPlace
 pub mod Entered
 pub mod Safe

@@ -12,6 +12,8 @@ use Rattle.words.specs.Bits.{word}
 use Rattle.words.specs.Plain.{isCheck, covers, count, even, isCode, onwards, figure}
 use Rattle.words.specs.Code.{other, exchanged, readWord}
 use Rattle.telegram.specs.Telegram.{shortWord, longWord, telegram}
+use Rattle.settings.specs.declared.Store.{Store}
+use Rattle.settings.specs.At.{gapAt}
 use Rattle.group.specs.Balise.{balises, readAll}
 use Rattle.group_rows.specs.declared.Direction.{Direction}
 use Rattle.group_rows.specs.declared.Kind.{Kind}
@@ -43,9 +45,11 @@ use Rattle.ride_text.specs.declared.Listed.{Listed}
 use Rattle.ride.proofs.Determined as ride-is
 use Rattle.demands.specs.Table.{badLength}
 use Rattle.demands.specs.Output.{recordsIn, ridden, oneRide}
-use Rattle.demands.specs.Sections.{Whole, Call, ByCalls, ByStep, linesFrom}
+use Rattle.demands.specs.Sections.{Whole, Call, ByList, ByStep, linesFrom}
+use Rattle.demands.specs.ListCalls.{ListCall}
+use Rattle.demands.specs.Stores.{Good}
 use Rattle.demands.proofs.Beside.Cards.{eights}
-use Rattle.demands.proofs.Beside.Blocks.{Taking}
+use Rattle.demands.proofs.Beside.Blocks.{at-once-by}
 
 -- ---- by `list`
 
@@ -64,7 +68,7 @@ module _ (gaps : ℕ → ℕ) (ride : Ride) (number : ℕ) (card : List ℕ) whe
   written = textOf (over .lines)
 
   -- one call with the whole card
-  abbrev pub theCall : Call
+  abbrev pub theCall : Call Listed
   theCall =
       record {
         block = card;
@@ -73,18 +77,15 @@ module _ (gaps : ℕ → ℕ) (ride : Ride) (number : ℕ) (card : List ℕ) whe
         after = placed written room 0;
       }
 
-  -- it takes all of the card
-  pub all-met : (Lists : Ride → ℕ → List ℕ → List ℕ → Listed → List ℕ → Type 0) → Taking gaps Lists → Lists ride number card room (theCall .answer) (theCall .after)
-      → Whole card → number + recordsIn card ≤ largest64 → ByCalls Lists ride number card (theCall ∷ [])
-  all-met Lists takes call whole small =
-      let t = takes ride number card room (theCall .answer) (theCall .after) whole call in
-      let enough : 128 * recordsIn card ≤ length room = omega (arith, length-replicate {A = ℕ} (128 * recordsIn card) 0) in
-      let all : many ≡ recordsIn card = took (t .n) (t .bytes) (t .took) ∙ t .all-with-room enough small in
-      let behind : length card ≤ many * 8 = omega (arith, eights card whole) in
-      (record { rest = []; front = sym (append-nil card); whole = whole }, call, drop-of-length-le card behind)
-    where
-      took : (n bytes : ℕ) → Done.Took many (length written) ≡ Done.Took n bytes → many ≡ n
-      took n bytes e = cc
+-- it takes all of the card
+pub all-met : (store : Store) (ride : Ride) (number : ℕ) (card : List ℕ) → Good store → ListCall store (ride, number) (theCall (gapAt store) ride number card)
+    → Whole card → number + recordsIn card ≤ largest64 → ByList store ride number card (theCall (gapAt store) ride number card ∷ [])
+all-met store ride number card good call whole small =
+    let before : List ℕ = room (gapAt store) ride number card in
+    let enough : 128 * recordsIn card ≤ length before = omega (arith, length-replicate {A = ℕ} (128 * recordsIn card) 0) in
+    let all = at-once-by store good ride number (theCall (gapAt store) ride number card) whole enough small call in
+    let behind : length card ≤ many (gapAt store) ride number card * 8 = omega (arith, all, eights card whole) in
+    (record { rest = []; front = sym (append-nil card); whole = whole }, call, drop-of-length-le card behind)
 
 -- ---- by `step`
 

@@ -27,6 +27,7 @@ use Rattle.ride.specs.declared.Way.{Way}
 use Rattle.ride.specs.Over.{records, rideOver}
 use Rattle.ride.proofs.Under.{run-through}
 use Rattle.ride_text.specs.Style.{plain}
+use Rattle.ride_text.specs.declared.Listed.{Listed}
 use Rattle.ride_text.proofs.Judging.{list-taken}
 use Rattle.ride_text.proofs.SameLines.{plain-listed}
 use Rattle.demands.specs.Table.{badLength, notSeven}
@@ -38,7 +39,6 @@ use Rattle.demands.specs.Stores.{BeginStore, Good}
 use Rattle.demands.proofs.Common.Rules.{not-false}
 use Rattle.demands.proofs.Witness.CallsMet.{lent}
 use Rattle.demands.proofs.Witness.SectionsMet.{room, theCall, all-met, firstCard, secondCard, whole-met}
-use Rattle.demands.proofs.Beside.Sections.{Lists, takes}
 
 -- ---- any card under any good store
 
@@ -57,7 +57,7 @@ module _ (store : Store) (ride : Ride) (card : List ℕ) (good : Good store) (wh
   )
 
 module _ (store : Store) (ride : Ride) (number : ℕ) (card : List ℕ) (good : Good store) (whole : Whole card) where
-  abbrev pub underCall : Call
+  abbrev pub underCall : Call Listed
   underCall = theCall (gapAt store) ride number card
 
   called : ListInto plain ride store number card (underCall .before) (underCall .answer) (underCall .after)
@@ -74,7 +74,7 @@ module _ (store : Store) (ride : Ride) (number : ℕ) (card : List ℕ) (good : 
   )
 
   pub under-met : number + recordsIn card ≤ largest64 → ByList store ride number card (underCall ∷ [])
-  under-met small = all-met (gapAt store) ride number card (Lists store) (takes store good) called whole small
+  under-met small = all-met store ride number card good called whole small
 
 -- ---- one version, and two
 
@@ -106,10 +106,10 @@ plain-met = record { s = 0x01; t = 0x7E; pair = opened-met .0; begun = opened-me
 
 -- ---- its cards
 
-abbrev firstCall : Call
+abbrev firstCall : Call Listed
 firstCall = underCall two freshRide 1 firstCard two-good (whole-met .0)
 
-abbrev secondCall : Call
+abbrev secondCall : Call Listed
 secondCall = underCall two (firstCall .answer .ride) 2 secondCard two-good (whole-met .1)
 
 cards-met : ByList two freshRide 1 firstCard (firstCall ∷ []) × ByList two (afterCalls freshRide (firstCall ∷ [])) 2 secondCard (secondCall ∷ [])
