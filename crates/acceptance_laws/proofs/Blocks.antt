@@ -5,7 +5,7 @@ use Prim.Native.Nat.{ℕ, _+_, _*_, _/_, _%_, _≤_}
 use native.Mathlib.Omega.{arith}
 use native.Mathlib.Nat.{zero-add}
 use mathlib.Core.Path.{_≡_, refl, sym, ap, ap₂, _∙_}
-use mathlib.Core.List.{List, [], _∷_, _++_}
+use mathlib.Core.List.{List, [], _++_}
 use lib.ListN.{length, take}
 use borrow.Author.Tests.{eq-eqb}
 use Rattle.settings.specs.declared.Store.{Store}
@@ -143,4 +143,4 @@ module _ (store : Store) (good : Good store) where
       }
 
   pub comes : (g : Going) (trace : List ℕ) (calls : List (Call Advanced)) → ByAccept store g trace calls → gone (textFrom calls) (afterCalls g calls) ≡ over g (records trace)
-  comes = by-calls.comes (AcceptCall store) (λ c. taken (c .answer .progress)) (λ c. bytesOf (c .answer .progress)) (λ a. a .going) over none on takes
+  comes = by-calls.comes (λ c. taken (c .answer .progress)) (λ c. bytesOf (c .answer .progress)) (λ a. a .going) over on (AcceptCall store) none takes

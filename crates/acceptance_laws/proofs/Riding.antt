@@ -1,7 +1,7 @@
 -- A ride's lines, by its steps and by the program's calls: both come to the run over the ride's own
 -- lines.
 -- Assumes nothing.
-use Prim.Native.Nat.{ℕ, suc, _+_, _≤_}
+use Prim.Native.Nat.{ℕ, suc, _+_}
 use native.Mathlib.Omega.{arith}
 use native.Mathlib.Nat.{zero-add}
 use mathlib.Core.Path.{_≡_, refl, sym, ap, ap₂, _∙_}
@@ -12,9 +12,7 @@ use Rattle.settings.specs.declared.Store.{Store}
 use Rattle.settings.specs.At.{gapAt}
 use Rattle.settings.proofs.Holding.{holding-at}
 use Rattle.text.proofs.Placing.{placed-start}
-use Rattle.ride.specs.State.{freshRide}
 use Rattle.ride.specs.Record.{odometerOf}
-use Rattle.ride.specs.Joining.{allowed}
 use Rattle.ride.specs.Step.{Step, treat, step, End, end}
 use Rattle.ride.specs.Over.{records, linesFor, Ridden, rideOver}
 use Rattle.ride.specs.Says.{saysLines, saysStepped}
@@ -22,8 +20,6 @@ use Rattle.ride.specs.declared.Ended.{Ended}
 use Rattle.ride.specs.declared.Line.{Line}
 use Rattle.ride.specs.declared.Ride.{Ride}
 use Rattle.ride.specs.declared.Stepped.{Stepped}
-use Rattle.acceptance.specs.declared.Acceptance.{Acceptance}
-use Rattle.acceptance.specs.declared.Took.{Took}
 use Rattle.acceptance.specs.Report.{upToMost}
 use Rattle.acceptance_text.specs.declared.Going.{Going}
 use Rattle.acceptance_text.specs.declared.Advanced.{Advanced}
@@ -40,14 +36,14 @@ use Rattle.demands.specs.Sections.{Call, joined, ByStep, linesFrom, afterSteps}
 use Rattle.demands.proofs.Demand1.JudgedFirst.{JudgedFirst}
 use Rattle.demands.proofs.Demand1.JudgedFirst as judging
 use Rattle.demands.proofs.Beside.TraceCalls.{Gone}
-use Rattle.acceptance_laws.specs.Contracts.{AcceptInto, FinishInto}
+use Rattle.acceptance_laws.specs.Contracts.{AcceptInto}
 use Rattle.acceptance_laws.specs.Lines.{faultsIn, refusedIn}
 use Rattle.acceptance_laws.specs.Accepted.{Run, ended}
-use Rattle.acceptance_laws.specs.Calls.{setOut, ByAccept, textFrom, afterCalls, Last, Ends, wrote, lastText}
+use Rattle.acceptance_laws.specs.Calls.{setOut, ByAccept, afterCalls, Last, Ends, wrote, lastText}
 use Rattle.acceptance_laws.specs.Depot.{rideLines, groupLines, Carried}
 use Rattle.acceptance_laws.proofs.Over.{runOver, answersTo}
 use Rattle.acceptance_laws.proofs.Reports.{taken-are}
-use Rattle.acceptance_laws.proofs.Blocks.{total, standing, accepted-is, comes}
+use Rattle.acceptance_laws.proofs.Blocks.{total, accepted-is, comes}
 use Rattle.acceptance_laws.proofs.Carried.{run-taken, text-taken, faults-taken, refused-taken}
 
 -- ---- by `step`

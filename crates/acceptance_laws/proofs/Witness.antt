@@ -2,10 +2,9 @@
 -- Assumes nothing.
 use Prim.Native.Nat.{ℕ, _*_, _%_, _≤_}
 use native.Mathlib.Omega.{arith}
-use mathlib.Core.Path.{_≡_, refl, sym, ap, _∙_}
+use mathlib.Core.Path.{_≡_, refl, sym}
 use mathlib.Core.List.{List, [], _∷_, append-nil}
-use lib.Dec.{eqb}
-use lib.ListN.{length, take, drop, replicate, length-replicate, drop-of-length-le}
+use lib.ListN.{length, take, replicate, length-replicate, drop-of-length-le}
 use borrow.Author.Tests.{eq-eqb}
 use Rattle.settings.specs.declared.Store.{Store}
 use Rattle.settings.specs.At.{gapAt}
@@ -21,14 +20,14 @@ use Rattle.acceptance_text.specs.declared.Progress.{Progress}
 use Rattle.acceptance_text.specs.declared.Advanced.{Advanced}
 use Rattle.acceptance_text.specs.declared.Ending.{Ending}
 use Rattle.acceptance_text.specs.Taking.{Taking, takeAll}
-use Rattle.acceptance_text.specs.Accept.{began, acceptOf, taken, finish}
+use Rattle.acceptance_text.specs.Accept.{began, acceptOf, taken}
 use Rattle.acceptance_text.proofs.Ends.{accept-taken, finish-is}
 use Rattle.demands.specs.Output.{recordsIn}
 use Rattle.demands.specs.Stores.{Good}
 use Rattle.demands.specs.TraceCalls.{Whole, Call}
 use Rattle.demands.proofs.Beside.Cards.{eights}
 use Rattle.demands.proofs.Witness.CallsMet.{lent}
-use Rattle.acceptance_laws.specs.Contracts.{AcceptInto, FinishInto}
+use Rattle.acceptance_laws.specs.Contracts.{AcceptInto}
 use Rattle.acceptance_laws.specs.Accepted.{Taken}
 use Rattle.acceptance_laws.specs.Calls.{ByAccept, afterCalls, Last, Ends}
 use Rattle.acceptance_laws.proofs.Over.{answersTo}

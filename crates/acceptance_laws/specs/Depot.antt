@@ -5,10 +5,10 @@
 -- Assumes nothing.
 use Prim.Native.Nat.{ℕ, _*_, _≤_}
 use mathlib.Core.Path.{_≡_}
-use mathlib.Core.Bool.{true, false}
+use mathlib.Core.Bool.{true}
 use mathlib.Core.List.{List, [], _∷_, _++_}
 use lib.ListN.{length, getD}
-use Rattle.words.specs.Answer.{Outcome, refuses}
+use Rattle.words.specs.Answer.{refuses}
 use Rattle.settings.specs.declared.Store.{Store}
 use Rattle.settings.specs.At.{gapAt}
 use Rattle.group_rows.specs.declared.Direction.{Direction}

@@ -34,7 +34,6 @@ use Rattle.demands.specs.TraceCalls.{Whole, Call}
 use Rattle.demands.proofs.Beside.Cards.{eights}
 use Rattle.demands.proofs.Beside.TraceCalls.{Gone, gone, onFrom, Takes, comes}
 use Rattle.compaction_laws.specs.Blocks.{bytesIn, BlockCall, ByBlocks, written, waitsLast, InBlocks}
-use Rattle.compaction_laws.proofs.Made.{Made}
 use Rattle.compaction_laws.proofs.Trace.{under-made}
 
 in-bytes : (s : Size) (n : ℕ) → saysSize s ≡ gives n → bytesIn s ≡ n
@@ -78,7 +77,7 @@ module _ (store : Store) (good : judged store ≡ gives kept) where
       }
 
   all-blocks : (w : Waiting) (trace : List ℕ) (calls : List (Call Block)) → ByBlocks store w trace calls → gone (written calls) (waitsLast w calls) ≡ over w (records trace)
-  all-blocks = comes (BlockCall store) (λ c. recordsIn (c .block)) (λ c. bytesIn (c .answer .size)) (λ b. b .waiting) over none on takes
+  all-blocks = comes (λ c. recordsIn (c .block)) (λ c. bytesIn (c .answer .size)) (λ b. b .waiting) over on (BlockCall store) none takes
 
 whole-so : (store : Store) (w : Waiting) (trace : List ℕ) (calls : List (Call Block)) (c : Compacted) (after : List ℕ) (n : ℕ) → w .waits ≡ false
     → ByBlocks store w trace calls → CompactIn (w .ride) store trace c after → c .size ≡ Size.Bytes n

@@ -4,7 +4,7 @@ use Prim.Native.Nat.{ℕ}
 use mathlib.Core.List.{List}
 use Rattle.settings.specs.declared.Store.{Store}
 use Rattle.ride.specs.declared.Ride.{Ride}
-use Rattle.ride_text.specs.Style.{plain}
+use Rattle.ride_text.specs.Style.{Style}
 use Rattle.ride_text.specs.declared.Done.{Done}
 use Rattle.ride_text.specs.declared.Listed.{Listed}
 use Rattle.demands.specs.TraceCalls.{Call, ByCalls, textsOf, lastOf}
@@ -21,14 +21,14 @@ bytesOf (Done.Took records bytes) = bytes
 bytesOf (Done.Settings bad) = 0
 bytesOf Done.Length = 0
 
--- The contract of `list` without reasons allows the call, under a store, from a state and the first
+-- The contract of `list` in a style allows the call, under a store, from a state and the first
 -- record's number.
-abbrev pub ListCall : Store → Ride × ℕ → Call Listed → Type 0
-ListCall store from c = ListInto plain (from .0) store (from .1) (c .block) (c .before) (c .answer) (c .after)
+abbrev pub ListCall : Style → Store → Ride × ℕ → Call Listed → Type 0
+ListCall style store from c = ListInto style (from .0) store (from .1) (c .block) (c .before) (c .answer) (c .after)
 
 -- These are such calls over a trace.
-abbrev pub ByList : Store → Ride → ℕ → List ℕ → List (Call Listed) → Type 0
-ByList store ride number = ByCalls (ListCall store) (λ c. taken (c .answer .done)) (λ l. (l .ride, l .number)) (ride, number)
+abbrev pub ByList : Style → Store → Ride → ℕ → List ℕ → List (Call Listed) → Type 0
+ByList style store ride number = ByCalls (ListCall style store) (λ c. taken (c .answer .done)) (λ l. (l .ride, l .number)) (ride, number)
 
 -- The texts that they write, one after the other.
 abbrev pub textFrom : List (Call Listed) → List ℕ

@@ -11,9 +11,8 @@ use lib.ListN.{length, take, length-append}
 use lib.Seq.{length-take-le}
 use borrow.Author.Tests.{le-leb, lt-ltb, eq-eqb}
 use Rattle.words.specs.Limits.{largest64}
-use Rattle.words.specs.Answer.{gives, pick}
+use Rattle.words.specs.Answer.{pick}
 use Rattle.words.proofs.Told.{told}
-use Rattle.text.specs.Put.{placed}
 use Rattle.text.proofs.Placing.{placed-start}
 use Rattle.settings.specs.declared.Store.{Store}
 use Rattle.settings.specs.At.{gapAt}
@@ -30,18 +29,17 @@ use Rattle.ride_drawing.specs.declared.Plan.{Plan}
 use Rattle.ride_drawing.specs.declared.Drawing.{Drawing}
 use Rattle.ride_drawing.specs.declared.Drawn.{Drawn}
 use Rattle.ride_drawing.specs.Drawing.{Element}
-use Rattle.ride_drawing.specs.Draw.{textOf, stepElements, stepPen, Picture, drawOver, roomFor, isTaken, taken, Block, drawOf, drawTaken, draw}
+use Rattle.ride_drawing.specs.Draw.{textOf, stepElements, stepPen, Picture, drawOver, roomFor, isTaken, taken, Block, drawOf, drawTaken}
 use Rattle.ride_drawing.specs.Says.{saysDrawn}
 use Rattle.ride_drawing.proofs.Turns.{text-append}
 use Rattle.ride_drawing.proofs.Judging.{draw-taken}
-use Rattle.ride_drawing.proofs.Signed.{over}
 use Rattle.demands.specs.Output.{recordsIn}
 use Rattle.demands.specs.Stores.{Good}
 use Rattle.demands.specs.TraceCalls.{Whole, Call}
 use Rattle.demands.specs.ListCalls as counting
 use Rattle.demands.proofs.Beside.Cards.{eights}
 use Rattle.demands.proofs.Beside.TraceCalls.{Gone, gone, onFrom, Takes, comes}
-use Rattle.ride_drawing_laws.specs.Blocks.{DrawCall, ByDraw, written, afterCalls, Blocks}
+use Rattle.ride_drawing_laws.specs.Blocks.{DrawCall, ByDraw, written, afterCalls}
 use Rattle.ride_drawing_laws.proofs.Pictures.{drawn-is}
 
 -- Two pictures, one after the other.
@@ -155,7 +153,7 @@ module _ (plan : Plan) (store : Store) (good : Good store) where
       }
 
   all : (d : Drawing) (trace : List ℕ) (calls : List (Call Drawn)) → ByDraw plan store d trace calls → gone (written calls) (afterCalls d calls) ≡ drawing d (records trace)
-  all = comes (DrawCall plan store) (λ c. counting.taken (c .answer .done)) (λ c. counting.bytesOf (c .answer .done)) (λ a. a .drawing) drawing none on takes
+  all = comes (λ c. counting.taken (c .answer .done)) (λ c. counting.bytesOf (c .answer .done)) (λ a. a .drawing) drawing on (DrawCall plan store) none takes
 
   pub whole : (d : Drawing) (trace : List ℕ) (calls : List (Call Drawn)) → ByDraw plan store d trace calls →
       let p = drawOver plan gaps (d .pen) (d .ride) (d .number) (records trace) in

@@ -1,10 +1,9 @@
 -- The law of blocks holds, and such calls there are: one for each record of a trace, with room for
 -- it.
 -- Assumes nothing.
-use Prim.Native.Nat.{ℕ, zero, suc, _+_, _*_, _/_, _%_, _≤_, _<_}
+use Prim.Native.Nat.{ℕ, zero, suc, _+_, _*_, _%_, _≤_}
 use native.Mathlib.Omega.{arith}
-use mathlib.Core.Path.{_≡_, refl, ap, sym, subst, _∙_}
-use mathlib.Core.Bool.{not}
+use mathlib.Core.Path.{_≡_, refl, sym, subst}
 use mathlib.Core.List.{List, [], _∷_}
 use lib.ListN.{length, take, drop, replicate, length-replicate, length-drop, take-append-drop}
 use lib.Seq.{length-take-le}
@@ -21,11 +20,10 @@ use Rattle.ride_drawing.specs.declared.Drawn.{Drawn}
 use Rattle.ride_drawing.specs.Draw.{textOf, drawOver, roomFor, taken, Block, drawOf, drawTaken}
 use Rattle.ride_drawing.proofs.Judging.{draw-taken}
 use Rattle.ride_drawing.proofs.Signed.{over}
-use Rattle.demands.specs.Table.{badLength}
 use Rattle.demands.specs.Output.{recordsIn}
 use Rattle.demands.specs.Stores.{Good}
 use Rattle.demands.specs.TraceCalls.{Whole, Call}
-use Rattle.demands.proofs.Beside.Cards.{eights}
+use Rattle.demands.proofs.Beside.Cards.{eights, are-whole}
 use Rattle.demands.proofs.Witness.CallsMet.{lent}
 use Rattle.ride_drawing_laws.specs.Blocks.{DrawCall, ByDraw, Blocks}
 use Rattle.ride_drawing_laws.proofs.Blocks.{few-taken, whole, goes-on}
@@ -64,10 +62,6 @@ module _ (plan : Plan) (store : Store) (good : Good store) (room : List ℕ) (wi
 
   -- ---- a call for each record
 
-  eight-is-whole : (block : List ℕ) → length block ≡ 8 → Whole block
-  unfolding badLength
-  eight-is-whole block e = ap not (eq-eqb (length block % 8) 0 (omega (arith, e)))
-
   next-number : (d : Drawing) (block : List ℕ) → drawn d block .drawing .number ≡ d .number + many d block
   unfolding drawOf
   next-number d block = refl
@@ -82,7 +76,7 @@ module _ (plan : Plan) (store : Store) (good : Good store) (room : List ℕ) (wi
       let block : List ℕ = take 8 left in
       let c : Call Drawn = the-call d block in
       let eight : length block ≡ 8 = length-take-le 8 left (omega (arith, e)) in
-      let is-whole = eight-is-whole block eight in
+      let is-whole = are-whole block (omega (arith, eight)) in
       let call = called d block is-whole in
       let one : recordsIn block ≡ 1 = omega (arith, eight) in
       let more : 1 ≤ many d block = goes-on plan store good d c is-whole (omega (arith, one)) wide (omega (arith, small)) call in

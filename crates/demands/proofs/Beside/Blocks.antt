@@ -3,12 +3,10 @@
 -- Assumes nothing.
 use Prim.Native.Nat.{ℕ, _+_, _*_, _≤_, _<_}
 use native.Mathlib.Omega.{arith}
-use native.Mathlib.Nat.{add-zero}
 use mathlib.Core.Path.{_≡_, sym, ap, ap₂, _∙_}
 use mathlib.Core.Bool.{Bool, false}
-use mathlib.Core.List.{List, [], _∷_, _++_, append-assoc}
+use mathlib.Core.List.{List, [], _++_, append-assoc}
 use lib.ListN.{length, take, length-append}
-use lib.Seq.{length-take-le}
 use Rattle.words.specs.Answer.{pick}
 use Rattle.words.specs.Limits.{largest64}
 use Rattle.settings.specs.declared.Store.{Store}
@@ -18,24 +16,22 @@ use Rattle.ride.specs.Step.{end}
 use Rattle.ride.specs.Over.{firstRecords, records, Ridden, rideOver}
 use Rattle.ride.specs.declared.Line.{Line}
 use Rattle.ride.specs.declared.Ride.{Ride}
-use Rattle.ride.proofs.Cutting.{records-length}
-use Rattle.ride.proofs.Sections.{ride-on, ride-joined}
+use Rattle.ride.proofs.Sections.{ride-joined}
 use Rattle.text.specs.Put as texts
 use Rattle.ride_text.specs.Style.{plain}
 use Rattle.ride_text.specs.Text.{text, textOf}
 use Rattle.ride_text.specs.Told.{endText}
 use Rattle.ride_text.specs.declared.Listed.{Listed}
 use Rattle.ride_text.proofs.Texts.{text-join, plain-is}
+use Rattle.ride_text.proofs.SameLines.{same-lines}
 use Rattle.ride_text.proofs.Taken.{end-spelled}
 use Rattle.demands.specs.Contracts.{Fresh, PutEnd, ListInto}
 use Rattle.demands.specs.Stores.{Good}
 use Rattle.demands.specs.Output.{recordsIn}
-use Rattle.demands.specs.Sections.{Whole, Call, taken, bytesOf, ByList, textFrom, afterCalls, numberAfter, joined, anyBad, outputBy}
-use Rattle.demands.specs.ListCalls.{ListCall}
+use Rattle.demands.specs.Sections.{Whole, Call, taken, ByList, textFrom, afterCalls, numberAfter, joined, anyBad, outputBy}
 use Rattle.demands.proofs.Demand2.Taking.{takes-so}
 use Rattle.demands.proofs.Beside.Cards.{eights, whole-join}
-use Rattle.demands.proofs.Beside.TraceCalls.{Gone, gone, onFrom, part-of, Takes}
-use Rattle.demands.proofs.Beside.TraceCalls as by-calls
+use Rattle.demands.proofs.Beside.Told.{listed}
 
 module _ (store : Store) (good : Good store) where
   abbrev gaps : ℕ → ℕ
@@ -43,59 +39,22 @@ module _ (store : Store) (good : Good store) where
 
   -- ---- all calls
 
-  -- some records listed, from a state and the first one's number
-  abbrev over : Ride × ℕ → List (List ℕ) → Gone (Ride × ℕ)
-  over s rs = gone (textOf (rideOver gaps (s .0) (s .1) rs .lines)) (rideOver gaps (s .0) (s .1) rs .ride, s .1 + length rs)
-
-  none : (s : Ride × ℕ) → gone [] s ≡ over s []
-  unfolding rideOver textOf
-  none (ride, number) = ap (λ (k : ℕ). gone [] (ride, k)) (sym (add-zero number))
-
-  on : (s : Ride × ℕ) (xs ys : List (List ℕ)) → over s (xs ++ ys) ≡ onFrom (over s xs) (λ (t : Ride × ℕ). over t ys)
-  on (ride, number) xs ys =
-      let first : Ridden = rideOver gaps ride number xs in
-      let then : Ridden = rideOver gaps (first .ride) (number + length xs) ys in
-      let many : number + length (xs ++ ys) ≡ number + length xs + length ys = omega (arith, length-append xs ys) in
-      ap₂ (λ (r : Ridden) (k : ℕ). gone (textOf (r .lines)) (r .ride, k)) (ride-on gaps ride number xs ys) many
-      ∙ ap (λ (t : List ℕ). gone t (then .ride, number + length xs + length ys)) (text-join (first .lines) (then .lines))
-
-  takes : (s : Ride × ℕ) (c : Call Listed) → Whole (c .block) → ListCall store s c
-      → Takes over (λ c. taken (c .answer .done)) (λ c. bytesOf (c .answer .done)) (λ l. (l .ride, l .number)) s c
-  takes (ride, number) c whole call =
-      let t = takes-so ride store number (c .block) (c .before) (c .answer) (c .after) good whole call in
-      let n-is : taken (c .answer .done) ≡ t .n = ap taken (t .took) in
-      let many : t .n ≤ length (records (c .block)) = omega (arith, t .of-these, records-length (recordsIn (c .block)) (c .block)) in
-      let text-is : take (bytesOf (c .answer .done)) (c .after) ≡ textOf (rideOver gaps ride number (take (t .n) (records (c .block))) .lines) =
-      ap (λ (k : ℕ). take k (c .after)) (ap bytesOf (t .took)) ∙ t .written in
-      let next-is : c .answer .number ≡ number + length (take (t .n) (records (c .block))) =
-      t .counted-on ∙ ap (λ (k : ℕ). number + k) (sym (length-take-le (t .n) (records (c .block)) many)) in
-      record {
-        of-these = omega (arith, n-is, t .of-these);
-        goes =
-            ap₂ (λ (x : List ℕ) (r : Ride). gone x (r, c .answer .number)) text-is (t .ridden-so)
-            ∙ ap (λ (k : ℕ). gone (textOf (rideOver gaps ride number (take (t .n) (records (c .block))) .lines)) (rideOver gaps ride number (take (t .n) (records (c .block))) .ride, k)) next-is
-            ∙ ap (λ (k : ℕ). over (ride, number) (take k (records (c .block)))) (sym n-is);
-      }
-
   -- What calls over a trace come to: the text of its lines, the state after it, and the next
   -- record's number.
-  pub comes : (ride : Ride) (number : ℕ) (trace : List ℕ) (calls : List (Call Listed)) → ByList store ride number trace calls
+  pub comes : (ride : Ride) (number : ℕ) (trace : List ℕ) (calls : List (Call Listed)) → ByList plain store ride number trace calls
       → (textFrom calls ≡ textOf (rideOver gaps ride number (records trace) .lines))
       × (afterCalls ride calls ≡ rideOver gaps ride number (records trace) .ride)
       × (numberAfter number calls ≡ number + recordsIn trace)
-  comes ride number trace cs by =
-      let all = by-calls.comes (ListCall store) (λ c. taken (c .answer .done)) (λ c. bytesOf (c .answer .done)) (λ l. (l .ride, l .number)) over none on takes (ride, number) trace cs by in (
-        ap (λ (g : Gone (Ride × ℕ)). g .text) all,
-        sym (part-of (λ (s : Ride × ℕ). s .0) (λ (l : Listed). (l .ride, l .number)) (ride, number) cs) ∙ ap (λ (g : Gone (Ride × ℕ)). g .state .0) all,
-        sym (part-of (λ (s : Ride × ℕ). s .1) (λ (l : Listed). (l .ride, l .number)) (ride, number) cs) ∙ ap (λ (g : Gone (Ride × ℕ)). g .state .1) all
-            ∙ ap (λ (k : ℕ). number + k) (records-length (recordsIn trace) trace),
-      )
+  comes ride number trace calls by =
+      let all = listed plain store good ride number trace calls by in
+      let same = same-lines gaps ride number (records trace) in
+      (all .0 ∙ same .document, all .1 ∙ same .state plain, all .2)
 
   -- ---- cards
 
   -- two cards, each by its calls, come to what the joined card does
   pub comes-joined : (ride : Ride) (number : ℕ) (a b : List ℕ) (p q : List (Call Listed)) → Whole a
-      → ByList store ride number a p → ByList store (afterCalls ride p) (number + recordsIn a) b q
+      → ByList plain store ride number a p → ByList plain store (afterCalls ride p) (number + recordsIn a) b q
       → (textFrom p ++ textFrom q ≡ textOf (rideOver gaps ride number (records (a ++ b)) .lines))
       × (afterCalls (afterCalls ride p) q ≡ rideOver gaps ride number (records (a ++ b)) .ride)
       × (numberAfter (number + recordsIn a) q ≡ number + recordsIn a + recordsIn b)
@@ -115,7 +74,7 @@ module _ (store : Store) (good : Good store) where
       )
 
   pub two-by-calls : (ride : Ride) (number : ℕ) (a b : List ℕ) (p q both : List (Call Listed)) → Whole a → Whole b
-      → ByList store ride number a p → ByList store (afterCalls ride p) (number + recordsIn a) b q → ByList store ride number (a ++ b) both
+      → ByList plain store ride number a p → ByList plain store (afterCalls ride p) (number + recordsIn a) b q → ByList plain store ride number (a ++ b) both
       → (textFrom both ≡ textFrom p ++ textFrom q) × (afterCalls ride both ≡ afterCalls (afterCalls ride p) q)
       × (numberAfter number both ≡ numberAfter (number + recordsIn a) q)
   two-by-calls ride number a b p q both v w c d e =
@@ -125,8 +84,8 @@ module _ (store : Store) (good : Good store) where
       (all .0 ∙ sym (parts .0), all .1 ∙ sym (parts .1), all .2 ∙ many ∙ sym (parts .2))
 
   pub three-by-calls : (ride : Ride) (number : ℕ) (a b c : List ℕ) (ab last a′ bc : List (Call Listed)) → Whole a → Whole b → Whole c
-      → ByList store ride number (a ++ b) ab → ByList store (afterCalls ride ab) (number + recordsIn (a ++ b)) c last
-      → ByList store ride number a a′ → ByList store (afterCalls ride a′) (number + recordsIn a) (b ++ c) bc
+      → ByList plain store ride number (a ++ b) ab → ByList plain store (afterCalls ride ab) (number + recordsIn (a ++ b)) c last
+      → ByList plain store ride number a a′ → ByList plain store (afterCalls ride a′) (number + recordsIn a) (b ++ c) bc
       → (textFrom ab ++ textFrom last ≡ textFrom a′ ++ textFrom bc) × (afterCalls (afterCalls ride ab) last ≡ afterCalls (afterCalls ride a′) bc)
   three-by-calls ride number a b c ab last a′ bc u v w p q r s =
       let one = comes-joined ride number (a ++ b) c ab last (whole-join a b u v) p q in
@@ -135,7 +94,7 @@ module _ (store : Store) (good : Good store) where
       ap (λ (t : List ℕ). rideOver gaps ride number (records t)) (append-assoc a b c) in
       (one .0 ∙ ap (λ (x : Ridden). textOf (x .lines)) same ∙ sym (two .0), one .1 ∙ ap (λ (x : Ridden). x .ride) same ∙ sym (two .1))
 
-  pub empty-by-calls : (ride : Ride) (number : ℕ) (q : List (Call Listed)) → ByList store ride number [] q
+  pub empty-by-calls : (ride : Ride) (number : ℕ) (q : List (Call Listed)) → ByList plain store ride number [] q
       → (textFrom q ≡ []) × (afterCalls ride q ≡ ride) × (numberAfter number q ≡ number)
   unfolding firstRecords rideOver textOf
   empty-by-calls ride number q c =
@@ -159,7 +118,7 @@ module _ (store : Store) (good : Good store) where
       ap taken (t .took) ∙ t .all-with-room room small
 
   pub program-by : (f : Ride) (cards : List (List ℕ)) (calls : List (Call Listed)) (room : List ℕ) (n : ℕ) (after : List ℕ) → anyBad cards ≡ false → Fresh f
-      → ByList store f 1 (joined cards) calls → 128 ≤ length room → PutEnd plain (afterCalls f calls) room 0 n after → textFrom calls ++ take n after ≡ outputBy gaps cards
+      → ByList plain store f 1 (joined cards) calls → 128 ≤ length room → PutEnd plain (afterCalls f calls) room 0 n after → textFrom calls ++ take n after ≡ outputBy gaps cards
   unfolding outputBy endText
   program-by f cards calls room n after fine fresh c wide ended =
       let came = comes f 1 (joined cards) calls c in

@@ -34,16 +34,12 @@ pub record Takes {State Answer : Type 0} (over : State → List (List ℕ) → G
   pub of-these : took c ≤ recordsIn (c .block)
   pub goes : gone (take (wrote c) (c .after)) (next (c .answer)) ≡ over state (take (took c) (records (c .block)))
 
-module _ {State Answer : Type 0} (Allows : State → Call Answer → Type 0) (took wrote : Call Answer → ℕ) (next : Answer → State)
-    (over : State → List (List ℕ) → Gone State)
-    (none : (s : State) → gone [] s ≡ over s [])
-    (on : (s : State) (xs ys : List (List ℕ)) → over s (xs ++ ys) ≡ onFrom (over s xs) (λ (t : State). over t ys))
-    (takes : (s : State) (c : Call Answer) → Whole (c .block) → Allows s c → Takes over took wrote next s c) where
-  -- one call, and what the later ones come to
-  one-more : (s : State) (left : List ℕ) (c : Call Answer) (later : Gone State) → Lent left (c .block) → Takes over took wrote next s c
-      → later ≡ over (next (c .answer)) (records (drop (took c * 8) left))
-      → onFrom (gone (take (wrote c) (c .after)) (next (c .answer))) (λ (t : State). later) ≡ over s (records left)
-  one-more s left c later lent t rest-is =
+module _ {State Answer : Type 0} (took wrote : Call Answer → ℕ) (next : Answer → State) (over : State → List (List ℕ) → Gone State)
+    (on : (s : State) (xs ys : List (List ℕ)) → over s (xs ++ ys) ≡ onFrom (over s xs) (λ (t : State). over t ys)) where
+  -- One call, and then going over what is left.
+  pub one-more : (s : State) (left : List ℕ) (c : Call Answer) → Lent left (c .block) → Takes over took wrote next s c
+      → onFrom (gone (take (wrote c) (c .after)) (next (c .answer))) (λ (t : State). over t (records (drop (took c * 8) left))) ≡ over s (records left)
+  one-more s left c lent t =
       let n : ℕ = took c in
       let few : n ≤ length left / 8 = omega (arith, t .of-these, ap length (lent .front), length-append (c .block) (lent .rest)) in
       let fits : n * 8 ≤ length (c .block) = omega (arith, t .of-these) in
@@ -52,15 +48,18 @@ module _ {State Answer : Type 0} (Allows : State → Call Answer → Type 0) (to
       ∙ sym (front-records n (c .block) (lent .rest) fits)
       ∙ ap (firstRecords n) (sym (lent .front)) in
       let rest : List (List ℕ) = records (drop (n * 8) left) in
-      ap (λ (g : Gone State). onFrom (gone (take (wrote c) (c .after)) (next (c .answer))) (λ (u : State). g)) rest-is
-      ∙ ap (λ (g : Gone State). onFrom g (λ (u : State). over u rest)) (t .goes ∙ ap (over s) those)
+      ap (λ (g : Gone State). onFrom g (λ (u : State). over u rest)) (t .goes ∙ ap (over s) those)
       ∙ sym (on s (firstRecords n left) rest)
       ∙ ap (over s) (sym (cut-records n left few))
 
-  pub comes : (s : State) (trace : List ℕ) (calls : List (Call Answer)) → ByCalls Allows took next s trace calls
-      → gone (textsOf wrote calls) (lastOf next s calls) ≡ over s (records trace)
-  unfolding firstRecords
-  comes s trace [] nothing = none s ∙ ap (λ (l : List ℕ). over s (records l)) (sym nothing)
-  comes s trace (c ∷ cs) (lent, call, more) =
-      one-more s trace c (gone (textsOf wrote cs) (lastOf next (next (c .answer)) cs)) lent (takes s c (lent .whole) call)
-      (comes (next (c .answer)) (drop (took c * 8) trace) cs more)
+  module _ (Allows : State → Call Answer → Type 0) (none : (s : State) → gone [] s ≡ over s [])
+      (takes : (s : State) (c : Call Answer) → Whole (c .block) → Allows s c → Takes over took wrote next s c) where
+    -- All of them.
+    pub comes : (s : State) (trace : List ℕ) (calls : List (Call Answer)) → ByCalls Allows took next s trace calls
+        → gone (textsOf wrote calls) (lastOf next s calls) ≡ over s (records trace)
+    unfolding firstRecords
+    comes s trace [] nothing = none s ∙ ap (λ (l : List ℕ). over s (records l)) (sym nothing)
+    comes s trace (c ∷ cs) (lent, call, more) =
+        let first : Gone State = gone (take (wrote c) (c .after)) (next (c .answer)) in
+        ap (λ (g : Gone State). onFrom first (λ (u : State). g)) (comes (next (c .answer)) (drop (took c * 8) trace) cs more)
+        ∙ one-more s trace c lent (takes s c (lent .whole) call)

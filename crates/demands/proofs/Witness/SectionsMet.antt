@@ -1,19 +1,15 @@
 -- The hypotheses of the laws on rides in sections are met, by `step`: document 01's ride, cut after
 -- its first record, is ridden card by card; so is a ride with a number, cut before its number
--- balise; and a call that takes a whole card. (By `run` and `list`: StoresMet.antt.)
+-- balise. (By `list`: ListsMet.antt; by `run`: StoresMet.antt.)
 -- Assumes nothing.
-use Prim.Native.Nat.{ℕ, _+_, _*_, _%_, _≤_}
-use native.Mathlib.Omega.{arith}
-use mathlib.Core.Path.{_≡_, refl, sym, _∙_}
-use mathlib.Core.List.{List, [], _∷_, _++_, append-nil}
-use lib.ListN.{length, take, drop, replicate, length-replicate, drop-of-length-le}
-use Rattle.words.specs.Limits.{largest64}
+use Prim.Native.Nat.{ℕ}
+use mathlib.Core.Path.{_≡_, refl}
+use mathlib.Core.List.{List, [], _∷_}
+use lib.ListN.{take, drop}
 use Rattle.words.specs.Bits.{word}
 use Rattle.words.specs.Plain.{isCheck, covers, count, even, isCode, onwards, figure}
 use Rattle.words.specs.Code.{other, exchanged, readWord}
 use Rattle.telegram.specs.Telegram.{shortWord, longWord, telegram}
-use Rattle.settings.specs.declared.Store.{Store}
-use Rattle.settings.specs.At.{gapAt}
 use Rattle.group.specs.Balise.{balises, readAll}
 use Rattle.group_rows.specs.declared.Direction.{Direction}
 use Rattle.group_rows.specs.declared.Kind.{Kind}
@@ -31,61 +27,15 @@ use Rattle.ride.specs.Linking.{markAt}
 use Rattle.ride.specs.Closing.{close, leave}
 use Rattle.ride.specs.Step.{closeBehind, missedLines, afterMissed, goOn, treat, step}
 use Rattle.ride.specs.Joining.{join, takeUp}
-use Rattle.ride.specs.Over.{records, Ridden, rideOver, firstRecords}
+use Rattle.ride.specs.Over.{records, rideOver, firstRecords}
 use Rattle.ride.specs.declared.Stepped.{Stepped}
 use Rattle.ride.specs.declared.Line.{Line}
 use Rattle.ride.specs.declared.Mark.{Mark}
 use Rattle.ride.specs.declared.Ride.{Ride}
-use Rattle.text.specs.Put.{placed}
-use Rattle.ride_text.specs.Style.{plain}
-use Rattle.ride_text.specs.Text.{textOf}
-use Rattle.ride_text.specs.List.{taken}
-use Rattle.ride_text.specs.declared.Done.{Done}
-use Rattle.ride_text.specs.declared.Listed.{Listed}
 use Rattle.ride.proofs.Determined as ride-is
 use Rattle.demands.specs.Table.{badLength}
-use Rattle.demands.specs.Output.{recordsIn, ridden, oneRide}
-use Rattle.demands.specs.Sections.{Whole, Call, ByList, ByStep, linesFrom}
-use Rattle.demands.specs.ListCalls.{ListCall}
-use Rattle.demands.specs.Stores.{Good}
-use Rattle.demands.proofs.Beside.Cards.{eights}
-use Rattle.demands.proofs.Beside.Blocks.{at-once-by}
-
--- ---- by `list`
-
-module _ (gaps : ℕ → ℕ) (ride : Ride) (number : ℕ) (card : List ℕ) where
-  -- a buffer with 128 bytes for each record
-  abbrev pub room : List ℕ
-  room = replicate (128 * recordsIn card) 0
-
-  abbrev pub many : ℕ
-  many = taken plain gaps ride number (length room) (records card)
-
-  abbrev pub over : Ridden
-  over = rideOver gaps ride number (take many (records card))
-
-  abbrev pub written : List ℕ
-  written = textOf (over .lines)
-
-  -- one call with the whole card
-  abbrev pub theCall : Call Listed
-  theCall =
-      record {
-        block = card;
-        before = room;
-        answer = record { ride = over .ride; number = number + many; done = Done.Took many (length written) };
-        after = placed written room 0;
-      }
-
--- it takes all of the card
-pub all-met : (store : Store) (ride : Ride) (number : ℕ) (card : List ℕ) → Good store → ListCall store (ride, number) (theCall (gapAt store) ride number card)
-    → Whole card → number + recordsIn card ≤ largest64 → ByList store ride number card (theCall (gapAt store) ride number card ∷ [])
-all-met store ride number card good call whole small =
-    let before : List ℕ = room (gapAt store) ride number card in
-    let enough : 128 * recordsIn card ≤ length before = omega (arith, length-replicate {A = ℕ} (128 * recordsIn card) 0) in
-    let all = at-once-by store good ride number (theCall (gapAt store) ride number card) whole enough small call in
-    let behind : length card ≤ many (gapAt store) ride number card * 8 = omega (arith, all, eights card whole) in
-    (record { rest = []; front = sym (append-nil card); whole = whole }, call, drop-of-length-le card behind)
+use Rattle.demands.specs.Output.{ridden, oneRide}
+use Rattle.demands.specs.Sections.{Whole, ByStep, linesFrom}
 
 -- ---- by `step`
 
