@@ -1,7 +1,7 @@
 -- Pieces make no difference: each call tells the records that it took, and the calls come to what
 -- is told of the trace.
 -- Assumes nothing.
-use Prim.Native.Nat.{ℕ, _+_, _%_}
+use Prim.Native.Nat.{ℕ, _+_, _%_, _≤_, _<_}
 use native.Mathlib.Omega.{arith}
 use mathlib.Core.Path.{_≡_, refl, sym, ap, ap₂, _∙_}
 use mathlib.Core.Bool.{Bool, true, false}
@@ -11,6 +11,7 @@ use lib.IntN.{ℤ, pos}
 use lib.ListN.{length, getD, take}
 use borrow.Author.Tests.{eq-eqb}
 use Rattle.words.specs.Answer.{Outcome, gives, refuses, pick}
+use Rattle.words.specs.Limits.{largest64}
 use Rattle.text.specs.Put.{placed, put}
 use Rattle.text.proofs.Placing.{placed-start}
 use Rattle.settings.specs.At.{gapAt}
@@ -18,8 +19,9 @@ use Rattle.ride.specs.declared.Ride.{Ride}
 use Rattle.ride.specs.State.{freshRide}
 use Rattle.ride.specs.Over.{firstRecords, records}
 use Rattle.ride_text.specs.Told.{Told, tellOver, endText}
-use Rattle.ride_text.specs.List.{Taken, Listing, listOf, listTaken}
+use Rattle.ride_text.specs.List.{Taken, Listing, roomFor, taken, listOf, listTaken}
 use Rattle.ride_text.proofs.Judging.{list-taken}
+use Rattle.ride_text.proofs.Taken.{one-taken}
 use Rattle.state_bytes.specs.Stores.{storeIn}
 use Rattle.ride_bytes.specs.Rides.{rideIn}
 use Rattle.abi.specs.Face.{returned, left, itself}
@@ -46,13 +48,23 @@ module _ (ride store block : List ℕ) (number style : ℕ) (before out : List �
   abbrev the-call : Call Left
   the-call = record { block = block; before = before; answer = ((rideIn moved, number + k), (k, n)); after = after }
 
+  -- As many as have room.
+  is : listed ride store block number style before ≡ listTaken (styleOf style) (gapAt (storeIn store)) (rideIn ride) number (records block) before
+  is = sym (list-taken (styleOf style) (rideIn ride) (storeIn store) number block before good (eq-eqb (length block % 8) 0 (eights block whole)))
+
+  counts : k ∷ n ∷ [] ≡ left listedPut (listTaken (styleOf style) (gapAt (storeIn store)) (rideIn ride) number (records block) before .answer) out
+  counts = counts-is ride store block number style before out c ∙ ap (λ (l : Listing). left listedPut (l .answer) out) is
+
+  one-at-least : 1 ≤ length (records block) → roomFor (styleOf style) ≤ length before → number < largest64 → 1 ≤ k
+  unfolding listOf
+  one-at-least some room small =
+      let k-is : k ≡ taken (styleOf style) (gapAt (storeIn store)) (rideIn ride) number (length before) (records block) = ap (λ (l : List ℕ). getD l 0 0) counts in
+      omega (arith, k-is, one-taken (styleOf style) (gapAt (storeIn store)) (records block) (rideIn ride) number (length before) some room small)
+
   -- It told the records that it took.
   takes : Takes (told (styleOf style) (gapAt (storeIn store))) (λ c. c .answer .1 .0) (λ c. c .answer .1 .1) (λ a. a .0) (rideIn ride, number) the-call
   unfolding listOf
   takes =
-      let is : listed ride store block number style before ≡ listTaken (styleOf style) (gapAt (storeIn store)) (rideIn ride) number (records block) before =
-      sym (list-taken (styleOf style) (rideIn ride) (storeIn store) number block before good (eq-eqb (length block % 8) 0 (eights block whole))) in
-      let counts = counts-is ride store block number style before out c ∙ ap (λ (l : Listing). left listedPut (l .answer) out) is in
       let answer = ap₂ {C = Outcome Taken} (λ (i j : ℕ). gives (record { records = i; bytes = j })) (sym (ap (λ (l : List ℕ). getD l 0 0) counts)) (sym (ap (λ (l : List ℕ). getD l 1 0) counts)) in
       let f = front (styleOf style) (gapAt (storeIn store)) (rideIn ride) number block before after k n (rideIn moved) answer
       (holds-is ride store block number style before out c ∙ ap (λ (l : Listing). l .ride) is)
@@ -107,4 +119,6 @@ rides-in-pieces = record {
       let all = all-pieces store style good calls in
       ap₂ _++_ (all .0 ∙ ap (λ (x : Ride). tells x .text) afresh)
       (end-text last style before n ended ∙ ap (endText (styleOf style)) (all .1 ∙ ap (λ (x : Ride). tells x .ride) afresh));
+  goes-on = λ store ride block number style before out moved after k n good whole some room small c.
+      one-at-least ride store block number style before out k n good (are-whole block whole) c some room small;
 }
