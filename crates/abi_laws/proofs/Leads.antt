@@ -1,12 +1,13 @@
 -- The laws of leads from C: each contract hands over what is returned, left and read back; a call
 -- after the other hands over the records of the rest.
 -- Assumes nothing.
-use Prim.Native.Nat.{ℕ, _+_, _*_, _/_, _≤_, _<_}
+use Prim.Native.Nat.{ℕ, _*_, _≤_}
 use mathlib.Core.Path.{_≡_, refl, sym, ap, ap₂, subst, _∙_}
+use mathlib.Core.Logic.{_⊎_, inl, inr}
 use mathlib.Core.List.{List, [], _∷_, _++_}
 use native.Mathlib.Omega.{arith}
-use lib.ListN.{length, take, drop, getD}
-use lib.IntN.{ℤ, pos}
+use lib.ListN.{take, drop, getD}
+use lib.IntN.{ℤ}
 use denote.Ref.{now}
 use Rattle.words.specs.Answer.{Outcome, gives, refuses, then}
 use Rattle.settings.specs.declared.Store.{Store}
@@ -14,24 +15,23 @@ use Rattle.settings.specs.Versions.{Kept, kept}
 use Rattle.settings.specs.Store.{judged}
 use Rattle.state_bytes.specs.Stores.{storeIn}
 use Rattle.recording.specs.declared.Tape.{Tape}
-use Rattle.recording.specs.Recording as recording
-use Rattle.recording.specs.Recording.{Taped, silent, andThen, overFrames, framesOf, theEnd, recorded}
+use Rattle.recording.specs.Recording.{Taped, silent, overFrames, framesOf, theEnd, recorded}
 use Rattle.ear_bytes.specs.declared.Hearing.{Hearing}
 use Rattle.ear_bytes.specs.Ears.{earBytes, earIn}
 use Rattle.ear_bytes.specs.Hearing.{fresh, joined, Written, hear, end}
 use Rattle.ear_bytes.specs.Laws.{toCome, wroteOf}
 use Rattle.ear_bytes.proofs.Pieces.{any-room, joined-two}
 use Rattle.ear_bytes.proofs.Ends.{any-room-at-end, none-left}
-use Rattle.abi.specs.Face.{returned, left}
+use Rattle.ear_bytes.proofs.Forward.{goes-forward}
+use Rattle.abi.specs.Face.{returned}
 use Rattle.abi.specs.Stores.{keptNumber}
 use Rattle.abi.specs.Leads.{heard, earLeft, recordsLeft, usedLeft, earAfter}
 use Rattle.abi.proofs.Heard.{AsHeard}
-use Rattle.demands.specs.Rules.{Rule, Is, Decided}
+use Rattle.demands.specs.Rules.{Is, Decided}
 use Rattle.demands.specs.Stores.{storeRules}
 use Rattle.demands.proofs.Demand1.StoreRules.{store-so}
-use Rattle.abi_laws.specs.Demand1.{Refused}
-use Rattle.abi_laws.specs.LeadsCalls.{RecordBegin, Record, RecordEnd}
-use Rattle.abi_laws.specs.Leads.{LeadsDecided, LeadsUntouched, EarReadsBack, Heard, no-frame, call, Ended, no-more, call as call-end, LeadAsAWhole}
+use Rattle.abi_laws.specs.LeadsCalls.{Record, RecordEnd}
+use Rattle.abi_laws.specs.Leads.{LeadsDecided, LeadsUntouched, EarReadsBack, Heard, no-frame, call, Ended, no-more, call as call-end, LeadAsAWhole, GoesForward}
 use Rattle.abi_laws.proofs.Demand1.{decided-of, kept-there}
 
 -- ---- what the contracts say of the bytes that were lent
@@ -117,6 +117,7 @@ ear-reads-back = record {
 -- What a call under a store in order did.
 record Done (ear store lead room next records : List ℕ) (used bytes : ℕ) : Type 0 where
   used-is : used ≡ 16 * hear (earIn ear) (storeIn store) lead room .wrote .frames
+  bytes-is : bytes ≡ hear (earIn ear) (storeIn store) lead room .wrote .bytes
   wrote-is : take bytes records ≡ wroteOf (hear (earIn ear) (storeIn store) lead room)
   next-is : earIn next ≡ hear (earIn ear) (storeIn store) lead room .wrote .hearing
 
@@ -133,6 +134,7 @@ done ear store lead room out r next records used bytes good c =
     let second : bytes ≡ w .wrote .bytes = ap (λ (l : List ℕ). getD l 1 0) told in
     record {
       used-is = omega arith;
+      bytes-is = second;
       wrote-is = ap₂ (λ (n : ℕ) (l : List ℕ). take n l) second buffer;
       next-is = p .1 .1 .1 .1 ∙ ap (λ (q : Outcome Kept). earAfter (record { answer = q; written = w }) (earIn ear)) good;
     }
@@ -181,3 +183,12 @@ lead-as-a-whole store lead before ear last first then r good begun hears ends =
     let at-last : then ≡ joined (theEnd (x .tape) .records) =
     all-ended ends ∙ ap (λ (t : Tape). joined (theEnd t .records)) (h .1 ∙ ap (λ (y : Taped). y .tape) there) in
     ap₂ (λ (a b : List ℕ). a ++ b) at-first at-last ∙ sym (joined-two (x .records) (theEnd (x .tape) .records))
+
+pub forward : GoesForward
+forward ear store lead room out r next records used bytes good enough c =
+    let d = done ear store lead room out r next records used bytes good c in
+    by-either (d .bytes-is) (d .used-is) (goes-forward (earIn ear) (storeIn store) lead room enough)
+  where
+    by-either : {bytes used wrote frames all : ℕ} → bytes ≡ wrote → used ≡ 16 * frames → (8 ≤ wrote) ⊎ (frames ≡ all) → (8 ≤ bytes) ⊎ (used ≡ 16 * all)
+    by-either b u (inl h) = inl (omega (arith, b, h))
+    by-either b u (inr h) = inr (omega (arith, u, h))

@@ -10,5 +10,6 @@ pub mod Rides
 pub mod RidesLeft
 pub mod RidesHeld
 pub mod RidePieces
+pub mod SettingsMet
 pub mod RidesMet
 pub mod LeadsMet

@@ -1,141 +1,87 @@
--- Pieces make no difference: each call's text is that of the records that it took, and what is left
--- of the trace are the records after them.
+-- Pieces make no difference: each call tells the records that it took, and the calls come to what
+-- is told of the trace.
 -- Assumes nothing.
-use Prim.Native.Nat.{ℕ, suc, _+_, _*_, _/_, _%_, _≤_}
+use Prim.Native.Nat.{ℕ, _+_, _%_, _≤_, _<_}
 use native.Mathlib.Omega.{arith}
-use mathlib.Core.Path.{_≡_, refl, sym, ap, ap₂, subst, _∙_}
+use mathlib.Core.Path.{_≡_, refl, sym, ap, ap₂, _∙_}
 use mathlib.Core.Bool.{Bool, true, false}
-use mathlib.Core.List.{List, [], _∷_, _++_, append-assoc}
-use lib.Dec.{eqb, leb}
+use mathlib.Core.List.{List, [], _∷_, _++_}
+use lib.Dec.{leb}
 use lib.IntN.{ℤ, pos}
-use lib.ListN.{length, getD, take, drop, length-append}
-use lib.Seq.{length-take-le}
-use borrow.Author.Tests.{eq-eqb, le-leb}
+use lib.ListN.{length, getD, take}
+use borrow.Author.Tests.{eq-eqb}
 use Rattle.words.specs.Answer.{Outcome, gives, refuses, pick}
-use Rattle.words.proofs.Never.{cannot-be}
+use Rattle.words.specs.Limits.{largest64}
 use Rattle.text.specs.Put.{placed, put}
 use Rattle.text.proofs.Placing.{placed-start}
-use Rattle.settings.specs.declared.Store.{Store}
 use Rattle.settings.specs.At.{gapAt}
 use Rattle.ride.specs.declared.Ride.{Ride}
-use Rattle.ride.specs.Record.{odometerOf}
 use Rattle.ride.specs.State.{freshRide}
-use Rattle.ride.specs.Step.{Step, treat}
 use Rattle.ride.specs.Over.{firstRecords, records}
-use Rattle.ride.proofs.Cutting.{records-length, take-records, front-records, cut-records}
-use Rattle.ride_text.specs.Style.{Style}
-use Rattle.ride_text.specs.Told.{stepText, Told, tellOver, endText}
-use Rattle.ride_text.specs.List.{Listing, taken, listOf, listTaken}
+use Rattle.ride_text.specs.Told.{Told, tellOver, endText}
+use Rattle.ride_text.specs.List.{Taken, Listing, roomFor, taken, listOf, listTaken}
 use Rattle.ride_text.proofs.Judging.{list-taken}
-use Rattle.ride_text.proofs.Taken.{few-taken}
+use Rattle.ride_text.proofs.Taken.{one-taken}
 use Rattle.state_bytes.specs.Stores.{storeIn}
 use Rattle.ride_bytes.specs.Rides.{rideIn}
 use Rattle.abi.specs.Face.{returned, left, itself}
 use Rattle.abi.specs.Rides.{styleOf, listed, listedPut, ending}
 use Rattle.demands.specs.Stores.{Good}
+use Rattle.demands.specs.TraceCalls.{Whole, Call}
+use Rattle.demands.proofs.Beside.Cards.{eights, are-whole}
+use Rattle.demands.proofs.Beside.TraceCalls.{Gone, Takes, one-more}
+use Rattle.demands.proofs.Beside.Told.{told, on, front}
 use Rattle.abi_laws.specs.RideCalls.{RideList, RideEnd, InPieces, none, more}
 use Rattle.abi_laws.specs.Rides.{RidesInPieces}
 use Rattle.abi_laws.proofs.Carried.{never-below}
 use Rattle.abi_laws.proofs.RideFaced.{holds-is, after-is, counts-is, end-is, ended-is}
 
--- ---- a ride told on
+-- ---- all calls
 
-tell-on : (style : Style) (gaps : ℕ → ℕ) (ride : Ride) (number : ℕ) (rs qs : List (List ℕ)) →
-    let first : Told = tellOver style gaps ride number rs in
-    let second : Told = tellOver style gaps (first .ride) (number + length rs) qs in
-    tellOver style gaps ride number (rs ++ qs) ≡ record { text = first .text ++ second .text; ride = second .ride }
-unfolding tellOver
-tell-on style gaps ride number [] qs =
-    let same : number ≡ number + 0 = omega arith in
-    ap (λ (n : ℕ). tellOver style gaps ride n qs) same
-tell-on style gaps ride number (r ∷ rs) qs =
-    let s : Step = treat ride (gaps (odometerOf r)) r in
-    let t : List ℕ = stepText style number s in
-    let rest : Told = tellOver style gaps (s .ride) (suc number) rs in
-    let same : suc number + length rs ≡ number + suc (length rs) = omega arith in
-    ap (λ (x : Told). record { text = t ++ x .text; ride = x .ride }) (tell-on style gaps (s .ride) (suc number) rs qs)
-    ∙ ap (λ (n : ℕ). record { text = t ++ (rest .text ++ tellOver style gaps (rest .ride) n qs .text); ride = tellOver style gaps (rest .ride) n qs .ride }) same
-    ∙ ap (λ (x : List ℕ). record { text = x; ride = tellOver style gaps (rest .ride) (number + suc (length rs)) qs .ride })
-    (sym (append-assoc t (rest .text) (tellOver style gaps (rest .ride) (number + suc (length rs)) qs .text)))
+-- What a call leaves: the ride that the bytes hold then with the next record's number, and its
+-- counts.
+abbrev Left : Type 0
+Left = (Ride × ℕ) × (ℕ × ℕ)
 
--- ---- one call
-
-module _ (ride store block : List ℕ) (number style : ℕ) (before out : List ℕ) {moved after : List ℕ} (k n : ℕ) (good : Good (storeIn store)) (whole : length block % 8 ≡ 0)
+module _ (ride store block : List ℕ) (number style : ℕ) (before out : List ℕ) {moved after : List ℕ} (k n : ℕ) (good : Good (storeIn store)) (whole : Whole block)
     (c : RideList ride store block number style before out (pos 0) moved after (k ∷ n ∷ [])) where
-  abbrev form : Style
-  form = styleOf style
+  abbrev the-call : Call Left
+  the-call = record { block = block; before = before; answer = ((rideIn moved, number + k), (k, n)); after = after }
 
-  abbrev gaps : ℕ → ℕ
-  gaps = gapAt (storeIn store)
+  -- As many as have room.
+  is : listed ride store block number style before ≡ listTaken (styleOf style) (gapAt (storeIn store)) (rideIn ride) number (records block) before
+  is = sym (list-taken (styleOf style) (rideIn ride) (storeIn store) number block before good (eq-eqb (length block % 8) 0 (eights block whole)))
 
-  abbrev m : ℕ
-  m = taken form gaps (rideIn ride) number (length before) (records block)
-
-  abbrev told : ℕ → Told
-  told j = tellOver form gaps (rideIn ride) number (take j (records block))
-
-  -- it lists as many as are taken
-  is : listed ride store block number style before ≡ listTaken form gaps (rideIn ride) number (records block) before
-  is = sym (list-taken form (rideIn ride) (storeIn store) number block before good (eq-eqb (length block % 8) 0 whole))
-
-  counts : k ∷ n ∷ [] ≡ m ∷ length (told m .text) ∷ []
-  unfolding listOf
+  counts : k ∷ n ∷ [] ≡ left listedPut (listTaken (styleOf style) (gapAt (storeIn store)) (rideIn ride) number (records block) before .answer) out
   counts = counts-is ride store block number style before out c ∙ ap (λ (l : Listing). left listedPut (l .answer) out) is
 
-  count-is : k ≡ m
-  count-is = ap (λ (l : List ℕ). getD l 0 0) counts
-
-  -- It took no more than the block has,
-  few : k ≤ length block / 8
-  few = omega (arith, count-is, few-taken form gaps (records block) (rideIn ride) number (length before), records-length (length block / 8) block)
-
-  -- wrote their text,
-  text-is : take n after ≡ told k .text
+  one-at-least : 1 ≤ length (records block) → roomFor (styleOf style) ≤ length before → number < largest64 → 1 ≤ k
   unfolding listOf
-  text-is =
-      let bytes : n ≡ length (told m .text) = ap (λ (l : List ℕ). getD l 1 0) counts in
-      let size : n ≡ 0 + length (told m .text) = omega arith in
-      ap₂ take size (after-is ride store block number style before out c ∙ ap (λ (l : Listing). l .out) is)
-      ∙ placed-start (told m .text) before ∙ ap (λ (j : ℕ). told j .text) (sym count-is)
+  one-at-least some room small =
+      let k-is : k ≡ taken (styleOf style) (gapAt (storeIn store)) (rideIn ride) number (length before) (records block) = ap (λ (l : List ℕ). getD l 0 0) counts in
+      omega (arith, k-is, one-taken (styleOf style) (gapAt (storeIn store)) (records block) (rideIn ride) number (length before) some room small)
 
-  -- and the bytes hold the ride after them.
-  ride-is : rideIn moved ≡ told k .ride
+  -- It told the records that it took.
+  takes : Takes (told (styleOf style) (gapAt (storeIn store))) (λ c. c .answer .1 .0) (λ c. c .answer .1 .1) (λ a. a .0) (rideIn ride, number) the-call
   unfolding listOf
-  ride-is = holds-is ride store block number style before out c ∙ ap (λ (l : Listing). l .ride) is ∙ ap (λ (j : ℕ). told j .ride) (sym count-is)
-
-  long : length (take k (records block)) ≡ k
-  long = length-take-le k (records block) (omega (arith, few, records-length (length block / 8) block))
-
-  -- What is left are the records after them.
-  left-is : (rest : List ℕ) → take k (records block) ++ records (drop (k * 8) (block ++ rest)) ≡ records (block ++ rest)
-  left-is rest =
-      let inside : k * 8 ≤ length block = omega (arith, few) in
-      let fits : k ≤ length (block ++ rest) / 8 = omega (arith, few, length-append block rest) in
-      ap (λ (x : List (List ℕ)). x ++ records (drop (k * 8) (block ++ rest))) (take-records k (length block / 8) block few ∙ sym (front-records k block rest inside))
-      ∙ sym (cut-records k (block ++ rest) fits)
-
--- ---- all calls
+  takes =
+      let answer = ap₂ {C = Outcome Taken} (λ (i j : ℕ). gives (record { records = i; bytes = j })) (sym (ap (λ (l : List ℕ). getD l 0 0) counts)) (sym (ap (λ (l : List ℕ). getD l 1 0) counts)) in
+      let f = front (styleOf style) (gapAt (storeIn store)) (rideIn ride) number block before after k n (rideIn moved) answer
+      (holds-is ride store block number style before out c ∙ ap (λ (l : Listing). l .ride) is)
+      (after-is ride store block number style before out c ∙ ap (λ (l : Listing). l .out) is) in
+      record { of-these = f .0; goes = f .1 }
 
 all-pieces : (store : List ℕ) (style : ℕ) → Good (storeIn store) → {ride last : List ℕ} {number : ℕ} {trace text : List ℕ} → InPieces store style ride number trace text last →
     let all : Told = tellOver (styleOf style) (gapAt (storeIn store)) (rideIn ride) number (records trace) in
     (text ≡ all .text) × (rideIn last ≡ all .ride)
 unfolding tellOver firstRecords
 all-pieces store style good none = (refl, refl)
-all-pieces store style good {ride} {last} {number} {trace} (more {moved = moved} block rest before out after k n front whole c on) =
-    let later = all-pieces store style good on in
-    let form : Style = styleOf style in
-    let gaps : ℕ → ℕ = gapAt (storeIn store) in
-    let first : List (List ℕ) = take k (records block) in
-    let others : List (List ℕ) = records (drop (k * 8) trace) in
-    let told : Told = tellOver form gaps (rideIn ride) number first in
-    let same : tellOver form gaps (rideIn moved) (number + k) others ≡ tellOver form gaps (told .ride) (number + length first) others =
-    ap₂ (λ (x : Ride) (j : ℕ). tellOver form gaps x (number + j) others) (ride-is ride store block number style before out k n good whole c) (sym (long ride store block number style before out k n good whole c)) in
-    let cut : first ++ others ≡ records trace =
-    ap (λ (x : List ℕ). first ++ records (drop (k * 8) x)) front ∙ left-is ride store block number style before out k n good whole c rest ∙ ap records (sym front) in
-    let all = sym (tell-on form gaps (rideIn ride) number first others) ∙ ap (tellOver form gaps (rideIn ride) number) cut in (
-      ap₂ _++_ (text-is ride store block number style before out k n good whole c) (later .0 ∙ ap (λ (x : Told). x .text) same) ∙ ap (λ (x : Told). x .text) all,
-      later .1 ∙ ap (λ (x : Told). x .ride) same ∙ ap (λ (x : Told). x .ride) all,
-    )
+all-pieces store style good {ride} {last} {number} {trace} (more {moved = moved} block rest before out after k n cut whole c on-from) =
+    let later = all-pieces store style good on-from in
+    let are = are-whole block whole in
+    let e = one-more (λ (c : Call Left). c .answer .1 .0) (λ (c : Call Left). c .answer .1 .1) (λ (a : Left). a .0) (told (styleOf style) (gapAt (storeIn store))) (on (styleOf style) (gapAt (storeIn store)))
+    (rideIn ride, number) trace (the-call ride store block number style before out k n good are c) (record { rest = rest; front = cut; whole = are }) (takes ride store block number style before out k n good are c) in
+    (ap (λ (x : List ℕ). take n after ++ x) (later .0) ∙ ap (λ (g : Gone (Ride × ℕ)). g .text) e, later .1 ∙ ap (λ (g : Gone (Ride × ℕ)). g .state .0) e)
 
 -- ---- the end
 
@@ -173,4 +119,6 @@ rides-in-pieces = record {
       let all = all-pieces store style good calls in
       ap₂ _++_ (all .0 ∙ ap (λ (x : Ride). tells x .text) afresh)
       (end-text last style before n ended ∙ ap (endText (styleOf style)) (all .1 ∙ ap (λ (x : Ride). tells x .ride) afresh));
+  goes-on = λ store ride block number style before out moved after k n good whole some room small c.
+      one-at-least ride store block number style before out k n good (are-whole block whole) c some room small;
 }

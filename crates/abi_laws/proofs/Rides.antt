@@ -1,47 +1,27 @@
 -- Demand 1 for rides from C: a listing is decided as `list` is, the end by its room.
 -- Assumes nothing.
-use Prim.Native.Nat.{ℕ, _%_}
-use mathlib.Core.Path.{_≡_, refl, ap, subst}
-use mathlib.Core.Bool.{Bool, true, false}
+use Prim.Native.Nat.{ℕ}
+use mathlib.Core.Path.{ap}
+use mathlib.Core.Bool.{Bool}
 use mathlib.Core.List.{List, [], _∷_}
-use lib.Dec.{eqb, ltb}
+use lib.Dec.{ltb}
 use lib.ListN.{length}
 use borrow.Author.Tests.{le-leb, lt-leb, ltb-true, ltb-false}
-use Rattle.words.specs.Answer.{Outcome, gives, refuses, then, pick}
-use Rattle.settings.specs.declared.Store.{Store}
-use Rattle.settings.specs.Versions.{Kept}
-use Rattle.settings.specs.Store.{judged}
-use Rattle.settings.specs.At.{gapAt}
+use Rattle.words.specs.Answer.{Outcome, gives, refuses, pick}
 use Rattle.ride.specs.declared.Ride.{Ride}
-use Rattle.ride.specs.Over.{records}
 use Rattle.ride_text.specs.Style.{Style}
 use Rattle.ride_text.specs.Told.{endText}
-use Rattle.ride_text.specs.List.{Taken, Listing, listOf, listTaken, unlisted, judgedFirst, list}
+use Rattle.ride_text.specs.List.{list}
 use Rattle.state_bytes.specs.Stores.{storeIn}
 use Rattle.ride_bytes.specs.Rides.{rideIn}
 use Rattle.abi.specs.Face.{returned, itself}
 use Rattle.abi.specs.Rides.{styleOf, listed, listedNumber, ending}
 use Rattle.demands.specs.Rules.{row, Decided, Given, Is}
 use Rattle.demands.specs.Stores.{traceRules}
-use Rattle.demands.proofs.Demand1.StoreRules.{records-so}
+use Rattle.demands.proofs.Demand1.Listings.{list-so}
 use Rattle.abi_laws.specs.Rides.{RidesDecided}
 use Rattle.abi_laws.proofs.Demand1.{decided-of}
 use Rattle.abi_laws.proofs.RideFaced.{returned-is, end-is}
-
--- The answer, test by test.
-first : (o : Outcome Kept) (b : Bool) (ride : Ride) (number : ℕ) (out : List ℕ) (l : Listing)
-    → then o (λ k. pick b (l .answer) (refuses 16)) ≡ judgedFirst ride number out o (pick b l (unlisted ride number out 16)) .answer
-first (gives k) true ride number out l = refl
-first (gives k) false ride number out l = refl
-first (refuses n) b ride number out l = refl
-
-list-so : (style : Style) (ride : Ride) (store : Store) (number : ℕ) (trace out : List ℕ)
-    → Decided Given (traceRules store trace) (list style ride store number trace out .answer)
-unfolding list listOf
-list-so style ride store number trace out =
-    let all : Listing = listTaken style (gapAt store) ride number (records trace) out in
-    subst (λ (o : Outcome Taken). Decided Given (traceRules store trace) o) (first (judged store) (eqb (length trace % 8) 0) ride number out all)
-    (records-so store trace (all .answer) (_, refl))
 
 end-so : (style : Style) (ride : Ride) (text : List ℕ) →
     let size : ℕ = length (endText style ride) in

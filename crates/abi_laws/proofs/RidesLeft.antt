@@ -1,47 +1,29 @@
 -- What a refused call of a ride leaves: all that it was lent.
 -- Assumes nothing.
-use Prim.Native.Nat.{ℕ, _+_, _%_}
-use mathlib.Core.Path.{_≡_, refl, ap, subst, _∙_}
+use Prim.Native.Nat.{ℕ, _+_}
+use mathlib.Core.Path.{_≡_, ap, subst, _∙_}
 use mathlib.Core.Bool.{Bool, true, false}
 use mathlib.Core.List.{List}
 use native.Mathlib.Omega.{arith}
-use lib.Dec.{eqb, leb}
+use lib.Dec.{leb}
 use lib.ListN.{length}
 use Rattle.words.specs.Answer.{Outcome, gives, refuses, pick}
 use Rattle.words.proofs.Never.{cannot-be}
-use Rattle.settings.specs.declared.Store.{Store}
-use Rattle.settings.specs.Versions.{Kept}
-use Rattle.settings.specs.Store.{judged}
-use Rattle.settings.specs.At.{gapAt}
 use Rattle.text.specs.Put.{put}
 use Rattle.ride.specs.declared.Ride.{Ride}
-use Rattle.ride.specs.Over.{records}
 use Rattle.ride_text.specs.Style.{Style}
 use Rattle.ride_text.specs.Told.{endText}
-use Rattle.ride_text.specs.List.{Taken, Listing, listOf, listTaken, unlisted, judgedFirst, list}
+use Rattle.ride_text.specs.List.{Taken, Listing, list}
 use Rattle.state_bytes.specs.Stores.{storeIn}
 use Rattle.ride_bytes.specs.Rides.{rideBytes, rideIn}
 use Rattle.abi.specs.Face.{itself}
 use Rattle.abi.specs.Rides.{styleOf, listed, listedNumber, listedPut, ending}
+use Rattle.demands.proofs.Demand1.Listings.{list-stays}
 use Rattle.abi_laws.specs.Demand1.{Refused}
 use Rattle.abi_laws.specs.Rides.{RidesUntouched}
 use Rattle.abi_laws.proofs.Carried.{is-refusal}
 use Rattle.abi_laws.proofs.Demand1.{kept-there}
 use Rattle.abi_laws.proofs.RideFaced.{returned-is, moved-is, after-is, counts-is, end-is, ended-is}
-
--- Refused, it leaves the text.
-text-by : (o : Outcome Kept) (w : Bool) (ride : Ride) (number : ℕ) (out : List ℕ) (all : Listing) (t : Taken) (n : ℕ) → all .answer ≡ gives t
-    → judgedFirst ride number out o (pick w all (unlisted ride number out 16)) .answer ≡ refuses n
-    → judgedFirst ride number out o (pick w all (unlisted ride number out 16)) .out ≡ out
-text-by (gives k) true ride number out all t n a e = cannot-be cc
-text-by (gives k) false ride number out all t n a e = refl
-text-by (refuses m) w ride number out all t n a e = refl
-
-text-stays : (style : Style) (ride : Ride) (store : Store) (number : ℕ) (trace out : List ℕ) (n : ℕ) → list style ride store number trace out .answer ≡ refuses n
-    → list style ride store number trace out .out ≡ out
-unfolding list listOf
-text-stays style ride store number trace out n e =
-    text-by (judged store) (eqb (length trace % 8) 0) ride number out (listTaken style (gapAt store) ride number (records trace) out) _ n refl e
 
 -- Where the end is refused the text has no room, and stays.
 end-left : (t before : List ℕ) (b : Bool) → leb (0 + length t) (length before) ≡ b → (n : ℕ) → pick {A = Outcome ℕ} b (gives (length t)) (refuses 21) ≡ refuses n
@@ -65,7 +47,8 @@ rides-untouched = record {
       let e = returned-is ride store trace number style before out c in
       let q : (k : ℕ) × (all .answer ≡ refuses k) = is-refusal listedNumber (all .answer) (subst Refused e refused) in (
         kept-there listedNumber (λ (t : Taken) (b : List ℕ). rideBytes (all .ride)) (all .answer) e (moved-is ride store trace number style before out c) refused,
-        after-is ride store trace number style before out c ∙ text-stays (styleOf style) (rideIn ride) (storeIn store) number trace before (q .0) (q .1),
+        after-is ride store trace number style before out c
+            ∙ ap (λ (l : Listing). l .out) (list-stays (styleOf style) (rideIn ride) (storeIn store) number trace before (q .0) (q .1)),
         kept-there listedNumber listedPut (all .answer) e (counts-is ride store trace number style before out c) refused,
       );
   end = λ ride style before r after c refused.

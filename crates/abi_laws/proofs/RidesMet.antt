@@ -15,15 +15,19 @@ use denote.Ref.{RefT, now}
 use Rattle.words.specs.Answer.{Outcome, gives, refuses, pick}
 use Rattle.words.specs.Limits.{largest64}
 use Rattle.text.specs.Put.{placed, Put, put}
-use Rattle.settings.specs.At.{gapAt}
-use Rattle.group.specs.declared.Group.{Group}
+use Rattle.settings.specs.Store.{versionsOf}
+use Rattle.settings.specs.At.{heldFrom, heldAt, gapAt}
 use Rattle.ride.specs.declared.Ride.{Ride}
 use Rattle.ride.specs.State.{noGroup, nothingKnown, freshRide}
-use Rattle.ride.specs.Over.{records}
+use Rattle.ride.specs.Record.{odometerOf, passedOf, inOrder, checkRecord}
+use Rattle.ride.specs.Joining.{join, takeUp}
+use Rattle.ride.specs.Closing.{leave}
+use Rattle.ride.specs.Step.{closeBehind, missedLines, afterMissed, goOn, treat}
+use Rattle.ride.specs.Over.{firstRecords, records}
 use Rattle.ride.proofs.Cutting.{records-length}
 use Rattle.ride_text.specs.Style.{Style}
 use Rattle.ride_text.specs.Told.{Told, tellOver, endText}
-use Rattle.ride_text.specs.List.{Listing, roomFor, taken, listOf, listTaken}
+use Rattle.ride_text.specs.List.{Listing, roomFor, taken, listOf}
 use Rattle.ride_text.proofs.Judging.{list-taken}
 use Rattle.ride_text.proofs.Taken.{all-taken}
 use Rattle.state_bytes.specs.Figures.{each, byteOf, spread, eightAt, figureAt}
@@ -34,6 +38,7 @@ use Rattle.abi.specs.Face.{returned, left, itself}
 use Rattle.abi.specs.Rides.{styleOf, listed, listedNumber, listedPut, rideLeft, ending}
 use Rattle.demands.specs.Stores.{Good}
 use Rattle.abi_laws.specs.RideCalls.{RideBegin, RideList, RideEnd, InPieces, none, more}
+use Rattle.abi_laws.proofs.SettingsMet.{settings, settings-good}
 
 -- A lent buffer with these bytes.
 abbrev lent : List ℕ → RefT (List ℕ)
@@ -57,16 +62,7 @@ end-met ride style before fits =
     let wrote = ap (λ (w : Bool). pick {A = Put} w (record { next = 0 + length line; buffer = placed line before 0 }) (record { next = 0; buffer = before }) .buffer) (le-leb (0 + length line) (length before) low) in
     (([], ([], tt)), lent ride, lent before, (lent ride, (style, (lent (placed line before 0), tt))), refl, refl, refl, (sym said, sym wrote))
 
--- So all are met together: a fresh ride over a trace without a record, and its end.
-pub none-met : (store : List ℕ) (style : ℕ) →
-    let line : List ℕ = endText (styleOf style) (rideIn (rideBytes freshRide)) in
-    RideBegin [] (pos 0) (rideBytes freshRide) × InPieces store style (rideBytes freshRide) 1 [] [] (rideBytes freshRide)
-    × RideEnd (rideBytes freshRide) style line (pos (length line)) (placed line line 0)
-none-met store style =
-    let line : List ℕ = endText (styleOf style) (rideIn (rideBytes freshRide)) in
-    let fits : length line ≤ length line = omega arith in
-    (begin-met [], none, end-met (rideBytes freshRide) style line fits)
-
+-- Any trace of whole records by one call with room for all of it.
 module _ (store ride : List ℕ) (number style : ℕ) (trace : List ℕ) (good : Good (storeIn store)) (whole : length trace % 8 ≡ 0) where
   abbrev form : Style
   form = styleOf style
@@ -134,3 +130,28 @@ module _ (store ride : List ℕ) (number style : ℕ) (trace : List ℕ) (good :
       let rest : InPieces store style moved (number + length rs) (drop (length rs * 8) trace) [] moved =
       subst (λ (x : List ℕ). InPieces store style moved (number + length rs) x [] moved) gone none in
       (take (length (told .text)) after ++ [], more trace [] before (0 ∷ 0 ∷ []) after (length rs) (length (told .text)) (sym (append-nil trace)) whole c rest)
+
+-- ---- a ride with one record
+
+-- A position at 1000, and the ride after it.
+abbrev position : List ℕ
+position = 0 ∷ 0 ∷ 3 ∷ 232 ∷ 3 ∷ 0 ∷ 0 ∷ 0 ∷ []
+
+abbrev there : Ride
+there = record { odometer = 1000; group = noGroup; known = nothingKnown }
+
+there-back : rideIn (rideBytes there) ≡ there
+unfolding rideBytes rideOf knownFigures groupFigures spread each byteOf eightAt figureAt toldOf numberOf linkingOf heardOf noGroup nothingKnown
+there-back = refl
+
+one-told : tellOver (styleOf 0) (gapAt (storeIn settings)) freshRide 1 (records position) .ride ≡ there
+unfolding tellOver firstRecords gapAt heldAt heldFrom versionsOf storeIn each eightAt figureAt freshRide noGroup nothingKnown odometerOf passedOf inOrder checkRecord join takeUp closeBehind missedLines afterMissed goOn treat leave
+one-told = refl
+
+-- So all are met together: a fresh ride, the record listed, and the end.
+pub one-met : (text last : List ℕ) × InPieces settings 0 (rideBytes freshRide) 1 position text last
+one-met =
+    let is : tellOver (styleOf 0) (gapAt (storeIn settings)) (rideIn (rideBytes freshRide)) 1 (records position) .ride ≡ there =
+    ap (λ (r : Ride). tellOver (styleOf 0) (gapAt (storeIn settings)) r 1 (records position) .ride) fresh-back ∙ one-told in
+    let met = pieces-met settings (rideBytes freshRide) 1 0 position settings-good refl (omega (arith, records-length (length position / 8) position)) (ap (λ (r : Ride). rideIn (rideBytes r)) is ∙ there-back ∙ sym is) in
+    (met .0, rideBytes _, met .1)

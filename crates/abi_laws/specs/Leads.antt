@@ -1,9 +1,10 @@
 -- Leads from C (docs/LEAD.md): demand 1 for the functions that hear one, what a refusal leaves in
--- each lent array, that the lent bytes of an ear read back, and that neither pieces nor rooms make
--- a difference to what is recorded.
+-- each lent array, that the lent bytes of an ear read back, that neither pieces nor rooms make a
+-- difference to what is recorded, and that calls come to an end.
 -- Assumes nothing.
-use Prim.Native.Nat.{ℕ, _≤_, _<_}
+use Prim.Native.Nat.{ℕ, _*_, _≤_, _<_}
 use mathlib.Core.Path.{_≡_}
+use mathlib.Core.Logic.{_⊎_}
 use mathlib.Core.List.{List, [], _∷_, _++_}
 use lib.ListN.{length, take, drop}
 use lib.IntN.{ℤ, pos}
@@ -11,7 +12,7 @@ use Rattle.words.specs.Answer.{gives}
 use Rattle.settings.specs.Versions.{kept}
 use Rattle.settings.specs.Store.{judged}
 use Rattle.state_bytes.specs.Stores.{storeIn}
-use Rattle.recording.specs.Recording.{recorded}
+use Rattle.recording.specs.Recording.{framesOf, recorded}
 use Rattle.ear_bytes.specs.Ears.{earBytes, earIn}
 use Rattle.ear_bytes.specs.Hearing.{fresh, joined, end}
 use Rattle.abi.specs.Face.{returned}
@@ -73,3 +74,10 @@ abbrev pub LeadAsAWhole : Type 0
 LeadAsAWhole =
     (store lead before ear last first then : List ℕ) (r : ℤ) → judged (storeIn store) ≡ gives kept
     → RecordBegin before r ear → Heard store lead ear first last → Ended last then → first ++ then ≡ joined (recorded (storeIn store) lead)
+
+-- "With 8 or more, a record is written or all whole frames are used": a call under a store in order
+-- that has room for a record goes forward.
+abbrev pub GoesForward : Type 0
+GoesForward =
+    (ear store lead room out : List ℕ) (r : ℤ) (then records : List ℕ) (used bytes : ℕ) → judged (storeIn store) ≡ gives kept → 8 ≤ length room
+    → Record ear store lead room out r then records (used ∷ bytes ∷ []) → (8 ≤ bytes) ⊎ (used ≡ 16 * framesOf lead)

@@ -1,18 +1,19 @@
 -- Rides from C: demand 1 for the functions that ride, what a refusal leaves, that the bytes between
 -- two calls are the ride, and that pieces make no difference.
 -- Assumes nothing.
-use Prim.Native.Nat.{ℕ}
+use Prim.Native.Nat.{ℕ, _%_, _≤_, _<_}
 use mathlib.Core.Path.{_≡_}
 use mathlib.Core.List.{List, [], _∷_, _++_}
 use lib.Dec.{ltb}
 use lib.IntN.{ℤ, pos}
 use lib.ListN.{length, take}
 use Rattle.words.specs.Answer.{Outcome, gives}
+use Rattle.words.specs.Limits.{largest64}
 use Rattle.settings.specs.At.{gapAt}
 use Rattle.ride.specs.State.{freshRide}
 use Rattle.ride.specs.Over.{records}
 use Rattle.ride_text.specs.Told.{Told, tellOver, endText}
-use Rattle.ride_text.specs.List.{Taken}
+use Rattle.ride_text.specs.List.{Taken, roomFor}
 use Rattle.state_bytes.specs.Stores.{storeIn}
 use Rattle.ride_bytes.specs.Rides.{knownFigures, rideBytes, rideIn}
 use Rattle.abi.specs.Face.{returned, itself}
@@ -64,3 +65,7 @@ pub record RidesInPieces : Type 0 where
       → InPieces store style fresh 1 trace text last → RideEnd last style before (pos n) after →
       let all : Told = tellOver (styleOf style) (gapAt (storeIn store)) freshRide 1 (records trace) in
       text ++ take n after ≡ all .text ++ endText (styleOf style) (all .ride)
+  -- so long as it has room for one record, a call takes one, so that the calls come to an end
+  pub goes-on : (store ride block : List ℕ) (number style : ℕ) (before out moved after : List ℕ) (k n : ℕ) → Good (storeIn store) → length block % 8 ≡ 0
+      → 1 ≤ length (records block) → roomFor (styleOf style) ≤ length before → number < largest64
+      → RideList ride store block number style before out (pos 0) moved after (k ∷ n ∷ []) → 1 ≤ k

@@ -5,16 +5,16 @@ use Prim.Native.Nat.{ℕ, _+_, _*_, _/_, _%_, _≤_}
 use native.Mathlib.Omega.{arith}
 use native.Mathlib.Nat.{zero-add}
 use mathlib.Core.Path.{_≡_, refl, sym, ap, ap₂, _∙_}
-use mathlib.Core.List.{List, [], _∷_, _++_}
-use lib.ListN.{length, take, drop, length-append}
+use mathlib.Core.List.{List, [], _++_}
+use lib.ListN.{length, take}
 use borrow.Author.Tests.{eq-eqb}
 use Rattle.settings.specs.declared.Store.{Store}
 use Rattle.settings.specs.At.{gapAt}
 use Rattle.text.specs.Put.{placed}
 use Rattle.text.proofs.Placing.{placed-start}
 use Rattle.ride.specs.declared.Ride.{Ride}
-use Rattle.ride.specs.Over.{firstRecords, records, Ridden, before, rideOver}
-use Rattle.ride.proofs.Cutting.{records-length, take-records, front-records, cut-records}
+use Rattle.ride.specs.Over.{records, Ridden, rideOver}
+use Rattle.ride.proofs.Cutting.{records-length}
 use Rattle.ride.proofs.Sections.{ride-on, unnumbered}
 use Rattle.acceptance_text.specs.declared.Going.{Going}
 use Rattle.acceptance_text.specs.declared.Progress.{Progress}
@@ -30,47 +30,22 @@ use Rattle.acceptance_text.proofs.Ends.{accept-taken}
 use Rattle.acceptance_text.proofs.Blocks.{taken-within, taken-all, taken-one}
 use Rattle.demands.specs.Output.{recordsIn}
 use Rattle.demands.specs.Stores.{Good}
-use Rattle.demands.specs.Sections.{Whole}
+use Rattle.demands.specs.TraceCalls.{Whole, Call}
 use Rattle.demands.proofs.Beside.Cards.{eights}
+use Rattle.demands.proofs.Beside.TraceCalls.{Gone, gone, onFrom, Takes}
+use Rattle.demands.proofs.Beside.TraceCalls as by-calls
 use Rattle.acceptance_laws.specs.Contracts.{AcceptInto}
-use Rattle.acceptance_laws.specs.Calls.{Call, taken, bytesOf, Lent, ByAccept, textFrom, afterCalls}
+use Rattle.acceptance_laws.specs.Calls.{taken, bytesOf, AcceptCall, ByAccept, textFrom, afterCalls}
 
 -- ---- what is taken of a trace
 
 -- all its records,
-abbrev pub total : (ℕ → ℕ) → Going → List ℕ → Taking
-total gaps g trace = takeAll (began g) (rideOver gaps (g .ride) 1 (records trace) .lines)
+abbrev pub total : (ℕ → ℕ) → Going → List (List ℕ) → Taking
+total gaps g rs = takeAll (began g) (rideOver gaps (g .ride) 1 rs .lines)
 
 -- and where the run stands then.
 abbrev pub standing : Ride → Taking → Going
 standing ride t = record { ride = ride; run = t .run; troubles = t .troubles }
-
--- Its first n records, and then the rest.
-module _ (gaps : ℕ → ℕ) (g : Going) (left : List ℕ) (n : ℕ) (few : n ≤ length left / 8) where
-  abbrev first : Ridden
-  first = rideOver gaps (g .ride) 1 (firstRecords n left)
-
-  abbrev t : Taking
-  t = takeAll (began g) (first .lines)
-
-  abbrev rest : List ℕ
-  rest = drop (n * 8) left
-
-  abbrev number : ℕ
-  number = 1 + length (firstRecords n left)
-
-  goes : rideOver gaps (g .ride) 1 (records left) ≡ before (first .lines) (rideOver gaps (first .ride) number (records rest))
-  goes = ap (rideOver gaps (g .ride) 1) (cut-records n left few) ∙ ride-on gaps (g .ride) 1 (firstRecords n left) (records rest)
-
-  pub ride-goes : rideOver gaps (g .ride) 1 (records left) .ride ≡ rideOver gaps (first .ride) 1 (records rest) .ride
-  ride-goes = ap (λ (x : Ridden). x .ride) goes ∙ unnumbered gaps (first .ride) number 1 (records rest)
-
-  pub total-goes : total gaps g left ≡ behind (t .text) (total gaps (standing (first .ride) t) rest)
-  total-goes =
-      ap (λ (x : Ridden). takeAll (began g) (x .lines)) goes
-      ∙ take-on (began g) (first .lines) (rideOver gaps (first .ride) number (records rest) .lines)
-      ∙ rides-alike gaps (first .ride) t number 1 (records rest)
-      ∙ after-text (t .run) (t .troubles) (t .text) (rideOver gaps (first .ride) 1 (records rest) .lines)
 
 -- ---- one call
 
@@ -128,53 +103,44 @@ module _ (going : Going) (store : Store) (block before : List ℕ) (r : Advanced
 
 -- ---- all of them
 
--- What calls over a trace come to.
-pub record Comes (gaps : ℕ → ℕ) (g : Going) (trace : List ℕ) (calls : List Call) : Type 0 where
-  pub text : textFrom calls ≡ total gaps g trace .text
-  pub after : afterCalls g calls ≡ standing (rideOver gaps (g .ride) 1 (records trace) .ride) (total gaps g trace)
-
 module _ (store : Store) (good : Good store) where
   abbrev gaps : ℕ → ℕ
   gaps = gapAt store
 
-  one-more : (g : Going) (left : List ℕ) (c : Call) (cs : List Call) (lent : Lent left c) → AcceptInto g store (c .block) (c .before) (c .answer) (c .after)
-      → Comes gaps (c .answer .going) (drop (taken (c .answer .progress) * 8) left) cs → Comes gaps g left (c ∷ cs)
-  one-more g left c cs lent call later =
-      let n : ℕ = many g store (c .block) (c .before) (c .answer) (c .after) good (lent .whole) call in
-      let within = of-these g store (c .block) (c .before) (c .answer) (c .after) good (lent .whole) call in
-      let few : n ≤ length left / 8 = omega (arith, within, ap length (lent .front), length-append (c .block) (lent .rest)) in
-      let fits : n * 8 ≤ length (c .block) = omega (arith, within) in
-      let those : take n (records (c .block)) ≡ firstRecords n left =
-      take-records n (recordsIn (c .block)) (c .block) within ∙ sym (front-records n (c .block) (lent .rest) fits) ∙ ap (firstRecords n) (sym (lent .front)) in
-      let first : Ridden = rideOver gaps (g .ride) 1 (firstRecords n left) in
-      let t : Taking = takeAll (began g) (first .lines) in
-      let then : Going = standing (first .ride) t in
-      let rest : List ℕ = drop (n * 8) left in
-      let going-then : c .answer .going ≡ then =
-      going-is g store (c .block) (c .before) (c .answer) (c .after) good (lent .whole) call
-      ∙ ap (λ (rs : List (List ℕ)). standing (rideOver gaps (g .ride) 1 rs .ride) (takeAll (began g) (rideOver gaps (g .ride) 1 rs .lines))) those in
-      let text-then : take (bytesOf (c .answer .progress)) (c .after) ≡ t .text =
-      text-is g store (c .block) (c .before) (c .answer) (c .after) good (lent .whole) call
-      ∙ ap (λ (rs : List (List ℕ)). takeAll (began g) (rideOver gaps (g .ride) 1 rs .lines) .text) those in
-      let rest-is : drop (taken (c .answer .progress) * 8) left ≡ rest =
-      ap (λ (k : ℕ). drop (k * 8) left) (ap taken (progress-is g store (c .block) (c .before) (c .answer) (c .after) good (lent .whole) call)) in
-      let total-then : total gaps (c .answer .going) (drop (taken (c .answer .progress) * 8) left) ≡ total gaps then rest = ap₂ (total gaps) going-then rest-is in
-      let ride-then : rideOver gaps (c .answer .going .ride) 1 (records (drop (taken (c .answer .progress) * 8) left)) .ride ≡ rideOver gaps (first .ride) 1 (records rest) .ride =
-      ap₂ (λ (h : Going) (l : List ℕ). rideOver gaps (h .ride) 1 (records l) .ride) going-then rest-is in
+  -- some records taken, by a run on its way
+  abbrev pub over : Going → List (List ℕ) → Gone Going
+  over g rs = gone (total gaps g rs .text) (standing (rideOver gaps (g .ride) 1 rs .ride) (total gaps g rs))
+
+  none : (g : Going) → gone [] g ≡ over g []
+  unfolding rideOver takeAll
+  none g = refl
+
+  on : (g : Going) (xs ys : List (List ℕ)) → over g (xs ++ ys) ≡ onFrom (over g xs) (λ (h : Going). over h ys)
+  on g xs ys =
+      let first : Ridden = rideOver gaps (g .ride) 1 xs in
+      let t : Taking = total gaps g xs in
+      let goes = ride-on gaps (g .ride) 1 xs ys in
+      let ride-goes = ap (λ (x : Ridden). x .ride) goes ∙ unnumbered gaps (first .ride) (1 + length xs) 1 ys in
+      let total-goes : total gaps g (xs ++ ys) ≡ behind (t .text) (total gaps (standing (first .ride) t) ys) =
+      ap (λ (x : Ridden). takeAll (began g) (x .lines)) goes
+      ∙ take-on (began g) (first .lines) (rideOver gaps (first .ride) (1 + length xs) ys .lines)
+      ∙ rides-alike gaps (first .ride) t (1 + length xs) 1 ys
+      ∙ after-text (t .run) (t .troubles) (t .text) (rideOver gaps (first .ride) 1 ys .lines) in
+      ap₂ (λ (ride : Ride) (u : Taking). gone (u .text) (standing ride u)) ride-goes total-goes
+
+  takes : (g : Going) (c : Call Advanced) → Whole (c .block) → AcceptCall store g c
+      → Takes over (λ c. taken (c .answer .progress)) (λ c. bytesOf (c .answer .progress)) (λ a. a .going) g c
+  takes g c whole call =
+      let n : ℕ = many g store (c .block) (c .before) (c .answer) (c .after) good whole call in
+      let n-is : taken (c .answer .progress) ≡ n = ap taken (progress-is g store (c .block) (c .before) (c .answer) (c .after) good whole call) in
+      let within = of-these g store (c .block) (c .before) (c .answer) (c .after) good whole call in
       record {
-        text = ap₂ _++_ text-then (later .text ∙ ap (λ (u : Taking). u .text) total-then) ∙ ap (λ (u : Taking). u .text) (sym (total-goes gaps g left n few));
-        after =
-            later .after ∙ ap₂ standing ride-then total-then
-            ∙ ap (λ (r : Ride). standing r (total gaps then rest)) (sym (ride-goes gaps g left n few))
-            ∙ ap (λ (u : Taking). standing (rideOver gaps (g .ride) 1 (records left) .ride) u) (sym (total-goes gaps g left n few));
+        of-these = omega (arith, n-is, within);
+        goes =
+            ap₂ (λ (t : List ℕ) (h : Going). gone t h) (text-is g store (c .block) (c .before) (c .answer) (c .after) good whole call)
+            (going-is g store (c .block) (c .before) (c .answer) (c .after) good whole call)
+            ∙ ap (λ (k : ℕ). over g (take k (records (c .block)))) (sym n-is);
       }
 
-  pub comes : (g : Going) (trace : List ℕ) (calls : List Call) → ByAccept store g trace calls → Comes gaps g trace calls
-  unfolding firstRecords rideOver takeAll
-  comes g trace [] none =
-      record {
-        text = ap (λ (l : List ℕ). total gaps g l .text) (sym none);
-        after = ap (λ (l : List ℕ). standing (rideOver gaps (g .ride) 1 (records l) .ride) (total gaps g l)) (sym none);
-      }
-  comes g trace (c ∷ cs) (lent, call, more) =
-      one-more g trace c cs lent call (comes (c .answer .going) (drop (taken (c .answer .progress) * 8) trace) cs more)
+  pub comes : (g : Going) (trace : List ℕ) (calls : List (Call Advanced)) → ByAccept store g trace calls → gone (textFrom calls) (afterCalls g calls) ≡ over g (records trace)
+  comes = by-calls.comes (λ c. taken (c .answer .progress)) (λ c. bytesOf (c .answer .progress)) (λ a. a .going) over on (AcceptCall store) none takes

@@ -7,12 +7,10 @@ use denote.Ref.{RefT}
 use Rattle.group_rows.specs.declared.Kind.{Kind}
 use Rattle.ride.specs.declared.Line.{Line}
 use Rattle.ride.specs.Over.{firstRecords}
-use Rattle.acceptance.specs.declared.Met.{Met}
 use Rattle.acceptance.specs.declared.Acceptance.{Acceptance}
 use Rattle.acceptance.specs.declared.PlanJudged.{PlanJudged}
 use Rattle.acceptance.specs.declared.Planned.{Planned}
 use Rattle.acceptance.specs.declared.Role.{Role}
-use Rattle.acceptance.specs.declared.Sums.{Sums}
 use Rattle.acceptance.specs.Plan.{placeOf, kindOf, isGood, allGood, entryOf, entriesOf, apart, planWith, wellFormed, plan}
 use Rattle.acceptance.specs.Taking.{planned, waiting, afterWanted, afterExtra, takeGroup, takeLine}
 use Rattle.acceptance.specs.Report.{metIn, sumUp}

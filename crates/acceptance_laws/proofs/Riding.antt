@@ -1,24 +1,18 @@
 -- A ride's lines, by its steps and by the program's calls: both come to the run over the ride's own
 -- lines.
 -- Assumes nothing.
-use Prim.Native.Nat.{ℕ, suc, _+_, _%_, _≤_}
+use Prim.Native.Nat.{ℕ, suc, _+_}
 use native.Mathlib.Omega.{arith}
 use native.Mathlib.Nat.{zero-add}
-use mathlib.Core.Path.{_≡_, refl, sym, ap, ap₂, subst, _∙_}
-use mathlib.Core.Bool.{Bool, true, false}
+use mathlib.Core.Path.{_≡_, refl, sym, ap, ap₂, _∙_}
 use mathlib.Core.List.{List, [], _∷_, _++_}
-use lib.Dec.{eqb}
 use lib.ListN.{length, take}
-use Rattle.words.specs.Answer.{Outcome, gives, refuses, then, pick}
+use Rattle.words.specs.Answer.{refuses}
 use Rattle.settings.specs.declared.Store.{Store}
-use Rattle.settings.specs.Versions.{Kept}
-use Rattle.settings.specs.Store.{judged}
 use Rattle.settings.specs.At.{gapAt}
 use Rattle.settings.proofs.Holding.{holding-at}
 use Rattle.text.proofs.Placing.{placed-start}
-use Rattle.ride.specs.State.{freshRide}
 use Rattle.ride.specs.Record.{odometerOf}
-use Rattle.ride.specs.Joining.{allowed}
 use Rattle.ride.specs.Step.{Step, treat, step, End, end}
 use Rattle.ride.specs.Over.{records, linesFor, Ridden, rideOver}
 use Rattle.ride.specs.Says.{saysLines, saysStepped}
@@ -26,31 +20,30 @@ use Rattle.ride.specs.declared.Ended.{Ended}
 use Rattle.ride.specs.declared.Line.{Line}
 use Rattle.ride.specs.declared.Ride.{Ride}
 use Rattle.ride.specs.declared.Stepped.{Stepped}
-use Rattle.acceptance.specs.declared.Acceptance.{Acceptance}
-use Rattle.acceptance.specs.declared.Took.{Took}
 use Rattle.acceptance.specs.Report.{upToMost}
 use Rattle.acceptance_text.specs.declared.Going.{Going}
 use Rattle.acceptance_text.specs.declared.Advanced.{Advanced}
 use Rattle.acceptance_text.specs.declared.Ending.{Ending}
 use Rattle.acceptance_text.specs.Taking.{Taking, started, takeAll}
-use Rattle.acceptance_text.specs.Accept.{began, Advance, acceptOf, acceptTaken, stands, judgedFirst, accept, Finish, finish}
+use Rattle.acceptance_text.specs.Accept.{began, Advance, acceptOf, acceptTaken, stands, Finish, finish}
 use Rattle.acceptance_text.specs.Says.{saysAdvanced, saysProgress, saysFinished}
 use Rattle.acceptance_text.proofs.Takings.{take-on, behind, after-text}
-use Rattle.acceptance_text.proofs.Ends.{finished, finish-is}
+use Rattle.acceptance_text.proofs.Ends.{accept-refused, accept-length, accept-taken, finished, finish-is}
 use Rattle.demands.specs.Contracts.{Fresh, EndOf}
 use Rattle.demands.specs.Rules.{Decided, Given}
 use Rattle.demands.specs.Stores.{Good, traceRules}
-use Rattle.demands.specs.Sections.{joined, ByStep, linesFrom, afterSteps}
-use Rattle.demands.proofs.Demand1.Rides.{gives-not}
-use Rattle.demands.proofs.Demand1.StoreRules.{records-so}
-use Rattle.acceptance_laws.specs.Contracts.{AcceptInto, FinishInto}
+use Rattle.demands.specs.Sections.{Call, joined, ByStep, linesFrom, afterSteps}
+use Rattle.demands.proofs.Demand1.JudgedFirst.{JudgedFirst}
+use Rattle.demands.proofs.Demand1.JudgedFirst as judging
+use Rattle.demands.proofs.Beside.TraceCalls.{Gone}
+use Rattle.acceptance_laws.specs.Contracts.{AcceptInto}
 use Rattle.acceptance_laws.specs.Lines.{faultsIn, refusedIn}
 use Rattle.acceptance_laws.specs.Accepted.{Run, ended}
-use Rattle.acceptance_laws.specs.Calls.{setOut, Call, ByAccept, textFrom, afterCalls, Last, Ends, wrote, lastText}
+use Rattle.acceptance_laws.specs.Calls.{setOut, ByAccept, afterCalls, Last, Ends, wrote, lastText}
 use Rattle.acceptance_laws.specs.Depot.{rideLines, groupLines, Carried}
 use Rattle.acceptance_laws.proofs.Over.{runOver, answersTo}
 use Rattle.acceptance_laws.proofs.Reports.{taken-are}
-use Rattle.acceptance_laws.proofs.Blocks.{total, standing, accepted-is, comes}
+use Rattle.acceptance_laws.proofs.Blocks.{total, accepted-is, comes}
 use Rattle.acceptance_laws.proofs.Carried.{run-taken, text-taken, faults-taken, refused-taken}
 
 -- ---- by `step`
@@ -91,7 +84,7 @@ finished-is : (going : Going) (l : Last) → Ends going l
 finished-is going l (room, c) =
     ap (saysFinished (l .answer)) (sym (c .4)) ∙ c .5 ∙ ap (finish going) (c .3) ∙ finish-is going (l .before) room
 
-module _ (store : Store) (cards : List (List ℕ)) (f : Ride) (r : Run) (calls : List Call) (last : Last) (good : Good store) (fresh : Fresh f)
+module _ (store : Store) (cards : List (List ℕ)) (f : Ride) (r : Run) (calls : List (Call Advanced)) (last : Last) (good : Good store) (fresh : Fresh f)
     (lines : r .lines ≡ rideLines (gapAt store) cards) (by : ByAccept store (setOut f (r .planned .plan)) (joined cards) calls)
     (ends : Ends (afterCalls (setOut f (r .planned .plan)) calls) last) where
   abbrev start : Going
@@ -102,7 +95,7 @@ module _ (store : Store) (cards : List (List ℕ)) (f : Ride) (r : Run) (calls :
 
   -- what the blocks took, what the end took, and both together
   abbrev blocks : Taking
-  blocks = total (gapAt store) start (joined cards)
+  blocks = total (gapAt store) start (records (joined cards))
 
   abbrev at-end : Taking
   at-end = takeAll (started (blocks .run) (blocks .troubles)) (end (over .ride) .lines)
@@ -121,7 +114,7 @@ module _ (store : Store) (cards : List (List ℕ)) (f : Ride) (r : Run) (calls :
   ended-is : saysFinished (last .answer) (last .after) ≡ finished (end (over .ride) .ride) at-end (last .before)
   ended-is =
       finished-is (afterCalls start calls) last ends
-      ∙ ap (λ (g : Going). finished (end (g .ride) .ride) (takeAll (began g) (end (g .ride) .lines)) (last .before)) (comes store good start (joined cards) calls by .after)
+      ∙ ap (λ (g : Going). finished (end (g .ride) .ride) (takeAll (began g) (end (g .ride) .lines)) (last .before)) (ap (λ (x : Gone Going). x .state) (comes store good start (joined cards) calls by))
 
   run-is : last .answer .going .run ≡ whole .run
   run-is = ap (λ (x : Finish). x .going .run) ended-is ∙ ap (λ (t : Taking). t .run) (sym both)
@@ -143,7 +136,7 @@ module _ (store : Store) (cards : List (List ℕ)) (f : Ride) (r : Run) (calls :
       record {
         run = run-is ∙ run-taken (began start) (r .lines) ∙ sym (taken .1);
         lines =
-            ap₂ _++_ (comes store good start (joined cards) calls by .text) last-is
+            ap₂ _++_ (ap (λ (x : Gone Going). x .text) (comes store good start (joined cards) calls by)) last-is
             ∙ ap (λ (t : Taking). t .text) (sym both)
             ∙ text-taken (began start) (r .lines)
             ∙ ap (groupLines (r .lines)) (sym (taken .0));
@@ -157,41 +150,23 @@ module _ (store : Store) (cards : List (List ℕ)) (f : Ride) (r : Run) (calls :
 
 -- ---- refusals
 
-first : (o : Outcome Kept) (b : Bool) (g : Going) (out : List ℕ) (a : Advance)
-    → then o (λ k. pick b (a .answer) (refuses 16)) ≡ judgedFirst g out o (pick b a (stands g out 16)) .answer
-first (gives k) true g out a = refl
-first (gives k) false g out a = refl
-first (refuses n) b g out a = refl
-
-left-so : (o : Outcome Kept) (b : Bool) (g : Going) (out : List ℕ) (a : Advance) (n : ℕ) → Given (a .answer)
-    → judgedFirst g out o (pick b a (stands g out 16)) .answer ≡ refuses n
-    → judgedFirst g out o (pick b a (stands g out 16)) ≡ stands g out n
-left-so (gives k) true g out a n given e = absurd (gives-not (sym (given .1) ∙ e))
-left-so (gives k) false g out a n given e = let same : 16 ≡ n = cc in ap (stands g out) same
-left-so (refuses m) b g out a n given e = let same : m ≡ n = cc in ap (stands g out) same
-
 module _ (going : Going) (store : Store) (block before : List ℕ) (r : Advanced) (after : List ℕ) (c : AcceptInto going store block before r after) where
-  abbrev all : Advance
-  all = acceptTaken (gapAt store) going (records block) before
-
-  abbrev tests : Advance
-  tests = judgedFirst going before (judged store) (pick (eqb (length block % 8) 0) all (stands going before 16))
-
-  is : saysAdvanced r after ≡ tests
-  unfolding accept
-  is = accepted-is going store block before r after c
-
-  made : Given (all .answer)
-  unfolding acceptOf
-  made = (_, refl)
+  tests : JudgedFirst (λ (a : Advance). a .answer) (stands going before) store block (acceptTaken (gapAt store) going (records block) before) (saysAdvanced r after)
+  tests =
+      let is = sym (accepted-is going store block before r after c) in
+      record {
+        bare = λ n. refl;
+        refused = λ n e. accept-refused going store block before n e ∙ is;
+        short = λ e h. accept-length going store block before e h ∙ is;
+        whole = λ e h. accept-taken going store block before e h ∙ is;
+      }
 
   pub decided : Decided Given (traceRules store block) (saysProgress (r .progress))
-  decided =
-      subst (λ o. Decided Given (traceRules store block) o)
-      (first (judged store) (eqb (length block % 8) 0) going before all ∙ sym (ap (λ (a : Advance). a .answer) is))
-      (records-so store block (all .answer) made)
+  unfolding acceptOf
+  decided = judging.decided tests Given (_, refl)
 
   pub untouched : (n : ℕ) → saysProgress (r .progress) ≡ refuses n → (r .going ≡ going) × (after ≡ before)
+  unfolding acceptOf
   untouched n e =
-      let stays = is ∙ left-so (judged store) (eqb (length block % 8) 0) going before all n made (sym (ap (λ (a : Advance). a .answer) is) ∙ e) in
+      let stays = judging.untouched tests (_, refl) n e in
       (ap (λ (a : Advance). a .going) stays, ap (λ (a : Advance). a .out) stays)

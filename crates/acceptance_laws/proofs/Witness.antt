@@ -2,10 +2,9 @@
 -- Assumes nothing.
 use Prim.Native.Nat.{ℕ, _*_, _%_, _≤_}
 use native.Mathlib.Omega.{arith}
-use mathlib.Core.Path.{_≡_, refl, sym, ap, _∙_}
+use mathlib.Core.Path.{_≡_, refl, sym}
 use mathlib.Core.List.{List, [], _∷_, append-nil}
-use lib.Dec.{eqb}
-use lib.ListN.{length, take, drop, replicate, length-replicate, drop-of-length-le}
+use lib.ListN.{length, take, replicate, length-replicate, drop-of-length-le}
 use borrow.Author.Tests.{eq-eqb}
 use Rattle.settings.specs.declared.Store.{Store}
 use Rattle.settings.specs.At.{gapAt}
@@ -18,18 +17,19 @@ use Rattle.acceptance.specs.declared.Took.{Took}
 use Rattle.acceptance.specs.Taking.{takeLine}
 use Rattle.acceptance_text.specs.declared.Going.{Going}
 use Rattle.acceptance_text.specs.declared.Progress.{Progress}
+use Rattle.acceptance_text.specs.declared.Advanced.{Advanced}
 use Rattle.acceptance_text.specs.declared.Ending.{Ending}
 use Rattle.acceptance_text.specs.Taking.{Taking, takeAll}
-use Rattle.acceptance_text.specs.Accept.{began, acceptOf, taken, finish}
+use Rattle.acceptance_text.specs.Accept.{began, acceptOf, taken}
 use Rattle.acceptance_text.proofs.Ends.{accept-taken, finish-is}
 use Rattle.demands.specs.Output.{recordsIn}
 use Rattle.demands.specs.Stores.{Good}
-use Rattle.demands.specs.Sections.{Whole}
+use Rattle.demands.specs.TraceCalls.{Whole, Call}
 use Rattle.demands.proofs.Beside.Cards.{eights}
 use Rattle.demands.proofs.Witness.CallsMet.{lent}
-use Rattle.acceptance_laws.specs.Contracts.{AcceptInto, FinishInto}
+use Rattle.acceptance_laws.specs.Contracts.{AcceptInto}
 use Rattle.acceptance_laws.specs.Accepted.{Taken}
-use Rattle.acceptance_laws.specs.Calls.{Call, ByAccept, afterCalls, Last, Ends}
+use Rattle.acceptance_laws.specs.Calls.{ByAccept, afterCalls, Last, Ends}
 use Rattle.acceptance_laws.proofs.Over.{answersTo}
 use Rattle.acceptance_laws.proofs.Blocks.{standing, all-taken}
 
@@ -54,7 +54,7 @@ module _ (going : Going) (store : Store) (card : List ℕ) (good : Good store) (
   abbrev took : Taking
   took = takeAll (began going) (ridden .lines)
 
-  abbrev pub the-call : Call
+  abbrev pub the-call : Call Advanced
   the-call =
       record {
         block = card;
@@ -106,7 +106,7 @@ module _ (going : Going) where
       (enough, (([], tt), lent space, (going, (lent (the-last .after), tt)), refl, refl, sym (finish-is going space enough)))
 
 pub such-calls : (going : Going) (store : Store) (card : List ℕ) → Good store → Whole card
-    → (calls : List Call) × (last : Last) × ByAccept store going card calls × Ends (afterCalls going calls) last
+    → (calls : List (Call Advanced)) × (last : Last) × ByAccept store going card calls × Ends (afterCalls going calls) last
 such-calls going store card good whole =
-    let c : Call = the-call going store card good whole in
+    let c : Call Advanced = the-call going store card good whole in
     (c ∷ [], the-last (c .answer .going), by-one-call going store card good whole, ends-so (c .answer .going))

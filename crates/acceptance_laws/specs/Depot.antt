@@ -5,10 +5,10 @@
 -- Assumes nothing.
 use Prim.Native.Nat.{ℕ, _*_, _≤_}
 use mathlib.Core.Path.{_≡_}
-use mathlib.Core.Bool.{true, false}
+use mathlib.Core.Bool.{true}
 use mathlib.Core.List.{List, [], _∷_, _++_}
 use lib.ListN.{length, getD}
-use Rattle.words.specs.Answer.{Outcome, refuses}
+use Rattle.words.specs.Answer.{refuses}
 use Rattle.settings.specs.declared.Store.{Store}
 use Rattle.settings.specs.At.{gapAt}
 use Rattle.group_rows.specs.declared.Direction.{Direction}
@@ -37,11 +37,11 @@ use Rattle.demands.specs.Contracts.{Fresh, EndOf}
 use Rattle.demands.specs.Output.{recordsIn}
 use Rattle.demands.specs.Stores.{Good, traceRules}
 use Rattle.demands.specs.Rules.{Decided, Given}
-use Rattle.demands.specs.Sections.{Whole, joined, ByStep, linesFrom, afterSteps}
+use Rattle.demands.specs.Sections.{Whole, Call, joined, ByStep, linesFrom, afterSteps}
 use Rattle.acceptance_laws.specs.Contracts.{AcceptInto}
 use Rattle.acceptance_laws.specs.Lines.{isGroupFor, firstFor, faultsIn, refusedIn}
 use Rattle.acceptance_laws.specs.Accepted.{Run, ended, Accepted}
-use Rattle.acceptance_laws.specs.Calls.{setOut, Call, taken, ByAccept, textFrom, afterCalls, Last, Ends, lastText}
+use Rattle.acceptance_laws.specs.Calls.{setOut, taken, ByAccept, textFrom, afterCalls, Last, Ends, lastText}
 
 -- The lines of a ride over some cards, with the gap that a rule gives for each record's odometer,
 -- and those of its end.
@@ -57,7 +57,7 @@ groupLines (l ∷ ls) [] = []
 groupLines (l ∷ ls) (t ∷ ts) = partLine l (t .answer) ++ groupLines ls ts
 
 -- What the program's calls leave, against a run over the ride's lines.
-pub record Carried (r : Run) (calls : List Call) (last : Last) : Type 0 where
+pub record Carried (r : Run) (calls : List (Call Advanced)) (last : Last) : Type 0 where
   -- the run that `take` over those lines leaves, which is the one that `report` and `sum_up` are
   -- asked of,
   pub run : last .answer .going .run ≡ ended r
@@ -71,14 +71,14 @@ pub record Carried (r : Run) (calls : List Call) (last : Last) : Type 0 where
 pub record Blocks : Type 0 where
   -- whatever blocks `accept` is called with, and whatever room it has: after the end the run is the
   -- one over the ride's lines
-  pub whole : (store : Store) (cards : List (List ℕ)) (f : Ride) (r : Run) (calls : List Call) (last : Last) → Good store → Fresh f
+  pub whole : (store : Store) (cards : List (List ℕ)) (f : Ride) (r : Run) (calls : List (Call Advanced)) (last : Last) → Good store → Fresh f
       → r .lines ≡ rideLines (gapAt store) cards → ByAccept store (setOut f (r .planned .plan)) (joined cards) calls
       → Ends (afterCalls (setOut f (r .planned .plan)) calls) last → Carried r calls last
   -- so long as it has room for one record, a call takes one, so that the calls come to an end
-  pub goes-on : (going : Going) (store : Store) (c : Call) → Good store → Whole (c .block) → 1 ≤ recordsIn (c .block) → 128 ≤ length (c .before)
+  pub goes-on : (going : Going) (store : Store) (c : Call Advanced) → Good store → Whole (c .block) → 1 ≤ recordsIn (c .block) → 128 ≤ length (c .before)
       → AcceptInto going store (c .block) (c .before) (c .answer) (c .after) → 1 ≤ taken (c .answer .progress)
   -- with room for 128 bytes a record it takes the whole block
-  pub all-at-once : (going : Going) (store : Store) (c : Call) → Good store → Whole (c .block) → 128 * recordsIn (c .block) ≤ length (c .before)
+  pub all-at-once : (going : Going) (store : Store) (c : Call Advanced) → Good store → Whole (c .block) → 128 * recordsIn (c .block) ≤ length (c .before)
       → AcceptInto going store (c .block) (c .before) (c .answer) (c .after) → taken (c .answer .progress) ≡ recordsIn (c .block)
   -- "given exactly under the condition written there": the settings' own refusals, then 16;
   pub decided : (going : Going) (store : Store) (block before : List ℕ) (r : Advanced) (after : List ℕ) → AcceptInto going store block before r after
@@ -126,5 +126,5 @@ pub record Depot : Type 0 where
   pub such-a-ride : (gaps : ℕ → ℕ) (cards : List (List ℕ)) → (r : Run) × (r .lines ≡ rideLines gaps cards)
   -- and over any card of whole records calls that carry it
   pub such-calls : (going : Going) (store : Store) (card : List ℕ) → Good store → Whole card
-      → (calls : List Call) × (last : Last) × ByAccept store going card calls × Ends (afterCalls going calls) last
+      → (calls : List (Call Advanced)) × (last : Last) × ByAccept store going card calls × Ends (afterCalls going calls) last
   pub too-near : TooNear

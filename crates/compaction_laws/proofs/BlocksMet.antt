@@ -21,11 +21,13 @@ use Rattle.ride.specs.Over.{firstRecords}
 use Rattle.compaction.specs.Dropped.{isDropped}
 use Rattle.compaction.specs.Blocks.{waitingRecord, settled, waitsNext, keptOver, waitsAfter}
 use Rattle.compaction.specs.Compact.{bytesOf, settledBlock, compactBlock}
+use Rattle.compaction.specs.declared.Block.{Block}
 use Rattle.compaction.specs.declared.Waiting.{Waiting}
 use Rattle.compaction.proofs.Determined as compaction-is
 use Rattle.demands.specs.Table.{badLength}
 use Rattle.demands.proofs.Witness.CallsMet.{lent}
-use Rattle.compaction_laws.specs.Blocks.{Call, ByBlocks, written, waitsLast}
+use Rattle.demands.specs.TraceCalls.{Call}
+use Rattle.compaction_laws.specs.Blocks.{ByBlocks, written, waitsLast}
 use Rattle.compaction_laws.proofs.TraceMet.{at, marker, two, all}
 
 -- at first none waits
@@ -33,23 +35,25 @@ abbrev none : Waiting
 none = record { ride = freshRide; bytes = replicate 8 0; waits = false }
 
 -- what the contract's own right side says
-abbrev call : Waiting → List ℕ → Call
-call w block = record { block = block; answer = compaction-is.blockOf (compactBlock w two block); after = compactBlock w two block .buffer }
+abbrev call : Waiting → List ℕ → Call Block
+call w block = record { block = block; before = block; answer = compaction-is.blockOf (compactBlock w two block); after = compactBlock w two block .buffer }
 
-abbrev first : Call
+abbrev first : Call Block
 first = call none (take 24 (bytesOf all))
 
-abbrev second : Call
+abbrev second : Call Block
 second = call (first .answer .waiting) (drop 24 (bytesOf all))
 
 blocks-met : ByBlocks two none (bytesOf all) (first ∷ second ∷ [])
 unfolding differing isGood goodPair settingsOf follows noStore versionsOf opened begin allFollow versionsInOrder judged withOne mayAdd add heldFrom heldAt gapAt balises readAll judgeRead judge noGroup nothingKnown freshRide odometerOf passedOf inOrder checkRecord join takeUp close leave closeBehind missedLines afterMissed goOn treat firstRecords isDropped settled waitsNext keptOver waitsAfter settledBlock compactBlock badLength
 blocks-met = (
-  drop 24 (bytesOf all),
-  refl,
-  refl,
-  (([], tt), lent (first .block), (none, (two, (lent (first .after), tt))), refl, refl, refl),
-  ([], refl, refl, (([], tt), lent (second .block), (first .answer .waiting, (two, (lent (second .after), tt))), refl, refl, refl), refl),
+  record { rest = drop 24 (bytesOf all); front = refl; whole = refl },
+  (refl, (([], tt), lent (first .block), (none, (two, (lent (first .after), tt))), refl, refl, refl)),
+  (
+    record { rest = []; front = refl; whole = refl },
+    (refl, (([], tt), lent (second .block), (first .answer .waiting, (two, (lent (second .after), tt))), refl, refl, refl)),
+    refl,
+  ),
 )
 
 -- what they write, and the record that waits after them

@@ -1,5 +1,7 @@
 -- What document 02 promises beside the three demands.
 pub mod Cards
+pub mod TraceCalls
+pub mod Told
 pub mod Blocks
 pub mod Sections
 pub mod Writing

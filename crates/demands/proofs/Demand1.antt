@@ -11,6 +11,7 @@ pub mod Distances
 pub mod Balises
 pub mod Groups
 pub mod StoreRules
+pub mod JudgedFirst
 pub mod Rides
 pub mod Treats
 pub mod Listings

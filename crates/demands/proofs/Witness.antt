@@ -7,5 +7,6 @@ pub mod MarksMet
 pub mod RidesMet
 pub mod ReasonsMet
 pub mod NumbersMet
+pub mod ListsMet
 pub mod SectionsMet
 pub mod StoresMet

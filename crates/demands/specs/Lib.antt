@@ -17,6 +17,7 @@ pub mod Cases
 pub mod RowCases
 pub mod Ride
 pub mod Output
+pub mod TraceCalls
 pub mod ListCalls
 pub mod Sections
 pub mod PlainGap

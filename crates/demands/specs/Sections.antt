@@ -26,11 +26,13 @@ use Rattle.ride.specs.declared.Ride.{Ride}
 use Rattle.ride.specs.declared.Stepped.{Stepped}
 use Rattle.ride_text.specs.Text.{text, textOf}
 use Rattle.ride_text.specs.Style.{plain}
+use Rattle.ride_text.specs.declared.Listed.{Listed}
 use Rattle.demands.specs.Table.{badLength}
 use Rattle.demands.specs.Contracts.{Fresh, StepOf, RunOver, PutEnd, ListInto}
 use Rattle.demands.specs.Stores.{Good}
 use Rattle.demands.specs.Output.{output, recordsIn, Forty}
-pub use Rattle.demands.specs.ListCalls.{Whole, Call, taken, bytesOf, Lent, ByCalls, ByList, textFrom, afterCalls, numberAfter}
+pub use Rattle.demands.specs.TraceCalls.{Whole, Call}
+pub use Rattle.demands.specs.ListCalls.{taken, bytesOf, ByList, textFrom, afterCalls, numberAfter}
 
 -- ---- by `step`
 
@@ -62,8 +64,8 @@ pub record TwoCards : Type 0 where
   pub by-step : (gaps : ℕ → ℕ) (ride : Ride) (number : ℕ) (a b : List ℕ) (p q both : List Stepped) → Whole a → Whole b
       → ByStep gaps ride (records a) p → ByStep gaps (afterSteps ride p) (records b) q → ByStep gaps ride (records (a ++ b)) both
       → (linesFrom number both ≡ linesFrom number p ++ linesFrom (number + recordsIn a) q) × (afterSteps ride both ≡ afterSteps (afterSteps ride p) q)
-  pub by-list : (ride : Ride) (store : Store) (number : ℕ) (a b : List ℕ) (p q both : List Call) → Good store → Whole a → Whole b
-      → ByList store ride number a p → ByList store (afterCalls ride p) (number + recordsIn a) b q → ByList store ride number (a ++ b) both
+  pub by-list : (ride : Ride) (store : Store) (number : ℕ) (a b : List ℕ) (p q both : List (Call Listed)) → Good store → Whole a → Whole b
+      → ByList plain store ride number a p → ByList plain store (afterCalls ride p) (number + recordsIn a) b q → ByList plain store ride number (a ++ b) both
       → (textFrom both ≡ textFrom p ++ textFrom q) × (afterCalls ride both ≡ afterCalls (afterCalls ride p) q)
       × (numberAfter number both ≡ numberAfter (number + recordsIn a) q)
 
@@ -79,9 +81,9 @@ pub record ThreeCards : Type 0 where
       → ByStep gaps ride (records a) a′ → ByStep gaps (afterSteps ride a′) (records (b ++ c)) bc
       → (linesFrom number ab ++ linesFrom (number + recordsIn (a ++ b)) last ≡ linesFrom number a′ ++ linesFrom (number + recordsIn a) bc)
       × (afterSteps (afterSteps ride ab) last ≡ afterSteps (afterSteps ride a′) bc)
-  pub by-list : (ride : Ride) (store : Store) (number : ℕ) (a b c : List ℕ) (ab last a′ bc : List Call) → Good store → Whole a → Whole b → Whole c
-      → ByList store ride number (a ++ b) ab → ByList store (afterCalls ride ab) (number + recordsIn (a ++ b)) c last
-      → ByList store ride number a a′ → ByList store (afterCalls ride a′) (number + recordsIn a) (b ++ c) bc
+  pub by-list : (ride : Ride) (store : Store) (number : ℕ) (a b c : List ℕ) (ab last a′ bc : List (Call Listed)) → Good store → Whole a → Whole b → Whole c
+      → ByList plain store ride number (a ++ b) ab → ByList plain store (afterCalls ride ab) (number + recordsIn (a ++ b)) c last
+      → ByList plain store ride number a a′ → ByList plain store (afterCalls ride a′) (number + recordsIn a) (b ++ c) bc
       → (textFrom ab ++ textFrom last ≡ textFrom a′ ++ textFrom bc) × (afterCalls (afterCalls ride ab) last ≡ afterCalls (afterCalls ride a′) bc)
 
 -- ---- 3. an empty card
@@ -91,7 +93,7 @@ pub record EmptyCard : Type 0 where
   pub by-run : (ride : Ride) (store : Store) (q : Ran) → RunOver ride store [] q → q .ride ≡ ride
   pub by-step : (gaps : ℕ → ℕ) (ride : Ride) (number : ℕ) (q : List Stepped) → ByStep gaps ride (records []) q
       → (linesFrom number q ≡ []) × (afterSteps ride q ≡ ride)
-  pub by-list : (ride : Ride) (store : Store) (number : ℕ) (q : List Call) → Good store → ByList store ride number [] q
+  pub by-list : (ride : Ride) (store : Store) (number : ℕ) (q : List (Call Listed)) → Good store → ByList plain store ride number [] q
       → (textFrom q ≡ []) × (afterCalls ride q ≡ ride) × (numberAfter number q ≡ number)
 
 -- ---- 4. the program's blocks
@@ -124,22 +126,22 @@ outputOf cards = outputBy (λ odometer. 40) cards
 -- Whatever blocks `list` is called with, and whatever room it has, the texts put one after the
 -- other are the text of the whole.
 pub record Blocks : Type 0 where
-  pub whole : (ride : Ride) (store : Store) (number : ℕ) (trace : List ℕ) (calls : List Call) → Good store → ByList store ride number trace calls
+  pub whole : (ride : Ride) (store : Store) (number : ℕ) (trace : List ℕ) (calls : List (Call Listed)) → Good store → ByList plain store ride number trace calls
       → (textFrom calls ≡ textOf (rideOver (gapAt store) ride number (records trace) .lines))
       × (afterCalls ride calls ≡ rideOver (gapAt store) ride number (records trace) .ride)
       × (numberAfter number calls ≡ number + recordsIn trace)
   -- so long as it has room for one record, a call takes one, so that the calls come to an end
-  pub goes-on : (ride : Ride) (store : Store) (number : ℕ) (c : Call) → Good store → Whole (c .block) → 1 ≤ recordsIn (c .block)
+  pub goes-on : (ride : Ride) (store : Store) (number : ℕ) (c : Call Listed) → Good store → Whole (c .block) → 1 ≤ recordsIn (c .block)
       → 128 ≤ length (c .before) → number < largest64
       → ListInto plain ride store number (c .block) (c .before) (c .answer) (c .after) → 1 ≤ taken (c .answer .done)
   -- with room for 128 bytes a record it takes the whole block
-  pub all-at-once : (ride : Ride) (store : Store) (number : ℕ) (c : Call) → Good store → Whole (c .block)
+  pub all-at-once : (ride : Ride) (store : Store) (number : ℕ) (c : Call Listed) → Good store → Whole (c .block)
       → 128 * recordsIn (c .block) ≤ length (c .before) → number + recordsIn (c .block) ≤ largest64
       → ListInto plain ride store number (c .block) (c .before) (c .answer) (c .after) → taken (c .answer .done) ≡ recordsIn (c .block)
   -- the cards from a fresh ride, the first record with the number 1, and then the end by `put_end`:
   -- what the program writes
-  pub program : (store : Store) (f : Ride) (cards : List (List ℕ)) (calls : List Call) (before : List ℕ) (n : ℕ) (after : List ℕ) → Good store → anyBad cards ≡ false
-      → Fresh f → ByList store f 1 (joined cards) calls → 128 ≤ length before → PutEnd plain (afterCalls f calls) before 0 n after
+  pub program : (store : Store) (f : Ride) (cards : List (List ℕ)) (calls : List (Call Listed)) (before : List ℕ) (n : ℕ) (after : List ℕ) → Good store → anyBad cards ≡ false
+      → Fresh f → ByList plain store f 1 (joined cards) calls → 128 ≤ length before → PutEnd plain (afterCalls f calls) before 0 n after
       → textFrom calls ++ take n after ≡ outputUnder store cards
   -- without settings the gap is 40, as document 01 says
   pub forty : (store : Store) (cards : List (List ℕ)) → Forty store → Good store × (outputUnder store cards ≡ outputOf cards)

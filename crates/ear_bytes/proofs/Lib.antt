@@ -6,4 +6,5 @@ pub mod Within
 pub mod SameFrames
 pub mod Pieces
 pub mod Ends
+pub mod Forward
 pub mod Determined

@@ -2,6 +2,7 @@
 -- Assumes nothing.
 use Prim.Native.Nat.{ℕ, _*_, _≤_}
 use mathlib.Core.Path.{_≡_}
+use mathlib.Core.Logic.{_⊎_}
 use mathlib.Core.List.{List, [], _++_}
 use lib.ListN.{length, take, drop}
 use Rattle.settings.specs.declared.Store.{Store}
@@ -36,3 +37,11 @@ AnyRoomAtEnd =
 -- A call at the end that has room for a record and writes none: there is no further one.
 abbrev pub NoneLeft : Type 0
 NoneLeft = (hearing : Hearing) (buffer : List ℕ) → 8 ≤ length buffer → end hearing buffer .wrote .bytes ≡ 0 → theEnd (hearing .tape) .records ≡ []
+
+-- A call that has room for a record goes forward: a record is written, or all whole frames are
+-- used.
+abbrev pub GoesForward : Type 0
+GoesForward =
+    (hearing : Hearing) (store : Store) (lead buffer : List ℕ) → 8 ≤ length buffer →
+    let w : Written = hear hearing store lead buffer in
+    (8 ≤ w .wrote .bytes) ⊎ (w .wrote .frames ≡ framesOf lead)

@@ -6,22 +6,18 @@ use native.Mathlib.Omega.{arith}
 use mathlib.Core.Path.{_≡_, refl, ap₂, _∙_}
 use mathlib.Core.Bool.{Bool, true, false}
 use mathlib.Core.List.{List, [], _∷_, _++_}
-use lib.Dec.{ltb}
 use lib.ListN.{length}
-use Rattle.words.specs.Answer.{Outcome, gives, refuses, then, pick}
+use Rattle.words.specs.Answer.{pick}
 use Rattle.telegram.specs.Stretch.{bitAt}
 use Rattle.settings.specs.declared.Store.{Store}
-use Rattle.contact.specs.Judge.{Contact, read, marker}
-use Rattle.contact.specs.declared.Judged.{Judged}
 use Rattle.antenna.specs.declared.Stand.{Stand}
 use Rattle.antenna.specs.Hearing.{Step, nothing, opened, closed, hear}
-use Rattle.recorder.specs.Record.{Content, bytesOf, contentOf, atOdometer, recordOf}
 use Rattle.recording.specs.declared.Tape.{Tape}
 use Rattle.recording.specs.Frame.{lineOf}
-use Rattle.recording.specs.Kept.{orUnreadable, recordAt}
 use Rattle.recording.specs.Recording.{silent, afterStep, overBits, isDue, position, afterFrame, heldAt, inFrame, itsBits, overFrames, framesOf, overLead, cutIn, isAbove, lastPosition, theEnd, fresh, recorded}
 use Rattle.ride.specs.Over.{firstRecords, records}
 use Rattle.ride.proofs.Cutting.{join-records}
+use Rattle.recording.proofs.Eights.{record-eight}
 use Rattle.lead_text.proofs.OneMore.{only}
 use Rattle.lead_text_laws.specs.Live.{joined}
 
@@ -32,24 +28,6 @@ Eights (r ∷ rs) = (length r ≡ 8) × Eights rs
 both : (rs qs : List (List ℕ)) → Eights rs → Eights qs → Eights (rs ++ qs)
 both [] qs a b = b
 both (r ∷ rs) qs (e, a) b = (e, both rs qs a b)
-
--- ---- a contact's record
-
-made-by : (odometer : ℕ) (c : Content) (b : Bool) → length (orUnreadable odometer (pick {A = Outcome (List ℕ)} b (refuses 18) (gives (bytesOf odometer c)))) ≡ 8
-made-by odometer c true = refl
-made-by odometer c false = refl
-
-made : (odometer : ℕ) (x : Outcome Content) → length (orUnreadable odometer (then x (atOdometer odometer))) ≡ 8
-unfolding atOdometer
-made odometer (gives c) = made-by odometer c (ltb 4000000000 odometer)
-made odometer (refuses n) = refl
-
-record-eight : (odometer : ℕ) (j : Outcome Contact) → length (recordAt odometer j) ≡ 8
-unfolding recordOf
-record-eight odometer (gives (read (gives m) first count)) = made odometer (contentOf (Judged.Read m first count))
-record-eight odometer (gives (read (refuses bad) first count)) = refl
-record-eight odometer (gives marker) = refl
-record-eight odometer (refuses n) = refl
 
 -- ---- bits, frames, the end
 

@@ -5,5 +5,4 @@ pub mod Live
 pub mod LiveMet
 pub mod Eights
 pub mod Explain
-pub mod ExplainMet
 pub mod Demand1

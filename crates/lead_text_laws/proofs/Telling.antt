@@ -1,24 +1,20 @@
--- A ride told in two parts is the whole; and what one listing of some records says.
+-- What one listing of some records says.
 -- Assumes nothing.
-use Prim.Native.Nat.{ℕ, zero, suc, _+_, _-_, _≤_, _<_}
+use Prim.Native.Nat.{ℕ, _+_, _≤_, _<_}
 use native.Mathlib.Omega.{arith}
-use mathlib.Core.Path.{_≡_, refl, sym, ap, ap₂, _∙_, subst}
+use mathlib.Core.Path.{_≡_, refl, sym, ap, ap₂, _∙_}
 use mathlib.Core.Bool.{Bool, true, false}
-use mathlib.Core.List.{List, [], _∷_, _++_, append-assoc, append-nil}
-use lib.Dec.{leb, ltb}
+use mathlib.Core.List.{List, [], _∷_, _++_, append-nil}
 use lib.ListN.{length, take, drop, take-append-drop}
 use lib.Seq.{length-take-le, drop-nil}
 use borrow.Author.Tests.{le-leb, lt-ltb}
 use Rattle.words.specs.Answer.{Outcome, gives, refuses, pick}
 use Rattle.words.specs.Limits.{largest64}
 use Rattle.words.proofs.Never.{cannot-be}
-use Rattle.text.specs.Put.{placed}
 use Rattle.text.proofs.Placing.{placed-start}
 use Rattle.ride.specs.declared.Ride.{Ride}
-use Rattle.ride.specs.Record.{odometerOf}
-use Rattle.ride.specs.Step.{Step, treat}
 use Rattle.ride_text.specs.Style.{withReasons}
-use Rattle.ride_text.specs.Told.{stepText, Told, tellOver}
+use Rattle.ride_text.specs.Told.{Told, tellOver}
 use Rattle.ride_text.specs.List.{taken}
 use Rattle.ride_text.proofs.Taken.{few-taken}
 use Rattle.lead_text.specs.declared.HowFar.{HowFar}
@@ -27,26 +23,6 @@ use Rattle.lead_text.specs.declared.Written.{Written}
 use Rattle.lead_text.specs.Places.{Place}
 use Rattle.lead_text.specs.List.{standing, Wrote, Telling, noneLeft, listOf}
 use Rattle.lead_text.specs.Says.{saysHowFar, saysWritten}
-
--- ---- a ride told on
-
-pub tell-on : (gaps : ℕ → ℕ) (ride : Ride) (number : ℕ) (rs qs : List (List ℕ)) →
-    let first : Told = tellOver withReasons gaps ride number rs in
-    let second : Told = tellOver withReasons gaps (first .ride) (number + length rs) qs in
-    tellOver withReasons gaps ride number (rs ++ qs) ≡ record { text = first .text ++ second .text; ride = second .ride }
-unfolding tellOver
-tell-on gaps ride number [] qs =
-    let same : number ≡ number + 0 = omega arith in
-    ap (λ (n : ℕ). tellOver withReasons gaps ride n qs) same
-tell-on gaps ride number (r ∷ rs) qs =
-    let s : Step = treat ride (gaps (odometerOf r)) r in
-    let t : List ℕ = stepText withReasons number s in
-    let rest : Told = tellOver withReasons gaps (s .ride) (suc number) rs in
-    let same : suc number + length rs ≡ number + suc (length rs) = omega arith in
-    ap (λ (x : Told). record { text = t ++ x .text; ride = x .ride }) (tell-on gaps (s .ride) (suc number) rs qs)
-    ∙ ap (λ (n : ℕ). record { text = t ++ (rest .text ++ tellOver withReasons gaps (rest .ride) n qs .text); ride = tellOver withReasons gaps (rest .ride) n qs .ride }) same
-    ∙ ap (λ (x : List ℕ). record { text = x; ride = tellOver withReasons gaps (rest .ride) (number + suc (length rs)) qs .ride })
-    (sym (append-assoc t (rest .text) (tellOver withReasons gaps (rest .ride) (number + suc (length rs)) qs .text)))
 
 -- ---- how many are taken
 

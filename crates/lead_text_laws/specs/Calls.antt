@@ -12,7 +12,6 @@ use denote.Triple.Clauses.{AtExit}
 use Rattle.settings.specs.declared.Store.{Store}
 use Rattle.ride.specs.declared.Ride.{Ride}
 use Rattle.ride_text.specs.Style.{withReasons}
-use Rattle.ride_text.specs.declared.Listed.{Listed}
 use Rattle.lead_text.specs.declared.Underway.{Underway}
 use Rattle.lead_text.specs.declared.Written.{Written}
 use Rattle.lead_text.proofs.fresh.Kinds as fresh-kinds
@@ -21,8 +20,6 @@ use Rattle.lead_text.proofs.list_frames.Kinds as frames-kinds
 use Rattle.lead_text.proofs.list_frames.Reads as frames-reads
 use Rattle.lead_text.proofs.list_end.Kinds as end-kinds
 use Rattle.lead_text.proofs.list_end.Reads as end-reads
-use Rattle.ride_text.proofs.list.Kinds as list-kinds
-use Rattle.ride_text.proofs.list.Reads as list-reads
 use Rattle.ride_text.proofs.put_end.Kinds as put-kinds
 use Rattle.ride_text.proofs.put_end.Reads as put-reads
 
@@ -52,11 +49,3 @@ PutEnd ride before at n after =
     (κs : Lfts 1) × (buf : RefT (List ℕ)) × (e : AtExit (endedOf 1 put-kinds.ps put-kinds.r) κs)
     × (now buf ≡ before) × (now (e .1 .1 .0) ≡ after)
     × put-reads.Post κs (withReasons, (ride, (buf, (at, tt)))) n e
-
--- The contract of `list` of `ride_text`, with reasons, allows the answer r for this ride, store,
--- number and lent trace, and that the lent buffer holds `after` then.
-abbrev pub ExplainInto : Ride → Store → ℕ → List ℕ → List ℕ → Listed → List ℕ → Type 0
-ExplainInto ride store number trace before r after =
-    (κs : Lfts 2) × (lent : RefT (List ℕ)) × (out : RefT (List ℕ)) × (e : AtExit (endedOf 2 list-kinds.ps list-kinds.r) κs)
-    × (now lent ≡ trace) × (now out ≡ before) × (now (e .1 .1 .1 .1 .1 .0) ≡ after)
-    × list-reads.Post κs (withReasons, (ride, (store, (number, (lent, (out, tt)))))) r e

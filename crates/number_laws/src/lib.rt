@@ -1,3 +1,3 @@
 // Demand 1 for the public functions of crates that `demands` does not rest on: each number exactly
 // under its condition. No code.
-// Specification: specs/Numbers.antt; Records.antt (records and frames); Pictures.antt (a drawing).
+// Specification: specs/Numbers.antt; specs/Records.antt (records and frames).

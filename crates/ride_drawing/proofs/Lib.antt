@@ -9,7 +9,6 @@ pub mod ShortWays
 pub mod Short
 pub mod Judging
 pub mod Signed
-pub mod Blocks
 pub mod AtItsPlace
 pub mod Rising
 pub mod Belonging

@@ -5,7 +5,7 @@ use Prim.Native.Nat.{ℕ, suc, _+_, _/_, _%_}
 use native.Mathlib.Nat.{add-zero}
 use native.Mathlib.Omega.{arith}
 use mathlib.Core.Path.{_≡_, refl, sym, ap, ap₂, subst, _∙_}
-use mathlib.Core.Bool.{Bool, true, false, not}
+use mathlib.Core.Bool.{not}
 use mathlib.Core.List.{List, [], _∷_, _++_, append-assoc}
 use lib.Dec.{eqb}
 use lib.ListN.{length, length-append}
@@ -16,7 +16,6 @@ use Rattle.settings.specs.declared.Store.{Store}
 use Rattle.settings.specs.Versions.{Kept}
 use Rattle.settings.specs.Store.{judged}
 use Rattle.settings.specs.At.{gapAt}
-use Rattle.ride.specs.Record.{odometerOf}
 use Rattle.ride.specs.Over.{firstRecords, records, linesFor, Ridden, through, Run, judgedFirst, run}
 use Rattle.ride.specs.Says.{saysStepped, saysRan}
 use Rattle.ride.specs.declared.Line.{Line}
@@ -39,11 +38,12 @@ pub eights : (card : List ℕ) → Whole card → length card % 8 ≡ 0
 unfolding badLength
 eights card whole = eqb-true (length card % 8) 0 (not-false (eqb (length card % 8) 0) whole)
 
-pub whole-join : (a b : List ℕ) → Whole a → Whole b → Whole (a ++ b)
+pub are-whole : (card : List ℕ) → length card % 8 ≡ 0 → Whole card
 unfolding badLength
-whole-join a b p q =
-    let e : length (a ++ b) % 8 ≡ 0 = omega (arith, eights a p, eights b q, length-append a b) in
-    ap not (eq-eqb (length (a ++ b) % 8) 0 e)
+are-whole card e = ap not (eq-eqb (length card % 8) 0 e)
+
+pub whole-join : (a b : List ℕ) → Whole a → Whole b → Whole (a ++ b)
+whole-join a b p q = are-whole (a ++ b) (omega (arith, eights a p, eights b q, length-append a b))
 
 -- ---- by `run`
 

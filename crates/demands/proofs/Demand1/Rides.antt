@@ -1,30 +1,28 @@
 -- The check of a record, the step and the run refuse as document 01's table says, and leave the
 -- ride as it was.
 -- Assumes nothing.
-use mathlib.Core.Path.{_≡_, refl, sym, subst}
+use mathlib.Core.Path.{_≡_, refl, sym, ap, subst}
 use mathlib.Core.Bool.{Bool, true, false, not}
 use mathlib.Core.List.{List, [], _∷_}
-use Prim.Native.Nat.{ℕ, _%_}
-use lib.Dec.{eqb, ltb}
-use lib.ListN.{length}
-use Rattle.words.specs.Answer.{Outcome, gives, refuses, then, pick}
+use Prim.Native.Nat.{ℕ}
+use lib.Dec.{ltb}
+use Rattle.words.specs.Answer.{Outcome, gives, refuses, pick}
 use Rattle.settings.specs.declared.Store.{Store}
-use Rattle.settings.specs.Versions.{Kept}
-use Rattle.settings.specs.Store.{judged}
 use Rattle.settings.specs.At.{gapAt}
 use Rattle.ride.specs.Record.{Entry, odometerOf, passedOf, inOrder, checkRecord}
 use Rattle.ride.specs.State.{noGroup}
 use Rattle.ride.specs.Joining.{allowed}
 use Rattle.ride.specs.Step.{goOn, refuseOr, refused, treat, step}
-use Rattle.ride.specs.Over.{records, rideOver, through, Run, judgedFirst, run}
+use Rattle.ride.specs.Over.{records, rideOver, through, Run, run}
 use Rattle.ride.specs.declared.Ride.{Ride}
+use Rattle.ride.proofs.Under.{run-refused, run-length, run-through}
 use Rattle.demands.specs.Rules.{row, Decided, Given, Is}
-use Rattle.demands.specs.Table.{badLength, wentBack, tooFar}
+use Rattle.demands.specs.Table.{wentBack, tooFar}
 use Rattle.demands.specs.Lists.{recordRules, stepRules}
 use Rattle.demands.specs.Stores.{traceRules}
 use Rattle.demands.proofs.Common.Rules.{true-not-false, if-so}
 use Rattle.demands.proofs.Common.Spelled.{bad-gap, bad-record}
-use Rattle.demands.proofs.Demand1.StoreRules.{store-so}
+use Rattle.demands.proofs.Demand1.JudgedFirst.{JudgedFirst, decided, untouched}
 use Rattle.words.proofs.Never.{cannot-be}
 
 -- The check of a record: 16, 18, 17.
@@ -69,25 +67,6 @@ stepping ride gap r =
     )
     go false = (λ q. refl, λ q. absurd (true-not-false q))
 
--- what decides a run: the settings, then the length
-run-first : (o : Outcome Kept) (ride : Ride) (r : Run) → then o (λ k. r .answer) ≡ judgedFirst ride o r .answer
-run-first (gives k) ride r = refl
-run-first (refuses n) ride r = refl
-
-length-so : (b : Bool) (ride : Ride) (r : Ride) → Decided (Is through) (row 16 (not b) ∷ [])
-    (pick {A = Run} b (record { answer = gives through; ride = r }) (record { answer = refuses 16; ride = ride }) .answer)
-length-so true ride r = (λ e. absurd (true-not-false (sym e)), λ e. refl)
-length-so false ride r = (λ e. refl, λ e. absurd (true-not-false e))
-
--- A run: the settings' own refusals, then 16.
-pub running : (ride : Ride) (store : Store) (trace : List ℕ) → Decided (Is through) (traceRules store trace) (run ride store trace .answer)
-unfolding run badLength
-running ride store trace =
-    let r : Run = pick (eqb (length trace % 8) 0) (record { answer = gives through; ride = rideOver (gapAt store) ride 1 (records trace) .ride }) (record { answer = refuses 16; ride = ride }) in
-    subst (λ o. Decided (Is through) (traceRules store trace) o) (run-first (judged store) ride r)
-    (store-so (Is through) (λ k. r .answer) (row 16 (badLength trace) ∷ []) store
-    (length-so (eqb (length trace % 8) 0) ride (rideOver (gapAt store) ride 1 (records trace) .ride)))
-
 pub gives-not : {A : Type 0} {x : A} {n : ℕ} → gives x ≡ refuses n → ⊥
 gives-not e = cannot-be cc
 
@@ -103,14 +82,19 @@ step-untouched ride gap r n e = go (allowed gap) (checkRecord (ride .odometer) r
     go true (refuses k) q = (refl, refl)
     go true (gives x) q = absurd (gives-not q)
 
--- A refused run leaves the ride.
-run-none : (o : Outcome Kept) (b : Bool) (ride r : Ride) (n : ℕ)
-    → judgedFirst ride o (pick b (record { answer = gives through; ride = r }) (record { answer = refuses 16; ride = ride })) .answer ≡ refuses n
-    → judgedFirst ride o (pick b (record { answer = gives through; ride = r }) (record { answer = refuses 16; ride = ride })) .ride ≡ ride
-run-none (gives k) true ride r n e = absurd (gives-not e)
-run-none (gives k) false ride r n e = refl
-run-none (refuses m) b ride r n e = refl
+-- A run: the settings' own refusals, then 16; a refused one leaves the ride.
+module _ (ride : Ride) (store : Store) (trace : List ℕ) where
+  tests : JudgedFirst (λ (r : Run). r .answer) (λ (n : ℕ). record { answer = refuses n; ride = ride }) store trace
+      (record { answer = gives through; ride = rideOver (gapAt store) ride 1 (records trace) .ride }) (run ride store trace)
+  tests = record {
+    bare = λ n. refl;
+    refused = run-refused ride store trace;
+    short = run-length ride store trace;
+    whole = run-through ride store trace;
+  }
 
-pub run-untouched : (ride : Ride) (store : Store) (trace : List ℕ) (n : ℕ) → run ride store trace .answer ≡ refuses n → run ride store trace .ride ≡ ride
-unfolding run
-run-untouched ride store trace n e = run-none (judged store) (eqb (length trace % 8) 0) ride (rideOver (gapAt store) ride 1 (records trace) .ride) n e
+  pub running : Decided (Is through) (traceRules store trace) (run ride store trace .answer)
+  running = decided tests (Is through) refl
+
+  pub run-untouched : (n : ℕ) → run ride store trace .answer ≡ refuses n → run ride store trace .ride ≡ ride
+  run-untouched n e = ap (λ (r : Run). r .ride) (untouched tests (through, refl) n e)

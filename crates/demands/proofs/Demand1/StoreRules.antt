@@ -14,7 +14,7 @@ use Rattle.settings.specs.Versions.{allowed, highest, Kept, kept, settingsOf, f
 use Rattle.settings.specs.Store.{versionsOf, allFollow, inOrder, judged}
 use Rattle.demands.specs.Table.{notSeven, badLength}
 use Rattle.demands.specs.Table02.{tooHigh, notAbove, startsLate, overfull}
-use Rattle.demands.specs.Rules.{Rule, row, Decided, Given}
+use Rattle.demands.specs.Rules.{Rule, row, Decided}
 use Rattle.demands.specs.Stores.{settingsRules, versionRules, laterRules, orderRules, storeRules}
 use Rattle.demands.proofs.Common.Rules.{true-not-false, if-not}
 use Rattle.demands.proofs.Common.Spelled.{bad-gap}
@@ -90,9 +90,9 @@ store-so Reading next rules store rest =
 
 -- A function under a store that asks of its bytes only that they are records: the store's own
 -- refusal, then 16.
-pub records-so : {A : Type 0} (store : Store) (bytes : List ℕ) (made : Outcome A) → Given made
-    → Decided Given (storeRules store (row 16 (badLength bytes) ∷ [])) (then (judged store) (λ k. pick (eqb (length bytes % 8) 0) made (refuses 16)))
+pub records-so : {A : Type 0} (Reading : Outcome A → Type 0) (store : Store) (bytes : List ℕ) (made : Outcome A) → Reading made
+    → Decided Reading (storeRules store (row 16 (badLength bytes) ∷ [])) (then (judged store) (λ k. pick (eqb (length bytes % 8) 0) made (refuses 16)))
 unfolding badLength
-records-so store bytes made g =
-    store-so Given (λ k. pick (eqb (length bytes % 8) 0) made (refuses 16)) (row 16 (badLength bytes) ∷ []) store
-    (if-not Given [] (refuses 16) made g (eqb (length bytes % 8) 0))
+records-so Reading store bytes made g =
+    store-so Reading (λ k. pick (eqb (length bytes % 8) 0) made (refuses 16)) (row 16 (badLength bytes) ∷ []) store
+    (if-not Reading [] (refuses 16) made g (eqb (length bytes % 8) 0))

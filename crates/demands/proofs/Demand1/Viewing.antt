@@ -1,7 +1,7 @@
 -- Demand 1 holds of the viewer's functions: opening judges the settings first and then the length,
 -- forward the end, back the kept count.
 -- Assumes nothing.
-use Prim.Native.Nat.{ℕ, _/_, _%_}
+use Prim.Native.Nat.{ℕ, _/_}
 use mathlib.Core.Path.{_≡_, refl, sym, ap, subst, _∙_}
 use mathlib.Core.Bool.{Bool, true, false, not}
 use mathlib.Core.List.{List, [], _∷_}
@@ -20,9 +20,8 @@ use Rattle.ride.proofs.Determined.{linesOf, lines-back}
 use Rattle.viewer.specs.declared.Standing.{Standing}
 use Rattle.viewer.specs.declared.Viewer.{Viewer}
 use Rattle.viewer.specs.Stand.{opened, returned}
-use Rattle.viewer.specs.Viewing.{Done, done, Start, unopened, opens, start, Forward, stays, byStep, under, stepOf, forward, Back, back}
+use Rattle.viewer.specs.Viewing.{Done, done, Start, unopened, start, Forward, stays, byStep, under, stepOf, forward, Back, back}
 use Rattle.viewer.specs.Says.{Holding, Over, over}
-use Rattle.demands.specs.Table.{badLength}
 use Rattle.demands.specs.Table02.{nothingKept, atEnd}
 use Rattle.demands.specs.Rules.{Rule, row, Decided, Is}
 use Rattle.demands.specs.Lists.{forwardRules, backRules}
@@ -31,28 +30,20 @@ use Rattle.demands.specs.Viewing.{ViewersDecided, ViewersUntouched}
 use Rattle.demands.proofs.Common.Rules.{true-not-false}
 use Rattle.demands.proofs.Demand1.Rides.{gives-not}
 use Rattle.demands.proofs.Demand1.StoreRules.{store-so}
+use Rattle.demands.proofs.Demand1.JudgedFirst.{JudgedFirst, decided, untouched}
 
 -- ---- opening
 
--- a viewer over a trace of whole records or not
-abbrev whole : Store → List ℕ → Bool → Start
-whole store trace t = pick t (record { answer = gives done; trace = trace; stand = opened store }) (unopened store 16)
+module _ (store : Store) (trace : List ℕ) where
+  tests : JudgedFirst (λ (x : Start). x .answer) (unopened store) store trace (record { answer = gives done; trace = trace; stand = opened store }) (start store trace)
+  unfolding start
+  tests = record { bare = λ n. refl; refused = λ n e. rw e; short = λ e h. rw (e, h); whole = λ e h. rw (e, h) }
 
-whole-so : (store : Store) (trace : List ℕ) (t : Bool) → Decided (Is done) (row 16 (not t) ∷ []) (whole store trace t .answer)
-whole-so store trace true = (λ e. absurd (true-not-false (sym e)), λ e. refl)
-whole-so store trace false = (λ e. refl, λ e. absurd (true-not-false e))
+  start-so : Decided (Is done) (traceRules store trace) (start store trace .answer)
+  start-so = decided tests (Is done) refl
 
-opens-then : (store : Store) (trace : List ℕ) (o : Outcome Kept)
-    → then o (λ k. whole store trace (eqb (length trace % 8) 0) .answer) ≡ opens store trace o .answer
-opens-then store trace (gives k) = refl
-opens-then store trace (refuses n) = refl
-
-start-so : (store : Store) (trace : List ℕ) → Decided (Is done) (traceRules store trace) (start store trace .answer)
-unfolding start badLength
-start-so store trace =
-    let t : Bool = eqb (length trace % 8) 0 in
-    subst (λ (o : Outcome Done). Decided (Is done) (storeRules store (row 16 (not t) ∷ [])) o) (opens-then store trace (judged store))
-    (store-so (Is done) (λ k. whole store trace t .answer) (row 16 (not t) ∷ []) store (whole-so store trace t))
+  start-left : (n : ℕ) → start store trace .answer ≡ refuses n → start store trace ≡ unopened store n
+  start-left n e = untouched tests (done, refl) n e
 
 -- ---- forward and back
 
@@ -105,16 +96,6 @@ viewers-decided = record {
 }
 
 -- ---- what a refusal leaves
-
-opens-none : (store : Store) (trace : List ℕ) (o : Outcome Kept) (t : Bool) (n : ℕ) → eqb (length trace % 8) 0 ≡ t
-    → opens store trace o .answer ≡ refuses n → opens store trace o ≡ unopened store n
-opens-none store trace (gives k) true n h e = absurd (gives-not (rw h at e))
-opens-none store trace (gives k) false n h e = rw h (let q : whole store trace false .answer ≡ refuses n = rw h at e in let same : 16 ≡ n = cc in ap (unopened store) same)
-opens-none store trace (refuses m) t n h e = let same : m ≡ n = cc in ap (unopened store) same
-
-start-left : (store : Store) (trace : List ℕ) (n : ℕ) → start store trace .answer ≡ refuses n → start store trace ≡ unopened store n
-unfolding start
-start-left store trace n e = opens-none store trace (judged store) (eqb (length trace % 8) 0) n refl e
 
 forward-none : (s : Standing) (o : Outcome Kept) (step : Forward) (t : Bool) (n : ℕ) → step .answer ≡ gives done
     → pick t (under s o step) (stays s 23) .answer ≡ refuses n → pick t (under s o step) (stays s 23) ≡ stays s n

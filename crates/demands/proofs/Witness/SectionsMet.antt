@@ -1,13 +1,11 @@
 -- The hypotheses of the laws on rides in sections are met, by `step`: document 01's ride, cut after
 -- its first record, is ridden card by card; so is a ride with a number, cut before its number
--- balise; and a call that takes a whole card. (By `run` and `list`: StoresMet.antt.)
+-- balise. (By `list`: ListsMet.antt; by `run`: StoresMet.antt.)
 -- Assumes nothing.
-use Prim.Native.Nat.{ℕ, _+_, _*_, _%_, _≤_}
-use native.Mathlib.Omega.{arith}
-use mathlib.Core.Path.{_≡_, refl, sym, _∙_}
-use mathlib.Core.List.{List, [], _∷_, _++_, append-nil}
-use lib.ListN.{length, take, drop, replicate, length-replicate, drop-of-length-le}
-use Rattle.words.specs.Limits.{largest64}
+use Prim.Native.Nat.{ℕ}
+use mathlib.Core.Path.{_≡_, refl}
+use mathlib.Core.List.{List, [], _∷_}
+use lib.ListN.{take, drop}
 use Rattle.words.specs.Bits.{word}
 use Rattle.words.specs.Plain.{isCheck, covers, count, even, isCode, onwards, figure}
 use Rattle.words.specs.Code.{other, exchanged, readWord}
@@ -29,62 +27,15 @@ use Rattle.ride.specs.Linking.{markAt}
 use Rattle.ride.specs.Closing.{close, leave}
 use Rattle.ride.specs.Step.{closeBehind, missedLines, afterMissed, goOn, treat, step}
 use Rattle.ride.specs.Joining.{join, takeUp}
-use Rattle.ride.specs.Over.{records, Ridden, rideOver, firstRecords}
+use Rattle.ride.specs.Over.{records, rideOver, firstRecords}
 use Rattle.ride.specs.declared.Stepped.{Stepped}
 use Rattle.ride.specs.declared.Line.{Line}
 use Rattle.ride.specs.declared.Mark.{Mark}
 use Rattle.ride.specs.declared.Ride.{Ride}
-use Rattle.text.specs.Put.{placed}
-use Rattle.ride_text.specs.Style.{plain}
-use Rattle.ride_text.specs.Text.{textOf}
-use Rattle.ride_text.specs.List.{taken}
-use Rattle.ride_text.specs.declared.Done.{Done}
-use Rattle.ride_text.specs.declared.Listed.{Listed}
 use Rattle.ride.proofs.Determined as ride-is
 use Rattle.demands.specs.Table.{badLength}
-use Rattle.demands.specs.Output.{recordsIn, ridden, oneRide}
-use Rattle.demands.specs.Sections.{Whole, Call, ByCalls, ByStep, linesFrom}
-use Rattle.demands.proofs.Beside.Cards.{eights}
-use Rattle.demands.proofs.Beside.Blocks.{Taking}
-
--- ---- by `list`
-
-module _ (gaps : ℕ → ℕ) (ride : Ride) (number : ℕ) (card : List ℕ) where
-  -- a buffer with 128 bytes for each record
-  abbrev pub room : List ℕ
-  room = replicate (128 * recordsIn card) 0
-
-  abbrev pub many : ℕ
-  many = taken plain gaps ride number (length room) (records card)
-
-  abbrev pub over : Ridden
-  over = rideOver gaps ride number (take many (records card))
-
-  abbrev pub written : List ℕ
-  written = textOf (over .lines)
-
-  -- one call with the whole card
-  abbrev pub theCall : Call
-  theCall =
-      record {
-        block = card;
-        before = room;
-        answer = record { ride = over .ride; number = number + many; done = Done.Took many (length written) };
-        after = placed written room 0;
-      }
-
-  -- it takes all of the card
-  pub all-met : (Lists : Ride → ℕ → List ℕ → List ℕ → Listed → List ℕ → Type 0) → Taking gaps Lists → Lists ride number card room (theCall .answer) (theCall .after)
-      → Whole card → number + recordsIn card ≤ largest64 → ByCalls Lists ride number card (theCall ∷ [])
-  all-met Lists takes call whole small =
-      let t = takes ride number card room (theCall .answer) (theCall .after) whole call in
-      let enough : 128 * recordsIn card ≤ length room = omega (arith, length-replicate {A = ℕ} (128 * recordsIn card) 0) in
-      let all : many ≡ recordsIn card = took (t .n) (t .bytes) (t .took) ∙ t .all-with-room enough small in
-      let behind : length card ≤ many * 8 = omega (arith, eights card whole) in
-      (record { rest = []; front = sym (append-nil card); whole = whole }, call, drop-of-length-le card behind)
-    where
-      took : (n bytes : ℕ) → Done.Took many (length written) ≡ Done.Took n bytes → many ≡ n
-      took n bytes e = cc
+use Rattle.demands.specs.Output.{ridden, oneRide}
+use Rattle.demands.specs.Sections.{Whole, ByStep, linesFrom}
 
 -- ---- by `step`
 

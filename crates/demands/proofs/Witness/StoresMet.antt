@@ -2,22 +2,18 @@
 -- a pair that is not 00 and 7F; one of two versions is good, and document 01's ride, cut after its
 -- first record, is ridden and listed under it card by card.
 -- Assumes nothing.
-use Prim.Native.Nat.{ℕ, _+_, _%_, _≤_}
+use Prim.Native.Nat.{ℕ, _%_}
 use native.Mathlib.Omega.{arith}
-use mathlib.Core.Path.{_≡_, refl, sym, _∙_}
-use mathlib.Core.Bool.{true, false}
+use mathlib.Core.Path.{_≡_, refl}
+use mathlib.Core.Bool.{false}
 use mathlib.Core.List.{List, [], _∷_}
 use lib.Dec.{eqb}
 use lib.ListN.{length}
-use Rattle.words.specs.Answer.{gives}
-use Rattle.words.specs.Limits.{largest64}
-use Rattle.words.specs.Bits.{bit}
 use Rattle.telegram.specs.Sync.{differing, isGood, goodPair}
 use Rattle.settings.specs.declared.Begun.{Begun}
 use Rattle.settings.specs.declared.Store.{Store}
 use Rattle.settings.specs.declared.Verdict.{Verdict}
-use Rattle.settings.specs.declared.Version.{Version}
-use Rattle.settings.specs.Versions.{kept, settingsOf, follows}
+use Rattle.settings.specs.Versions.{settingsOf, follows}
 use Rattle.settings.specs.Store.{noStore, versionsOf, firstOf, opened, begin, withOne, allFollow, inOrder, judged}
 use Rattle.settings.specs.At.{heldFrom, heldAt, gapAt}
 use Rattle.ride.specs.declared.Ran.{Ran}
@@ -27,18 +23,17 @@ use Rattle.ride.specs.declared.Way.{Way}
 use Rattle.ride.specs.Over.{records, rideOver}
 use Rattle.ride.proofs.Under.{run-through}
 use Rattle.ride_text.specs.Style.{plain}
-use Rattle.ride_text.proofs.Judging.{list-taken}
-use Rattle.ride_text.proofs.SameLines.{plain-listed}
+use Rattle.ride_text.specs.declared.Listed.{Listed}
 use Rattle.demands.specs.Table.{badLength, notSeven}
-use Rattle.demands.specs.Output.{Forty, recordsIn}
+use Rattle.demands.specs.Output.{Forty}
 use Rattle.demands.specs.PlainGap.{Opened}
 use Rattle.demands.specs.Sections.{Whole, Call, ByList, afterCalls}
-use Rattle.demands.specs.Contracts.{RunOver, ListInto}
+use Rattle.demands.specs.Contracts.{RunOver}
 use Rattle.demands.specs.Stores.{BeginStore, Good}
 use Rattle.demands.proofs.Common.Rules.{not-false}
 use Rattle.demands.proofs.Witness.CallsMet.{lent}
-use Rattle.demands.proofs.Witness.SectionsMet.{room, theCall, all-met, firstCard, secondCard, whole-met}
-use Rattle.demands.proofs.Beside.Sections.{Lists, takes}
+use Rattle.demands.proofs.Witness.ListsMet.{theCall, list-met}
+use Rattle.demands.proofs.Witness.SectionsMet.{firstCard, secondCard, whole-met}
 
 -- ---- any card under any good store
 
@@ -55,26 +50,6 @@ module _ (store : Store) (ride : Ride) (card : List ℕ) (good : Good store) (wh
     refl,
     run-through ride store card good (not-false (eqb (length card % 8) 0) whole),
   )
-
-module _ (store : Store) (ride : Ride) (number : ℕ) (card : List ℕ) (good : Good store) (whole : Whole card) where
-  abbrev pub underCall : Call
-  underCall = theCall (gapAt store) ride number card
-
-  called : ListInto plain ride store number card (underCall .before) (underCall .answer) (underCall .after)
-  unfolding badLength
-  called = (
-    ([], ([], tt)),
-    lent card,
-    lent (underCall .before),
-    (plain, (ride, (store, (number, (lent card, (lent (underCall .after), tt)))))),
-    refl,
-    refl,
-    refl,
-    sym (plain-listed (gapAt store) ride number _ (records card) (underCall .before)) ∙ list-taken plain ride store number card (underCall .before) good (not-false (eqb (length card % 8) 0) whole),
-  )
-
-  pub under-met : number + recordsIn card ≤ largest64 → ByList store ride number card (underCall ∷ [])
-  under-met small = all-met (gapAt store) ride number card (Lists store) (takes store good) called whole small
 
 -- ---- one version, and two
 
@@ -106,16 +81,16 @@ plain-met = record { s = 0x01; t = 0x7E; pair = opened-met .0; begun = opened-me
 
 -- ---- its cards
 
-abbrev firstCall : Call
-firstCall = underCall two freshRide 1 firstCard two-good (whole-met .0)
+abbrev firstCall : Call Listed
+firstCall = theCall plain two freshRide 1 firstCard
 
-abbrev secondCall : Call
-secondCall = underCall two (firstCall .answer .ride) 2 secondCard two-good (whole-met .1)
+abbrev secondCall : Call Listed
+secondCall = theCall plain two (firstCall .answer .ride) 2 secondCard
 
-cards-met : ByList two freshRide 1 firstCard (firstCall ∷ []) × ByList two (afterCalls freshRide (firstCall ∷ [])) 2 secondCard (secondCall ∷ [])
+cards-met : ByList plain two freshRide 1 firstCard (firstCall ∷ []) × ByList plain two (afterCalls freshRide (firstCall ∷ [])) 2 secondCard (secondCall ∷ [])
 cards-met = (
-  under-met two freshRide 1 firstCard two-good (whole-met .0) (omega arith),
-  under-met two (firstCall .answer .ride) 2 secondCard two-good (whole-met .1) (omega arith),
+  list-met plain two freshRide 1 firstCard two-good (whole-met .0) (omega arith),
+  list-met plain two (firstCall .answer .ride) 2 secondCard two-good (whole-met .1) (omega arith),
 )
 
 abbrev firstRan : Ran
