@@ -30,10 +30,6 @@ use Rattle.acceptance_text.proofs.put_refused.Kinds as put-refused-kind
 use Rattle.acceptance_text.proofs.put_refused.Reads as put-refused-reads
 use Rattle.text.proofs.Putting.{same-put}
 
--- A place and a buffer that came of the same text.
-same-put : {r r′ : ℕ} {x x′ : List ℕ} → came r x ≡ came r′ x′ → (r ≡ r′) × (x ≡ x′)
-same-put e = (ap (λ (v : Put). v .next) e, ap (λ (v : Put). v .buffer) e)
-
 pub put-entry-determined : FixedWith 1 put-entry-kinds.ps put-entry-kinds.r put-entry-reads.Post (λ κs x. now (x .1 .1 .0))
 put-entry-determined κs a r r′ x x′ p q = same-put (p ∙ sym q)
 

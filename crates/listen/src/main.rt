@@ -7,9 +7,8 @@
 mod out;
 mod pieces;
 
+use console::PairAsked;
 use console::is_input;
-use console::sync_word;
-use figures::Byte;
 use libc::STDIN_FILENO;
 use telegram::Pair;
 
@@ -47,11 +46,7 @@ fn main() {
         console::usage(b"listen", b"listen FILE S S*");
         return;
     }
-    let Byte::Is(s) = sync_word(b"listen", b"S", 2) else {
-        return;
-    };
-    let Byte::Is(t) = sync_word(b"listen", b"S*", 3) else {
-        return;
-    };
-    open(s, t);
+    if let PairAsked::Is(s, t) = console::sync_pair(b"listen", 2) {
+        open(s, t);
+    }
 }

@@ -2,7 +2,7 @@
 ghost use Prim.Native.Nat.{_≤_};
 ghost use lib.ListN.{length};
 use crate::out;
-use crate::out::Out;
+use crate::out::LinesOut;
 use antenna::Ear;
 use antenna::Until;
 use console::Far;
@@ -12,7 +12,7 @@ use console::wipe;
 
 // Where the listening stands: the ear, how many bits were heard before, how far that is, and
 // whether all writes so far succeeded.
-struct Heard {
+struct HeardSoFar {
     ear: Ear,
     bits: u64,
     far: Far,
@@ -20,12 +20,12 @@ struct Heard {
 }
 
 // The lines of the contacts that close in a piece.
-fn over(from: Heard, s: u8, t: u8, piece: &[u8], buf: &mut [u8]) -> Heard
+fn over(from: HeardSoFar, s: u8, t: u8, piece: &[u8], buf: &mut [u8]) -> HeardSoFar
     requires { ⌜ length (now piece) ≤ 65536 ⌝ }
 {
     let bits = piece.len() * 8;
     let mut ear = from.ear;
-    let mut out = Out {
+    let mut out = LinesOut {
         length: 0,
         is_good: true,
     };
@@ -58,7 +58,7 @@ fn over(from: Heard, s: u8, t: u8, piece: &[u8], buf: &mut [u8]) -> Heard
         }
     }
     let before = from.far;
-    Heard {
+    HeardSoFar {
         ear,
         bits: std::num::wrapping_add_u64(from.bits, bits as u64),
         far: go_on_somehow(before, true, bits / 8),
@@ -67,14 +67,14 @@ fn over(from: Heard, s: u8, t: u8, piece: &[u8], buf: &mut [u8]) -> Heard
 }
 
 // The same for the front of the block, so many bytes long.
-fn front(from: Heard, s: u8, t: u8, block: &[u8], count: usize, buf: &mut [u8]) -> Heard
+fn front(from: HeardSoFar, s: u8, t: u8, block: &[u8], count: usize, buf: &mut [u8]) -> HeardSoFar
     requires { ⌜ (count ≤ length (now block)) × (length (now block) ≤ 65536) ⌝ }
 {
     over(from, s, t, &block[..count], buf)
 }
 
 // What is said at the end of the line.
-fn end(from: Heard) -> bool {
+fn end(from: HeardSoFar) -> bool {
     let far = from.far;
     wipe(far);
     let ear = from.ear;
@@ -86,8 +86,8 @@ fn end(from: Heard) -> bool {
 }
 
 // A line that has not begun.
-fn fresh() -> Heard {
-    Heard {
+fn fresh() -> HeardSoFar {
+    HeardSoFar {
         ear: antenna::fresh(),
         bits: 0,
         far: not_begun(),
