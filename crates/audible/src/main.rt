@@ -7,8 +7,7 @@
 mod list;
 mod out;
 
-use console::sync_word;
-use figures::Byte;
+use console::PairAsked;
 use telegram::Pair;
 
 fn main() {
@@ -16,10 +15,7 @@ fn main() {
         console::usage(b"audible", b"audible S S*");
         return;
     }
-    let Byte::Is(s) = sync_word(b"audible", b"S", 1) else {
-        return;
-    };
-    let Byte::Is(t) = sync_word(b"audible", b"S*", 2) else {
+    let PairAsked::Is(s, t) = console::sync_pair(b"audible", 1) else {
         return;
     };
     let Pair::Good = telegram::good_pair(s, t) else {

@@ -1,12 +1,12 @@
 // What the arguments ask for.
 ghost use Prim.Native.Nat.{_≤_};
-use console::sync_word;
-use figures::Byte;
+use console::FigureAsked;
+use console::PairAsked;
 use figures::Figure;
 
 // A balise: its figures, its sync words, the number of telegrams, and the bytes of quiet line
 // around them.
-pub struct Call {
+pub struct BaliseCall {
     pub x: u8,
     pub y: u16,
     pub z: u8,
@@ -18,29 +18,15 @@ pub struct Call {
 
 // What is asked for; that there are too few or too many arguments; or that one of them is wrong,
 // which was said.
-pub enum Called {
-    For(Call),
+pub enum BaliseAsked {
+    For(BaliseCall),
     Usage,
     Said,
 }
 
-// A number of the command line, where the largest asked for stands for all above it; or none, which
-// was said.
-enum Taken {
-    Is(u64),
-    Said,
-}
-
-// Argument k, of this name, as a number up to `most`.
-fn figure(name: &[u8], k: usize, most: u64) -> Taken {
-    match console::number(k, most) {
-        Figure::Number(n) => Taken::Is(n),
-        Figure::Above => Taken::Is(most),
-        Figure::Odd => {
-            console::wrong(b"balise", name, b"figure", k);
-            Taken::Said
-        }
-    }
+// Argument k, of this name, as a number up to `most`, which stands for all above it.
+fn figure(name: &[u8], k: usize, most: u64) -> FigureAsked {
+    console::figure(b"balise", name, k, most)
 }
 
 // A figure of one byte, of two and of four: the largest stands for all above it, and is refused as
@@ -67,35 +53,32 @@ fn four_bytes(n: u64) -> u32 {
 }
 
 // The bytes of quiet line, argument k if there is one: 0 to 65,535.
-fn idle(k: usize) -> Taken {
+fn idle(k: usize) -> FigureAsked {
     if os::arg_count() <= k {
-        return Taken::Is(0);
+        return FigureAsked::Is(0);
     }
     let asked = console::number(k, 65535);
     let Figure::Number(n) = asked else {
         console::wrong(b"balise", b"IDLE", b"figure up to 65,535", k);
-        return Taken::Said;
+        return FigureAsked::Said;
     };
-    Taken::Is(n)
+    FigureAsked::Is(n)
 }
 
 // The call with these figures, its sync words from argument k on.
-fn with_figures(x: u64, y: u64, z: u64, k: usize) -> Called
+fn with_figures(x: u64, y: u64, z: u64, k: usize) -> BaliseAsked
     requires { ⌜ k ≤ 4 ⌝ }
 {
-    let Byte::Is(s) = sync_word(b"balise", b"S", k) else {
-        return Called::Said;
+    let PairAsked::Is(s, t) = console::sync_pair(b"balise", k) else {
+        return BaliseAsked::Said;
     };
-    let Byte::Is(t) = sync_word(b"balise", b"S*", k + 1) else {
-        return Called::Said;
+    let FigureAsked::Is(n) = figure(b"N", k + 2, 4294967295) else {
+        return BaliseAsked::Said;
     };
-    let Taken::Is(n) = figure(b"N", k + 2, 4294967295) else {
-        return Called::Said;
+    let FigureAsked::Is(idle) = idle(k + 3) else {
+        return BaliseAsked::Said;
     };
-    let Taken::Is(idle) = idle(k + 3) else {
-        return Called::Said;
-    };
-    Called::For(Call {
+    BaliseAsked::For(BaliseCall {
         x: one_byte(x),
         y: two_bytes(y),
         z: one_byte(z),
@@ -115,34 +98,34 @@ fn are_there(words: usize, fewest: usize) -> bool {
 }
 
 // A call with three figures.
-fn by_figures(x: u64, y: u64) -> Called {
+fn by_figures(x: u64, y: u64) -> BaliseAsked {
     if !are_there(os::arg_count(), 7) {
-        return Called::Usage;
+        return BaliseAsked::Usage;
     }
-    let Taken::Is(z) = figure(b"Z", 3, 255) else {
-        return Called::Said;
+    let FigureAsked::Is(z) = figure(b"Z", 3, 255) else {
+        return BaliseAsked::Said;
     };
     with_figures(x, y, z, 4)
 }
 
 // A call with 12 and a number.
-fn by_number(number: u64) -> Called {
+fn by_number(number: u64) -> BaliseAsked {
     if !are_there(os::arg_count(), 6) {
-        return Called::Usage;
+        return BaliseAsked::Usage;
     }
     with_figures(12, number, 0, 3)
 }
 
 // The whole call: three figures, or 12 and a number.
-pub fn arguments() -> Called {
+pub fn arguments() -> BaliseAsked {
     if os::arg_count() < 6 {
-        return Called::Usage;
+        return BaliseAsked::Usage;
     }
-    let Taken::Is(x) = figure(b"X", 1, 255) else {
-        return Called::Said;
+    let FigureAsked::Is(x) = figure(b"X", 1, 255) else {
+        return BaliseAsked::Said;
     };
-    let Taken::Is(y) = figure(b"Y", 2, 65535) else {
-        return Called::Said;
+    let FigureAsked::Is(y) = figure(b"Y", 2, 65535) else {
+        return BaliseAsked::Said;
     };
     if x == 12 {
         return by_number(y);

@@ -8,8 +8,8 @@ ghost use lib.ListN.{length};
 
 mod asked;
 
-use asked::Call;
-use asked::Called;
+use asked::BaliseAsked;
+use asked::BaliseCall;
 use balise_writer::Written;
 use libc::STDOUT_FILENO;
 
@@ -48,7 +48,7 @@ fn send(bytes: &[u8], count: usize, idle: usize) {
 }
 
 // The balise that is asked for, or why it is refused.
-fn answer(call: Call) {
+fn answer(call: BaliseCall) {
     let mut out = [0u8; 4001];
     let written = balise_writer::write(call.x, call.y, call.z, call.s, call.t, call.n, &mut out);
     match written {
@@ -63,11 +63,11 @@ fn answer(call: Call) {
 
 fn main() {
     match asked::arguments() {
-        Called::For(call) => answer(call),
-        Called::Usage => console::usage(
+        BaliseAsked::For(call) => answer(call),
+        BaliseAsked::Usage => console::usage(
             b"balise",
             b"balise X Y Z S S* N [IDLE], or balise 12 NUMBER S S* N [IDLE]",
         ),
-        Called::Said => {}
+        BaliseAsked::Said => {}
     }
 }

@@ -11,7 +11,7 @@ use settings::Store;
 
 // Where the trace stands: what waits, how many records came and how many were kept, and whether all
 // writes so far succeeded.
-struct Stand {
+struct KeptSoFar {
     waiting: Waiting,
     records: u64,
     kept: u64,
@@ -19,14 +19,14 @@ struct Stand {
 }
 
 // Compacts a block, and writes what is kept of it.
-fn write_block(from: Stand, store: Store, block: &mut [u8]) -> Stand {
+fn write_block(from: KeptSoFar, store: Store, block: &mut [u8]) -> KeptSoFar {
     let waiting = from.waiting;
     let records = counts::more(from.records, block.len() / 8);
     let done = compaction::compact_block(waiting, store, block);
     let then = done.waiting;
     let size = done.size;
     let Size::Bytes(bytes) = size else {
-        return Stand {
+        return KeptSoFar {
             waiting: then,
             records,
             kept: from.kept,
@@ -34,7 +34,7 @@ fn write_block(from: Stand, store: Store, block: &mut [u8]) -> Stand {
         };
     };
     let is_good = console::write(STDOUT_FILENO, block, bytes);
-    Stand {
+    KeptSoFar {
         waiting: then,
         records,
         kept: counts::more(from.kept, bytes / 8),
@@ -43,14 +43,14 @@ fn write_block(from: Stand, store: Store, block: &mut [u8]) -> Stand {
 }
 
 // The same for the front of a buffer, so many bytes long.
-fn write_front(from: Stand, store: Store, block: &mut [u8], read: usize) -> Stand
+fn write_front(from: KeptSoFar, store: Store, block: &mut [u8], read: usize) -> KeptSoFar
     requires { ⌜ read ≤ length (now block) ⌝ }
 {
     write_block(from, store, &mut block[..read])
 }
 
 // Writes the last record, which waits for none, and says the counts.
-fn write_last(stand: Stand) {
+fn write_last(stand: KeptSoFar) {
     let waiting = stand.waiting;
     if !waiting.waits {
         counts::say(stand.records, stand.kept);
@@ -70,14 +70,12 @@ fn cannot_write() {
 }
 
 // What comes after the last block: the last record and the counts, or what failed.
-fn finish(how: Goes, stand: Stand) {
-    match how {
-        Goes::End => write_last(stand),
-        Goes::CannotOpen(number) => console::cannot_open(b"compact", number),
-        Goes::CannotRead(number) => console::cannot_read(b"compact", number),
-        Goes::NoRoom => {}
-        Goes::More => {}
-    }
+fn finish(how: Goes, stand: KeptSoFar) {
+    let Goes::End = how else {
+        console::say_goes(b"compact", how);
+        return;
+    };
+    write_last(stand);
 }
 
 // The compacted trace of all records of the cards, whose lengths were kept, as one ride. A proved
@@ -85,7 +83,7 @@ fn finish(how: Goes, stand: Stand) {
 // that no run uses up.
 pub fn write_cards(store: Store, first: usize, lengths: &[u64], block: &mut [u8]) {
     let ride = ride::fresh();
-    let mut stand = Stand {
+    let mut stand = KeptSoFar {
         waiting: Waiting {
             ride,
             bytes: [0; 8],

@@ -8,7 +8,7 @@
 mod blocks;
 mod counts;
 
-use console::CardsFound;
+use console::Cards;
 use console::Given;
 use settings::Store;
 
@@ -22,19 +22,15 @@ fn usage() {
 fn go_over(store: Store, first: usize) {
     let mut lengths = [0u64; 8192];
     let mut block = io::large_buffer();
-    let found = console::go_over(first, &mut lengths, &mut block);
-    match found {
-        CardsFound::Cards => {
+    match console::find_cards(b"compact", first, &mut lengths, &mut block) {
+        Cards::Whole => {
             if !console::to_terminal(b"compact") {
                 blocks::write_cards(store, first, &lengths, &mut block);
             }
         }
-        CardsFound::BadLength(_) => console::refuse(b"compact", 16),
-        CardsFound::NoCard => usage(),
-        CardsFound::TooMany => console::say_found(b"compact", found),
-        CardsFound::CannotOpen(_) => console::say_found(b"compact", found),
-        CardsFound::CannotRead(_) => console::say_found(b"compact", found),
-        CardsFound::Once(_) => console::say_found(b"compact", found),
+        Cards::BadLength => console::refuse(b"compact", 16),
+        Cards::NoCard => usage(),
+        Cards::Said => {}
     }
 }
 

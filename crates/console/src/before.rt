@@ -5,10 +5,11 @@ ghost use Prim.Native.Nat.{_+_};
 ghost use lib.ListN.{length};
 ghost use Rattle.settings.specs.Store.{noStore};
 ghost use Rattle.console.specs.Asked.{cardsFrom, Ridden};
+use crate::arguments::is_option;
 use crate::lengths::open_card;
 use crate::reading::fill;
 use crate::saying::cannot_write;
-use crate::status::Ended;
+use crate::status::CallEnded;
 use crate::status::tell;
 use crate::streams::write;
 use crate::telling::cannot_open;
@@ -44,16 +45,6 @@ fn room() -> [u8; 1048577]
     [0; 1048577]
 }
 
-// Whether this argument is `-s`.
-fn is_option(at: u8) -> bool {
-    let mut text = io::buffer();
-    let length = os::arg(at as usize, &mut text);
-    if os::errno() != 0 {
-        return false;
-    }
-    (length == 2) & (text[0] == b'-') & (text[1] == b's')
-}
-
 // Says what is wrong with the settings. That they are too long is no result.
 fn tell_of(program: &[u8], aside: bool, line: u32, how: Condition) {
     let mut text = [0u8; 128];
@@ -71,13 +62,13 @@ fn tell_of(program: &[u8], aside: bool, line: u32, how: Condition) {
 }
 
 // How a call ends by bad settings: refused by a number, or their text cannot be read.
-fn ended(how: Condition) -> Ended {
+fn ended(how: Condition) -> CallEnded {
     match how {
-        Condition::Refused(_) => Ended::Refused,
-        Condition::Fine => Ended::Said,
-        Condition::TooLong => Ended::Said,
-        Condition::Unreadable => Ended::Said,
-        Condition::FirstPlace => Ended::Said,
+        Condition::Refused(_) => CallEnded::Refused,
+        Condition::Fine => CallEnded::Said,
+        Condition::TooLong => CallEnded::Said,
+        Condition::Unreadable => CallEnded::Said,
+        Condition::FirstPlace => CallEnded::Said,
     }
 }
 
@@ -141,7 +132,7 @@ fn from_file(program: &[u8], aside: bool, at: u8, fd: i32) -> AskedFor
 pub fn options_at(program: &[u8], aside: bool, at: u8) -> AskedFor
     ensures { λ r. ⌜ (r .first ≡ cardsFrom at (r .how)) × Ridden (r .how) (r .store) ⌝ }
 {
-    if !is_option(at) {
+    if !is_option(at as usize, b's') {
         let begun = settings::begin(GAP, 0x00, 0x7F);
         let store = begun.store;
         return AskedFor {

@@ -34,7 +34,7 @@ pub enum Goes {
 
 // What a block leaves: the pass, how many bytes of whole records stand at the start of the block,
 // and how it goes on.
-pub struct Block {
+pub struct CardBlock {
     pub pass: Pass,
     pub read: usize,
     pub how: Goes,
@@ -55,7 +55,7 @@ pub fn begin(first: usize) -> Pass
 }
 
 // The pass with the next card open, of which there are so many bytes.
-fn with_card(pass: Pass, begun: usize, number: usize, bytes: u64) -> Block
+fn with_card(pass: Pass, begun: usize, number: usize, bytes: u64) -> CardBlock
     ensures { λ r. ⌜ r .read ≡ 0 ⌝ }
 {
     let fd = open_card(number);
@@ -65,7 +65,7 @@ fn with_card(pass: Pass, begun: usize, number: usize, bytes: u64) -> Block
         Goes::More
     };
     let far = pass.far;
-    Block {
+    CardBlock {
         pass: Pass {
             first: pass.first,
             begun,
@@ -81,12 +81,12 @@ fn with_card(pass: Pass, begun: usize, number: usize, bytes: u64) -> Block
 
 // The pass after so many bytes, with its card closed: it has no further one, or is shorter by now,
 // or a read of it failed.
-fn closed(pass: Pass, read: usize, how: Goes) -> Block
+fn closed(pass: Pass, read: usize, how: Goes) -> CardBlock
     ensures { λ r. ⌜ r .read ≡ read ⌝ }
 {
     libc::close(pass.fd);
     let far = pass.far;
-    Block {
+    CardBlock {
         pass: Pass {
             first: pass.first,
             begun: pass.begun,
@@ -101,7 +101,7 @@ fn closed(pass: Pass, read: usize, how: Goes) -> Block
 }
 
 // So many bytes of the open card into block, no more than are left of it: whole records.
-fn read_on(pass: Pass, want: usize, block: &mut [u8]) -> Block
+fn read_on(pass: Pass, want: usize, block: &mut [u8]) -> CardBlock
     requires { ⌜ want ≤ length (now block) ⌝ }
     requires { ⌜ want ≤ pass .left ⌝ }
     ensures { λ r. ⌜ (r .read ≤ want) × (r .read % 8 ≡ 0) ⌝ }
@@ -116,7 +116,7 @@ fn read_on(pass: Pass, want: usize, block: &mut [u8]) -> Block
         return closed(pass, read, Goes::More);
     }
     let far = pass.far;
-    Block {
+    CardBlock {
         pass: Pass {
             first: pass.first,
             begun: pass.begun,
@@ -131,7 +131,7 @@ fn read_on(pass: Pass, want: usize, block: &mut [u8]) -> Block
 }
 
 // The next block of the open card: as many whole records as are left of it and have room.
-fn next_of_card(pass: Pass, block: &mut [u8]) -> Block
+fn next_of_card(pass: Pass, block: &mut [u8]) -> CardBlock
     ensures { λ r. ⌜ (r .read ≤ length (now (block .entry))) × (r .read % 8 ≡ 0) ⌝ }
 {
     let left = pass.left;
@@ -149,7 +149,7 @@ fn next_of_card(pass: Pass, block: &mut [u8]) -> Block
 }
 
 // The same with how far it is told; where the pass is over that is wiped out.
-fn told(got: Block, lengths: &[u64]) -> Block
+fn told(got: CardBlock, lengths: &[u64]) -> CardBlock
     ensures { λ r. ⌜ r .read ≡ got .read ⌝ }
 {
     let pass = got.pass;
@@ -161,7 +161,7 @@ fn told(got: Block, lengths: &[u64]) -> Block
         return got;
     };
     let far = go_on(before, true, read, lengths);
-    Block {
+    CardBlock {
         pass: Pass {
             first: pass.first,
             begun: pass.begun,
@@ -177,7 +177,7 @@ fn told(got: Block, lengths: &[u64]) -> Block
 
 // The next records of the cards, whose lengths were kept, into block: whole ones. Where a card
 // begins or ends there are none.
-pub fn next_block(pass: Pass, lengths: &[u64], block: &mut [u8]) -> Block
+pub fn next_block(pass: Pass, lengths: &[u64], block: &mut [u8]) -> CardBlock
     ensures { λ r. ⌜ (r .read ≤ length (now (block .entry))) × (r .read % 8 ≡ 0) ⌝ }
 {
     if pass.fd >= 0 {
@@ -186,7 +186,7 @@ pub fn next_block(pass: Pass, lengths: &[u64], block: &mut [u8]) -> Block
     let first = pass.first;
     let begun = pass.begun;
     if begun >= named(first, lengths.len()) {
-        let end = Block {
+        let end = CardBlock {
             pass,
             read: 0,
             how: Goes::End,

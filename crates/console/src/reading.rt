@@ -5,7 +5,7 @@ use crate::progress::Far;
 use crate::progress::go_on_somehow;
 
 // How many bytes were read, and whether a read failed then.
-pub struct Got {
+pub struct Filled {
     pub count: usize,
     pub failed: bool,
 }
@@ -18,24 +18,24 @@ pub struct Length {
 }
 
 // Reads once into buf: no byte where the file ends.
-fn read_some(fd: i32, buf: &mut [u8]) -> Got
+fn read_some(fd: i32, buf: &mut [u8]) -> Filled
     ensures { λ r. ⌜ r .count ≤ length (now (buf .entry)) ⌝ }
 {
     let got = libc::read(fd, buf);
     if got < 0 {
-        return Got {
+        return Filled {
             count: 0,
             failed: true,
         };
     }
-    Got {
+    Filled {
         count: io::count(got, buf),
         failed: false,
     }
 }
 
 // Fills buf; a count below its length says that the file ends there.
-pub fn fill(fd: i32, buf: &mut [u8]) -> Got
+pub fn fill(fd: i32, buf: &mut [u8]) -> Filled
     ensures { λ r. ⌜ r .count ≤ length (now (buf .entry)) ⌝ }
 {
     let mut have = 0;
@@ -49,7 +49,7 @@ pub fn fill(fd: i32, buf: &mut [u8]) -> Got
         }
         have += count;
     }
-    Got {
+    Filled {
         count: have,
         failed,
     }

@@ -1,5 +1,5 @@
 // What a program says on standard error: one line that begins with its name.
-use crate::status::Ended;
+use crate::status::CallEnded;
 use crate::status::tell;
 use crate::streams::write;
 use libc::STDERR_FILENO;
@@ -35,19 +35,19 @@ pub fn fail_with(program: &[u8], number: usize, words: &[u8]) {
     io::write_all(STDERR_FILENO, b" ");
     io::write_all(STDERR_FILENO, words);
     io::write_all(STDERR_FILENO, b"\n");
-    tell(Ended::Said);
+    tell(CallEnded::Said);
 }
 
 // `PROGRAM: WORDS`, and the call came to nothing.
 pub fn fail(program: &[u8], words: &[u8]) {
     say(program, words);
-    tell(Ended::Said);
+    tell(CallEnded::Said);
 }
 
 // `PROGRAM: WORDS ARGUMENT`, likewise.
 pub fn fail_of(program: &[u8], words: &[u8], number: usize) {
     say_of(program, words, number);
-    tell(Ended::Said);
+    tell(CallEnded::Said);
 }
 
 // `PROGRAM: usage: CALL`.
@@ -56,7 +56,7 @@ pub fn usage(program: &[u8], call: &[u8]) {
     io::write_all(STDERR_FILENO, b": usage: ");
     io::write_all(STDERR_FILENO, call);
     io::write_all(STDERR_FILENO, b"\n");
-    tell(Ended::Said);
+    tell(CallEnded::Said);
 }
 
 // `PROGRAM: cannot write`.
@@ -71,7 +71,7 @@ pub fn wrong(program: &[u8], name: &[u8], what: &[u8], number: usize) {
     io::write_all(STDERR_FILENO, name);
     io::write_all(STDERR_FILENO, b" is no ");
     say_argument(what, number);
-    tell(Ended::Said);
+    tell(CallEnded::Said);
 }
 
 // `WHAT: ARGUMENT`, at the end of a line.
@@ -91,7 +91,7 @@ pub fn refuse(program: &[u8], number: u8) {
     io::write_all(STDERR_FILENO, program);
     io::write_all(STDERR_FILENO, b": ");
     write(STDERR_FILENO, &line, count);
-    tell(Ended::Refused);
+    tell(CallEnded::Refused);
 }
 
 // Whether a program's bytes would go to a terminal; then that is said.

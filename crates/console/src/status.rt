@@ -8,7 +8,7 @@ const LAUNCHER: i32 = 9;
 // came to nothing, and that was said; or nothing was said, and a card cannot be opened or read, a
 // write failed, the arguments are wrong, there are too many cards, or a card cannot be gone over
 // twice.
-pub enum Ended {
+pub enum CallEnded {
     Refused,
     Said,
     Unread,
@@ -30,14 +30,14 @@ fn put_digit(digit: &[u8]) {
 }
 
 // Tells the launcher. Where more than once is told, the last counts.
-pub fn tell(ended: Ended) {
+pub fn tell(ended: CallEnded) {
     match ended {
-        Ended::Refused => put_digit(b"1"),
-        Ended::Said => put_digit(b"2"),
-        Ended::Unread => put_digit(b"3"),
-        Ended::Unwritten => put_digit(b"4"),
-        Ended::Usage => put_digit(b"5"),
-        Ended::TooMany => put_digit(b"6"),
-        Ended::Once => put_digit(b"7"),
+        CallEnded::Refused => put_digit(b"1"),
+        CallEnded::Said => put_digit(b"2"),
+        CallEnded::Unread => put_digit(b"3"),
+        CallEnded::Unwritten => put_digit(b"4"),
+        CallEnded::Usage => put_digit(b"5"),
+        CallEnded::TooMany => put_digit(b"6"),
+        CallEnded::Once => put_digit(b"7"),
     }
 }

@@ -115,18 +115,13 @@ pub fn put_no_strip() -> bool {
     write(b"</p>\n<pre>")
 }
 
-// What stands before and after the verdict on a ride with a plan.
-pub fn put_verdict() -> bool {
+// What stands before lines, those of the verdict or of the listing, and after the verdict's.
+pub fn put_lines() -> bool {
     write(b"<pre>")
 }
 
-pub fn put_verdict_end() -> bool {
+pub fn put_lines_end() -> bool {
     write(b"</pre>\n")
-}
-
-// What stands before the listing.
-pub fn put_listing() -> bool {
-    write(b"<pre>")
 }
 
 // The end of the page.

@@ -1,22 +1,13 @@
 // The strips of a ride, block by block.
-ghost use mathlib.Core.Path.{_≡_};
 ghost use Prim.Native.Nat.{_≤_};
-ghost use lib.ListN.{length};
 use console::Goes;
 use ride_drawing::Drawing;
 use ride_drawing::Plan;
 use ride_text::Done;
 use settings::Store;
 
-// Room for what the records of a part of a block add.
-pub fn room() -> [u8; 1048576]
-    ensures { λ r. ⌜ 1048576 ≡ length r ⌝ }
-{
-    [0; 1048576]
-}
-
 // Where the drawing stands, and whether all reads and writes so far succeeded.
-struct Stand {
+struct DrawnSoFar {
     drawing: Drawing,
     is_good: bool,
 }
@@ -41,7 +32,13 @@ fn written(done: Done, most: usize, out: &[u8]) -> usize
 }
 
 // The records of a block: as many at once as have room.
-fn draw_records(plan: Plan, from: Stand, store: Store, records: &[u8], out: &mut [u8]) -> Stand {
+fn draw_records(
+    plan: Plan,
+    from: DrawnSoFar,
+    store: Store,
+    records: &[u8],
+    out: &mut [u8],
+) -> DrawnSoFar {
     let mut drawing = from.drawing;
     let mut i: usize = 0;
     while i < records.len() / 8 {
@@ -50,40 +47,30 @@ fn draw_records(plan: Plan, from: Stand, store: Store, records: &[u8], out: &mut
         drawing = drawn.drawing;
         let took = written(done, records.len() / 8 - i, out);
         if took == 0 {
-            return Stand {
+            return DrawnSoFar {
                 drawing,
                 is_good: false,
             };
         }
         i += took;
     }
-    Stand {
+    DrawnSoFar {
         drawing,
         is_good: true,
     }
 }
 
 // What comes after the last block: the end of the ride, or what failed.
-fn finish(plan: Plan, how: Goes, stand: Stand, out: &mut [u8]) -> bool {
-    match how {
-        Goes::End => {
-            let drawing = stand.drawing;
-            let pen = drawing.pen;
-            let ride = drawing.ride;
-            let n = ride_drawing::draw_end(plan, pen, ride, out, 0);
-            console::put(b"draw", out, n)
-        }
-        Goes::CannotOpen(number) => {
-            console::cannot_open(b"draw", number);
-            false
-        }
-        Goes::CannotRead(number) => {
-            console::cannot_read(b"draw", number);
-            false
-        }
-        Goes::NoRoom => false,
-        Goes::More => false,
-    }
+fn finish(plan: Plan, how: Goes, stand: DrawnSoFar, out: &mut [u8]) -> bool {
+    let Goes::End = how else {
+        console::say_goes(b"draw", how);
+        return false;
+    };
+    let drawing = stand.drawing;
+    let pen = drawing.pen;
+    let ride = drawing.ride;
+    let n = ride_drawing::draw_end(plan, pen, ride, out, 0);
+    console::put(b"draw", out, n)
 }
 
 // All records of the cards, whose lengths were kept, as one ride, and its end. A proved loop has to
@@ -98,7 +85,7 @@ fn draw_blocks(
     block: &mut [u8],
     out: &mut [u8],
 ) -> bool {
-    let mut stand = Stand {
+    let mut stand = DrawnSoFar {
         drawing,
         is_good: true,
     };
@@ -128,7 +115,6 @@ pub fn draw_cards(
     first: usize,
     lengths: &[u64],
     block: &mut [u8],
-    out: &mut [u8],
 ) -> bool {
     let ride = ride::fresh();
     let pen = ride_drawing::fresh_pen();
@@ -137,5 +123,6 @@ pub fn draw_cards(
         number: 1,
         pen,
     };
-    draw_blocks(plan, drawing, store, first, lengths, block, out)
+    let mut out = console::room();
+    draw_blocks(plan, drawing, store, first, lengths, block, &mut out)
 }

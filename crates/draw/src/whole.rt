@@ -1,29 +1,20 @@
 // The whole page of a ride.
-use crate::comparing::Compared;
 use crate::page;
 use crate::strips;
-use acceptance::Acceptance;
-use console::Ended;
+use acceptance_console::Compared;
 use ride_drawing::Plan;
 use ride_text::REASONS;
 use settings::Store;
 
-// The sum and what a depot signs. A ride that did not pass is told.
-fn put_verdict(run: Acceptance, faults: u64, refused: u64) -> bool {
-    let sums = acceptance::sum_up(run);
-    let mut text = [0u8; 384];
-    let next = acceptance_text::put_sum(sums, &mut text, 0);
-    let count = acceptance_text::put_last(sums, faults, refused, &mut text, next);
-    if !page::put_verdict() {
+// The sum and what a depot signs.
+fn put_verdict(compared: Compared) -> bool {
+    if !page::put_lines() {
         return false;
     }
-    if !console::put(b"draw", &text, count) {
+    if !acceptance_console::put_verdict(b"draw", compared) {
         return false;
     }
-    if !acceptance_text::is_passed(sums) {
-        console::tell(Ended::Refused);
-    }
-    page::put_verdict_end()
+    page::put_lines_end()
 }
 
 // The page of a ride: its head, the strips, the verdict where there is a plan, the listing, its
@@ -35,9 +26,9 @@ pub fn draw_ride(
     first: usize,
     lengths: &[u64],
     block: &mut [u8],
-    out: &mut [u8],
 ) {
-    let run = compared.run;
+    let going = compared.going;
+    let run = going.run;
     let plan = Plan {
         run,
         asked: is_planned,
@@ -45,15 +36,15 @@ pub fn draw_ride(
     if !page::put_head(is_planned) {
         return;
     }
-    if !strips::draw_cards(plan, store, first, lengths, block, out) {
+    if !strips::draw_cards(plan, store, first, lengths, block) {
         return;
     }
     if is_planned {
-        if !put_verdict(run, compared.faults, compared.refused) {
+        if !put_verdict(compared) {
             return;
         }
     }
-    if page::put_listing() {
+    if page::put_lines() {
         ride_console::list_all(b"draw", REASONS, store, first, lengths, block);
         page::put_foot();
     }
@@ -63,7 +54,7 @@ pub fn draw_ride(
 pub fn draw_refused() {
     if page::put_head(false) {
         if page::put_no_strip() {
-            ride_console::refuse_trace(b"draw", REASONS);
+            console::refuse_trace(b"draw");
             page::put_foot();
         }
     }

@@ -1,8 +1,7 @@
 // The settings before the leads: a sync pair, or a file.
 use console::AskedFor;
 use console::Given;
-use console::sync_word;
-use figures::Byte;
+use console::PairAsked;
 use settings::Verdict;
 use settings_text::no_store;
 
@@ -57,10 +56,7 @@ fn pair_named(program: &[u8], aside: bool) -> AskedFor {
     if os::arg_count() < AFTER {
         return none(Given::Usage);
     }
-    let Byte::Is(s) = sync_word(program, b"S", 1) else {
-        return none(Given::Said);
-    };
-    let Byte::Is(t) = sync_word(program, b"S*", 2) else {
+    let PairAsked::Is(s, t) = console::sync_pair(program, 1) else {
         return none(Given::Said);
     };
     pair(program, aside, s, t)

@@ -4,9 +4,8 @@
 // antenna_text and contact_text, piece by piece, by line_console.
 // Specification: none of its own; what the pieces come to is crates/antenna_text_laws, what cannot
 // be said of a program's reads and writes stands in docs/EXCEPTIONS.md.
+use console::PairAsked;
 use console::is_input;
-use console::sync_word;
-use figures::Byte;
 use libc::STDIN_FILENO;
 use telegram::Pair;
 
@@ -42,11 +41,7 @@ fn main() {
         console::usage(b"listen", b"listen FILE S S*");
         return;
     }
-    let Byte::Is(s) = sync_word(b"listen", b"S", 2) else {
-        return;
-    };
-    let Byte::Is(t) = sync_word(b"listen", b"S*", 3) else {
-        return;
-    };
-    open(s, t);
+    if let PairAsked::Is(s, t) = console::sync_pair(b"listen", 2) {
+        open(s, t);
+    }
 }

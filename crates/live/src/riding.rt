@@ -8,7 +8,7 @@ use ride_text::REASONS;
 use settings::Store;
 
 // Where the program stands: the ride under way, and whether all so far went well.
-struct Stand {
+struct RiddenSoFar {
     underway: Underway,
     is_good: bool,
 }
@@ -20,7 +20,7 @@ fn write(out: &[u8], count: usize) -> bool {
 
 // The lines of the first `count` bytes of the block, whole frames: as far as the room goes, and
 // again, until they are used.
-fn piece(from: Underway, store: Store, block: &[u8], count: usize, out: &mut [u8]) -> Stand
+fn piece(from: Underway, store: Store, block: &[u8], count: usize, out: &mut [u8]) -> RiddenSoFar
     requires { ⌜ count ≤ length (now block) ⌝ }
 {
     let mut underway = from;
@@ -33,7 +33,7 @@ fn piece(from: Underway, store: Store, block: &[u8], count: usize, out: &mut [u8
         match how {
             HowFar::Over(bytes) => {
                 let is_good = write(out, bytes);
-                return Stand { underway, is_good };
+                return RiddenSoFar { underway, is_good };
             }
             HowFar::Full(bytes) => {
                 if !write(out, bytes) {
@@ -46,7 +46,7 @@ fn piece(from: Underway, store: Store, block: &[u8], count: usize, out: &mut [u8
         }
         turns -= 1;
     }
-    Stand {
+    RiddenSoFar {
         underway,
         is_good: false,
     }
@@ -88,7 +88,7 @@ fn finish(how: leads::ReadingGoes, underway: Underway, store: Store, out: &mut [
 pub fn all(store: Store, first: usize) {
     let mut block = io::large_buffer();
     let mut out = io::large_buffer();
-    let mut stand = Stand {
+    let mut stand = RiddenSoFar {
         underway: lead_text::fresh(),
         is_good: true,
     };

@@ -7,7 +7,7 @@
 mod call;
 mod pieces;
 
-use call::Called;
+use call::NoiseAsked;
 
 // The lead with noise, by way of a block of 65,536 bytes.
 fn send(seed: u32, chance: u32) {
@@ -20,8 +20,8 @@ fn main() {
         return;
     }
     match call::arguments() {
-        Called::For { seed, chance } => send(seed, chance),
-        Called::Usage => console::usage(b"noise", b"noise SEED N [LEAD]"),
-        Called::Said => {}
+        NoiseAsked::For { seed, chance } => send(seed, chance),
+        NoiseAsked::Usage => console::usage(b"noise", b"noise SEED N [LEAD]"),
+        NoiseAsked::Said => {}
     }
 }

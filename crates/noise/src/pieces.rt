@@ -11,14 +11,6 @@ struct Sent {
     is_good: bool,
 }
 
-// The first bytes of some; no success where there are fewer.
-fn write(bytes: &[u8], count: usize) -> bool {
-    if count > bytes.len() {
-        return false;
-    }
-    io::write_all(STDOUT_FILENO, &bytes[..count])
-}
-
 // That a write failed.
 fn cannot_write() {
     console::cannot_write(b"noise");
@@ -31,7 +23,7 @@ fn send(x: u32, chance: u32, block: &mut [u8], count: usize) -> Sent
     let then = lead_noise::add_noise(x, chance, &mut block[..count]);
     Sent {
         x: then,
-        is_good: write(block, count),
+        is_good: console::write(STDOUT_FILENO, block, count),
     }
 }
 
@@ -40,7 +32,7 @@ fn send(x: u32, chance: u32, block: &mut [u8], count: usize) -> Sent
 fn finish(how: ReadingGoes, leads: Leads, block: &[u8]) {
     match how {
         ReadingGoes::End => {
-            if !write(block, leads::kept(leads)) {
+            if !console::write(STDOUT_FILENO, block, leads::kept(leads)) {
                 cannot_write();
             }
         }

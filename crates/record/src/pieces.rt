@@ -2,7 +2,7 @@
 ghost use Prim.Native.Nat.{_≤_};
 ghost use lib.ListN.{length};
 use crate::out;
-use crate::out::Out;
+use crate::out::RecordsOut;
 use leads::ReadingGoes;
 use recording::Came;
 use recording::Tape;
@@ -11,7 +11,7 @@ use recording_text::Records;
 use settings::Store;
 
 // Where the recording stands: the tape, what was counted, and whether all writes so far succeeded.
-struct Stand {
+struct RecordedSoFar {
     tape: Tape,
     frames: Frames,
     records: Records,
@@ -28,10 +28,10 @@ fn count_frames(frames: Frames, piece: &[u8]) -> Frames {
 }
 
 // The records of a piece, in the buffer or written; the tape after it and what was counted.
-fn over(from: Stand, store: Store, piece: &[u8], buf: &mut [u8]) -> Stand {
+fn over(from: RecordedSoFar, store: Store, piece: &[u8], buf: &mut [u8]) -> RecordedSoFar {
     let mut tape = from.tape;
     let mut records = from.records;
-    let mut out = Out {
+    let mut out = RecordsOut {
         length: 0,
         is_good: true,
     };
@@ -53,7 +53,7 @@ fn over(from: Stand, store: Store, piece: &[u8], buf: &mut [u8]) -> Stand {
             Came::Nothing => {
                 let frames = from.frames;
                 let is_good = out::flush(out, buf);
-                return Stand {
+                return RecordedSoFar {
                     tape,
                     frames,
                     records,
@@ -65,7 +65,13 @@ fn over(from: Stand, store: Store, piece: &[u8], buf: &mut [u8]) -> Stand {
 }
 
 // The same for the front of the block, so many bytes long.
-fn front(from: Stand, store: Store, block: &[u8], count: usize, buf: &mut [u8]) -> Stand
+fn front(
+    from: RecordedSoFar,
+    store: Store,
+    block: &[u8],
+    count: usize,
+    buf: &mut [u8],
+) -> RecordedSoFar
     requires { ⌜ count ≤ length (now block) ⌝ }
 {
     let tape = from.tape;
@@ -73,7 +79,7 @@ fn front(from: Stand, store: Store, block: &[u8], count: usize, buf: &mut [u8]) 
     let before = from.frames;
     let frames = count_frames(before, &block[..count]);
     over(
-        Stand {
+        RecordedSoFar {
             tape,
             frames,
             records,
@@ -86,11 +92,11 @@ fn front(from: Stand, store: Store, block: &[u8], count: usize, buf: &mut [u8]) 
 }
 
 // The records of the end, at most two; what stands then.
-fn end(from: Stand) -> Stand {
+fn end(from: RecordedSoFar) -> RecordedSoFar {
     let mut buf = [0u8; 16];
     let mut tape = from.tape;
     let mut records = from.records;
-    let mut out = Out {
+    let mut out = RecordsOut {
         length: 0,
         is_good: true,
     };
@@ -114,7 +120,7 @@ fn end(from: Stand) -> Stand {
     }
     let frames = from.frames;
     let is_good = out::flush(out, &buf);
-    Stand {
+    RecordedSoFar {
         tape,
         frames,
         records,
@@ -124,7 +130,7 @@ fn end(from: Stand) -> Stand {
 
 // The end of the leads: its records, and what was counted, with so many bytes after the last whole
 // frame.
-fn at_end(from: Stand, bytes: usize) {
+fn at_end(from: RecordedSoFar, bytes: usize) {
     let stand = end(from);
     if !stand.is_good {
         out::cannot_write();
@@ -136,7 +142,7 @@ fn at_end(from: Stand, bytes: usize) {
 }
 
 // What comes after the last piece: the end, or what failed.
-fn finish(how: ReadingGoes, stand: Stand, bytes: usize) {
+fn finish(how: ReadingGoes, stand: RecordedSoFar, bytes: usize) {
     match how {
         ReadingGoes::End => at_end(stand, bytes),
         ReadingGoes::CannotOpen(_) => leads::say(b"record", how),
@@ -147,8 +153,8 @@ fn finish(how: ReadingGoes, stand: Stand, bytes: usize) {
 }
 
 // A recording that has not begun.
-fn fresh() -> Stand {
-    Stand {
+fn fresh() -> RecordedSoFar {
+    RecordedSoFar {
         tape: recording::fresh(),
         frames: recording_text::no_frames(),
         records: recording_text::no_records(),

@@ -14,39 +14,31 @@ pub fn room() -> [u8; 8192]
 }
 
 // How many records were written, and whether all writes so far succeeded.
-struct Stand {
+struct WrittenSoFar {
     count: u64,
     is_good: bool,
 }
 
 // How many bytes of lines stand in a buffer, and how many records they are of all.
-struct Lines {
+struct LinesPut {
     bytes: usize,
     count: u64,
 }
 
-// One more; a count that no trace reaches stays at the highest number.
-fn more(n: u64) -> u64 {
-    if n == u64::MAX {
-        return n;
-    }
-    n + 1
-}
-
 // The line of the record at a byte of the block, after those before it.
-fn put_at(lines: Lines, block: &[u8], at: usize, out: &mut [u8]) -> Lines {
+fn put_at(lines: LinesPut, block: &[u8], at: usize, out: &mut [u8]) -> LinesPut {
     let said = trace_text::thing_at(block, at);
     let Said::Thing { place, what } = said else {
         return lines;
     };
-    let count = more(lines.count);
+    let count = std::num::wrapping_add_u64(lines.count, 1);
     let bytes = trace_text::put_record(count, place, what, out, lines.bytes);
-    Lines { bytes, count }
+    LinesPut { bytes, count }
 }
 
 // The lines of a block of records, counted on.
-fn put_block(before: u64, block: &[u8], out: &mut [u8]) -> Lines {
-    let mut lines = Lines {
+fn put_block(before: u64, block: &[u8], out: &mut [u8]) -> LinesPut {
+    let mut lines = LinesPut {
         bytes: 0,
         count: before,
     };
@@ -62,24 +54,24 @@ fn put_block(before: u64, block: &[u8], out: &mut [u8]) -> Lines {
 }
 
 // Writes the lines of a block.
-fn write_block(stand: Stand, block: &[u8]) -> Stand {
+fn write_block(stand: WrittenSoFar, block: &[u8]) -> WrittenSoFar {
     let mut out = io::large_buffer();
     let lines = put_block(stand.count, block, &mut out);
     let bytes = lines.bytes;
     if bytes > 65536 {
-        return Stand {
+        return WrittenSoFar {
             count: lines.count,
             is_good: false,
         };
     }
-    Stand {
+    WrittenSoFar {
         count: lines.count,
         is_good: io::write_all(STDOUT_FILENO, &out[..bytes]),
     }
 }
 
 // The same for the front of a buffer, so many bytes long.
-fn write_front(stand: Stand, block: &[u8], read: usize) -> Stand
+fn write_front(stand: WrittenSoFar, block: &[u8], read: usize) -> WrittenSoFar
     requires { ⌜ read ≤ length (now block) ⌝ }
 {
     write_block(stand, &block[..read])
@@ -87,19 +79,13 @@ fn write_front(stand: Stand, block: &[u8], read: usize) -> Stand
 
 // What comes after the last block: nothing, or what failed.
 fn finish(how: Goes) {
-    match how {
-        Goes::End => {}
-        Goes::CannotOpen(number) => console::cannot_open(b"records", number),
-        Goes::CannotRead(number) => console::cannot_read(b"records", number),
-        Goes::NoRoom => {}
-        Goes::More => {}
-    }
+    console::say_goes(b"records", how);
 }
 
 // The lines of all records of the cards, whose lengths were kept. A proved loop has to end, and
 // nothing says that a file does: so it counts its turns down from a number that no run uses up.
 pub fn write_cards(lengths: &[u64], block: &mut [u8]) {
-    let mut stand = Stand {
+    let mut stand = WrittenSoFar {
         count: 0,
         is_good: true,
     };

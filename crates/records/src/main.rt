@@ -5,20 +5,16 @@
 // what cannot be said of a program's reads and writes stands in docs/EXCEPTIONS.md.
 mod blocks;
 
-use console::CardsFound;
+use console::Cards;
 
 // Goes over the cards twice: once for their lengths, once for the records.
 fn main() {
     let mut lengths = [0u64; 8192];
     let mut block = blocks::room();
-    let found = console::go_over(1, &mut lengths, &mut block);
-    match found {
-        CardsFound::Cards => blocks::write_cards(&lengths, &mut block),
-        CardsFound::BadLength(_) => console::refuse_trace(b"records"),
-        CardsFound::NoCard => console::usage(b"records", b"records CARD.."),
-        CardsFound::TooMany => console::say_found(b"records", found),
-        CardsFound::CannotOpen(_) => console::say_found(b"records", found),
-        CardsFound::CannotRead(_) => console::say_found(b"records", found),
-        CardsFound::Once(_) => console::say_found(b"records", found),
+    match console::find_cards(b"records", 1, &mut lengths, &mut block) {
+        Cards::Whole => blocks::write_cards(&lengths, &mut block),
+        Cards::BadLength => console::refuse_trace(b"records"),
+        Cards::NoCard => console::usage(b"records", b"records CARD.."),
+        Cards::Said => {}
     }
 }

@@ -1,7 +1,5 @@
 // The records of the cards, block by block: in through `list`, out to standard output.
-ghost use mathlib.Core.Path.{_≡_};
 ghost use Prim.Native.Nat.{_≤_};
-ghost use lib.ListN.{length};
 use crate::saying::say_found;
 use crate::saying::write;
 use console::CardsFound;
@@ -25,13 +23,6 @@ pub fn size(reasons: bool, lent: usize) -> usize
         return 65536;
     }
     lent
-}
-
-// Room for the lines of a block.
-pub fn room() -> [u8; 1048576]
-    ensures { λ r. ⌜ 1048576 ≡ length r ⌝ }
-{
-    [0; 1048576]
 }
 
 // Where the ride stands: the state, the next record's number, and whether all reads and writes so

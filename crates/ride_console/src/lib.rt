@@ -11,7 +11,6 @@ mod saying;
 
 use console::CardsFound;
 use console::Given;
-pub use saying::refuse_trace;
 use settings::Store;
 
 // The lines of the cards from this argument on, whose lengths were kept, by way of a lent block.
@@ -25,7 +24,7 @@ pub fn list_all(
     lengths: &[u64],
     block: &mut [u8],
 ) {
-    let mut out = blocks::room();
+    let mut out = console::room();
     let size = blocks::size(reasons, block.len());
     blocks::over(
         program,

@@ -1,7 +1,7 @@
 // What is written, and what is said where something goes wrong: a plain listing tells the launcher
 // alone.
+use console::CallEnded;
 use console::CardsFound;
-use console::Ended;
 use console::tell;
 use libc::STDOUT_FILENO;
 use ride::Line;
@@ -14,7 +14,7 @@ pub fn write(program: &[u8], reasons: bool, out: &[u8], count: usize) -> bool {
     if reasons {
         console::cannot_write(program);
     } else {
-        tell(Ended::Unwritten);
+        tell(CallEnded::Unwritten);
     }
     false
 }
@@ -24,7 +24,7 @@ pub fn refuse_trace(program: &[u8], reasons: bool) {
     let mut out = [0u8; 64];
     let n = ride_text::put_line(Line::Trace(16), &mut out, 0);
     if write(program, reasons, &out, n) {
-        tell(Ended::Refused);
+        tell(CallEnded::Refused);
     }
 }
 
@@ -34,19 +34,19 @@ pub fn usage(program: &[u8], call: &[u8], reasons: bool) {
         console::usage(program, call);
         return;
     }
-    tell(Ended::Usage);
+    tell(CallEnded::Usage);
 }
 
 // How a call ends by what was found wrong with the cards.
-fn ended(found: CardsFound) -> Ended {
+fn ended(found: CardsFound) -> CallEnded {
     match found {
-        CardsFound::Cards => Ended::Said,
-        CardsFound::NoCard => Ended::Usage,
-        CardsFound::TooMany => Ended::TooMany,
-        CardsFound::CannotOpen(_) => Ended::Unread,
-        CardsFound::CannotRead(_) => Ended::Unread,
-        CardsFound::BadLength(_) => Ended::Refused,
-        CardsFound::Once(_) => Ended::Once,
+        CardsFound::Cards => CallEnded::Said,
+        CardsFound::NoCard => CallEnded::Usage,
+        CardsFound::TooMany => CallEnded::TooMany,
+        CardsFound::CannotOpen(_) => CallEnded::Unread,
+        CardsFound::CannotRead(_) => CallEnded::Unread,
+        CardsFound::BadLength(_) => CallEnded::Refused,
+        CardsFound::Once(_) => CallEnded::Once,
     }
 }
 

@@ -6,8 +6,7 @@
 // docs/EXCEPTIONS.md.
 mod page;
 
-use console::sync_word;
-use figures::Byte;
+use console::PairAsked;
 use libc::SEEK_SET;
 use telegram::Pair;
 
@@ -65,11 +64,7 @@ fn main() {
         console::usage(b"scope", b"scope FILE S S*");
         return;
     }
-    let Byte::Is(s) = sync_word(b"scope", b"S", 2) else {
-        return;
-    };
-    let Byte::Is(t) = sync_word(b"scope", b"S*", 3) else {
-        return;
-    };
-    open(s, t);
+    if let PairAsked::Is(s, t) = console::sync_pair(b"scope", 2) {
+        open(s, t);
+    }
 }

@@ -1,5 +1,5 @@
 // The text, line by line, gone over twice.
-use crate::call::Call;
+use crate::call::TrackCall;
 use crate::saying;
 use crate::taking;
 use crate::taking::Laying;
@@ -8,7 +8,7 @@ use console::CardsFound;
 use libc::SEEK_SET;
 use lines::TextLine;
 use track_lead::Way;
-use typed_lines::Came;
+use typed_lines::LineCame;
 
 // Whether a pass goes on.
 fn goes_on(how: PassStands) -> bool {
@@ -26,15 +26,15 @@ fn goes_on(how: PassStands) -> bool {
 
 // A pass over the open text: how it stands, whether all of it could be read, and whether it is
 // over.
-struct Passed {
+struct TextPassed {
     stand: Laying,
     is_read: bool,
     is_over: bool,
 }
 
 // The pass after a line of this number, if it goes on.
-fn after_line(stand: Laying, line: TextLine, number: u64, room: &mut [u8]) -> Passed {
-    Passed {
+fn after_line(stand: Laying, line: TextLine, number: u64, room: &mut [u8]) -> TextPassed {
+    TextPassed {
         stand: taking::take(stand, line, number, room),
         is_read: true,
         is_over: false,
@@ -42,8 +42,8 @@ fn after_line(stand: Laying, line: TextLine, number: u64, room: &mut [u8]) -> Pa
 }
 
 // A pass that is over.
-fn over_with(stand: Laying, is_read: bool) -> Passed {
-    Passed {
+fn over_with(stand: Laying, is_read: bool) -> TextPassed {
+    TextPassed {
         stand,
         is_read,
         is_over: true,
@@ -51,16 +51,22 @@ fn over_with(stand: Laying, is_read: bool) -> Passed {
 }
 
 // The pass after what came of the text.
-fn after(stand: Laying, came: Came, line: TextLine, number: u64, room: &mut [u8]) -> Passed {
+fn after(
+    stand: Laying,
+    came: LineCame,
+    line: TextLine,
+    number: u64,
+    room: &mut [u8],
+) -> TextPassed {
     match came {
-        Came::Line => after_line(stand, line, number, room),
-        Came::End => over_with(stand, true),
-        Came::CannotRead => over_with(stand, false),
+        LineCame::Line => after_line(stand, line, number, room),
+        LineCame::End => over_with(stand, true),
+        LineCame::CannotRead => over_with(stand, false),
     }
 }
 
 // All lines of the open text. It counts its turns down from a number that no text uses up.
-fn over(fd: i32, begun: Laying, text: &mut [u8], room: &mut [u8]) -> Passed {
+fn over(fd: i32, begun: Laying, text: &mut [u8], room: &mut [u8]) -> TextPassed {
     let mut pass = typed_lines::begin(fd);
     let mut stand = begun;
     let mut turns = u64::MAX;
@@ -109,7 +115,7 @@ fn with_failure(stand: Laying) -> Laying {
 }
 
 // A pass at the text's beginning, over a way that is known so far.
-fn begun(call: Call, way: Way, writes: bool) -> Laying {
+fn begun(call: TrackCall, way: Way, writes: bool) -> Laying {
     Laying {
         writes,
         lines: 0,
@@ -137,13 +143,13 @@ fn finish(stand: Laying, room: &mut [u8]) {
 }
 
 // The second pass: the frames.
-fn feed(fd: i32, call: Call, way: Way, text: &mut [u8], room: &mut [u8]) {
+fn feed(fd: i32, call: TrackCall, way: Way, text: &mut [u8], room: &mut [u8]) {
     let written = pass(fd, begun(call, way, true), text, room);
     finish(written, room);
 }
 
 // Once for what is refused, once for the frames.
-fn over_twice(fd: i32, call: Call, text: &mut [u8], room: &mut [u8]) {
+fn over_twice(fd: i32, call: TrackCall, text: &mut [u8], room: &mut [u8]) {
     let judged = pass(fd, begun(call, track_lead::fresh(), false), text, room);
     if !is_well(judged) {
         return;
@@ -157,7 +163,7 @@ fn over_twice(fd: i32, call: Call, text: &mut [u8], room: &mut [u8]) {
 }
 
 // The text that argument 1 names.
-pub fn twice(call: Call, text: &mut [u8], room: &mut [u8]) {
+pub fn twice(call: TrackCall, text: &mut [u8], room: &mut [u8]) {
     let fd = console::open_card(1);
     if fd < 0 {
         console::cannot_open(b"track", 1);

@@ -5,23 +5,22 @@
 // what cannot be said of a program's reads and writes stands in docs/EXCEPTIONS.md.
 mod call;
 mod going;
-mod out;
 mod saying;
 mod taking;
 
-use call::Call;
-use call::Called;
+use call::TrackAsked;
+use call::TrackCall;
 use telegram::Pair;
 
 // Goes over the text twice: once for what is refused, once for the frames.
-fn feed(call: Call) {
+fn feed(call: TrackCall) {
     let mut block = io::large_buffer();
     let mut out = io::large_buffer();
     going::twice(call, &mut block, &mut out);
 }
 
 // The pair is judged before the text.
-fn answer(call: Call) {
+fn answer(call: TrackCall) {
     let pair = telegram::good_pair(call.s, call.t);
     match pair {
         Pair::Good => feed(call),
@@ -34,8 +33,8 @@ fn main() {
         return;
     }
     match call::arguments() {
-        Called::For(call) => answer(call),
-        Called::Usage => console::usage(b"track", b"track FILE S S* [N]"),
-        Called::Said => {}
+        TrackAsked::For(call) => answer(call),
+        TrackAsked::Usage => console::usage(b"track", b"track FILE S S* [N]"),
+        TrackAsked::Said => {}
     }
 }

@@ -1,5 +1,4 @@
 // One line of the text, in the first pass and in the second.
-use crate::out;
 use libc::STDOUT_FILENO;
 use lines::TextLine;
 use track_lead::Feed;
@@ -68,7 +67,7 @@ pub fn write_to(stand: Laying, to: u32, room: &mut [u8]) -> Laying {
         if count == 0 {
             return with_feed(stand, feed);
         }
-        if !out::write(STDOUT_FILENO, room, count) {
+        if !console::write(STDOUT_FILENO, room, count) {
             return with_how(stand, PassStands::CannotWrite);
         }
         turns -= 1;

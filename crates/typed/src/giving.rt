@@ -12,15 +12,15 @@ pub enum Form {
 
 // What a line gives: whether it has bytes, which they are, and what is wrong with it: 0 for
 // nothing, 1 for an unreadable line, else document 01's number.
-pub struct Given {
+pub struct LineGives {
     pub bytes: [u8; 8],
     pub has: bool,
     pub wrong: u8,
 }
 
 // No bytes.
-fn nothing(wrong: u8) -> Given {
-    Given {
+fn nothing(wrong: u8) -> LineGives {
+    LineGives {
         bytes: [0, 0, 0, 0, 0, 0, 0, 0],
         has: false,
         wrong,
@@ -28,8 +28,8 @@ fn nothing(wrong: u8) -> Given {
 }
 
 // These bytes.
-fn these(bytes: [u8; 8]) -> Given {
-    Given {
+fn these(bytes: [u8; 8]) -> LineGives {
+    LineGives {
         bytes,
         has: true,
         wrong: 0,
@@ -37,7 +37,7 @@ fn these(bytes: [u8; 8]) -> Given {
 }
 
 // A record, or why there is none.
-fn recorded(made: Recorded) -> Given {
+fn recorded(made: Recorded) -> LineGives {
     let bytes = made.bytes;
     let how = made.how;
     match how {
@@ -48,7 +48,7 @@ fn recorded(made: Recorded) -> Given {
 }
 
 // What a line of a trace gives.
-fn of_trace(said: Said) -> Given {
+fn of_trace(said: Said) -> LineGives {
     match said {
         Said::Nothing => nothing(0),
         Said::Thing { place, what } => recorded(trace_text::record_of(place, what)),
@@ -57,7 +57,7 @@ fn of_trace(said: Said) -> Given {
 }
 
 // What a line of a plan gives.
-fn of_plan(entry: Entry) -> Given {
+fn of_plan(entry: Entry) -> LineGives {
     match entry {
         Entry::Nothing => nothing(0),
         Entry::At { place, kind } => these(plan_text::entry_of(place, kind)),
@@ -66,7 +66,7 @@ fn of_plan(entry: Entry) -> Given {
 }
 
 // What a line gives.
-pub fn of_line(form: Form, line: TextLine) -> Given {
+pub fn of_line(form: Form, line: TextLine) -> LineGives {
     match form {
         Form::Trace => of_trace(trace_text::read(line)),
         Form::Plan => of_plan(plan_text::read(line)),

@@ -5,7 +5,7 @@ use crate::giving::Form;
 use crate::giving::of_line;
 use libc::STDOUT_FILENO;
 use lines::TextLine;
-use typed_lines::Came;
+use typed_lines::LineCame;
 
 // How a pass goes: on, to the text's end or to its first wrong line, or a read or a write failed.
 pub enum PassGoes {
@@ -17,7 +17,7 @@ pub enum PassGoes {
 
 // Where a pass stands: the number of its line, how many things were given, how many bytes wait to
 // be written, what is wrong with the line, and how it goes.
-pub struct Done {
+pub struct TypedSoFar {
     pub number: u64,
     pub things: u64,
     pub bytes: usize,
@@ -25,17 +25,9 @@ pub struct Done {
     pub how: PassGoes,
 }
 
-// One more; a sum that no text reaches stays at the highest number.
-fn more(n: u64) -> u64 {
-    if n == u64::MAX {
-        return n;
-    }
-    n + 1
-}
-
 // The same pass with so many bytes waiting, going so.
-fn with(done: Done, bytes: usize, how: PassGoes) -> Done {
-    Done {
+fn with(done: TypedSoFar, bytes: usize, how: PassGoes) -> TypedSoFar {
+    TypedSoFar {
         number: done.number,
         things: done.things,
         bytes,
@@ -45,7 +37,7 @@ fn with(done: Done, bytes: usize, how: PassGoes) -> Done {
 }
 
 // Writes what waits, if it is to be written; the pass then goes so.
-fn written(done: Done, writes: bool, out: &[u8], how: PassGoes) -> Done {
+fn written(done: TypedSoFar, writes: bool, out: &[u8], how: PassGoes) -> TypedSoFar {
     let bytes = done.bytes;
     if writes {
         if !console::write(STDOUT_FILENO, out, bytes) {
@@ -56,11 +48,17 @@ fn written(done: Done, writes: bool, out: &[u8], how: PassGoes) -> Done {
 }
 
 // A line that gives eight bytes: they wait in out, which is written before it is full.
-fn given(done: Done, number: u64, eight: [u8; 8], writes: bool, out: &mut [u8]) -> Done {
+fn given(
+    done: TypedSoFar,
+    number: u64,
+    eight: [u8; 8],
+    writes: bool,
+    out: &mut [u8],
+) -> TypedSoFar {
     let bytes = text::put(&eight, out, done.bytes);
-    let then = Done {
+    let then = TypedSoFar {
         number,
-        things: more(done.things),
+        things: std::num::wrapping_add_u64(done.things, 1),
         bytes,
         wrong: 0,
         how: PassGoes::On,
@@ -72,10 +70,17 @@ fn given(done: Done, number: u64, eight: [u8; 8], writes: bool, out: &mut [u8]) 
 }
 
 // A line taken. A wrong one ends the pass.
-fn take(form: Form, done: Done, line: TextLine, number: u64, writes: bool, out: &mut [u8]) -> Done {
+fn take(
+    form: Form,
+    done: TypedSoFar,
+    line: TextLine,
+    number: u64,
+    writes: bool,
+    out: &mut [u8],
+) -> TypedSoFar {
     let gives = of_line(form, line);
     if gives.wrong > 0 {
-        return Done {
+        return TypedSoFar {
             number,
             things: done.things,
             bytes: done.bytes,
@@ -104,24 +109,24 @@ fn goes_on(how: PassGoes) -> bool {
 // The pass after what came of the text.
 fn after(
     form: Form,
-    done: Done,
-    came: Came,
+    done: TypedSoFar,
+    came: LineCame,
     line: TextLine,
     number: u64,
     writes: bool,
     out: &mut [u8],
-) -> Done {
+) -> TypedSoFar {
     match came {
-        Came::Line => take(form, done, line, number, writes, out),
-        Came::End => written(done, writes, out, PassGoes::Whole),
-        Came::CannotRead => with(done, 0, PassGoes::CannotRead),
+        LineCame::Line => take(form, done, line, number, writes, out),
+        LineCame::End => written(done, writes, out, PassGoes::Whole),
+        LineCame::CannotRead => with(done, 0, PassGoes::CannotRead),
     }
 }
 
 // All lines of the open file. It counts its turns down from a number that no text uses up.
-fn over(form: Form, fd: i32, writes: bool, block: &mut [u8], out: &mut [u8]) -> Done {
+fn over(form: Form, fd: i32, writes: bool, block: &mut [u8], out: &mut [u8]) -> TypedSoFar {
     let mut pass = typed_lines::begin(fd);
-    let mut done = Done {
+    let mut done = TypedSoFar {
         number: 1,
         things: 0,
         bytes: 0,
@@ -145,7 +150,7 @@ fn over(form: Form, fd: i32, writes: bool, block: &mut [u8], out: &mut [u8]) -> 
 }
 
 // A pass over the open file, which writes or not.
-pub fn pass(form: Form, fd: i32, writes: bool) -> Done {
+pub fn pass(form: Form, fd: i32, writes: bool) -> TypedSoFar {
     let mut block = io::large_buffer();
     let mut out = io::large_buffer();
     over(form, fd, writes, &mut block, &mut out)

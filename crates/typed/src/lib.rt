@@ -11,15 +11,15 @@ mod telling;
 
 use console::CardsFound;
 pub use giving::Form;
-use going::Done;
 use going::PassGoes;
+use going::TypedSoFar;
 use libc::SEEK_SET;
 
 // The argument of the file.
 const FILE: usize = 1;
 
 // Says what a pass found, and answers whether all was well.
-fn is_well(program: &[u8], done: Done) -> bool {
+fn is_well(program: &[u8], done: TypedSoFar) -> bool {
     let how = done.how;
     match how {
         PassGoes::On => {}

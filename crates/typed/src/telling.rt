@@ -1,33 +1,15 @@
 // What is said of a text that is wrong.
 use crate::giving::Form;
-use console::Ended;
-use libc::STDERR_FILENO;
+use typed_lines::fail_line;
+use typed_lines::refuse_line;
 
-// `PROGRAM: line 3 unreadable`, or `PROGRAM: line 3 refused 2: WORDS`; and the launcher is told.
+// What is wrong with the line of this number: 1 for an unreadable one, else document 01's number.
 pub fn say_line(program: &[u8], number: u64, wrong: u8) {
-    let mut line = [0u8; 128];
-    let next = text::put_number(b": line ", number, &mut line, 0);
-    let end = put_wrong(wrong, &mut line, next);
-    io::write_all(STDERR_FILENO, program);
-    console::write(STDERR_FILENO, &line, end);
-    console::tell(ended(wrong));
-}
-
-// What is wrong, and the end of the line.
-fn put_wrong(wrong: u8, line: &mut [u8], at: usize) -> usize {
     if wrong == 1 {
-        return text::put(b" unreadable\n", line, at);
+        fail_line(program, number, b" unreadable\n");
+        return;
     }
-    let next = text::put(b" ", line, at);
-    refusals::put_refused(wrong, line, next)
-}
-
-// How a call ends that is refused at a line, or cannot read one.
-fn ended(wrong: u8) -> Ended {
-    if wrong == 1 {
-        return Ended::Said;
-    }
-    Ended::Refused
+    refuse_line(program, number, wrong);
 }
 
 // How the program is called.

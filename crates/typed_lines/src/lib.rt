@@ -4,17 +4,23 @@
 //    number (`Line`), what stands after the last newline too, even if that is empty; or that no
 //    line is left (`End`), or that a read failed (`CannotRead`). `block` is any buffer of three
 //    bytes at least, and each call is lent the same one, unchanged.
+// 2. `fail_line(program, number, words)` and `refuse_line(program, number, refusal)` say what is
+//    wrong with a line: `trace: line 3 unreadable`, `trace: line 3 refused 2: WORDS`.
 // Promises: it is safe and it ends, in the same memory for a file of any size. What is kept of a
 // line is what `lines` keeps; that the blocks join is crates/lines_laws/specs/Texts.antt. What is
-// read stands outside contracts: docs/EXCEPTIONS.md.
+// read or written stands outside contracts: docs/EXCEPTIONS.md.
+mod telling;
+
 use lines::Got;
 use lines::Reader;
 use lines::TextLine;
+pub use telling::fail_line;
+pub use telling::refuse_line;
 
 // Where the reading of a text stands: its file, the line that is being read and its number, how
 // many bytes of the text are in the block and where the line goes on there; whether the first block
 // was read, and whether the last line was handed out.
-pub struct Pass {
+pub struct TextPass {
     fd: i32,
     reader: Reader,
     number: u64,
@@ -25,23 +31,23 @@ pub struct Pass {
 }
 
 // What comes: a line, the end of the text, or that it cannot be read.
-pub enum Came {
+pub enum LineCame {
     Line,
     End,
     CannotRead,
 }
 
 // The pass after it, the line and its number.
-pub struct Step {
-    pub pass: Pass,
+pub struct NextLine {
+    pub pass: TextPass,
     pub line: TextLine,
     pub number: u64,
-    pub how: Came,
+    pub how: LineCame,
 }
 
 // Before the first line of an open file.
-pub fn begin(fd: i32) -> Pass {
-    Pass {
+pub fn begin(fd: i32) -> TextPass {
+    TextPass {
         fd,
         reader: lines::fresh(),
         number: 1,
@@ -50,14 +56,6 @@ pub fn begin(fd: i32) -> Pass {
         is_begun: false,
         is_over: false,
     }
-}
-
-// One more; a number that no text reaches stays at the highest.
-fn more(n: u64) -> u64 {
-    if n == u64::MAX {
-        return n;
-    }
-    n + 1
 }
 
 // Reads on in the bytes of the text that the block has.
@@ -77,8 +75,8 @@ fn start_of(block: &[u8], count: usize) -> usize {
 }
 
 // The pass goes on in a block of so many bytes, with this reader, from a place on.
-fn with_block(pass: Pass, reader: Reader, count: usize, at: usize) -> Pass {
-    Pass {
+fn with_block(pass: TextPass, reader: Reader, count: usize, at: usize) -> TextPass {
+    TextPass {
         fd: pass.fd,
         reader,
         number: pass.number,
@@ -91,15 +89,15 @@ fn with_block(pass: Pass, reader: Reader, count: usize, at: usize) -> Pass {
 
 // A line, after which the next one begins at a place of the block; the last one where the text is
 // over.
-fn one_line(pass: Pass, got: Got, is_over: bool) -> Step {
+fn one_line(pass: TextPass, got: Got, is_over: bool) -> NextLine {
     let line = got.line;
     let reader = got.reader;
     let number = pass.number;
-    Step {
-        pass: Pass {
+    NextLine {
+        pass: TextPass {
             fd: pass.fd,
             reader,
-            number: more(number),
+            number: std::num::wrapping_add_u64(number, 1),
             count: pass.count,
             at: got.next,
             is_begun: true,
@@ -107,16 +105,16 @@ fn one_line(pass: Pass, got: Got, is_over: bool) -> Step {
         },
         line,
         number,
-        how: Came::Line,
+        how: LineCame::Line,
     }
 }
 
 // No line.
-fn no_line(pass: Pass, how: Came) -> Step {
+fn no_line(pass: TextPass, how: LineCame) -> NextLine {
     let number = pass.number;
     let reader = pass.reader;
     let line = reader.line;
-    Step {
+    NextLine {
         pass,
         line,
         number,
@@ -125,10 +123,10 @@ fn no_line(pass: Pass, how: Came) -> Step {
 }
 
 // The first block.
-fn first_block(pass: Pass, block: &mut [u8]) -> Step {
+fn first_block(pass: TextPass, block: &mut [u8]) -> NextLine {
     let got = console::fill(pass.fd, block);
     if got.failed {
-        return no_line(pass, Came::CannotRead);
+        return no_line(pass, LineCame::CannotRead);
     }
     let at = start_of(block, got.count);
     let reader = pass.reader;
@@ -142,7 +140,7 @@ fn last_line(reader: Reader) -> Got {
 
 // The next line, block after block. A proved loop has to end, and nothing says that a file does: so
 // it counts its turns down from a number that no run uses up.
-fn on(pass: Pass, block: &mut [u8]) -> Step {
+fn on(pass: TextPass, block: &mut [u8]) -> NextLine {
     let mut here = pass;
     let mut turns = u64::MAX;
     while turns > 0 {
@@ -155,7 +153,7 @@ fn on(pass: Pass, block: &mut [u8]) -> Step {
         let more = console::fill(here.fd, block);
         let count = more.count;
         if more.failed {
-            return no_line(here, Came::CannotRead);
+            return no_line(here, LineCame::CannotRead);
         }
         if count == 0 {
             return one_line(here, last_line(after), true);
@@ -163,13 +161,13 @@ fn on(pass: Pass, block: &mut [u8]) -> Step {
         here = with_block(here, after, count, 0);
         turns -= 1;
     }
-    no_line(here, Came::CannotRead)
+    no_line(here, LineCame::CannotRead)
 }
 
 // The next line.
-pub fn next(pass: Pass, block: &mut [u8]) -> Step {
+pub fn next(pass: TextPass, block: &mut [u8]) -> NextLine {
     if pass.is_over {
-        return no_line(pass, Came::End);
+        return no_line(pass, LineCame::End);
     }
     if !pass.is_begun {
         return first_block(pass, block);
