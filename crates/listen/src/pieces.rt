@@ -19,6 +19,17 @@ struct Heard {
     is_good: bool,
 }
 
+// Where the listening stands after a piece of so many bits, whose last lines it writes.
+fn passed(from: Heard, ear: Ear, bits: usize, out: Out, buf: &[u8]) -> Heard {
+    let before = from.far;
+    Heard {
+        ear,
+        bits: std::num::wrapping_add_u64(from.bits, bits as u64),
+        far: go_on_somehow(before, true, bits / 8),
+        is_good: out::flush(out, buf),
+    }
+}
+
 // The lines of the contacts that close in a piece.
 fn over(from: Heard, s: u8, t: u8, piece: &[u8], buf: &mut [u8]) -> Heard
     requires { ⌜ length (now piece) ≤ 65536 ⌝ }
@@ -57,13 +68,7 @@ fn over(from: Heard, s: u8, t: u8, piece: &[u8], buf: &mut [u8]) -> Heard
             }
         }
     }
-    let before = from.far;
-    Heard {
-        ear,
-        bits: std::num::wrapping_add_u64(from.bits, bits as u64),
-        far: go_on_somehow(before, true, bits / 8),
-        is_good: out::flush(out, buf),
-    }
+    passed(from, ear, bits, out, buf)
 }
 
 // The same for the front of the block, so many bytes long.
