@@ -1,7 +1,7 @@
 pub mod OneMore
 pub mod Adding
 pub mod Turns
+pub mod Next
 pub mod Asked
-pub mod Ends
 pub mod Judged
 pub mod Determined

@@ -4,13 +4,13 @@
 // Promises: the lines are those that the crate ride_text writes with reasons of the records that
 // the crate recording makes of the lead; bytes around the text stay.
 // Specification: specs/Places.antt (where a reading stands), List.antt (the listing), Says.antt
-// (the answers), Inside.antt (one record); what is promised of all calls together:
+// (the answers), Inside.antt (the next record, one record listed); what is promised of all calls together:
 // crates/lead_text_laws/specs.
 ghost use mathlib.Core.Path.{_≡_};
 ghost use Rattle.lead_text.specs.List.{fresh, listFrames, listEnd};
 ghost use Rattle.lead_text.specs.Says.{saysWritten};
 
-mod closing;
+mod coming;
 mod pieces;
 mod record_lines;
 
@@ -70,7 +70,7 @@ pub fn list_frames(underway: Underway, store: Store, frames: &[u8], out: &mut [u
             underway,
             how: HowFar::Settings(bad),
         },
-        Asked::InForce(_) => pieces::over(underway, store, frames, out),
+        Asked::InForce(_) => pieces::over(false, underway, store, frames, out),
     }
 }
 
@@ -84,6 +84,6 @@ pub fn list_end(underway: Underway, store: Store, out: &mut [u8]) -> Written
             underway,
             how: HowFar::Settings(bad),
         },
-        Asked::InForce(_) => closing::over(underway, store, out),
+        Asked::InForce(_) => pieces::over(true, underway, store, b"", out),
     }
 }

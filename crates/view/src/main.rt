@@ -4,6 +4,8 @@
 // found are those of the crates viewer, ride_text, trace_text and viewer_text.
 // Specification: none of its own; what cannot be said of a program's reads and writes stands in
 // docs/EXCEPTIONS.md.
+ghost use Prim.Native.Nat.{_≤_};
+
 mod going;
 mod input;
 mod memory;
@@ -20,6 +22,13 @@ use figures::Figure;
 use reading::Start;
 use settings::Store;
 
+// Where the ride begins by the arguments, or that what is wrong with them was said.
+enum Begins {
+    With(Start),
+    Said,
+}
+
+// The line for wrong or missing arguments.
 fn usage() {
     console::usage(b"view", b"view [-from PLACE] [-s SETTINGS] CARD..");
 }
@@ -40,24 +49,10 @@ fn look(store: Store, start: Start, first: usize) {
     }
 }
 
-// The settings from this argument on, if there are any, and then the cards.
-fn go_on(start: Start, at: u8) {
-    let asked = console::options_at(b"view", false, at);
-    let store = asked.store;
-    let first = asked.first;
-    let how = asked.how;
-    match how {
-        Given::Plain => look(store, start, first),
-        Given::Settings => look(store, start, first),
-        Given::Usage => usage(),
-        Given::Said => {}
-    }
-}
-
-// Whether the first argument is `-from`.
-fn is_from() -> bool {
+// Whether this argument is `-from`.
+fn is_from(at: usize) -> bool {
     let mut text = io::buffer();
-    let length = os::arg(1, &mut text);
+    let length = os::arg(at, &mut text);
     if os::errno() != 0 {
         return false;
     }
@@ -72,29 +67,67 @@ fn is_word(word: &[u8]) -> bool {
     viewer_text::has(word, b"-from")
 }
 
-// `-from PLACE`, and what comes after it.
-fn from_place() {
-    if os::arg_count() <= 2 {
+// Where the ride begins by this argument, the place after `-from`; where it is missing or no figure
+// that is said.
+fn begins(argument: usize) -> Begins {
+    if os::arg_count() <= argument {
         usage();
-        return;
+        return Begins::Said;
     }
-    match console::number(2, u64::MAX) {
-        Figure::Number(place) => go_on(Start::At { place, argument: 2 }, 3),
-        Figure::Above => go_on(
-            Start::At {
-                place: u64::MAX,
-                argument: 2,
-            },
-            3,
-        ),
-        Figure::Odd => console::wrong(b"view", b"PLACE", b"figure", 2),
+    match console::number(argument, u64::MAX) {
+        Figure::Number(place) => Begins::With(Start::At { place, argument }),
+        Figure::Above => Begins::With(Start::At {
+            place: u64::MAX,
+            argument,
+        }),
+        Figure::Odd => {
+            console::wrong(b"view", b"PLACE", b"figure", argument);
+            Begins::Said
+        }
     }
 }
 
-fn main() {
-    if is_from() {
-        from_place();
+// The cards from this argument on, after the settings; `-from PLACE` may stand before them, where
+// it did not stand before the settings.
+fn after_settings(store: Store, start: Start, first: usize)
+    requires { ⌜ first ≤ 257 ⌝ }
+{
+    let Start::First = start else {
+        look(store, start, first);
+        return;
+    };
+    if !is_from(first) {
+        look(store, start, first);
         return;
     }
-    go_on(Start::First, 1);
+    let Begins::With(later) = begins(first + 1) else {
+        return;
+    };
+    look(store, later, first + 2);
+}
+
+// The settings from this argument on, if there are any, and then the cards.
+fn go_on(start: Start, at: u8) {
+    let asked = console::options_at(b"view", false, at);
+    let store = asked.store;
+    let first = asked.first;
+    let how = asked.how;
+    match how {
+        Given::Plain => look(store, start, first),
+        Given::Settings => after_settings(store, start, first),
+        Given::Usage => usage(),
+        Given::Said => {}
+    }
+}
+
+// `-from PLACE` and the settings, in either order, if they are asked for; then the cards.
+fn main() {
+    if !is_from(1) {
+        go_on(Start::First, 1);
+        return;
+    }
+    let Begins::With(start) = begins(2) else {
+        return;
+    };
+    go_on(start, 3);
 }

@@ -34,9 +34,7 @@ fn refuse(number: u8) {
 // `no further line has WORD`.
 fn miss(word: &[u8]) {
     let mut line = [0u8; 320];
-    let a = text::put(b"no further line has ", &mut line, 0);
-    let b = text::put(word, &mut line, a);
-    let n = text::put(b"\n", &mut line, b);
+    let n = viewer_text::put_no_line(word, &mut line, 0);
     console::put(b"view", &line, n);
 }
 

@@ -99,15 +99,14 @@ fn show(trace: &[u8], stand: Standing, note: Note, word: &[u8], on_screen: bool)
     out::show(trace, stand)
 }
 
-// What is noted at the start: what there is to say of it, or on a screen the list of commands.
-fn first_note(note: Note, on_screen: bool) -> Note {
-    let Note::Nothing = note else {
-        return note;
-    };
+// Where the viewer stands at the start and what there is to say of it, if it can be written; on a
+// screen the list of commands too.
+fn begin(trace: &[u8], stand: Standing, begun: Note, on_screen: bool) -> bool {
+    let is_written = show(trace, stand, begun, b"", on_screen);
     if on_screen {
-        return Note::Help;
+        out::tell(Note::Help, b"");
     }
-    note
+    is_written
 }
 
 // What a line asks for; one that is too long is no command.
@@ -120,18 +119,14 @@ fn asked(line: &[u8], is_long: bool) -> Command {
 
 // The commands up to `q`, the end of the input, or where nothing can be written any more. No run
 // uses up the turns.
-fn obey_all(trace: &[u8], first: Standing, begun: Note, on_screen: bool) {
+fn obey_all(trace: &[u8], first: Standing, on_screen: bool) {
     let mut stand = first;
-    let mut note = first_note(begun, on_screen);
     let mut last = Command::Unknown;
     let mut line = [0u8; 256];
     let mut word = [0u8; 256];
     let mut letters: usize = 0;
     let mut turns = u64::MAX;
     while turns > 0 {
-        if !show(trace, stand, note, &word[..letters], on_screen) {
-            return;
-        }
         out::prompt();
         let got = input::next(&mut line);
         let count = got.count;
@@ -146,8 +141,11 @@ fn obey_all(trace: &[u8], first: Standing, begun: Note, on_screen: bool) {
         letters = keep_word(command, &line, &mut word, letters);
         last = remembered(command, last);
         let came = obey(trace, stand, command, &word[..letters], on_screen);
+        let note = came.note;
         stand = came.stand;
-        note = came.note;
+        if !show(trace, stand, note, &word[..letters], on_screen) {
+            return;
+        }
         turns -= 1;
     }
 }
@@ -162,5 +160,7 @@ pub fn hold(store: Store, trace: &[u8], begun: Note) {
         return;
     };
     let on_screen = libc::isatty(STDOUT_FILENO) == 1;
-    obey_all(trace, stand, begun, on_screen);
+    if begin(trace, stand, begun, on_screen) {
+        obey_all(trace, stand, on_screen);
+    }
 }

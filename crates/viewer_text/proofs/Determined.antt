@@ -16,6 +16,8 @@ use Rattle.viewer_text.proofs.screen.first_around.Kinds as first-around
 use Rattle.viewer_text.proofs.screen.first_around.Reads as first-around-reads
 use Rattle.viewer_text.proofs.finding.has.Kinds as has-kinds
 use Rattle.viewer_text.proofs.finding.has.Reads as has-reads
+use Rattle.viewer_text.proofs.missing.put_no_line.Kinds as put-no-line-kinds
+use Rattle.viewer_text.proofs.missing.put_no_line.Reads as put-no-line-reads
 use Rattle.viewer_text.proofs.seeking.seek.Kinds as seek-kinds
 use Rattle.viewer_text.proofs.seeking.seek.Reads as seek-reads
 use Rattle.words.proofs.Told.{Fixed, FixedWith}
@@ -44,3 +46,6 @@ put-next-determined κs a r r′ x x′ p q = same-put (p ∙ sym q)
 
 pub put-beside-determined : FixedWith 2 put-beside-kinds.ps put-beside-kinds.r put-beside-reads.Post (λ κs x. now (x .1 .1 .1 .0))
 put-beside-determined κs a r r′ x x′ p q = same-put (p ∙ sym q)
+
+pub put-no-line-determined : FixedWith 2 put-no-line-kinds.ps put-no-line-kinds.r put-no-line-reads.Post (λ κs x. now (x .1 .0))
+put-no-line-determined κs a r r′ x x′ p q = same-put (p ∙ sym q)

@@ -3,14 +3,14 @@
 use Prim.Native.Nat.{ℕ, zero, suc, _+_, _-_, _≤_, _<_}
 use mathlib.Core.Path.{_≡_, refl, ap, _∙_}
 use mathlib.Core.Bool.{Bool, true, false}
-use mathlib.Core.List.{List}
+use mathlib.Core.List.{List, [], _∷_}
 use native.Mathlib.Omega.{arith}
 use borrow.Author.Tests.{eq-eqb, ne-eqb, le-leb, lt-leb}
 use lib.ListN.{length, getD, take, drop}
 use Rattle.words.specs.Answer.{pick}
 use Rattle.figures.specs.Figures.{decimal}
 use Rattle.viewer_text.specs.Finding.{small}
-use Rattle.viewer_text.specs.Commands.{largest, alone, numbered, blank, leading, endsAt, commandIn, command}
+use Rattle.viewer_text.specs.Commands.{largest, alone, numbered, blank, leading, endsAt, followed, commandIn, command}
 use Rattle.viewer_text.specs.declared.commands.Command.{Command}
 
 -- a line ends within its signs
@@ -22,6 +22,16 @@ pub ends-within : (n : ℕ) (line : List ℕ) → endsAt n line ≤ n
 unfolding endsAt
 ends-within zero line = omega arith
 ends-within (suc n) line = ends-by (blank (getD line n 0)) n line (ends-within n line)
+
+-- and begins within them
+leads-by : (b : Bool) (c : ℕ) (line : List ℕ) → leading line ≤ length line → pick b (leading line + 1) 0 ≤ length (c ∷ line)
+leads-by true c line h = omega arith
+leads-by false c line h = omega arith
+
+pub leads-within : (line : List ℕ) → leading line ≤ length line
+unfolding leading
+leads-within [] = omega arith
+leads-within (c ∷ line) = leads-by (blank c) c line (leads-within line)
 
 -- the line without the blanks around it
 pub trimmed : (line : List ℕ) (from to : ℕ) → from ≡ leading line → to ≡ endsAt (length line) line → commandIn line from to ≡ command line
@@ -40,12 +50,17 @@ pub alone-is : (line : List ℕ) (from to : ℕ) → from < to → (small (getD 
 unfolding commandIn
 alone-is line from to h s e = rw (lt-leb to from h, ne-eqb (small (getD line from 0)) 47 s, eq-eqb (to - from) 1 e)
 
-pub unknown-is : (line : List ℕ) (from to : ℕ) → from < to → (small (getD line from 0) ≡ 47 → ⊥) → (to - from ≡ 1 → ⊥) → blank (getD line (from + 1) 0) ≡ false
-    → Command.Unknown ≡ commandIn line from to
+pub followed-is : (line : List ℕ) (from to : ℕ) → from < to → (small (getD line from 0) ≡ 47 → ⊥) → (to - from ≡ 1 → ⊥)
+    → followed (small (getD line from 0)) (take (to - (from + 1)) (drop (from + 1) line)) ≡ commandIn line from to
 unfolding commandIn
-unknown-is line from to h s e b = rw (lt-leb to from h, ne-eqb (small (getD line from 0)) 47 s, ne-eqb (to - from) 1 e, b)
+followed-is line from to h s e = rw (lt-leb to from h, ne-eqb (small (getD line from 0)) 47 s, ne-eqb (to - from) 1 e)
 
-pub number-is : (line : List ℕ) (from to : ℕ) → from < to → (small (getD line from 0) ≡ 47 → ⊥) → (to - from ≡ 1 → ⊥) → blank (getD line (from + 1) 0) ≡ true
-    → numbered (small (getD line from 0)) (decimal (take (to - (from + 2)) (drop (from + 2) line)) largest) ≡ commandIn line from to
-unfolding commandIn
-number-is line from to h s e b = rw (lt-leb to from h, ne-eqb (small (getD line from 0)) 47 s, ne-eqb (to - from) 1 e, b)
+-- What stands after a letter, by how many blanks it begins with: none,
+pub unled-is : (letter : ℕ) (rest : List ℕ) → leading rest ≡ 0 → Command.Unknown ≡ followed letter rest
+unfolding followed
+unled-is letter rest e = rw (eq-eqb (leading rest) 0 e)
+
+-- or some.
+pub led-is : (letter : ℕ) (rest : List ℕ) → (leading rest ≡ 0 → ⊥) → numbered letter (decimal (drop (leading rest) rest) largest) ≡ followed letter rest
+unfolding followed
+led-is letter rest e = rw (ne-eqb (leading rest) 0 e)

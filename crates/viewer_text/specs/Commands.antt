@@ -1,8 +1,8 @@
--- The commands of the program `view`, a line each without its newline: a letter, and after a space
--- a number where one is asked for. It asks (`Command`) for so many records forward or back, to go
--- to where so many lie before, to a place, to the next line of the ride with a word, for the same
--- again, the end, or nothing that is known. Blanks around it do not count, nor does whether its
--- letter is a capital.
+-- The commands of the program `view`, a line each without its newline: a letter, and after blanks a
+-- number where one is asked for. It asks (`Command`) for so many records forward or back, to go to
+-- where so many lie before, to a place, to the next line of the ride with a word, for the same
+-- again, the end, or nothing that is known. Blanks around it do not count, nor how many stand
+-- before its number, nor whether its letter is a capital.
 -- Assumes nothing.
 use Prim.Native.Nat.{ℕ, zero, suc, _+_, _-_}
 use mathlib.Core.Bool.{Bool, _||_}
@@ -54,15 +54,20 @@ unfoldable pub endsAt : ℕ → List ℕ → ℕ
 endsAt zero line = 0
 endsAt (suc n) line = pick (blank (getD line n 0)) (endsAt n line) (suc n)
 
+-- A letter and what stands after it: a blank or more, and a number.
+unfoldable pub followed : ℕ → List ℕ → Command
+followed letter rest =
+    pick (eqb (leading rest) 0) Command.Unknown
+    (numbered letter (decimal (drop (leading rest) rest) largest))
+
 -- What stands in a line from one place up to another: nothing asks for the same again; a slash and
--- a word, where no letter means the word before; a letter alone; a letter, a blank and a number.
+-- a word, where no letter means the word before; a letter alone; a letter, blanks and a number.
 unfoldable pub commandIn : List ℕ → ℕ → ℕ → Command
 commandIn line from to =
     pick (leb to from) Command.Again
     (pick (eqb (small (getD line from 0)) 47) (Command.Find (from + 1) to)
     (pick (eqb (to - from) 1) (alone (small (getD line from 0)))
-    (pick (blank (getD line (from + 1) 0)) (numbered (small (getD line from 0)) (decimal (take (to - (from + 2)) (drop (from + 2) line)) largest))
-    Command.Unknown)))
+    (followed (small (getD line from 0)) (take (to - (from + 1)) (drop (from + 1) line)))))
 
 -- A line, without the blanks around it.
 unfoldable pub command : List ℕ → Command

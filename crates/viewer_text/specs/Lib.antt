@@ -4,3 +4,4 @@ pub mod Finding
 pub mod Seeking
 pub mod Commands
 pub mod Screen
+pub mod Missing

@@ -1,9 +1,8 @@
 // The commands, a line each without its newline.
 ghost use mathlib.Core.Path.{_≡_};
-ghost use Rattle.viewer_text.specs.Commands.{by, alone, command};
+ghost use Rattle.viewer_text.specs.Commands.{by, alone, followed, command};
 use crate::finding::small;
 use crate::trimming;
-use crate::trimming::is_blank;
 use figures::Figure;
 
 // What a line asks for: so many records forward or back, to where so many lie before, to a place,
@@ -59,9 +58,24 @@ fn alone(letter: u8) -> Command
     Command::Unknown
 }
 
+// A letter and what stands after it: a blank or more, and a number.
+fn followed(letter: u8, rest: &[u8]) -> Command
+    ensures { λ r. ⌜ r ≡ followed letter (now (rest .entry)) ⌝ }
+{
+    let blanks = trimming::begin(rest);
+    if blanks == 0 {
+        return Command::Unknown;
+    }
+    match figures::decimal(&rest[blanks..], u64::MAX) {
+        Figure::Number(n) => by(letter, n),
+        Figure::Above => by(letter, u64::MAX),
+        Figure::Odd => Command::Unknown,
+    }
+}
+
 // What a line asks for, whatever blanks are around it and whether its letter is a capital: a letter
-// alone, or a letter, a blank and a number (`g N`: to where N - 1 records lie before); a slash and
-// a word, or a slash alone; a number that is too large is the largest; nothing asks for the same
+// alone, or a letter, blanks and a number (`g N`: to where N - 1 records lie before); a slash and a
+// word, or a slash alone; a number that is too large is the largest; nothing asks for the same
 // again; anything else is unknown.
 pub fn read(line: &[u8]) -> Command
     ensures { λ r. ⌜ r ≡ command (now (line .entry)) ⌝ }
@@ -78,12 +92,5 @@ pub fn read(line: &[u8]) -> Command
     if to - from == 1 {
         return alone(letter);
     }
-    if !is_blank(line[from + 1]) {
-        return Command::Unknown;
-    }
-    match figures::decimal(&line[from + 2..to], u64::MAX) {
-        Figure::Number(n) => by(letter, n),
-        Figure::Above => by(letter, u64::MAX),
-        Figure::Odd => Command::Unknown,
-    }
+    followed(letter, &line[from + 1..to])
 }

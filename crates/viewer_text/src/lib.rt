@@ -3,7 +3,7 @@
 // stay.
 // Specification: specs/Text.antt (what is shown), specs/Commands.antt (the commands),
 // specs/Finding.antt (a word in a text), specs/Seeking.antt (the next line of a ride that has it),
-// specs/Screen.antt (what a terminal shows beside it).
+// specs/Screen.antt (what a terminal shows beside it), specs/Missing.antt (that no line has it).
 ghost use mathlib.Core.Path.{_≡_};
 ghost use Rattle.text.specs.Put.{put, came};
 ghost use Rattle.viewer_text.specs.Text.{state};
@@ -11,6 +11,7 @@ ghost use Rattle.viewer_text.specs.Text.{state};
 mod ahead;
 mod commands;
 mod finding;
+mod missing;
 mod screen;
 mod seeking;
 mod state;
@@ -20,6 +21,7 @@ pub use ahead::put_next;
 pub use commands::Command;
 pub use commands::read;
 pub use finding::has;
+pub use missing::put_no_line;
 use ride::Ride;
 pub use screen::first_around;
 pub use screen::last_lines;

@@ -5,7 +5,7 @@ ghost use Rattle.viewer_text.specs.Commands.{blank, leading, endsAt};
 
 // Whether a sign is a blank: a space, a tab, or the CR that stands before the newline on some
 // machines.
-pub fn is_blank(c: u8) -> bool
+fn is_blank(c: u8) -> bool
     ensures { λ r. ⌜ r ≡ blank c ⌝ }
 {
     (c == 32) | (c == 9) | (c == 13)

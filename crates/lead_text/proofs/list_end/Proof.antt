@@ -10,7 +10,7 @@ use Rattle.lead_text.proofs.list_end.Tie as tie
 
 over-requires : tie.Need-over-requires
 over-requires c κs =
-    let h = c .before in
+    let h = c .before .before in
     let q = h .before .before in
     held-given (q .before .before .args .store) 0 _ (sym (q .at .ensures) ∙ ap saysAsked (h .enum-told .given .1)) .0
 
@@ -24,7 +24,7 @@ returns c =
 returns-2 : tie.Need-returns-2
 returns-2 c =
     let o = c .before .before in
-    let h = o .before .before in
+    let h = o .before .before .before in
     let q = h .before .before in
     let a = q .before .before .args in
     let held = held-given (a .store) 0 _ (sym (q .at .ensures) ∙ ap saysAsked (h .enum-told .given .1)) in
@@ -34,6 +34,6 @@ pub list-end-spec : {M : Type 1} → statement M
 list-end-spec =
     tie.close
     (tie.spec
-    (λ c κs. search needs) (λ c. search needs) (λ c. search needs) over-requires
+    (λ c κs. search needs) (λ c. search needs) (λ c. search needs) (λ c. search needs) over-requires
     returns
     (λ c. search needs) returns-2)
