@@ -3,12 +3,10 @@
 use mathlib.Core.Path.{_≡_, refl, sym, ap, _∙_}
 use Prim.Native.Nat.{ℕ}
 use mathlib.Core.List.{List}
-use lib.Dec.{eqb}
 use denote.Ref.{now}
-use Rattle.words.specs.Answer.{Outcome, gives, refuses, pick}
-use Rattle.text.specs.Put.{Put, came}
-use Rattle.settings.specs.declared.Bad.{Bad}
-use Rattle.settings.proofs.Determined.{badOf}
+use Rattle.words.specs.Answer.{Outcome, gives, refuses}
+use Rattle.ride.specs.declared.Way.{Way}
+use Rattle.ride.proofs.Determined.{wayOf, way-back}
 use Rattle.acceptance_text.specs.declared.Progress.{Progress}
 use Rattle.acceptance_text.specs.declared.Advanced.{Advanced}
 use Rattle.acceptance_text.specs.Accept.{Taken, Advance, Finish}
@@ -45,18 +43,20 @@ is-passed-determined κs a r r′ x x′ p q = p ∙ sym q
 pub put-last-determined : FixedWith 1 put-last-kinds.ps put-last-kinds.r put-last-reads.Post (λ κs x. now (x .1 .1 .1 .0))
 put-last-determined κs a r r′ x x′ p q = same-put (p ∙ sym q)
 
+-- A block is refused as a run is.
+abbrev refusedAs : Way → Progress
+refusedAs Way.Through = Progress.Length
+refusedAs (Way.Settings bad) = Progress.Settings bad
+refusedAs Way.Length = Progress.Length
+
 -- From what an answer says, the answer.
 abbrev pub progressOf : Outcome Taken → Progress
 progressOf (gives t) = Progress.Took (t .records) (t .bytes)
-progressOf (refuses n) = pick (eqb n 16) Progress.Length (Progress.Settings (badOf n))
+progressOf (refuses n) = refusedAs (wayOf (refuses n))
 
 pub progress-back : (d : Progress) → progressOf (saysProgress d) ≡ d
 progress-back (Progress.Took records bytes) = refl
-progress-back (Progress.Settings Bad.Pair) = refl
-progress-back (Progress.Settings Bad.Gap) = refl
-progress-back (Progress.Settings Bad.TooHigh) = refl
-progress-back (Progress.Settings Bad.NotAbove) = refl
-progress-back (Progress.Settings Bad.Full) = refl
+progress-back (Progress.Settings bad) = ap refusedAs (way-back (Way.Settings bad))
 progress-back Progress.Length = refl
 
 abbrev pub advancedOf : Advance → Advanced

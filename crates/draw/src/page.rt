@@ -39,9 +39,9 @@ fn put_present() -> bool {
     write(
         b"<g id='s1'><path class='n' d='M0 156V145'/><circle class='p' cy='138' r='7'/></g>
 <g id='s2'><path class='n' d='M0 156V145'/><path class='p' d='M-8 145v-8l8 -8l8 8v8z'/><circle class='b' cy='139' r='2.5'/></g>
-<g id='s3'><path class='n' d='M0 156V145'/><path class='p' d='M-10 138l16 -9v18z'/><path class='b' d='M-10 138l9 -5v10z'/></g>
+<g id='s3'><path class='n' d='M0 156V145'/><path class='p' d='M-9 138l15 -8v16z'/><path class='b' d='M-9 138l8 -4.3v8.6z'/></g>
 <g id='s4'><path class='n' d='M0 156V145'/><circle class='b' cy='138' r='8'/></g>
-<g id='s5'><path class='n' d='M0 156V145'/><path class='p' d='M10 138l-16 -9v18z'/><path class='b' d='M10 138l-9 -5v10z'/></g>
+<g id='s5'><path class='n' d='M0 156V145'/><path class='p' d='M9 138l-15 -8v16z'/><path class='b' d='M9 138l-8 -4.3v8.6z'/></g>
 <g id='s6'><path class='n' d='M0 156V145'/><path class='p' d='M0 129l9 16h-18z'/></g>
 <g id='s7'><use href='#s1'/><path class='n' d='M-5 133l10 10M5 133l-10 10'/></g>
 <g id='s8'><path class='n' d='M0 156V145'/><path class='p' d='M-7 131h14v14h-14z'/></g>

@@ -1,20 +1,18 @@
 -- A piece is refused with 5 exactly if it is no stretch of the buffer.
 -- Assumes nothing.
 use mathlib.Core.Path.{_≡_, refl, sym, ap, _∙_, subst}
-use mathlib.Core.Bool.{Bool, not}
+use mathlib.Core.Bool.{Bool}
 use mathlib.Core.List.{List, [], _∷_}
 use Prim.Native.Nat.{ℕ}
 use Rattle.words.specs.Answer.{Outcome, gives, refuses, pick}
 use Rattle.telegram.specs.Stretch.{inside}
 use Rattle.antenna.specs.declared.Ear.{Ear}
-use Rattle.antenna.specs.declared.Until.{Until}
 use Rattle.antenna.specs.Piece.{First, first, hearPiece}
 use Rattle.antenna.specs.Says.{saysUntil}
 use Rattle.demands.specs.Rules.{row, Decided, Is}
 use Rattle.demands.specs.Table.{beyond}
 use Rattle.demands.proofs.Common.Rules.{if-not}
 use Rattle.demands.proofs.Demand1.Refusals.{beyond-is}
-use Rattle.recording_laws.specs.Calls.{HearPiece}
 use Rattle.recording_laws.specs.Demand1.{Demand1}
 
 decides : (ear : Ear) (b : List ℕ) (start len s t : ℕ) → Decided (Is (first b s t ear start len)) (row 5 (beyond b start len) ∷ []) (hearPiece ear b start len s t)

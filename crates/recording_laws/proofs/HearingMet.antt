@@ -19,7 +19,6 @@ use Rattle.contact.specs.Contacts.{contact, quiet, contacts, contactsFrom, next
 use Rattle.contact.specs.Judge as judging
 use Rattle.contact.specs.Judge.{marker, onesAtEnd, allZero, isMarker, judgement}
 use Rattle.contact.specs.declared.Search.{Search}
-use Rattle.contact.specs.declared.SearchBegun.{SearchBegun}
 use Rattle.contact.specs.declared.Next.{Next}
 use Rattle.contact.specs.declared.Judged.{Judged}
 use Rattle.contact.proofs.Law.{further, ends as at-the-end}
@@ -35,7 +34,7 @@ use Rattle.antenna.specs.Hearing.{hear}
 use Rattle.antenna.specs.Line.{told}
 use Rattle.antenna.specs.Piece.{first, hearPiece}
 use Rattle.recording_laws.specs.Calls.{FreshEar, HearPiece}
-use Rattle.recording_laws.specs.Hearing.{Piece, bitsIn, standing, lineBit, lineS, lineT, opens as opened, closes as closed, ends, Heard, none, piece, Judges, each, no-more, InOne}
+use Rattle.recording_laws.specs.Hearing.{Piece, standing, lineS, lineT, opens as opened, closes as closed, ends, Heard, none, piece, Judges, each, no-more, InOne}
 
 -- The line in one buffer, and its two pieces: fifty bits, and the 38 after them.
 abbrev b : List ℕ

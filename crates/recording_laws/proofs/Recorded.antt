@@ -1,25 +1,24 @@
 -- What comes of asking on and on over a piece is what comes of its frames, and pieces of whole
 -- frames join.
 -- Assumes nothing.
-use Prim.Native.Nat.{ℕ, _+_, _*_, _/_, _%_, _<_}
-use mathlib.Core.Path.{_≡_, refl, sym, ap, ap₂, subst, _∙_}
+use Prim.Native.Nat.{ℕ, _*_, _/_, _%_, _<_}
+use mathlib.Core.Path.{_≡_, refl, sym, ap, _∙_}
 use mathlib.Core.List.{List, [], _∷_, _++_}
 use native.Mathlib.Omega.{arith}
 use lib.ListN.{length}
 use Rattle.settings.specs.declared.Store.{Store}
-use Rattle.antenna.specs.declared.Stand.{Stand}
 use Rattle.antenna.specs.Hearing as hearing
 use Rattle.recording.specs.declared.Tape.{Tape}
 use Rattle.recording.specs.declared.Came.{Came}
 use Rattle.recording.specs.declared.Taken.{Taken}
 use Rattle.recording.specs.declared.Ended.{Ended}
 use Rattle.recording.specs.Recording.{fresh, Taped, silent, andThen, overFrames, framesOf, overLead, lastPosition, theEnd, recorded}
-use Rattle.recording.specs.Asking.{Going, gave, usedUp, goOn, Ending, one, none as none-left, finish}
-use Rattle.recording.specs.Says.{Went, saysCame, saysTaken, went, Closing, endCame, saysEnded, closing}
+use Rattle.recording.specs.Asking.{goOn, finish}
+use Rattle.recording.specs.Says.{Went, saysCame, went, Closing, endCame}
 use Rattle.recording.specs.Laws.{Asked, over, more, thenEnded}
 use Rattle.recording.proofs.Asking.{asked-all, end-asked}
 use Rattle.recording.proofs.Pieces.{any-pieces}
-use Rattle.recording_laws.specs.Calls.{FreshTape, GoOn, EndOf}
+use Rattle.recording_laws.specs.Calls.{GoOn, EndOf}
 use Rattle.recording_laws.specs.Recorded.{Through, came, used, ThroughAll, none, piece, ToTheEnd, came as came-last, no-more, joined, WholeFrames, Recorded, AsAWhole}
 
 -- ---- a piece

@@ -2,9 +2,9 @@
 -- hypotheses are met.
 -- Assumes nothing.
 use Prim.Native.Nat.{ℕ}
-use mathlib.Core.Path.{_≡_, refl}
+use mathlib.Core.Path.{refl}
 use mathlib.Core.Bool.{true}
-use mathlib.Core.List.{List, [], _∷_, _++_}
+use mathlib.Core.List.{List, [], _∷_}
 use denote.Ref.{RefT}
 use Rattle.telegram.specs.Sync.{differing, isGood, goodPair}
 use Rattle.telegram.specs.Place.{areSyncs}
@@ -27,7 +27,6 @@ use Rattle.recording.specs.declared.Last.{Last}
 use Rattle.recording.specs.declared.Tape.{Tape}
 use Rattle.recording.specs.declared.Came.{Came}
 use Rattle.recording.specs.declared.Taken.{Taken}
-use Rattle.recording.specs.declared.Ended.{Ended}
 use Rattle.recording.specs.Frame.{lineOf, odometerOf, acceptedAfter}
 use Rattle.recording.specs.Recording.{fresh, heldAt}
 use Rattle.recording.specs.Asking.{firstIn, firstOf, goOn, finish}

@@ -1,39 +1,35 @@
 -- What is heard of each of them is read, or judged a marker, and its record has the words that it
 -- sends.
 -- Assumes nothing.
-use Prim.Native.Nat.{ℕ, _+_, _-_, _/_, _%_, _≤_, _<_}
-use mathlib.Core.Path.{_≡_, refl, sym, ap, ap₂, subst, _∙_}
-use mathlib.Core.Bool.{Bool, true, false}
+use Prim.Native.Nat.{ℕ, _+_, _-_, _/_, _≤_, _<_}
+use mathlib.Core.Path.{_≡_, refl, sym, ap, subst, _∙_}
+use mathlib.Core.Bool.{true, false}
 use mathlib.Core.List.{List, [], _∷_, _++_}
 use native.Mathlib.Omega.{arith}
 use borrow.Author.Tests.{le-ltb}
-use Rattle.words.specs.Answer.{Outcome, gives, refuses, then, pick}
+use Rattle.words.specs.Answer.{then}
 use Rattle.words.proofs.Never.{cannot-be}
 use Rattle.telegram.specs.Sync.{isGood}
-use Rattle.telegram.specs.declared.Telegram.{Telegram}
 use Rattle.balise_line.specs.Line.{OneBalise, Proper}
 use Rattle.settings.specs.declared.Store.{Store}
-use Rattle.contact.specs.Contacts.{Contacts, contact, quiet, refused}
-use Rattle.contact.specs.Judge.{Contact, judge}
+use Rattle.contact.specs.Contacts.{Contacts, contact, quiet}
+use Rattle.contact.specs.Judge.{judge}
 use Rattle.contact.specs.Says.{saysJudged}
 use Rattle.contact.specs.declared.Judged.{Judged}
-use Rattle.contact.specs.declared.Search.{Search}
-use Rattle.telegram.specs.Spelling.{spell}
-use Rattle.contact_laws.specs.Calls.{Listened, JudgeContact}
+use Rattle.contact_laws.specs.Calls.{JudgeContact}
 use Rattle.contact_laws.specs.Pass.{between, cutBits}
-use Rattle.contact_laws.specs.Heard.{enough, OverIt, IsRead}
+use Rattle.contact_laws.specs.Heard.{OverIt, IsRead}
 use Rattle.contact_laws.specs.Row.{Thing, balise, marker, Long, Row, MarkersOwn, AsPassed}
 use Rattle.contact_laws.proofs.Row.{row-heard}
 use Rattle.antenna.specs.declared.Stand.{Stand}
 use Rattle.antenna.specs.Line.{Told, told, judgedAll, cut, isInside}
-use Rattle.recorder.specs.Record.{telegramOf, contentOf, bytesOf, blank, atOdometer, recordOf}
+use Rattle.recorder.specs.Record.{contentOf, bytesOf, atOdometer, recordOf}
 use Rattle.recorder.proofs.Received.{spelt-back}
-use Rattle.recording.specs.Recording.{recorded}
-use Rattle.recording.specs.Kept.{orUnreadable, recordAt}
-use Rattle.recording.specs.Contacts.{inForce, sIn, tIn, recordFor, recordsFor, cutAt, withoutPositions, bitsOf}
+use Rattle.recording.specs.Kept.{recordAt}
+use Rattle.recording.specs.Contacts.{inForce, sIn, tIn, recordFor, recordsFor, cutAt, bitsOf}
 use Rattle.recording.specs.Document.{wholeLine}
 use Rattle.recording.proofs.Document.{never-high}
-use Rattle.recording_laws.specs.Hearing.{Judges, each, no-more, refused-with}
+use Rattle.recording_laws.specs.Hearing.{Judges, each}
 use Rattle.recording_laws.specs.Row.{PairsInForce, TheirRecords, RowRecorded}
 use Rattle.recording_laws.proofs.Hearing.{is-taken}
 use Rattle.recording_laws.proofs.Says.{by-contacts}

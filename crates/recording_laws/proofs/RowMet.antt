@@ -1,14 +1,14 @@
 -- A lead of three frames whose line is a marker and a balise, with twelve ones after each: the
 -- hypotheses of a row are met.
 -- Assumes nothing.
-use Prim.Native.Nat.{ℕ, _+_, _/_, _≤_, _<_}
+use Prim.Native.Nat.{ℕ, _/_, _≤_}
 use mathlib.Core.Path.{_≡_, refl, sym, ap, ap₂, subst, _∙_}
-use mathlib.Core.Bool.{Bool, true, false}
+use mathlib.Core.Bool.{Bool, true}
 use mathlib.Core.List.{List, [], _∷_}
 use native.Mathlib.Omega.{arith}
 use borrow.Author.Tests.{le-ltb}
 use lib.Dec.{ltb}
-use Rattle.words.specs.Answer.{Outcome, gives, refuses, pick}
+use Rattle.words.specs.Answer.{gives, refuses, pick}
 use Rattle.words.specs.Bits.{word}
 use Rattle.words.specs.Plain.{isCheck, covers, count, even, isCode, onwards, figure}
 use Rattle.words.specs.Code.{other, exchanged, readWord}
@@ -17,7 +17,7 @@ use Rattle.telegram.specs.Sync.{differing, isGood, goodPair}
 use Rattle.telegram.specs.Telegram.{shortWord, longWord, telegram}
 use Rattle.telegram.specs.Place.{areSyncs, wordsAt, isPlace}
 use Rattle.telegram.specs.declared.Telegram.{Telegram}
-use Rattle.balise_line.specs.Line.{OneBalise, Proper, sentBit, lineBit}
+use Rattle.balise_line.specs.Line.{OneBalise, sentBit, lineBit}
 use Rattle.settings.specs.declared.Store.{Store}
 use Rattle.settings.specs.declared.Held.{Held}
 use Rattle.settings.specs.Versions.{settingsOf, follows}
@@ -28,8 +28,8 @@ use Rattle.settings.specs.At.{heldFrom, asked, hold, heldOr}
 use Rattle.contact_laws.specs.Zeroes.{zeroesSent}
 use Rattle.contact_laws.specs.Pass.{between}
 use Rattle.contact_laws.specs.Row.{Thing, balise, marker, Long, Row}
-use Rattle.contact_laws.proofs.Either.{audible-computed, fairAt, no-false-computed}
-use Rattle.contact_laws.proofs.Computed.{ones-computed, zeroes-computed, clean-computed}
+use Rattle.contact_laws.proofs.Either.{fairAt}
+use Rattle.contact_laws.proofs.Computed.{ones-computed, zeroes-computed, long-computed}
 use Rattle.recording.specs.Frame.{lineOf}
 use Rattle.recording.specs.Recording.{noneHeld, heldAt}
 use Rattle.recording.specs.Contacts.{inForce, sIn, tIn, bitsOf}
@@ -64,21 +64,9 @@ second =
 abbrev things : List Thing
 things = marker 16 60 ∷ balise second ∷ []
 
-second-proper : Proper second
-unfolding isGood differing inside telegram shortWord longWord readWord isCode even count covers exchanged other word figure onwards isCheck
-second-proper = record { bytes = (omega arith, omega arith, omega arith, omega arith, omega arith); pair = refl; valid = refl; taken = refl }
-
 second-long : Long line second
-unfolding zeroesSent sentBit fairAt isPlace areSyncs wordsAt bitsAt lineBit telegram shortWord longWord readWord isCode even count covers exchanged other word figure onwards isCheck
-second-long =
-    record {
-      buffer-is = refl;
-      proper = second-proper;
-      audible = audible-computed second tt;
-      clean = clean-computed second tt;
-      long = omega arith;
-      fair = no-false-computed second (omega arith) tt;
-    }
+unfolding zeroesSent sentBit fairAt isPlace areSyncs wordsAt bitsAt lineBit isGood differing inside telegram shortWord longWord readWord isCode even count covers exchanged other word figure onwards isCheck
+second-long = long-computed second tt refl refl refl tt tt tt tt
 
 in-line : Row between line 0 288 things
 in-line = (

@@ -1,15 +1,14 @@
 -- Each contact's record is the one that `record_of` makes of what was judged, or an unreadable one,
 -- and so it says the same balise.
 -- Assumes nothing.
-use Prim.Native.Nat.{ℕ, _+_, _-_, _/_, _≤_, _<_, _^_}
-use mathlib.Core.Path.{_≡_, refl, sym, ap, ap₂, subst, _∙_}
-use mathlib.Core.Bool.{Bool, true, false}
+use Prim.Native.Nat.{ℕ, _-_, _/_, _≤_, _<_, _^_}
+use mathlib.Core.Path.{_≡_, refl, sym, ap, subst, _∙_}
+use mathlib.Core.Bool.{true, false}
 use mathlib.Core.List.{List, [], _∷_, _++_}
 use native.Mathlib.Omega.{arith}
 use borrow.Author.Tests.{le-ltb}
-use Rattle.words.specs.Answer.{Outcome, gives, refuses, then, pick}
+use Rattle.words.specs.Answer.{Outcome, gives, then}
 use Rattle.words.proofs.Never.{cannot-be}
-use Rattle.telegram.specs.Stretch.{bitsAt, inside}
 use Rattle.telegram.specs.declared.Telegram.{Telegram}
 use Rattle.telegram.proofs.Taken.{taken}
 use Rattle.settings.specs.Versions.{Kept}
@@ -17,9 +16,8 @@ use Rattle.settings.specs.Store.{judged}
 use Rattle.settings.specs.At as at
 use Rattle.settings.specs.declared.Store.{Store}
 use Rattle.settings.specs.declared.Held.{Held}
-use Rattle.contact.specs.History.{sixteenOnes}
-use Rattle.contact.specs.Contacts.{Contacts, contact, quiet, refused, outside, contacts}
-use Rattle.contact.specs.Judge.{Contact, judge}
+use Rattle.contact.specs.Contacts.{Contacts, contact, quiet, refused}
+use Rattle.contact.specs.Judge.{judge}
 use Rattle.contact.specs.Under.{judgeUnder}
 use Rattle.contact.specs.Says.{saysJudged, saysJudgedUnder}
 use Rattle.contact.specs.declared.Judged.{Judged}
@@ -27,9 +25,8 @@ use Rattle.contact.specs.declared.JudgedUnder.{JudgedUnder}
 use Rattle.contact_laws.specs.Calls.{Listened, JudgeContact}
 use Rattle.antenna.specs.declared.Stand.{Stand}
 use Rattle.antenna.specs.Hearing as hearing
-use Rattle.antenna.specs.Line.{Told, told, heard, after, judgedAll, cut, isInside}
+use Rattle.antenna.specs.Line.{Told, told, after, judgedAll, cut, isInside}
 use Rattle.recorder.specs.Record.{contentOf, bytesOf, blank, atOdometer, recordOf, recording}
-use Rattle.recorder.specs.Says.{saysRecorded}
 use Rattle.recorder.specs.declared.Went.{Went}
 use Rattle.recorder.specs.declared.Recorded.{Recorded}
 use Rattle.recorder.proofs.Received.{as-received}
@@ -41,7 +38,7 @@ use Rattle.ride.specs.declared.Checked.{Checked}
 use Rattle.ride.proofs.Determined.{checkedOf, checked-back}
 use Rattle.chain_laws.specs.Same.{RecordOf, CheckRecord, Same}
 use Rattle.chain_laws.proofs.Same.{says-the-same}
-use Rattle.recording.specs.Recording.{heldAt, noneHeld, recorded}
+use Rattle.recording.specs.Recording.{heldAt, recorded}
 use Rattle.recording.specs.Kept.{orUnreadable, recordAt}
 use Rattle.recording.specs.Rising as rising
 use Rattle.recording.specs.Contacts.{lineIn, inForce, sIn, tIn, recordFor, recordsFor, cutAt, withoutPositions, bitsOf}

@@ -6,7 +6,6 @@ use mathlib.Core.Path.{_≡_}
 use mathlib.Core.Bool.{true}
 use mathlib.Core.List.{List, [], _∷_}
 use Rattle.telegram.specs.Sync.{isGood}
-use Rattle.balise_line.specs.Line.{OneBalise}
 use Rattle.settings.specs.declared.Store.{Store}
 use Rattle.contact.specs.Contacts.{Contacts}
 use Rattle.contact_laws.specs.Calls.{Listened}

@@ -2,7 +2,7 @@
 -- of a recorded trace is ever refused"; each contact's record says the balise judged, at the
 -- odometer of the frame in which its first bit lies.
 -- Assumes nothing.
-use Prim.Native.Nat.{ℕ, _/_, _≤_, _<_}
+use Prim.Native.Nat.{ℕ, _/_, _≤_}
 use mathlib.Core.Path.{_≡_}
 use mathlib.Core.List.{List, [], _∷_}
 use Rattle.words.specs.Answer.{gives}

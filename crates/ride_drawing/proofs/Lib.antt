@@ -13,6 +13,7 @@ pub mod AtItsPlace
 pub mod Rising
 pub mod Belonging
 pub mod OwnPlace
+pub mod PlanMet
 pub mod Passed
 pub mod Entered
 pub mod SafeTexts

@@ -5,7 +5,7 @@
 use Prim.Native.Nat.{ℕ, _/_, _%_}
 use mathlib.Core.List.{List, [], _∷_}
 use Rattle.words.specs.Answer.{Outcome, gives, refuses, then}
-use Rattle.telegram.specs.Spelling.{Words, asked, spell}
+use Rattle.telegram.specs.Spelling.{asked, spell}
 use Rattle.trace_text.specs.declared.What.{What}
 
 -- The eight bytes.

@@ -1,24 +1,23 @@
 -- What is unreadable: 55 hex, so zeroes and ones in turn. One contact opens and closes over it, and
 -- it is refused with 8.
 -- Assumes nothing.
-use Prim.Native.Nat.{ℕ, zero, suc, _+_, _-_, _*_, _%_, _≤_, _<_}
-use mathlib.Core.Path.{_≡_, refl, sym, ap, ap₂, _∙_, subst}
+use Prim.Native.Nat.{ℕ, zero, suc, _+_, _-_, _%_, _≤_, _<_}
+use mathlib.Core.Path.{_≡_, refl, sym, ap, _∙_, subst}
 use mathlib.Core.Bool.{Bool, true, false}
 use mathlib.Core.List.{List}
 use native.Mathlib.Omega.{arith}
-use lib.Dec.{eqb, leb, ltb}
+use lib.Dec.{eqb, ltb}
 use lib.ListN.{length}
 use borrow.Author.Tests.{ltb-true, ltb-false, eq-eqb}
 use Rattle.words.specs.Answer.{Outcome, gives, refuses, pick}
 use Rattle.telegram.specs.Stretch.{bitAt, bitsAt, inside}
-use Rattle.telegram.specs.Sync.{differing, isGood}
+use Rattle.telegram.specs.Sync.{isGood}
 use Rattle.telegram.specs.Place.{isPlace, places}
 use Rattle.balise_line.specs.Line.{unequal, sum}
 use Rattle.balise_line.proofs.Bits.{differing-bits}
 use Rattle.balise_line.proofs.Places.{place-parts}
-use Rattle.contact.specs.Contacts.{outside, contact, contacts}
 use Rattle.contact.specs.Judge.{Contact, marker, isMarker, judge}
-use Rattle.contact.proofs.MarkerRule.{Marker, marker-is}
+use Rattle.contact.proofs.MarkerRule.{marker-is}
 use Rattle.contact_laws.specs.Zeroes.{zeroesIn}
 use Rattle.contact_laws.proofs.Walk.{Still}
 use Rattle.contact_laws.proofs.Passes.{Passed, passes}

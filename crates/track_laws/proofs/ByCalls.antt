@@ -1,7 +1,7 @@
 -- The whole way: by the contracts, `track` writes the lead of its text, `record` makes the records
 -- of that lead, and `trace` those of the text.
 -- Assumes nothing.
-use Prim.Native.Nat.{ℕ, _≤_, _<_}
+use Prim.Native.Nat.{ℕ, _<_}
 use mathlib.Core.Path.{_≡_, refl, sym, ap, ap₂, _∙_, subst}
 use mathlib.Core.Bool.{Bool, true, false}
 use mathlib.Core.List.{List, [], _∷_, _++_}
@@ -24,7 +24,7 @@ use Rattle.track_text.specs.Read.{balise, thingAt, readSaid, read}
 use Rattle.track_lead.specs.declared.Thing.{Thing}
 use Rattle.track_lead.specs.declared.Way.{Way}
 use Rattle.track_lead.specs.declared.Feed.{Feed}
-use Rattle.track_lead.specs.Way.{isSent, Bad, until}
+use Rattle.track_lead.specs.Way.{Bad}
 use Rattle.track_lead.specs.Way as ways
 use Rattle.track_lead.specs.Feed.{Fed, begin, passes}
 use Rattle.track_lead.specs.Lead.{Item, wayFrom, wayOf, leadOf}
@@ -32,9 +32,7 @@ use Rattle.track_lead.specs.Laws.{allTo, fed}
 use Rattle.track_lead.proofs.TheLead.{feeds-the-lead}
 use Rattle.recording.specs.Recording.{recorded}
 use Rattle.recording.specs.Contacts.{withoutPositions}
-use Rattle.recording_laws.specs.Recorded.{joined}
 use Rattle.recording_laws.proofs.Recorded.{as-a-whole}
-use Rattle.track_laws.specs.Calls.{ReadsAs}
 use Rattle.track_laws.specs.Sure.{withItem, recordsOf}
 use Rattle.track_laws.specs.ByCalls.{Items, Goes, on, Feeds, end, position, passing, TheWholeWay}
 use Rattle.track_laws.specs.ByCalls as calls

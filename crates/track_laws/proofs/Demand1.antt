@@ -13,16 +13,14 @@ use Rattle.telegram.specs.Spelling.{Words, asked, tooLarge, hasFifteen, wordsOf
 use Rattle.telegram.specs.Says.{saysSpelt}
 use Rattle.telegram.proofs.Determined.{speltOf, spelt-back}
 use Rattle.trace_text.specs.declared.What.{What}
-use Rattle.trace_text.specs.declared.Recorded.{Recorded}
-use Rattle.trace_text.specs.Record.{Made, Recording, recording, recordOf, bytesOf}
+use Rattle.trace_text.specs.Record.{Recording, recording, recordOf, bytesOf}
 use Rattle.trace_text.specs.Record as recorded
-use Rattle.trace_text.specs.Says.{saysMakingWent, saysRecorded}
 use Rattle.track_lead.specs.declared.Thing.{Thing}
 use Rattle.track_lead.specs.declared.Way.{Way}
 use Rattle.track_lead.specs.declared.Taken.{Taken}
 use Rattle.track_lead.specs.Way.{Bad, refused, tooNear, isSent, isNear, after, take}
 use Rattle.track_lead.specs.Says.{saysTaken}
-use Rattle.demands.specs.Rules.{Rule, rowOf, row, Decided, Given}
+use Rattle.demands.specs.Rules.{rowOf, row, Decided, Given}
 use Rattle.demands.specs.Table.{above}
 use Rattle.demands.specs.Table02.{someAbove, someFifteen, tooHigh}
 use Rattle.demands.proofs.Common.Rules.{if-so}

@@ -3,14 +3,12 @@
 -- Assumes nothing.
 use Prim.Native.Nat.{ℕ, zero, suc, _+_, _-_, _*_, _/_, _%_, _≤_, _<_}
 use mathlib.Core.Path.{_≡_, refl, sym, ap, ap₂, _∙_}
-use mathlib.Core.List.{List, [], _∷_, _++_}
+use mathlib.Core.List.{List, _++_}
 use native.Mathlib.Omega.{arith}
 use lib.ListN.{length, take, drop, getD, length-append}
 use lib.Seq.{take-at, drop-at, drop-drop, getD-drop}
 use Rattle.recording.specs.Frame.{lineOf, odometerOf}
-use Rattle.recording.specs.Recording.{framesOf}
-use Rattle.track_lead.specs.Sent.{lineIn}
-use Rattle.track_lead.specs.Lead.{Item, Over, latest, nothing, lineAt, odometerAt, frameAt, framesAt}
+use Rattle.track_lead.specs.Lead.{Item, latest, nothing, lineAt, odometerAt, frameAt, framesAt}
 use Rattle.track_lead.proofs.Ones.{line-long}
 
 -- A number below 2^32 from its four bytes.

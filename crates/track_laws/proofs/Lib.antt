@@ -3,6 +3,7 @@ pub mod InForce
 pub mod Alternating
 pub mod Stream
 pub mod Steps
+pub mod Apart
 pub mod Chain
 pub mod WholeWay
 pub mod Noise

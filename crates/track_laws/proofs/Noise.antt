@@ -6,18 +6,16 @@ use mathlib.Core.Bool.{Bool, true, false, _&&_}
 use mathlib.Core.List.{List}
 use native.Mathlib.Omega.{arith}
 use lib.Dec.{leb, ltb}
-use lib.ListN.{length, take, drop, getD, List·getD-eq-default}
+use lib.ListN.{length, drop, getD, List·getD-eq-default}
 use lib.Seq.{getD-take, getD-drop}
 use borrow.Author.Tests.{lt-ltb, le-ltb, le-leb, lt-leb, ltb-true, ltb-false}
 use Rattle.words.specs.Answer.{pick}
-use Rattle.words.specs.Bits.{bit, word}
+use Rattle.words.specs.Bits.{bit}
 use Rattle.words.proofs.Digits.{bit-lt, bit-word}
-use Rattle.telegram.specs.Stretch.{bitAt}
 use Rattle.recording.specs.Frame.{lineOf, odometerOf}
 use Rattle.recording.specs.Recording.{framesOf}
-use Rattle.recording.specs.Contacts.{lineIn, bitsOf}
 use Rattle.lead_noise.specs.Generator.{flips}
-use Rattle.lead_noise.specs.Noise.{noisyBit, noisyByte, bitsBefore, isLine, noisyAt, listed, withNoise}
+use Rattle.lead_noise.specs.Noise.{noisyBit, noisyByte, bitsBefore, isLine, noisyAt, withNoise}
 use Rattle.lead_noise.proofs.Bytes.{noisy-low}
 use Rattle.lead_noise.proofs.SoFar.{listed-length, listed-at}
 use Rattle.track_laws.specs.Noise.{OnlyTheLine}

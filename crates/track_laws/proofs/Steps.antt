@@ -1,28 +1,25 @@
 -- One thing of the track, alone in its frames: exactly one contact comes of it, in its first frame,
 -- and its record is the thing's.
 -- Assumes nothing.
-use Prim.Native.Nat.{ℕ, zero, suc, _+_, _-_, _*_, _/_, _%_, _^_, _≤_, _<_}
-use mathlib.Core.Path.{_≡_, refl, sym, ap, ap₂, _∙_, subst}
-use mathlib.Core.Bool.{Bool, true, false, _&&_}
-use mathlib.Core.List.{List, [], _∷_}
+use Prim.Native.Nat.{ℕ, _+_, _-_, _*_, _%_, _^_, _≤_, _<_}
+use mathlib.Core.Path.{_≡_, refl, sym, ap, _∙_, subst}
+use mathlib.Core.Bool.{true}
+use mathlib.Core.List.{List, _∷_}
 use native.Mathlib.Omega.{arith}
-use lib.Dec.{leb, ltb}
 use lib.ListN.{length}
-use borrow.Author.Tests.{le-leb, lt-ltb, le-ltb, leb-true, ltb-true}
-use Rattle.words.specs.Answer.{Outcome, gives, refuses, pick}
+use borrow.Author.Tests.{le-leb, lt-ltb, le-ltb}
+use Rattle.words.specs.Answer.{gives}
+use Rattle.words.proofs.Never.{cannot-be}
 use Rattle.telegram.specs.Stretch.{bitAt, inside}
-use Rattle.telegram.specs.Sync.{isGood}
-use Rattle.telegram.specs.declared.Telegram.{Telegram}
-use Rattle.balise_line.specs.Line.{OneBalise, Proper, Clean, sentBit, receivedBit, inStretch, unequal, flip}
-use Rattle.balise_line.proofs.Sums.{unequal-same}
-use Rattle.balise_line.proofs.Places.{and-parts, and-true}
-use Rattle.contact.specs.Contacts.{outside, Contacts, contact, contacts}
-use Rattle.contact.specs.Judge.{Contact, read, marker, judge}
+use Rattle.balise_line.specs.Line.{Proper, Clean, sentBit}
+use Rattle.balise_line.proofs.Computed.{unflipped-at}
+use Rattle.balise_line.proofs.Places.{and-true}
+use Rattle.contact.specs.Contacts.{outside, contact, contacts}
+use Rattle.contact.specs.Judge.{read, judge}
 use Rattle.contact.specs.declared.Search.{Search}
-use Rattle.contact.specs.declared.Judged.{Judged}
 use Rattle.contact_laws.specs.Zeroes.{zeroesSent, Audible}
-use Rattle.contact_laws.specs.Pass.{Ones, between, Pass, cutBits}
-use Rattle.contact_laws.specs.Heard.{OverIt, NoFalse}
+use Rattle.contact_laws.specs.Pass.{Ones, between, cutBits}
+use Rattle.contact_laws.specs.Heard.{NoFalse}
 use Rattle.contact_laws.proofs.Walk.{Still}
 use Rattle.contact_laws.proofs.Over.{ones-on, over-it}
 use Rattle.contact_laws.proofs.Within.{judged-read}
@@ -31,12 +28,12 @@ use Rattle.contact_laws.proofs.Marker.{marker-contact}
 use Rattle.contact_laws.proofs.Sixty.{judged-sixty}
 use Rattle.recorder.specs.Record.{contentOf, bytesOf, blank, atOdometer, recordOf}
 use Rattle.recorder.proofs.Received.{spelt-back}
-use Rattle.recording.specs.Kept.{orUnreadable, recordAt}
+use Rattle.recording.specs.Kept.{recordAt}
 use Rattle.track_lead.specs.declared.Thing.{Thing}
-use Rattle.track_lead.specs.Way.{highest}
-use Rattle.track_lead.specs.Sent.{twelve, sends}
+use Rattle.track_lead.specs.Way.{highest, isSent}
+use Rattle.track_lead.specs.Sent.{sends}
 use Rattle.balise_writer.specs.Write.{telegrams}
-use Rattle.track_laws.specs.Sure.{Pair, passedAt, Heard}
+use Rattle.track_laws.specs.Sure.{Pair, passedAt, Heard, SureThing, withItem}
 use Rattle.track_laws.proofs.Stream.{bitOr, ones-after, zeroes-in-it, turns-in-it, telegram-bits}
 use Rattle.track_laws.proofs.Alternating as alternating
 
@@ -67,6 +64,12 @@ pub record Step (b : List ℕ) (s t h i start long end place : ℕ) (bytes : Lis
   pub is : contacts b outside h i (end - i) ≡ contact (start + skipped) len then (contacts b outside later next (end - next))
   pub kept : recordAt place (judge b (start + skipped) len s t) ≡ bytes
 
+-- What is left of a thing that is sent: its contact, and its record before the others.
+pub record Left (b : List ℕ) (s t h i start end place : ℕ) (x : Thing) : Type 0 where
+  pub bytes : List ℕ
+  pub step : Step b s t h i start (8 * length (sends s t x)) end place bytes
+  pub recorded : (rest : List (List ℕ)) → withItem place x rest ≡ bytes ∷ rest
+
 module _ (b : List ℕ) (s t : ℕ) (pair : Pair s t) (h i start end place : ℕ) (still : Still h) (low : i ≤ start) (before : Ones b i start) (room : start + 384 ≤ end)
     (fits : end ≤ 8 * length b) (small : end < 2 ^ 64) (high : place ≤ highest) where
   -- A balise.
@@ -75,15 +78,7 @@ module _ (b : List ℕ) (s t : ℕ) (pair : Pair s t) (h i start end place : ℕ
     sent j less = bits j (omega arith) ∙ telegram-bits (passedAt b start 288 s t x y z (heard .says)) j less
 
     clean : Clean (passedAt b start 288 s t x y z (heard .says))
-    unfolding flip inStretch receivedBit
-    clean j = go (leb 0 j && ltb j (0 + 288)) refl
-      where
-        go : (c : Bool) → (leb 0 j && ltb j (0 + 288)) ≡ c → pick c (unequal (bitAt b (start + (j - 0))) (sentBit (passedAt b start 288 s t x y z (heard .says)) j)) 0 ≡ 0
-        go false is = refl
-        go true is =
-            let l : j < 0 + 288 = ltb-true j (0 + 288) (and-parts (leb 0 j) (ltb j (0 + 288)) is .1) in
-            let here : start + (j - 0) ≡ start + j = omega arith in
-            unequal-same (bitAt b (start + (j - 0))) (sentBit (passedAt b start 288 s t x y z (heard .says)) j) (ap (bitAt b) here ∙ sent j (omega arith))
+    clean j = unflipped-at (passedAt b start 288 s t x y z (heard .says)) j (λ low high. let here : start + (j - 0) ≡ start + j = omega arith in ap (bitAt b) here ∙ sent j (omega arith))
 
     proper : Proper (passedAt b start 288 s t x y z (heard .says))
     proper =
@@ -101,9 +96,8 @@ module _ (b : List ℕ) (s t : ℕ) (pair : Pair s t) (h i start end place : ℕ
     ones : (k : ℕ) → start + 288 ≤ k → k < start + 384 → bitAt b k ≡ 1
     unfolding telegrams
     ones k late soon =
-        let j = k - start in
-        let e : k ≡ start + j = omega arith in
-        ap (bitAt b) e ∙ bits j (omega arith) ∙ ones-after (sends s t (Thing.Balise x y z)) j (omega arith)
+        let e : k ≡ start + (k - start) = omega arith in
+        ap (bitAt b) e ∙ bits (k - start) (omega arith) ∙ ones-after (sends s t (Thing.Balise x y z)) (k - start) (omega arith)
 
     fair : NoFalse (passedAt b start 288 s t x y z (heard .says))
     fair =
@@ -122,7 +116,7 @@ module _ (b : List ℕ) (s t : ℕ) (pair : Pair s t) (h i start end place : ℕ
     unfolding cutBits
     uncut = refl
 
-    pub balise-step : Step b s t h i start 288 end place (bytesOf place (record { kind = 0; x = x; y = y; z = z }))
+    balise-step : Step b s t h i start 288 end place (bytesOf place (record { kind = 0; x = x; y = y; z = z }))
     balise-step =
         let p = passedAt b start 288 s t x y z (heard .says) in
         let g = over-it p proper audible clean (omega (arith, uncut)) i end h still low before (omega arith) (λ k l m. ones k l (omega arith)) in
@@ -146,7 +140,7 @@ module _ (b : List ℕ) (s t : ℕ) (pair : Pair s t) (h i start end place : ℕ
         }
 
   -- A marker.
-  pub marker-step : ((j : ℕ) → j < 384 → bitAt b (start + j) ≡ bitOr (sends s t Thing.Marker) j) → Step b s t h i start 96 end place (bytesOf place (blank 1))
+  marker-step : ((j : ℕ) → j < 384 → bitAt b (start + j) ≡ bitOr (sends s t Thing.Marker) j) → Step b s t h i start 96 end place (bytesOf place (blank 1))
   marker-step bits =
       let zeroes : (j : ℕ) → j < 96 → bitAt b (start + j) ≡ 0 = λ j l. bits j (omega arith) ∙ zeroes-in-it j l in
       let ones : (k : ℕ) → k < 12 → bitAt b (start + 96 + k) ≡ 1 =
@@ -170,7 +164,7 @@ module _ (b : List ℕ) (s t : ℕ) (pair : Pair s t) (h i start end place : ℕ
       }
 
   -- What is unreadable.
-  pub unreadable-step : ((j : ℕ) → j < 384 → bitAt b (start + j) ≡ bitOr (sends s t Thing.Unreadable) j) → Step b s t h i start 96 end place (bytesOf place (blank 2))
+  unreadable-step : ((j : ℕ) → j < 384 → bitAt b (start + j) ≡ bitOr (sends s t Thing.Unreadable) j) → Step b s t h i start 96 end place (bytesOf place (blank 2))
   unreadable-step bits =
       let turns : (j : ℕ) → j < 96 → bitAt b (start + j) ≡ j % 2 = λ j l. bits j (omega arith) ∙ turns-in-it j l in
       let ones : (k : ℕ) → k < 12 → bitAt b (start + 96 + k) ≡ 1 =
@@ -194,3 +188,11 @@ module _ (b : List ℕ) (s t : ℕ) (pair : Pair s t) (h i start end place : ℕ
             (alternating.refused-8 b start turns ones (p .opening .at) (p .closing .at) (omega arith) few s t (pair .good)
             (taken b (start + p .opening .at) (96 + p .closing .at - p .opening .at) (omega arith) (omega arith) (omega arith)));
       }
+
+  -- Any thing that is sent.
+  pub thing-step : (x : Thing) → isSent x ≡ true → SureThing s t place x → ((j : ℕ) → j < 384 → bitAt b (start + j) ≡ bitOr (sends s t x) j) → Left b s t h i start end place x
+  unfolding telegrams
+  thing-step (Thing.Balise x y z) is sure bits = record { bytes = bytesOf place (record { kind = 0; x = x; y = y; z = z }); step = balise-step x y z (sure .0) bits; recorded = λ rest. refl }
+  thing-step Thing.Marker is sure bits = record { bytes = bytesOf place (blank 1); step = marker-step bits; recorded = λ rest. refl }
+  thing-step Thing.Unreadable is sure bits = record { bytes = bytesOf place (blank 2); step = unreadable-step bits; recorded = λ rest. refl }
+  thing-step Thing.Nothing is sure bits = cannot-be cc

@@ -1,10 +1,10 @@
 -- The bits that a thing sends, one after the other, and ones after them.
 -- Assumes nothing.
 use Prim.Native.Nat.{ℕ, zero, suc, _+_, _-_, _*_, _/_, _%_, _^_, _≤_, _<_}
-use mathlib.Core.Path.{_≡_, refl, sym, ap, ap₂, _∙_}
+use mathlib.Core.Path.{_≡_, refl, ap, ap₂, _∙_}
 use mathlib.Core.List.{List, [], _∷_, _++_}
 use native.Mathlib.Omega.{arith}
-use lib.ListN.{length, take, drop, getD, replicate, getD-replicate, List·getD-eq-default}
+use lib.ListN.{length, take, drop, getD, getD-replicate, List·getD-eq-default}
 use lib.Seq.{getD-drop, getD-take}
 use Rattle.telegram.specs.Stretch.{bitAt}
 use Rattle.balise_line.specs.Line.{OneBalise, sentBit}

@@ -1,16 +1,13 @@
 -- The text `0 marker`, tracked, recorded and traced with every call in full: the hypotheses of the
 -- whole way are met.
 -- Assumes nothing.
-use Prim.Native.Nat.{ℕ, _≤_}
-use mathlib.Core.Path.{_≡_, refl}
+use Prim.Native.Nat.{ℕ}
+use mathlib.Core.Path.{refl}
 use mathlib.Core.Logic.{inr}
-use mathlib.Core.Bool.{true, false}
 use mathlib.Core.List.{List, [], _∷_, _++_}
 use native.Mathlib.Omega.{arith}
-use lib.ListN.{length, take, replicate}
+use lib.ListN.{take, replicate}
 use denote.Ref.{RefT}
-use Rattle.telegram.specs.Sync.{differing, isGood, goodPair}
-use Rattle.telegram.specs.Place.{areSyncs}
 use Rattle.text.specs.Text.{codes}
 use Rattle.lines.specs.declared.Got.{Got}
 use Rattle.lines.specs.Text.{beginning}
@@ -25,7 +22,6 @@ use Rattle.trace_text.specs.declared.MakingWent.{MakingWent}
 use Rattle.trace_text.specs.Said.{whatOf, said}
 use Rattle.trace_text.specs.Record.{recordOf}
 use Rattle.trace_text_laws.specs.Texts.{made, Comes, no-more, nothing, thing, Taken}
-use Rattle.track_text.specs.declared.Entry.{Entry}
 use Rattle.track_text.specs.Read.{read}
 use Rattle.track_lead.specs.declared.Thing.{Thing}
 use Rattle.track_lead.specs.declared.Mark.{Mark}

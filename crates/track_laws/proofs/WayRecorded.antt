@@ -3,12 +3,10 @@
 -- Assumes nothing.
 use Prim.Native.Nat.{ℕ}
 use mathlib.Core.Path.{_≡_, refl}
-use mathlib.Core.Bool.{true}
 use mathlib.Core.List.{List, [], _∷_, _++_}
 use native.Mathlib.Omega.{arith}
 use Rattle.telegram.specs.Sync.{differing, isGood, goodPair}
 use Rattle.telegram.specs.Place.{areSyncs}
-use Rattle.settings.specs.declared.Store.{Store}
 use Rattle.settings.specs.Versions.{settingsOf, follows}
 use Rattle.settings.specs.Store as stores
 use Rattle.settings.specs.Store.{noStore, versionsOf, opened, begin, allFollow, inOrder}
@@ -17,7 +15,6 @@ use Rattle.settings.specs.At.{heldFrom, asked, hold}
 use Rattle.contact.specs.History as history
 use Rattle.contact.specs.History.{zeroesOf, zeroes, opens, closes}
 use Rattle.antenna.specs.declared.Stand.{Stand}
-use Rattle.antenna.specs.declared.Ear.{Ear}
 use Rattle.antenna.specs.Places.{more, placesAfter}
 use Rattle.antenna.specs.Sound.{begun, withBit, markerOr, judged}
 use Rattle.antenna.specs.Hearing as hearing
@@ -32,7 +29,7 @@ use Rattle.recording.specs.Asking.{firstIn, firstOf, goOn, finish}
 use Rattle.recording.specs.Contacts.{withoutPositions}
 use Rattle.recording_laws.specs.Calls.{FreshTape, GoOn, EndOf}
 use Rattle.recording_laws.specs.Recorded.{came, used, none, piece, no-more, Recorded}
-use Rattle.trace_text_laws.specs.Texts.{Result, made}
+use Rattle.trace_text_laws.specs.Texts.{made}
 use Rattle.track_laws.proofs.TextMet.{store, pair, throughout}
 use Rattle.track_laws.proofs.WayMet.{lent, lead, marker, tracked-met, sure-met, taken-met}
 use Rattle.track_laws.proofs.ByCalls.{the-whole-way}

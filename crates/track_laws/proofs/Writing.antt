@@ -4,18 +4,18 @@
 use Prim.Native.Nat.{ℕ, zero, suc, _+_, _-_, _*_, _/_, _≤_, _<_}
 use mathlib.Core.Path.{_≡_, refl, sym, ap, ap₂, _∙_, subst}
 use mathlib.Core.Bool.{Bool, true, false}
-use mathlib.Core.List.{List, [], _∷_, _++_, append-nil}
+use mathlib.Core.List.{List, [], _++_, append-nil}
 use native.Mathlib.Omega.{arith}
 use native.Mathlib.Nat.{mul-suc}
 use lib.Dec.{ltb}
 use lib.ListN.{length, take, length-append}
 use lib.Seq.{take-at}
-use borrow.Author.Tests.{ltb-true, ltb-false, lt-ltb, le-ltb}
+use borrow.Author.Tests.{ltb-true, ltb-false}
 use Rattle.words.specs.Answer.{pick}
 use Rattle.track_lead.specs.declared.Feed.{Feed}
 use Rattle.track_lead.specs.declared.Wrote.{Wrote}
 use Rattle.track_lead.specs.Feed.{frame, after, Fed, frames, Writing, write}
-use Rattle.track_lead.specs.Laws.{andThen, left, allTo}
+use Rattle.track_lead.specs.Laws.{left, allTo}
 use Rattle.track_lead.proofs.Blocks.{one, none, any-blocks, frame-long}
 use Rattle.track_laws.specs.Calls.{WriteFrames}
 use Rattle.track_laws.specs.ByCalls.{WritesTo, some, no-more}

@@ -23,7 +23,7 @@ use reading::Start;
 use settings::Store;
 
 // Where the ride begins by the arguments, or that what is wrong with them was said.
-enum Begins {
+enum StartGiven {
     With(Start),
     Said,
 }
@@ -69,20 +69,20 @@ fn is_word(word: &[u8]) -> bool {
 
 // Where the ride begins by this argument, the place after `-from`; where it is missing or no figure
 // that is said.
-fn begins(argument: usize) -> Begins {
+fn begins(argument: usize) -> StartGiven {
     if os::arg_count() <= argument {
         usage();
-        return Begins::Said;
+        return StartGiven::Said;
     }
     match console::number(argument, u64::MAX) {
-        Figure::Number(place) => Begins::With(Start::At { place, argument }),
-        Figure::Above => Begins::With(Start::At {
+        Figure::Number(place) => StartGiven::With(Start::At { place, argument }),
+        Figure::Above => StartGiven::With(Start::At {
             place: u64::MAX,
             argument,
         }),
         Figure::Odd => {
             console::wrong(b"view", b"PLACE", b"figure", argument);
-            Begins::Said
+            StartGiven::Said
         }
     }
 }
@@ -100,7 +100,7 @@ fn after_settings(store: Store, start: Start, first: usize)
         look(store, start, first);
         return;
     }
-    let Begins::With(later) = begins(first + 1) else {
+    let StartGiven::With(later) = begins(first + 1) else {
         return;
     };
     look(store, later, first + 2);
@@ -126,7 +126,7 @@ fn main() {
         go_on(Start::First, 1);
         return;
     }
-    let Begins::With(start) = begins(2) else {
+    let StartGiven::With(start) = begins(2) else {
         return;
     };
     go_on(start, 3);

@@ -28,6 +28,12 @@ struct Came {
     note: Note,
 }
 
+// What is asked for, and how many letters the last word then has.
+struct Order {
+    command: Command,
+    letters: usize,
+}
+
 // Why a move ended: the refusal of the next step, if it would be refused. An opened viewer's
 // settings are good, so 22 or 23.
 fn noted(ending: Ending) -> Note {
@@ -117,28 +123,45 @@ fn asked(line: &[u8], is_long: bool) -> Command {
     viewer_text::read(line)
 }
 
+// The next command, which the prompt asks for; where the input has ended, `q`. The word that it
+// names, if it names one, stands then at the start of `word`; the one before had so many letters.
+fn ask(last: Command, word: &mut [u8], letters: usize) -> Order
+    requires { ⌜ letters ≤ length (now word) ⌝ }
+    ensures { λ r. ⌜ r .letters ≤ length (now (word .entry)) ⌝ }
+{
+    out::prompt();
+    let mut line = [0u8; 256];
+    let got = input::next(&mut line);
+    let count = got.count;
+    if got.is_end {
+        out::unprompt();
+        return Order {
+            command: Command::Quit,
+            letters,
+        };
+    }
+    let command = meant(asked(&line[..count], got.is_long), last);
+    Order {
+        command,
+        letters: keep_word(command, &line, word, letters),
+    }
+}
+
 // The commands up to `q`, the end of the input, or where nothing can be written any more. No run
 // uses up the turns.
 fn obey_all(trace: &[u8], first: Standing, on_screen: bool) {
     let mut stand = first;
     let mut last = Command::Unknown;
-    let mut line = [0u8; 256];
     let mut word = [0u8; 256];
     let mut letters: usize = 0;
     let mut turns = u64::MAX;
     while turns > 0 {
-        out::prompt();
-        let got = input::next(&mut line);
-        let count = got.count;
-        if got.is_end {
-            out::unprompt();
-            return;
-        }
-        let command = meant(asked(&line[..count], got.is_long), last);
+        let order = ask(last, &mut word, letters);
+        let command = order.command;
+        letters = order.letters;
         if is_quit(command) {
             return;
         }
-        letters = keep_word(command, &line, &mut word, letters);
         last = remembered(command, last);
         let came = obey(trace, stand, command, &word[..letters], on_screen);
         let note = came.note;

@@ -1,6 +1,6 @@
 -- `record_of` goes by what lies there.
-use mathlib.Core.Path.{_≡_, sym, ap, _∙_}
-use Rattle.trace_text.specs.Record.{recordOf, recording}
+use mathlib.Core.Path.{_∙_}
+use Rattle.trace_text.specs.Record.{recordOf}
 use borrow.Author.Needs.{needs}
 use Rattle.trace_text.proofs.record_of.Statement.{statement}
 use Rattle.trace_text.proofs.record_of.Tie as tie
@@ -29,17 +29,8 @@ pub record-of-spec : {M : Type 1} → statement M
 record-of-spec =
     tie.close
     (tie.spec
-    (λ c. search needs)
-    (λ c κs. search needs)
-    (λ c. search needs)
-    (λ c κs. search needs)
-    (λ c. search needs)
-    (λ c κs. search needs)
-    (λ c. search needs)
-    (λ c κs. search needs)
-    (λ c. search needs)
-    (λ c κs. search needs)
-    returns
+    (λ c. search needs) (λ c κs. search needs) (λ c. search needs) (λ c κs. search needs) (λ c. search needs) (λ c κs. search needs) (λ c. search needs) (λ c κs. search needs)
+    (λ c. search needs) (λ c κs. search needs) returns
     returns-2
     returns-3
     returns-4

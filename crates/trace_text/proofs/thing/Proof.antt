@@ -1,5 +1,5 @@
 -- `thing` goes by what was read.
-use mathlib.Core.Path.{_≡_, sym, ap, _∙_}
+use mathlib.Core.Path.{sym, ap}
 use Rattle.trace_text.specs.Said.{thing}
 use borrow.Author.Needs.{needs}
 use Rattle.trace_text.proofs.thing.Statement.{statement}

@@ -1,8 +1,6 @@
 -- Fifteen of them stay.
 -- Assumes nothing.
-use mathlib.Core.Path.{sym}
 use native.Mathlib.Omega.{arith}
-use borrow.Author.Needs.{needs}
 use Rattle.antenna.proofs.Counting.{with-oldest, with-newest, fifteen}
 use Rattle.antenna.proofs.history.zeroes_after.Statement.{statement}
 use Rattle.antenna.proofs.history.zeroes_after.Tie as tie

@@ -1,5 +1,5 @@
 -- `balise` makes a record of the words, or hands on why there are none.
-use mathlib.Core.Path.{_≡_, sym, ap, _∙_}
+use mathlib.Core.Path.{sym, ap, _∙_}
 use Rattle.telegram.specs.Says.{saysSpelt}
 use Rattle.trace_text.specs.Record.{recordOf}
 use borrow.Author.Needs.{needs}
@@ -22,13 +22,7 @@ pub balise-spec : {M : Type 1} → statement M
 balise-spec =
     tie.close
     (tie.spec
-    (λ c κs. search needs)
-    (λ c. search needs)
-    (λ c κs. search needs)
-    (λ c. search needs)
-    (λ c κs. search needs)
-    (λ c. search needs)
-    (λ c κs. search needs)
+    (λ c κs. search needs) (λ c. search needs) (λ c κs. search needs) (λ c. search needs) (λ c κs. search needs) (λ c. search needs) (λ c κs. search needs)
     returns
     returns-2
     returns-3)

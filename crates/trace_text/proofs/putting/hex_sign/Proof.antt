@@ -1,5 +1,5 @@
 -- `hex_sign` tells digits from letters.
-use borrow.Author.Tests.{eq-eqb, ne-eqb, le-ltb, lt-ltb}
+use borrow.Author.Tests.{le-ltb, lt-ltb}
 use Rattle.trace_text.specs.Line.{hexSign}
 use borrow.Author.Needs.{needs}
 use Rattle.trace_text.proofs.putting.hex_sign.Statement.{statement}

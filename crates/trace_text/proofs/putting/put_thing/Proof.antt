@@ -1,6 +1,4 @@
 -- `put_thing` puts the place, and what lies there after it.
-use mathlib.Core.Path.{_≡_}
-use lib.ListN.{length}
 use Rattle.text.proofs.Standing.{room-after, join-as, numbered, room-as}
 use Rattle.trace_text.specs.Line.{whatText}
 use Rattle.trace_text.proofs.Pieces.{thing-is}
@@ -27,8 +25,5 @@ pub put-thing-spec : {M : Type 1} → statement M
 put-thing-spec =
     tie.close
     (tie.spec
-    (λ c. search needs)
-    (λ c κs. search needs)
-    put-what-requires
-    (λ c. search needs)
-    returns)
+    (λ c. search needs) (λ c κs. search needs) put-what-requires
+    (λ c. search needs) returns)

@@ -1,10 +1,10 @@
 -- `put_what` goes by what lies there.
-use mathlib.Core.Path.{_≡_, sym, ap, subst, _∙_}
+use mathlib.Core.Path.{subst}
 use Prim.Native.Nat.{_+_, _≤_}
 use lib.ListN.{length}
 use Rattle.text.proofs.Standing.{by-case}
 use Rattle.trace_text.specs.declared.What.{What}
-use Rattle.trace_text.specs.Line.{balise, whatText}
+use Rattle.trace_text.specs.Line.{whatText}
 use borrow.Author.Needs.{needs}
 use Rattle.trace_text.proofs.putting.put_what.Statement.{statement}
 use Rattle.trace_text.proofs.putting.put_what.Tie as tie
@@ -45,26 +45,11 @@ pub put-what-spec : {M : Type 1} → statement M
 put-what-spec =
     tie.close
     (tie.spec
-    (λ c. search needs)
-    put-balise-requires
-    (λ c. search needs)
-    (λ c. search needs)
-    (λ c κs. search needs)
-    (λ c. search needs)
-    (λ c. search needs)
-    (λ c κs. search needs)
-    (λ c. search needs)
-    (λ c. search needs)
-    (λ c κs. search needs)
-    (λ c. search needs)
-    put-raw-requires
-    (λ c. search needs)
-    returns
-    (λ c. search needs)
-    returns-2
-    (λ c. search needs)
-    returns-3
-    (λ c. search needs)
-    returns-4
-    (λ c. search needs)
-    returns-5)
+    (λ c. search needs) put-balise-requires
+    (λ c. search needs) (λ c. search needs) (λ c κs. search needs) (λ c. search needs) (λ c. search needs) (λ c κs. search needs) (λ c. search needs) (λ c. search needs)
+    (λ c κs. search needs) (λ c. search needs) put-raw-requires
+    (λ c. search needs) returns
+    (λ c. search needs) returns-2
+    (λ c. search needs) returns-3
+    (λ c. search needs) returns-4
+    (λ c. search needs) returns-5)

@@ -1,10 +1,4 @@
 -- `put_words` puts the bytes one after the other.
-use mathlib.Core.Path.{_≡_, sym, ap, subst, _∙_}
-use mathlib.Core.List.{List, _++_}
-use Prim.Native.Nat.{ℕ, _+_, _≤_}
-use lib.ListN.{length}
-use Rattle.text.specs.Text.{codes}
-use Rattle.text.specs.Put.{put}
 use Rattle.text.proofs.Standing.{join-3}
 use Rattle.trace_text.specs.Line.{byteText}
 use borrow.Author.Needs.{needs}

@@ -1,5 +1,5 @@
 -- `figure_of` takes the largest of its type for what is above it.
-use borrow.Author.Tests.{eq-eqb, ne-eqb, le-leb, lt-leb, not-true, not-false}
+use borrow.Author.Tests.{le-leb, lt-leb}
 use Rattle.trace_text.specs.Said.{figureOf}
 use borrow.Author.Needs.{needs}
 use Rattle.trace_text.proofs.reading.figure_of.Statement.{statement}

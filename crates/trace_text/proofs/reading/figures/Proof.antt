@@ -1,9 +1,8 @@
 -- `figures` reads the three figures, and compares the first with 12.
-use mathlib.Core.Path.{_≡_, sym, ap, _∙_}
-use Prim.Native.Nat.{_≤_}
+use mathlib.Core.Path.{sym, _∙_}
 use native.Mathlib.Omega.{arith}
-use borrow.Author.Tests.{eq-eqb, ne-eqb, le-leb, lt-leb, not-true, not-false}
-use Rattle.trace_text.specs.Said.{figureOf, figures}
+use borrow.Author.Tests.{eq-eqb, ne-eqb}
+use Rattle.trace_text.specs.Said.{figures}
 use Rattle.trace_text.proofs.Figures.{no-larger}
 use borrow.Author.Needs.{needs}
 use Rattle.trace_text.proofs.reading.figures.Statement.{statement}
@@ -42,18 +41,9 @@ pub figures-spec : {M : Type 1} → statement M
 figures-spec =
     tie.close
     (tie.spec
-    (λ c κs. search needs)
-    (λ c. search needs)
-    (λ c. search needs)
-    returns
-    (λ c κs. search needs)
-    (λ c. search needs)
-    (λ c. search needs)
-    returns-2
-    (λ c κs. search needs)
-    (λ c. search needs)
-    (λ c. search needs)
-    returns-3
+    (λ c κs. search needs) (λ c. search needs) (λ c. search needs) returns
+    (λ c κs. search needs) (λ c. search needs) (λ c. search needs) returns-2
+    (λ c κs. search needs) (λ c. search needs) (λ c. search needs) returns-3
     returns-4
     cast-t11
     cast-t12

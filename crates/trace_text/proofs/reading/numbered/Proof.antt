@@ -1,9 +1,8 @@
 -- `numbered` reads both figures, and compares the first with 12.
-use mathlib.Core.Path.{_≡_, sym, ap, _∙_}
-use Prim.Native.Nat.{_≤_}
+use mathlib.Core.Path.{sym, _∙_}
 use native.Mathlib.Omega.{arith}
-use borrow.Author.Tests.{eq-eqb, ne-eqb, le-leb, lt-leb, not-true, not-false}
-use Rattle.trace_text.specs.Said.{figureOf, numbered}
+use borrow.Author.Tests.{eq-eqb, ne-eqb}
+use Rattle.trace_text.specs.Said.{numbered}
 use Rattle.trace_text.proofs.Figures.{no-larger}
 use borrow.Author.Needs.{needs}
 use Rattle.trace_text.proofs.reading.numbered.Statement.{statement}
@@ -32,14 +31,8 @@ pub numbered-spec : {M : Type 1} → statement M
 numbered-spec =
     tie.close
     (tie.spec
-    (λ c κs. search needs)
-    (λ c. search needs)
-    (λ c. search needs)
-    returns
-    (λ c κs. search needs)
-    (λ c. search needs)
-    (λ c. search needs)
-    returns-2
+    (λ c κs. search needs) (λ c. search needs) (λ c. search needs) returns
+    (λ c κs. search needs) (λ c. search needs) (λ c. search needs) returns-2
     returns-3
     cast-t8
     returns-4)

@@ -1,7 +1,7 @@
 -- `raw` takes the four bytes one after the other.
-use mathlib.Core.Path.{_≡_, sym, ap, _∙_}
-use borrow.Author.Tests.{eq-eqb, ne-eqb, le-leb, lt-leb, not-true, not-false}
-use Rattle.trace_text.specs.Said.{isRaw, raw}
+use mathlib.Core.Path.{sym, _∙_}
+use borrow.Author.Tests.{not-true, not-false}
+use Rattle.trace_text.specs.Said.{raw}
 use borrow.Author.Needs.{needs}
 use Rattle.trace_text.proofs.reading.raw.Statement.{statement}
 use Rattle.trace_text.proofs.reading.raw.Tie as tie
@@ -34,18 +34,9 @@ pub raw-spec : {M : Type 1} → statement M
 raw-spec =
     tie.close
     (tie.spec
-    (λ c κs. search needs)
-    returns
-    (λ c. search needs)
-    (λ c. search needs)
-    returns-2
-    (λ c. search needs)
-    (λ c. search needs)
-    returns-3
-    (λ c. search needs)
-    (λ c. search needs)
-    returns-4
-    (λ c. search needs)
-    (λ c. search needs)
-    returns-5
+    (λ c κs. search needs) returns
+    (λ c. search needs) (λ c. search needs) returns-2
+    (λ c. search needs) (λ c. search needs) returns-3
+    (λ c. search needs) (λ c. search needs) returns-4
+    (λ c. search needs) (λ c. search needs) returns-5
     returns-6)

@@ -1,6 +1,6 @@
 -- `what_of` goes by the number of words.
-use mathlib.Core.Path.{_≡_, sym, ap, _∙_}
-use borrow.Author.Tests.{eq-eqb, ne-eqb, le-leb, lt-leb, not-true, not-false}
+use mathlib.Core.Path.{_∙_}
+use borrow.Author.Tests.{eq-eqb, ne-eqb}
 use Rattle.trace_text.specs.Said.{whatOf}
 use borrow.Author.Needs.{needs}
 use Rattle.trace_text.proofs.reading.what_of.Statement.{statement}
@@ -30,16 +30,8 @@ pub what-of-spec : {M : Type 1} → statement M
 what-of-spec =
     tie.close
     (tie.spec
-    (λ c. search needs)
-    (λ c. search needs)
-    (λ c. search needs)
-    (λ c κs. search needs)
-    (λ c κs. search needs)
-    (λ c κs. search needs)
-    (λ c. search needs)
-    (λ c. search needs)
-    (λ c κs. search needs)
-    returns
+    (λ c. search needs) (λ c. search needs) (λ c. search needs) (λ c κs. search needs) (λ c κs. search needs) (λ c κs. search needs) (λ c. search needs) (λ c. search needs)
+    (λ c κs. search needs) returns
     returns-2
     returns-3
     returns-4

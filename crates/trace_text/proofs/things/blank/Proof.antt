@@ -1,6 +1,6 @@
 -- `blank` goes by the kind.
 use mathlib.Core.Path.{sym, ap}
-use borrow.Author.Tests.{eq-eqb, ne-eqb, le-ltb, lt-ltb}
+use borrow.Author.Tests.{ne-eqb}
 use Rattle.trace_text.specs.Thing.{blank}
 use Rattle.trace_text.proofs.things.blank.Statement.{statement}
 use Rattle.trace_text.proofs.things.blank.Tie as tie

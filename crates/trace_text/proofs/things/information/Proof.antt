@@ -1,7 +1,6 @@
 -- `information` reads the words as a telegram.
 use mathlib.Core.Path.{sym, ap, _∙_}
 use Rattle.telegram.specs.Says.{saysTelegramRead}
-use Rattle.trace_text.specs.Thing.{informed}
 use borrow.Author.Needs.{needs}
 use Rattle.trace_text.proofs.things.information.Statement.{statement}
 use Rattle.trace_text.proofs.things.information.Tie as tie
@@ -19,11 +18,6 @@ pub information-spec : {M : Type 1} → statement M
 information-spec =
     tie.close
     (tie.spec
-    (λ c κs. search needs)
-    (λ c. search needs)
-    (λ c κs. search needs)
-    (λ c. search needs)
-    (λ c. search needs)
-    returns
+    (λ c κs. search needs) (λ c. search needs) (λ c κs. search needs) (λ c. search needs) (λ c. search needs) returns
     returns-2
     returns-3)

@@ -1,6 +1,6 @@
 -- `thing_of` goes by the kind and by whether there are words.
 use mathlib.Core.Path.{_∙_}
-use borrow.Author.Tests.{eq-eqb, ne-eqb, le-ltb, lt-ltb}
+use borrow.Author.Tests.{eq-eqb, ne-eqb}
 use Rattle.trace_text.specs.Thing.{thingOf}
 use borrow.Author.Needs.{needs}
 use Rattle.trace_text.proofs.things.thing_of.Statement.{statement}

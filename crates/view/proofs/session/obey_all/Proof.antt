@@ -1,6 +1,6 @@
 -- `obey_all` keeps the word within its room, and counts its turns down.
-use mathlib.Core.Path.{_≡_, refl, sym, ap, _∙_}
-use Prim.Native.Nat.{ℕ, _+_, _-_, _*_, _/_, _<_, _≤_}
+use mathlib.Core.Path.{_≡_, sym}
+use Prim.Native.Nat.{_<_, _≤_}
 use native.Mathlib.Omega.{arith}
 use lib.ListN.{length}
 use lib.Seq.{length-take-le}
@@ -9,23 +9,20 @@ use Rattle.view.proofs.session.obey_all.Statement.{statement}
 use Rattle.view.proofs.session.obey_all.Tie as tie
 
 abbrev Inv-loop : tie.InvT-loop
-Inv-loop trace on-screen stand₀ note₀ last₀ line₀ word₀ letters₀ turns₀ stand note last line word letters turns = (length line ≡ 256) × (length word ≡ 256) × (letters ≤ 256)
+Inv-loop trace on-screen stand₀ last₀ word₀ letters₀ turns₀ stand last word letters turns = (length word ≡ 256) × (letters ≤ 256)
 
 abbrev μ-loop : tie.MeasureT-loop
-μ-loop trace on-screen stand₀ note₀ last₀ line₀ word₀ letters₀ turns₀ stand note last line word letters turns = turns
-
-slice-aggregate-show : tie.Need-slice-aggregate-show Inv-loop μ-loop
-slice-aggregate-show c = sym (length-take-le _ _ (omega arith))
-
-slice-aggregate-asked : tie.Need-slice-aggregate-asked Inv-loop μ-loop
-slice-aggregate-asked c = sym (length-take-le _ _ (omega arith))
+μ-loop trace on-screen stand₀ last₀ word₀ letters₀ turns₀ stand last word letters turns = turns
 
 slice-aggregate-obey : tie.Need-slice-aggregate-obey Inv-loop μ-loop
 slice-aggregate-obey c = sym (length-take-le _ _ (omega arith))
 
+slice-aggregate-show : tie.Need-slice-aggregate-show Inv-loop μ-loop
+slice-aggregate-show c = sym (length-take-le _ _ (omega arith))
+
 -- what the loop's test says
-some-left : (c : tie.After-stand Inv-loop μ-loop) → 0 < c .before .before .before .before .before .before .before .before .before .before .before .before .before .before .before .before .before .before .before .before .before .before .loop .turns
-some-left c = c .before .before .before .before .before .before .before .before .before .before .before .before .before .before .before .before .before .before .before .before .before .loop-test .taken
+some-left : (c : tie.Else2 Inv-loop μ-loop) → 0 < c .before .before .before .before .before .before .before .before .before .before .before .before .before .loop .turns
+some-left c = c .before .before .before .before .before .before .before .before .before .before .before .before .loop-test .taken
 
 sub-turns : tie.Need-sub-turns Inv-loop μ-loop
 sub-turns c = omega (arith, some-left c)
@@ -39,11 +36,9 @@ obey-all-spec =
     (tie.spec
     Inv-loop
     μ-loop
-    (λ c κs. search needs) (λ c. search needs) (λ c. search needs) slice-aggregate-show
-    (λ c κs. search needs) (λ c. search needs) (λ c κs. search needs) (λ c. search needs) (λ c κs. search needs) (λ c κs. search needs)
-    (λ c. search needs) (λ c. search needs) slice-aggregate-asked
-    (λ c κs. search needs) (λ c κs. search needs) (λ c κs. search needs) (λ c. search needs) (λ c. search needs) (λ c. search needs)
-    (λ c κs. search needs) (λ c κs. search needs) (λ c. search needs) slice-aggregate-obey
-    (λ c κs. search needs) sub-turns
+    (λ c. search needs) (λ c. search needs) (λ c κs. search needs) (λ c κs. search needs) (λ c. search needs)
+    (λ c κs. search needs) (λ c. search needs) slice-aggregate-obey
+    (λ c κs. search needs) (λ c. search needs) slice-aggregate-show
+    (λ c κs. search needs) (λ c. search needs) sub-turns
     loop-less
     (λ c. search needs) (λ c. search needs))
