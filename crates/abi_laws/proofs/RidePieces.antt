@@ -29,7 +29,7 @@ use Rattle.abi.specs.Rides.{styleOf, listed, listedPut, ending}
 use Rattle.demands.specs.Stores.{Good}
 use Rattle.demands.specs.TraceCalls.{Whole, Call}
 use Rattle.demands.proofs.Beside.Cards.{eights, are-whole}
-use Rattle.demands.proofs.Beside.TraceCalls.{Gone, Takes, one-more}
+use Rattle.demands.proofs.Beside.TraceCalls.{Gone, TakesFront, one-more}
 use Rattle.demands.proofs.Beside.Told.{told, on, front}
 use Rattle.abi_laws.specs.RideCalls.{RideList, RideEnd, InPieces, none, more}
 use Rattle.abi_laws.specs.Rides.{RidesInPieces}
@@ -62,7 +62,7 @@ module _ (ride store block : List ℕ) (number style : ℕ) (before out : List �
       omega (arith, k-is, one-taken (styleOf style) (gapAt (storeIn store)) (records block) (rideIn ride) number (length before) some room small)
 
   -- It told the records that it took.
-  takes : Takes (told (styleOf style) (gapAt (storeIn store))) (λ c. c .answer .1 .0) (λ c. c .answer .1 .1) (λ a. a .0) (rideIn ride, number) the-call
+  takes : TakesFront (told (styleOf style) (gapAt (storeIn store))) (λ c. c .answer .1 .0) (λ c. c .answer .1 .1) (λ a. a .0) (rideIn ride, number) the-call
   unfolding listOf
   takes =
       let answer = ap₂ {C = Outcome Taken} (λ (i j : ℕ). gives (record { records = i; bytes = j })) (sym (ap (λ (l : List ℕ). getD l 0 0) counts)) (sym (ap (λ (l : List ℕ). getD l 1 0) counts)) in

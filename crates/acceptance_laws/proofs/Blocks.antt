@@ -32,7 +32,7 @@ use Rattle.demands.specs.Output.{recordsIn}
 use Rattle.demands.specs.Stores.{Good}
 use Rattle.demands.specs.TraceCalls.{Whole, Call}
 use Rattle.demands.proofs.Beside.Cards.{eights}
-use Rattle.demands.proofs.Beside.TraceCalls.{Gone, gone, onFrom, Takes}
+use Rattle.demands.proofs.Beside.TraceCalls.{Gone, gone, onFrom, TakesFront}
 use Rattle.demands.proofs.Beside.TraceCalls as by-calls
 use Rattle.acceptance_laws.specs.Contracts.{AcceptInto}
 use Rattle.acceptance_laws.specs.Calls.{taken, bytesOf, AcceptCall, ByAccept, textFrom, afterCalls}
@@ -129,7 +129,7 @@ module _ (store : Store) (good : Good store) where
       ap₂ (λ (ride : Ride) (u : Taking). gone (u .text) (standing ride u)) ride-goes total-goes
 
   takes : (g : Going) (c : Call Advanced) → Whole (c .block) → AcceptCall store g c
-      → Takes over (λ c. taken (c .answer .progress)) (λ c. bytesOf (c .answer .progress)) (λ a. a .going) g c
+      → TakesFront over (λ c. taken (c .answer .progress)) (λ c. bytesOf (c .answer .progress)) (λ a. a .going) g c
   takes g c whole call =
       let n : ℕ = many g store (c .block) (c .before) (c .answer) (c .after) good whole call in
       let n-is : taken (c .answer .progress) ≡ n = ap taken (progress-is g store (c .block) (c .before) (c .answer) (c .after) good whole call) in

@@ -32,7 +32,7 @@ use Rattle.demands.specs.Compacting.{CompactIn}
 use Rattle.demands.specs.Output.{recordsIn}
 use Rattle.demands.specs.TraceCalls.{Whole, Call}
 use Rattle.demands.proofs.Beside.Cards.{eights}
-use Rattle.demands.proofs.Beside.TraceCalls.{Gone, gone, onFrom, Takes, comes}
+use Rattle.demands.proofs.Beside.TraceCalls.{Gone, gone, onFrom, TakesFront, comes}
 use Rattle.compaction_laws.specs.Blocks.{bytesIn, BlockCall, ByBlocks, written, waitsLast, InBlocks}
 use Rattle.compaction_laws.proofs.Trace.{under-made}
 
@@ -57,7 +57,7 @@ module _ (store : Store) (good : judged store ≡ gives kept) where
       ∙ ap (λ (t : List ℕ). gone t (waitsAfter gaps (waitsAfter gaps w xs) ys)) (bytes-join (keptOver gaps w xs) (keptOver gaps (waitsAfter gaps w xs) ys))
 
   takes : (w : Waiting) (c : Call Block) → Whole (c .block) → BlockCall store w c
-      → Takes over (λ c. recordsIn (c .block)) (λ c. bytesIn (c .answer .size)) (λ b. b .waiting) w c
+      → TakesFront over (λ c. recordsIn (c .block)) (λ c. bytesIn (c .answer .size)) (λ b. b .waiting) w c
   unfolding compactBlock settledBlock
   takes w c whole (in-place, call) =
       let bytes : List ℕ = bytesOf (keptOver gaps w (records (c .block))) in

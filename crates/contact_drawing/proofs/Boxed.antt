@@ -10,15 +10,18 @@ use native.Mathlib.Omega.{arith}
 use lib.Dec.{leb, ltb}
 use borrow.Author.Tests.{le-leb, lt-leb, ltb-true, ltb-false}
 use Rattle.words.specs.Answer.{Outcome, gives, refuses, pick}
+use Rattle.text.specs.Put.{placed}
+use Rattle.text.specs.Pieces.{whole}
 use Rattle.telegram.specs.Stretch.{bitAt, bitsAt, inside}
 use Rattle.telegram.specs.Sync.{isGood}
 use Rattle.telegram.specs.Place.{isPlace, those, places, firstOf, find}
 use Rattle.telegram.proofs.Places.{fits, one-offset, is-place, too-short}
 use Rattle.telegram.proofs.Taken.{part-taken}
 use Rattle.balise_line.proofs.Bits.{spelt-alike}
-use Rattle.contact_drawing.specs.Strips.{drawn, each, boxes, isFound, boxed, telegramOf, telegrams}
-use Rattle.contact_drawing.specs.Laws.{drawnPlaces, boxesAt, Holds, Boxed}
+use Rattle.contact_drawing.specs.Strips.{drawn, each, boxes, isFound, boxed, telegramOf, telegrams, stripsWith, strips}
+use Rattle.contact_drawing.specs.Laws.{Call, asked, Allowed, Lent, drawnPlaces, boxesAt, Holds, Boxed}
 use Rattle.contact_drawing.proofs.Each.{drawn-within}
+use Rattle.contact_drawing.proofs.Roomy.{roomy}
 
 -- ---- the places that lie in fewer bits
 
@@ -143,15 +146,30 @@ module _ (line kept : List ℕ) (first start s t : ℕ) where
     unfolding telegrams
     all-bits = by-length (ltb n 39) refl
 
-pub boxed-at : Boxed
+at-places : (line kept : List ℕ) (first start length s t : ℕ) → isGood s t ≡ true → Holds kept first line start (drawn length)
+    → telegrams kept first start (drawn length) s t ≡ boxesAt line start s (drawnPlaces line start length s t)
 unfolding drawnPlaces
+at-places line kept first start length s t good h =
+    let n : ℕ = drawn length in
+    let within : length ≡ n + (length - n) = omega (arith, drawn-within length) in
+    all-bits line kept first start s t n good h
+    ∙ ap (boxesAt line start s)
+    (sym (ap (λ (m : ℕ). those (λ p. leb (p + 40) (start + n)) (places line start m s t)) within ∙ shorter line s t (start + n) n (length - n) start refl))
+
+-- ---- in the page
+
+as-asked : (c : Call) (line : List ℕ) → isGood (c .s) (c .t) ≡ true → Holds (c .kept) (c .first) line (c .end - c .bits) (drawn (c .bits))
+    → asked c ≡ stripsWith (boxesAt line (c .end - c .bits) (c .s) (drawnPlaces line (c .end - c .bits) (c .bits) (c .s) (c .t))) (c .end) (c .bits) (c .judged) (c .kept) (c .first)
+unfolding strips
+as-asked c line good h =
+    ap (λ (boxes : List (List ℕ)). stripsWith boxes (c .end) (c .bits) (c .judged) (c .kept) (c .first))
+    (at-places line (c .kept) (c .first) (c .end - c .bits) (c .bits) (c .s) (c .t) good h)
+
+pub boxed-at : Boxed
 boxed-at =
     record {
-      at-places =
-          λ line kept first start length s t good h.
-          let n : ℕ = drawn length in
-          let within : n + (length - n) ≡ length = omega (arith, drawn-within length) in
-          all-bits line kept first start s t n good h
-          ∙ ap (boxesAt line start s)
-          (sym (ap (λ (m : ℕ). those (λ p. leb (p + 40) (start + n)) (places line start m s t)) (sym within) ∙ shorter line s t (start + n) n (length - n) start refl));
+      at-places = at-places;
+      in-the-page =
+          λ c line allowed lent good h.
+          roomy .all c allowed lent .1 ∙ ap (λ (ps : List (List ℕ)). placed (whole ps) (c .before) (c .at)) (as-asked c line good h);
     }

@@ -20,7 +20,7 @@ use Rattle.telegram.specs.Place.{areSyncs, wordsAt, isPlace, from, those, place
 use Rattle.contact.specs.declared.Judged.{Judged}
 use Rattle.antenna_text.specs.Lines.{shown}
 use Rattle.contact_drawing.specs.Strips.{drawn, boxes, boxed, telegrams, strips}
-use Rattle.contact_drawing.specs.Laws.{drawnPlaces, boxesAt, Holds, Call, Allowed}
+use Rattle.contact_drawing.specs.Laws.{drawnPlaces, boxesAt, Holds, Call, Allowed, Lent}
 use Rattle.contact_drawing.proofs.Boxed.{boxed-at}
 
 -- Two telegrams that share a sync word, and a line that has them from bit 8 on.
@@ -76,8 +76,8 @@ module _ (before : List ℕ) where
         after = puts pieces before 0 .buffer;
       }
 
-  pub called : length before ≡ 262144 → Allowed call × (length (call .before) ≡ 262144) × (call .at ≤ 32768)
-  called lent = (refl, lent, omega arith)
+  pub called : length before ≡ 262144 → Allowed call × Lent call × Holds (call .kept) (call .first) line (call .end - call .bits) (drawn (call .bits))
+  called room = (refl, record { room = room; used = omega arith }, held)
 
 pub lent : length {A = ℕ} (replicate 262144 0) ≡ 262144
 lent = length-replicate {A = ℕ} 262144 0

@@ -1,7 +1,7 @@
 pub mod Each
 pub mod Determined
+pub mod Roomy
 pub mod Boxed
 pub mod OnAStrip
-pub mod Roomy
 pub mod Plain
 pub mod Examples

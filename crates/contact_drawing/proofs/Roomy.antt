@@ -23,7 +23,7 @@ use Rattle.contact.specs.Says.{saysJudged}
 use Rattle.antenna.specs.Line.{placed as placedOn}
 use Rattle.antenna_text.specs.Lines.{shown, judgedAs, toldLine, closedBefore}
 use Rattle.contact_text.proofs.Pieces.{heard-length}
-use Rattle.contact_drawing.specs.Strips.{drawn, each, level, bitOf, boxes, isFound, boxed, telegramOf, telegrams, strip, stripsOf, cutAt, waveform, picture, strips}
+use Rattle.contact_drawing.specs.Strips.{drawn, each, level, bitOf, boxes, isFound, boxed, telegramOf, telegrams, strip, stripsOf, cutAt, waveform, pictureWith, stripsWith, strips}
 use Rattle.contact_drawing.specs.Laws.{Call, asked, Roomy}
 use Rattle.contact_drawing.proofs.Each.{drawn-most}
 
@@ -125,8 +125,8 @@ wave-size b first start n =
       decimal-length start,
     )
 
-picture-size : (b : List ℕ) (first start n s t : ℕ) → n ≤ 2000 → size (picture b first start n s t) ≤ 229000
-unfolding picture telegrams
+picture-size : (b : List ℕ) (first start n s t : ℕ) → n ≤ 2000 → size (pictureWith (telegrams b first start n s t) b first start n) ≤ 229000
+unfolding pictureWith telegrams
 picture-size b first start n s t h =
     let boxes-of : List (List ℕ) = each (telegramOf b first start s t) 0 (n - 39) in
     let row : List (List ℕ) = each (strip start) 0 (stripsOf n) in
@@ -142,10 +142,10 @@ picture-size b first start n s t h =
     )
 
 strips-size : (end bits : ℕ) (judged : Judged) (b : List ℕ) (first s t : ℕ) → size (strips end bits judged b first s t) ≤ 229376
-unfolding strips
+unfolding strips stripsWith
 strips-size end bits judged b first s t =
     let head : List (List ℕ) = codes "<h2>" ∷ toldLine (closedBefore end bits judged) ∷ codes "</h2>\n" ∷ [] in
-    let drawing : List (List ℕ) = picture b first (end - bits) (drawn bits) s t in
+    let drawing : List (List ℕ) = pictureWith (telegrams b first (end - bits) (drawn bits) s t) b first (end - bits) (drawn bits) in
     omega (
       arith,
       size-append head (cutAt bits ++ drawing),
@@ -163,7 +163,7 @@ pub roomy : Roomy
 roomy =
     record {
       all =
-          λ c allowed lent used.
-          let room : c .at + length (whole (asked c)) ≤ length (c .before) = omega (arith, most c, lent, used) in
+          λ c allowed lent.
+          let room : c .at + length (whole (asked c)) ≤ length (c .before) = omega (arith, most c, lent .room, lent .used) in
           stands room (allowed ∙ fitting (asked c) (c .before) (c .at) room) .put;
     }

@@ -84,19 +84,23 @@ waveform b first start n =
     ++ each (bitOf b first) 0 n
     ++ (codes "'/>\n" ∷ [])
 
--- The whole drawing of these bits: the waveform and the telegrams under it as one long picture, and
--- the strips, of which each shows a part.
-unfoldable pub picture : List ℕ → ℕ → ℕ → ℕ → ℕ → ℕ → List (List ℕ)
-picture b first start n s t =
+-- The whole drawing of these bits, with these boxes: the waveform and the boxes under it as one long
+-- picture, and the strips, of which each shows a part.
+unfoldable pub pictureWith : List (List ℕ) → List ℕ → ℕ → ℕ → ℕ → List (List ℕ)
+pictureWith boxes b first start n =
     waveform b first start n
-    ++ (telegrams b first start n s t
+    ++ (boxes
     ++ (codes "</g></defs></svg>\n" ∷ each (strip start) 0 (stripsOf n)))
 
--- What stands in the page for the contact of so many bits that bit `end` of the line closes: the
--- line that is written for it, whether it was cut, and its strips. Its bits are those of the buffer
--- from bit `first` on.
-unfoldable pub strips : ℕ → ℕ → Judged → List ℕ → ℕ → ℕ → ℕ → List (List ℕ)
-strips end length judged b first s t =
+-- What stands in the page for the contact of so many bits that bit `end` of the line closes, with
+-- these boxes: the line that is written for it, whether it was cut, and its strips. Its bits are
+-- those of the buffer from bit `first` on.
+unfoldable pub stripsWith : List (List ℕ) → ℕ → ℕ → Judged → List ℕ → ℕ → List (List ℕ)
+stripsWith boxes end length judged b first =
     (codes "<h2>" ∷ toldLine (closedBefore end length judged) ∷ codes "</h2>\n" ∷ [])
     ++ cutAt length
-    ++ picture b first (end - length) (drawn length) s t
+    ++ pictureWith boxes b first (end - length) (drawn length)
+
+-- What stands there: the boxes are those of its telegrams.
+unfoldable pub strips : ℕ → ℕ → Judged → List ℕ → ℕ → ℕ → ℕ → List (List ℕ)
+strips end length judged b first s t = stripsWith (telegrams b first (end - length) (drawn length) s t) end length judged b first

@@ -3,7 +3,7 @@ ghost use mathlib.Core.Path.{_≡_};
 ghost use Prim.Native.Nat.{_+_, _≤_};
 ghost use Rattle.text.specs.Put.{came};
 ghost use Rattle.text.specs.Pieces.{puts};
-ghost use Rattle.contact_drawing.specs.Strips.{cutAt, strip, each, waveform, picture};
+ghost use Rattle.contact_drawing.specs.Strips.{cutAt, strip, each, waveform, telegrams, pictureWith};
 use crate::boxes;
 use crate::sums;
 use crate::wave;
@@ -80,7 +80,7 @@ pub fn put_picture(
     at: usize,
 ) -> usize
     requires { ⌜ first + n ≤ 4000 ⌝ }
-    ensures { λ r. ⌜ came r (now (buf .exit)) ≡ puts (picture (now (bits .entry)) first start n s t) (now (buf .entry)) at ⌝ }
+    ensures { λ r. ⌜ came r (now (buf .exit)) ≡ puts (pictureWith (telegrams (now (bits .entry)) first start n s t) (now (bits .entry)) first start n) (now (buf .entry)) at ⌝ }
 {
     let a = put_waveform(bits, first, start, n, buf, at);
     let b = boxes::put_telegrams(bits, first, start, sums::beginnings(n), s, t, buf, a);

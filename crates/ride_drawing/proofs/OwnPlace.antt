@@ -1,5 +1,5 @@
--- Each sign stands at its own place: a line's by how it is drawn, an entry's by how the pen comes by
--- it.
+-- Each sign stands at its own place: a line's by how it is drawn, an entry's by how the pen comes
+-- by it.
 -- Assumes nothing.
 use Prim.Native.Nat.{ℕ, suc, _+_, _<_}
 use mathlib.Core.Path.{_≡_, refl}

@@ -1,5 +1,5 @@
--- The entries of a good plan lie in rising order: so they are judged, and an entry that is met keeps
--- its place.
+-- The entries of a good plan lie in rising order: so they are judged, and an entry that is met
+-- keeps its place.
 -- Assumes nothing.
 use Prim.Native.Nat.{ℕ, zero, suc, _-_}
 use mathlib.Core.Path.{_≡_, refl, ap, ap₂, _∙_}

@@ -22,7 +22,7 @@ use Rattle.ride_drawing.specs.Metres.{metres}
 use Rattle.ride_drawing.specs.Strip.{onStrip}
 use Rattle.ride_drawing.specs.Sign.{shape, title, label, sign}
 use Rattle.ride_drawing.specs.Row.{entryShape, entryTitle, rowNumber, entrySign, extraTitle, extraSign}
-use Rattle.ride_drawing.specs.Titles.{HasTitle, Titled}
+use Rattle.ride_drawing.specs.Titles.{HasTitle, BeginsWith, Titled}
 
 -- ---- what stands before the newline
 
@@ -47,6 +47,34 @@ line-ends reason (Line.Trace n) = (codes "trace refused " ++ decimal n, refl)
 explained : (closed : Group) (line : Line) → title closed line ++ codes "\n" ≡ lineText withReasons closed line
 unfolding title
 explained closed line = before (lineText withReasons closed line) (line-ends (whyText closed) line)
+
+-- ---- the place at its head
+
+more : (place : ℕ) (t u : List ℕ) → BeginsWith place t → BeginsWith place (t ++ u)
+more place t u b = (b .0 ++ u, ap (λ (x : List ℕ). x ++ u) (b .1) ∙ append-assoc (decimal place) (b .0) u)
+
+group : (closed : Group) (s : Seen) → BeginsWith (s .place) (lineText withReasons closed (Line.Group s))
+unfolding textWith seen
+group closed s =
+    let p : ℕ = s .place in
+    let a : List ℕ = decimal p ++ between (s .direction) in
+    let b : List ℕ = a ++ kind (s .kind) in
+    let c : List ℕ = b ++ mark (s .mark) in
+    let d : List ℕ = c ++ number (s .number) in
+    more p d (codes "\n") (more p c (number (s .number)) (more p b (mark (s .mark)) (more p a (kind (s .kind)) (between (s .direction), refl))))
+
+fault : (closed : Group) (place n : ℕ) → BeginsWith place (lineText withReasons closed (Line.Fault place n))
+unfolding textWith
+fault closed place n =
+    let a : List ℕ = decimal place ++ codes " fault " in
+    let b : List ℕ = a ++ decimal n in
+    more place (b ++ whyText closed) (codes "\n") (more place b (whyText closed) (more place a (decimal n) (codes " fault ", refl)))
+
+missed : (closed : Group) (place : ℕ) → BeginsWith place (lineText withReasons closed (Line.Missed place))
+unfolding textWith
+missed closed place = (codes " missed\n", refl)
+
+-- ---- what `accept` writes
 
 entry-ends : (front : List ℕ) (m : Met) → Ends (front ++ metWords m)
 unfolding metWords
@@ -89,4 +117,4 @@ extras s edge =
     )
 
 pub titled : Titled
-titled = record { lines = lines; explained = explained; entries = entries; reported = reported; extras = extras; answered = answered }
+titled = record { lines = lines; explained = explained; group = group; fault = fault; missed = missed; entries = entries; reported = reported; extras = extras; answered = answered }

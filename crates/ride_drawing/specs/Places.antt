@@ -41,9 +41,9 @@ AtOwnPlace (Line.Missed own) edge place = (place ≡ own) × (place < edge + 100
 AtOwnPlace (Line.Record number n) edge place = Unit {0}
 AtOwnPlace (Line.Trace n) edge place = Unit {0}
 
--- An element stands where it belongs: a line's sign at the line's own place; an entry's sign is that
--- of the plan's entry with its index, on the strip of its place; and what is marked as an extra
--- group is one.
+-- An element stands where it belongs: a line's sign at the line's own place; an entry's sign is
+-- that of the plan's entry with its index, on the strip of its place; and what is marked as an
+-- extra group is one.
 abbrev pub Belongs : Plan → Element → Type 0
 Belongs plan (plain pieces) = Unit {0}
 Belongs plan (mark closed line edge place) = AtOwnPlace line edge place

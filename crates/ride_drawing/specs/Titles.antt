@@ -6,7 +6,7 @@ use mathlib.Core.Path.{_≡_}
 use mathlib.Core.Bool.{Bool, true, not, _&&_}
 use mathlib.Core.List.{List, [], _∷_, _++_}
 use lib.Dec.{eqb}
-use Rattle.text.specs.Text.{codes}
+use Rattle.text.specs.Text.{codes, decimal}
 use Rattle.text.specs.Pieces.{whole}
 use Rattle.group.specs.declared.Group.{Group}
 use Rattle.ride.specs.declared.Line.{Line}
@@ -25,11 +25,19 @@ use Rattle.ride_drawing.specs.Row.{entryTitle, entrySign, extraTitle, ex
 abbrev pub HasTitle : String → List ℕ → List (List ℕ) → Type 0
 HasTitle words title pieces = (rest : List ℕ) × (whole pieces ≡ codes words ++ (title ++ (codes "</title>" ++ rest)))
 
+-- A text begins with a place, in decimal figures.
+abbrev pub BeginsWith : ℕ → List ℕ → Type 0
+BeginsWith place text = (rest : List ℕ) × (text ≡ decimal place ++ rest)
+
 -- The title of a line's sign is the line as `explain` writes it, without its newline; that of an
--- entry and of an extra group is the line that `accept` writes of it.
+-- entry and of an extra group is the line that `accept` writes of it. A line that has a place
+-- begins with it.
 pub record Titled : Type 0 where
   pub lines : (closed : Group) (line : Line) (edge place : ℕ) → HasTitle "<g><title>" (title closed line) (sign closed line edge place)
   pub explained : (closed : Group) (line : Line) → title closed line ++ codes "\n" ≡ lineText withReasons closed line
+  pub group : (closed : Group) (s : Seen) → BeginsWith (s .place) (lineText withReasons closed (Line.Group s))
+  pub fault : (closed : Group) (place n : ℕ) → BeginsWith place (lineText withReasons closed (Line.Fault place n))
+  pub missed : (closed : Group) (place : ℕ) → BeginsWith place (lineText withReasons closed (Line.Missed place))
   pub entries : (i : ℕ) (e : Entry) (edge : ℕ) → HasTitle "<g class='e'><title>" (entryTitle i e) (entrySign i e edge)
   pub reported : (i : ℕ) (e : Entry) → entryTitle i e ++ codes "\n" ≡ entryLine i e
   pub extras : (s : Seen) (edge : ℕ) → HasTitle "<g class='e'><title>" (extraTitle s) (extraSign s edge)

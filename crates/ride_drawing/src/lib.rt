@@ -6,8 +6,8 @@
 // bytes around a text stay.
 // Specification: specs/Strip.antt (the strips), Span.antt (speeds, and where a signal is due),
 // Sign.antt (the signs), Row.antt (a plan's entries), Ticks.antt (refused records), Way.antt (from
-// strip to strip), Drawing.antt (a record and the end), Draw.antt (a block of records), Laws.antt
-// (the promises).
+// strip to strip), Drawing.antt (a record and the end), Draw.antt (a block of records); the
+// promises: Laws.antt, Places.antt (of places), Titles.antt (of titles).
 ghost use mathlib.Core.Path.{_≡_};
 ghost use Rattle.text.specs.Put.{came};
 ghost use Rattle.text.specs.Pieces.{puts};

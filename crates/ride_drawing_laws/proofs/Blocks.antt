@@ -38,7 +38,7 @@ use Rattle.demands.specs.Stores.{Good}
 use Rattle.demands.specs.TraceCalls.{Whole, Call}
 use Rattle.demands.specs.ListCalls as counting
 use Rattle.demands.proofs.Beside.Cards.{eights}
-use Rattle.demands.proofs.Beside.TraceCalls.{Gone, gone, onFrom, Takes, comes}
+use Rattle.demands.proofs.Beside.TraceCalls.{Gone, gone, onFrom, TakesFront, comes}
 use Rattle.ride_drawing_laws.specs.Blocks.{DrawCall, ByDraw, written, afterCalls}
 use Rattle.ride_drawing_laws.proofs.Pictures.{drawn-is}
 
@@ -133,7 +133,7 @@ module _ (plan : Plan) (store : Store) (good : Good store) where
       ∙ ap (λ (t : List ℕ). gone t (record { ride = q .ride; number = d .number + length xs + length ys; pen = q .pen })) (text-append (p .elements) (q .elements))
 
   takes : (d : Drawing) (c : Call Drawn) → Whole (c .block) → DrawCall plan store d c
-      → Takes drawing (λ c. counting.taken (c .answer .done)) (λ c. counting.bytesOf (c .answer .done)) (λ a. a .drawing) d c
+      → TakesFront drawing (λ c. counting.taken (c .answer .done)) (λ c. counting.bytesOf (c .answer .done)) (λ a. a .drawing) d c
   unfolding drawOf
   takes d c whole call =
       let n : ℕ = many d c in

@@ -1,7 +1,7 @@
 -- Noise in the words of the lead (docs/LEAD.md): "Each bit of the line flips .. exactly if x modulo
 -- 1,000,000 is below N"; "odometers stay, and so do bytes after the last whole frame."
 -- Assumes nothing.
-use Prim.Native.Nat.{ℕ, _*_, _≤_, _<_}
+use Prim.Native.Nat.{ℕ, _+_, _*_, _≤_, _<_}
 use mathlib.Core.Path.{_≡_}
 use mathlib.Core.List.{List}
 use lib.ListN.{length, getD}

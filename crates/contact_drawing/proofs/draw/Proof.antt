@@ -4,7 +4,7 @@ use mathlib.Core.Path.{ap₂}
 use Prim.Native.Nat.{ℕ, _≤_}
 use native.Mathlib.Omega.{arith}
 use Rattle.text.proofs.Putting.{then, after, all-as}
-use Rattle.contact_drawing.specs.Strips.{drawn, picture, strips}
+use Rattle.contact_drawing.specs.Strips.{drawn, telegrams, pictureWith, stripsWith, strips}
 use Rattle.contact_drawing.proofs.Each.{drawn-most}
 use borrow.Author.Needs.{needs}
 use Rattle.contact_drawing.proofs.draw.Statement.{statement}
@@ -20,7 +20,7 @@ put-picture-requires c κs =
     omega (arith, drawn-most (s .args .length), d .drawn .ensures, s .fits .first)
 
 returns : tie.Need-returns
-unfolding strips
+unfolding strips stripsWith
 returns c =
     let p1 = c .before .before in
     let d = p1 .before .before in
@@ -34,7 +34,7 @@ returns c =
     (then _ _ _ _ (p4 .put-closed .ensures)
     (then _ _ _ _ (p3 .put2 .ensures)
     (after _ _ _ _ (p2 .put-cut .ensures)
-    (all-as _ _ (ap₂ (λ (x n : ℕ). picture (a .bits .now) (a .first) x n (a .s) (a .t)) (u .first-bit .ensures) (d .drawn .ensures)) (p1 .put-picture .ensures)))))
+    (all-as _ _ (ap₂ (λ (x n : ℕ). pictureWith (telegrams (a .bits .now) (a .first) x n (a .s) (a .t)) (a .bits .now) (a .first) x n) (u .first-bit .ensures) (d .drawn .ensures)) (p1 .put-picture .ensures)))))
 
 pub draw-spec : {M : Type 1} → statement M
 draw-spec =

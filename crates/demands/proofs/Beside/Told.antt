@@ -33,7 +33,7 @@ use Rattle.demands.specs.Output.{recordsIn}
 use Rattle.demands.specs.TraceCalls.{Whole, Call}
 use Rattle.demands.specs.ListCalls.{taken, bytesOf, ListCall, ByList, textFrom, afterCalls, numberAfter}
 use Rattle.demands.proofs.Beside.Cards.{eights}
-use Rattle.demands.proofs.Beside.TraceCalls.{Gone, gone, onFrom, part-of, Takes, comes}
+use Rattle.demands.proofs.Beside.TraceCalls.{Gone, gone, onFrom, part-of, TakesFront, comes}
 
 -- ---- a ride told on
 
@@ -100,7 +100,7 @@ module _ (style : Style) (gaps : ℕ → ℕ) where
 
 module _ (style : Style) (store : Store) (good : Good store) where
   takes : (s : Ride × ℕ) (c : Call Listed) → Whole (c .block) → ListCall style store s c
-      → Takes (told style (gapAt store)) (λ c. taken (c .answer .done)) (λ c. bytesOf (c .answer .done)) (λ l. (l .ride, l .number)) s c
+      → TakesFront (told style (gapAt store)) (λ c. taken (c .answer .done)) (λ c. bytesOf (c .answer .done)) (λ l. (l .ride, l .number)) s c
   unfolding listOf
   takes (ride, number) c whole call =
       let rs : List (List ℕ) = records (c .block) in

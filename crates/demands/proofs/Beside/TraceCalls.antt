@@ -30,14 +30,14 @@ part-of part next state [] = refl
 part-of part next state (c ∷ cs) = part-of part next (next (c .answer)) cs
 
 -- What a call that a contract allows comes to: some records of its block are gone over.
-pub record Takes {State Answer : Type 0} (over : State → List (List ℕ) → Gone State) (took wrote : Call Answer → ℕ) (next : Answer → State) (state : State) (c : Call Answer) : Type 0 where
+pub record TakesFront {State Answer : Type 0} (over : State → List (List ℕ) → Gone State) (took wrote : Call Answer → ℕ) (next : Answer → State) (state : State) (c : Call Answer) : Type 0 where
   pub of-these : took c ≤ recordsIn (c .block)
   pub goes : gone (take (wrote c) (c .after)) (next (c .answer)) ≡ over state (take (took c) (records (c .block)))
 
 module _ {State Answer : Type 0} (took wrote : Call Answer → ℕ) (next : Answer → State) (over : State → List (List ℕ) → Gone State)
     (on : (s : State) (xs ys : List (List ℕ)) → over s (xs ++ ys) ≡ onFrom (over s xs) (λ (t : State). over t ys)) where
   -- One call, and then going over what is left.
-  pub one-more : (s : State) (left : List ℕ) (c : Call Answer) → Lent left (c .block) → Takes over took wrote next s c
+  pub one-more : (s : State) (left : List ℕ) (c : Call Answer) → Lent left (c .block) → TakesFront over took wrote next s c
       → onFrom (gone (take (wrote c) (c .after)) (next (c .answer))) (λ (t : State). over t (records (drop (took c * 8) left))) ≡ over s (records left)
   one-more s left c lent t =
       let n : ℕ = took c in
@@ -53,7 +53,7 @@ module _ {State Answer : Type 0} (took wrote : Call Answer → ℕ) (next : Answ
       ∙ ap (over s) (sym (cut-records n left few))
 
   module _ (Allows : State → Call Answer → Type 0) (none : (s : State) → gone [] s ≡ over s [])
-      (takes : (s : State) (c : Call Answer) → Whole (c .block) → Allows s c → Takes over took wrote next s c) where
+      (takes : (s : State) (c : Call Answer) → Whole (c .block) → Allows s c → TakesFront over took wrote next s c) where
     -- All of them.
     pub comes : (s : State) (trace : List ℕ) (calls : List (Call Answer)) → ByCalls Allows took next s trace calls
         → gone (textsOf wrote calls) (lastOf next s calls) ≡ over s (records trace)

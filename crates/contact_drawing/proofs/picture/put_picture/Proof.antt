@@ -3,7 +3,7 @@
 use mathlib.Core.Path.{ap}
 use native.Mathlib.Omega.{arith}
 use Rattle.text.proofs.Putting.{then, after, all-as}
-use Rattle.contact_drawing.specs.Strips.{telegramOf, telegrams, each, picture}
+use Rattle.contact_drawing.specs.Strips.{telegramOf, telegrams, each, pictureWith}
 use borrow.Author.Needs.{needs}
 use Rattle.contact_drawing.proofs.picture.put_picture.Statement.{statement}
 use Rattle.contact_drawing.proofs.picture.put_picture.Tie as tie
@@ -18,7 +18,7 @@ put-strips-requires : tie.Need-put-strips-requires
 put-strips-requires c κs = omega (arith, c .before .before .before .before .before .before .before .before .before .before .before .before .before .before .before .before .before .pre)
 
 returns : tie.Need-returns
-unfolding picture telegrams
+unfolding pictureWith telegrams
 returns c =
     let p1 = c .before .before in
     let p2 = p1 .before .before .before .before in
