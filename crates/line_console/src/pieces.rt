@@ -79,8 +79,7 @@ fn over(from: Heard, asked: Asked, piece: &[u8], kept: &mut [u8], buf: &mut [u8]
     let mut text = no_text();
     let mut i: usize = 0;
     while i < bits {
-        let here = ear;
-        match antenna::hear_piece(here, piece, i, bits - i, asked.s, asked.t) {
+        match antenna::hear_piece(ear, piece, i, bits - i, asked.s, asked.t) {
             Until::Opened { ear: then, at } => {
                 ear = then;
                 first = (at % 8) as u8;
