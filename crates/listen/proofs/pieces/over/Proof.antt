@@ -60,4 +60,4 @@ over-spec =
     (λ c. search needs) (λ c κs. search needs) (λ c κs. search needs) add-i-2 loop-less-2 (λ c. search needs)
     (λ c. search needs) loop-less-3 (λ c. search needs)
     (λ c. search needs) loop-less-4 (λ c. search needs)
-    (λ c κs. search needs) (λ c κs. search needs) (λ c κs. search needs) (λ c. search needs) (λ c. search needs))
+    (λ c κs. search needs) (λ c. search needs) (λ c. search needs))
