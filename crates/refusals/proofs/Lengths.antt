@@ -3,12 +3,12 @@
 use mathlib.Core.Path.{_≡_, refl, sym, ap, _∙_}
 use mathlib.Core.Bool.{Bool, true, false, _&&_}
 use mathlib.Core.List.{List, [], _∷_, _++_, append-nil}
-use Prim.Native.Nat.{ℕ, _+_, _≤_}
+use Prim.Native.Nat.{ℕ, _+_, _≤_, _<_}
 use Prim.Native.String.{String}
 use native.Mathlib.Omega.{arith}
 use lib.Dec.{eqb, leb}
 use lib.ListN.{length, length-append}
-use borrow.Author.Tests.{leb-true}
+use borrow.Author.Tests.{ne-eqb, leb-true}
 use Rattle.words.specs.Answer.{pick}
 use Rattle.words.proofs.Linear.{and-parts}
 use Rattle.text.specs.Text.{codes}
@@ -30,6 +30,13 @@ unfolding alone refused
 bare n e =
     let before : List ℕ = numbered "refused " n in
     ap (λ (l : List ℕ). l ++ codes "\n") (sym (append-nil before)) ∙ ap (λ (l : List ℕ). before ++ l ++ codes "\n") (sym e)
+
+-- Another number has another row.
+pub below : (n k : ℕ) → n < k → eqb n k ≡ false
+below n k h = ne-eqb n k (λ (same : n ≡ k). omega (arith, h, same))
+
+pub above : (n k : ℕ) → k < n → eqb n k ≡ false
+above n k h = ne-eqb n k (λ (same : n ≡ k). omega (arith, h, same))
 
 -- Whether the words of all rows are short.
 short : List (ℕ × String) → Bool

@@ -1,4 +1,5 @@
--- Each arm puts the refusal of its number; a number without an arm has no row in the table.
+-- Each arm puts the refusal of its number; a number below 20 without an arm has no row in the table.
+use native.Mathlib.Omega.{arith}
 use mathlib.Core.Path.{_≡_, ap, _∙_}
 use mathlib.Core.List.{List, []}
 use Prim.Native.Nat.{ℕ}
@@ -7,10 +8,10 @@ use Rattle.text.specs.Text.{digits, decimal}
 use Rattle.text.specs.Put.{put}
 use Rattle.text.proofs.Standing.{by-case}
 use Rattle.refusals.specs.Words.{table, worded, refused}
-use Rattle.refusals.proofs.Lengths.{bare}
+use Rattle.refusals.proofs.Lengths.{bare, below}
 use borrow.Author.Needs.{needs}
-use Rattle.refusals.proofs.put_refused.Statement.{statement}
-use Rattle.refusals.proofs.put_refused.Tie as tie
+use Rattle.refusals.proofs.first.put_first.Statement.{statement}
+use Rattle.refusals.proofs.first.put_first.Tie as tie
 
 returns : tie.Need-returns
 unfolding refused worded table decimal digits
@@ -56,84 +57,45 @@ returns-11 : tie.Need-returns-11
 unfolding refused worded table decimal digits
 returns-11 c = by-case refused _ _ (c .before .before .before .before .before .match .keys11) (c .before .before .put11 .ensures)
 
-returns-12 : tie.Need-returns-12
-unfolding refused worded table decimal digits
-returns-12 c = by-case refused _ _ (c .before .before .before .before .before .match .keys12) (c .before .before .put12 .ensures)
-
-returns-13 : tie.Need-returns-13
-unfolding refused worded table decimal digits
-returns-13 c = by-case refused _ _ (c .before .before .before .before .before .match .keys13) (c .before .before .put13 .ensures)
-
-returns-14 : tie.Need-returns-14
-unfolding refused worded table decimal digits
-returns-14 c = by-case refused _ _ (c .before .before .before .before .before .match .keys14) (c .before .before .put14 .ensures)
-
-returns-15 : tie.Need-returns-15
-unfolding refused worded table decimal digits
-returns-15 c = by-case refused _ _ (c .before .before .before .before .before .match .keys15) (c .before .before .put15 .ensures)
-
-returns-16 : tie.Need-returns-16
-unfolding refused worded table decimal digits
-returns-16 c = by-case refused _ _ (c .before .before .before .before .before .match .keys16) (c .before .before .put16 .ensures)
-
-returns-17 : tie.Need-returns-17
-unfolding refused worded table decimal digits
-returns-17 c = by-case refused _ _ (c .before .before .before .before .before .match .keys17) (c .before .before .put17 .ensures)
-
-returns-18 : tie.Need-returns-18
-unfolding refused worded table decimal digits
-returns-18 c = by-case refused _ _ (c .before .before .before .before .before .match .keys18) (c .before .before .put18 .ensures)
-
-returns-19 : tie.Need-returns-19
-unfolding refused worded table decimal digits
-returns-19 c = by-case refused _ _ (c .before .before .before .before .before .match .keys19) (c .before .before .put19 .ensures)
-
 no-row : (c : tie.At-match-rest) → worded table (c .before .before .args .number) ≡ []
 unfolding worded table
 no-row c =
     let n = c .before .before .args .number in
+    let h = c .before .before .pre in
     let m = c .match in
     simp (
-      ne-eqb n 2 (m .rest .0 .0 .0 .0 .0 .0 .0 .0 .0 .0 .0 .0 .0 .0 .0 .0 .0 .0 .1),
-      ne-eqb n 3 (m .rest .0 .0 .0 .0 .0 .0 .0 .0 .0 .0 .0 .0 .0 .0 .0 .0 .0 .1),
-      ne-eqb n 4 (m .rest .0 .0 .0 .0 .0 .0 .0 .0 .0 .0 .0 .0 .0 .0 .0 .0 .1),
-      ne-eqb n 5 (m .rest .0 .0 .0 .0 .0 .0 .0 .0 .0 .0 .0 .0 .0 .0 .0 .1),
-      ne-eqb n 7 (m .rest .0 .0 .0 .0 .0 .0 .0 .0 .0 .0 .0 .0 .0 .0 .1),
-      ne-eqb n 8 (m .rest .0 .0 .0 .0 .0 .0 .0 .0 .0 .0 .0 .0 .0 .1),
-      ne-eqb n 9 (m .rest .0 .0 .0 .0 .0 .0 .0 .0 .0 .0 .0 .0 .1),
-      ne-eqb n 16 (m .rest .0 .0 .0 .0 .0 .0 .0 .0 .0 .0 .0 .1),
-      ne-eqb n 17 (m .rest .0 .0 .0 .0 .0 .0 .0 .0 .0 .0 .1),
-      ne-eqb n 18 (m .rest .0 .0 .0 .0 .0 .0 .0 .0 .0 .1),
-      ne-eqb n 19 (m .rest .0 .0 .0 .0 .0 .0 .0 .0 .1),
-      ne-eqb n 20 (m .rest .0 .0 .0 .0 .0 .0 .0 .1),
-      ne-eqb n 22 (m .rest .0 .0 .0 .0 .0 .0 .1),
-      ne-eqb n 23 (m .rest .0 .0 .0 .0 .0 .1),
-      ne-eqb n 24 (m .rest .0 .0 .0 .0 .1),
-      ne-eqb n 25 (m .rest .0 .0 .0 .1),
-      ne-eqb n 26 (m .rest .0 .0 .1),
-      ne-eqb n 27 (m .rest .0 .1),
-      ne-eqb n 28 (m .rest .1),
+      ne-eqb n 2 (m .rest .0 .0 .0 .0 .0 .0 .0 .0 .0 .0 .1),
+      ne-eqb n 3 (m .rest .0 .0 .0 .0 .0 .0 .0 .0 .0 .1),
+      ne-eqb n 4 (m .rest .0 .0 .0 .0 .0 .0 .0 .0 .1),
+      ne-eqb n 5 (m .rest .0 .0 .0 .0 .0 .0 .0 .1),
+      ne-eqb n 7 (m .rest .0 .0 .0 .0 .0 .0 .1),
+      ne-eqb n 8 (m .rest .0 .0 .0 .0 .0 .1),
+      ne-eqb n 9 (m .rest .0 .0 .0 .0 .1),
+      ne-eqb n 16 (m .rest .0 .0 .0 .1),
+      ne-eqb n 17 (m .rest .0 .0 .1),
+      ne-eqb n 18 (m .rest .0 .1),
+      ne-eqb n 19 (m .rest .1),
+      below n 20 (omega (arith, h)),
+      below n 22 (omega (arith, h)),
+      below n 23 (omega (arith, h)),
+      below n 24 (omega (arith, h)),
+      below n 25 (omega (arith, h)),
+      below n 26 (omega (arith, h)),
+      below n 27 (omega (arith, h)),
+      below n 28 (omega (arith, h)),
     )
 
-returns-20 : tie.Need-returns-20
-returns-20 c =
+returns-12 : tie.Need-returns-12
+returns-12 c =
     let p = c .before .before in
     let k = p .before .before in
     let a = k .before .before .args in
     p .put-number-alone .ensures ∙ ap (λ (t : List ℕ). put t (a .buf .now) (a .at)) (bare (a .number) (no-row k))
 
-pub put-refused-spec : {M : Type 1} → statement M
-put-refused-spec =
+pub put-first-spec : {M : Type 1} → statement M
+put-first-spec =
     tie.close
     (tie.spec
-    (λ c. search needs) (λ c κs. search needs)
-    (λ c. search needs) (λ c κs. search needs)
-    (λ c. search needs) (λ c κs. search needs)
-    (λ c. search needs) (λ c κs. search needs)
-    (λ c. search needs) (λ c κs. search needs)
-    (λ c. search needs) (λ c κs. search needs)
-    (λ c. search needs) (λ c κs. search needs)
-    (λ c. search needs) (λ c κs. search needs)
     (λ c. search needs) (λ c κs. search needs)
     (λ c. search needs) (λ c κs. search needs)
     (λ c. search needs) (λ c κs. search needs)
@@ -157,12 +119,4 @@ put-refused-spec =
     (λ c. search needs) returns-9
     (λ c. search needs) returns-10
     (λ c. search needs) returns-11
-    (λ c. search needs) returns-12
-    (λ c. search needs) returns-13
-    (λ c. search needs) returns-14
-    (λ c. search needs) returns-15
-    (λ c. search needs) returns-16
-    (λ c. search needs) returns-17
-    (λ c. search needs) returns-18
-    (λ c. search needs) returns-19
-    (λ c. search needs) returns-20)
+    (λ c. search needs) returns-12)
