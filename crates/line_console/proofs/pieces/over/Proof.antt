@@ -1,5 +1,5 @@
--- Each answer is a bit of the piece, and the next call asks from the bit after it; both buffers keep
--- their lengths.
+-- Each answer is a bit of the piece, and the next call asks from the bit after it; both buffers
+-- keep their lengths.
 -- Assumes nothing.
 use Prim.Native.Nat.{_-_, _*_, _≤_}
 use mathlib.Core.Path.{_≡_}
