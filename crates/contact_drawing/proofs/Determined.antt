@@ -1,4 +1,5 @@
--- The contract fixes the whole answer and the lent buffer then: any two answers that it allows are equal, and so are the buffers.
+-- The contract fixes the whole answer and the lent buffer then: any two answers that it allows are
+-- equal, and so are the buffers.
 -- Assumes nothing.
 use mathlib.Core.Path.{sym, _∙_}
 use denote.Ref.{now}

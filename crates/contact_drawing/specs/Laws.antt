@@ -1,6 +1,6 @@
 -- What is promised of the drawing of a contact: where a program lends the room, nothing is left
--- out; a box stands at each place that the contact's judging finds among the bits drawn, and nowhere
--- else; each word is whole on a strip; and no heading needs an escape.
+-- out; a box stands at each place that the contact's judging finds among the bits drawn, and
+-- nowhere else; each word is whole on a strip; and no heading needs an escape.
 -- Assumes nothing.
 use Prim.Native.Nat.{ℕ, _+_, _-_, _*_, _/_, _≤_, _<_}
 use mathlib.Core.Path.{_≡_}

@@ -84,8 +84,8 @@ waveform b first start n =
     ++ each (bitOf b first) 0 n
     ++ (codes "'/>\n" ∷ [])
 
--- The whole drawing of these bits, with these boxes: the waveform and the boxes under it as one long
--- picture, and the strips, of which each shows a part.
+-- The whole drawing of these bits, with these boxes: the waveform and the boxes under it as one
+-- long picture, and the strips, of which each shows a part.
 unfoldable pub pictureWith : List (List ℕ) → List ℕ → ℕ → ℕ → ℕ → List (List ℕ)
 pictureWith boxes b first start n =
     waveform b first start n

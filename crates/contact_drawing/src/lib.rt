@@ -1,7 +1,7 @@
-// A contact as strips of its bits, for a page to look at: a waveform, and boxes for the words of its
-// telegrams.
-// Promises: what stands in the page for a contact is fixed to the letter; each piece is put whole or
-// not at all; bytes around it stay.
+// A contact as strips of its bits, for a page to look at: a waveform, and boxes for the words of
+// its telegrams.
+// Promises: what stands in the page for a contact is fixed to the letter; each piece is put whole
+// or not at all; bytes around it stay.
 // Specification: specs/Strips.antt (what is drawn), specs/Laws.antt (a box at each place, on a
 // strip, whole; nothing is left out); pieces in a buffer are `text`'s specs/Pieces.antt.
 ghost use mathlib.Core.Path.{_≡_};

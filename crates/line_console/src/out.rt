@@ -1,4 +1,7 @@
 // What stands for contacts, gathered in a buffer and written when it is enough.
+ghost use mathlib.Core.Path.{_≡_};
+ghost use Prim.Native.Nat.{_<_};
+ghost use lib.ListN.{length};
 use contact::Judged;
 use libc::STDOUT_FILENO;
 
@@ -20,7 +23,9 @@ pub struct Out {
 }
 
 // Writes the text where it is enough.
-fn write(out: Out, buf: &[u8]) -> Out {
+fn write(out: Out, buf: &[u8]) -> Out
+    ensures { λ r. ⌜ r .length < 32768 ⌝ }
+{
     if out.length < ENOUGH {
         return out;
     }
@@ -31,7 +36,7 @@ fn write(out: Out, buf: &[u8]) -> Out {
 }
 
 // What stands for a contact of so many bits that this bit of the line closes, and that begins at
-// bit `first` of the bytes kept, after the text that stands.
+// bit `first` of the bytes kept, after the text that stands, which leaves room for it.
 pub fn add(
     out: Out,
     asked: Asked,
@@ -41,7 +46,10 @@ pub fn add(
     kept: &[u8],
     first: u8,
     buf: &mut [u8],
-) -> Out {
+) -> Out
+    requires { ⌜ (out .length < 32768) × (length (now buf) ≡ 262144) ⌝ }
+    ensures { λ r. ⌜ r .length < 32768 ⌝ }
+{
     let at = out.length;
     let is_good = out.is_good;
     if asked.draws {

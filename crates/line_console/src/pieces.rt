@@ -61,7 +61,9 @@ fn further(from: Heard, ear: Ear, bits: usize, first: u8, have: usize, is_good: 
 }
 
 // No text.
-fn no_text() -> Out {
+fn no_text() -> Out
+    ensures { λ r. ⌜ r .length ≡ 0 ⌝ }
+{
     Out {
         length: 0,
         is_good: true,
@@ -70,7 +72,7 @@ fn no_text() -> Out {
 
 // What stands for the contacts that close in a piece is written.
 fn over(from: Heard, asked: Asked, piece: &[u8], kept: &mut [u8], buf: &mut [u8]) -> Heard
-    requires { ⌜ length (now piece) ≤ 65536 ⌝ }
+    requires { ⌜ (length (now piece) ≤ 65536) × (length (now buf) ≡ 262144) ⌝ }
 {
     let bits = piece.len() * 8;
     let mut ear = from.ear;
@@ -118,7 +120,7 @@ fn front(
     kept: &mut [u8],
     buf: &mut [u8],
 ) -> Heard
-    requires { ⌜ (count ≤ length (now block)) × (length (now block) ≤ 65536) ⌝ }
+    requires { ⌜ (count ≤ length (now block)) × (length (now block) ≤ 65536) × (length (now buf) ≡ 262144) ⌝ }
 {
     over(from, asked, &block[..count], kept, buf)
 }

@@ -1,7 +1,7 @@
 // What a line holds as a page to look at and to print: each contact as strips of its bits, with the
 // words of its telegrams; then the listing as `listen` writes it.
-// Promises: it is safe and it ends; contacts are those of the crate antenna, what stands for each is
-// that of contact_drawing, lines are those of antenna_text and contact_text, by line_console.
+// Promises: it is safe and it ends; contacts are those of the crate antenna, what stands for each
+// is that of contact_drawing, lines are those of antenna_text and contact_text, by line_console.
 // Specification: none of its own; what cannot be said of a program's reads and writes stands in
 // docs/EXCEPTIONS.md.
 mod page;

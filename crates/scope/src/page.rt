@@ -20,8 +20,8 @@ svg{display:block;width:100%;break-inside:avoid}.h{position:absolute;width:0;hei
     )
 }
 
-// The shapes: the bits that the next strip has again, with a tick at every eighth bit; and the boxes
-// of a telegram, S first or S* first, with the mark at its place.
+// The shapes: the bits that the next strip has again, with a tick at every eighth bit; and the
+// boxes of a telegram, S first or S* first, with the mark at its place.
 fn put_shapes() -> bool {
     write(
         b"<svg class='h'><defs><g id='e'><rect class='e' x='384' y='0' width='32' height='66'/><path class='w' d='M0 11v3m32-3v3m32-3v3m32-3v3m32-3v3m32-3v3m32-3v3m32-3v3m32-3v3m32-3v3m32-3v3m32-3v3m32-3v3m32-3v3'/></g>

@@ -20,4 +20,4 @@ all-spec =
     Inv-loop μ-loop
     (λ c κs. search needs) (λ c κs. search needs) (λ c κs. search needs) (λ c. (search needs, search needs, search needs))
     (λ c. search needs) (λ c κs. search needs) (λ c. search needs) (λ c. search needs) (λ c κs. search needs) (λ c κs. search needs) (λ c. search needs)
-    (λ c. search needs) (λ c. search needs) (λ c. search needs) (λ c κs. (search needs, search needs)) (λ c. search needs) (λ c. search needs) (λ c. search needs) (λ c. (search needs, search needs, search needs)) (λ c. search needs))
+    (λ c. search needs) (λ c. search needs) (λ c. search needs) (λ c κs. (search needs, search needs, search needs)) (λ c. search needs) (λ c. search needs) (λ c. search needs) (λ c. (search needs, search needs, search needs)) (λ c. search needs))

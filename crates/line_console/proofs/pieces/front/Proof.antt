@@ -13,7 +13,7 @@ slice-aggregate-over c = sym (length-take-le _ _ (c .before .before .before .bef
 over-requires : tie.Need-over-requires
 over-requires c κs =
     let s = c .before .before .before .before .before .before in
-    omega (arith, length-take-le (s .args .count) (s .args .block .now) (s .pre .0), s .pre .0, s .pre .1)
+    (omega (arith, length-take-le (s .args .count) (s .args .block .now) (s .pre .0), s .pre .0, s .pre .1), s .pre .2)
 
 pub front-spec : {M : Type 1} → statement M
 front-spec =
