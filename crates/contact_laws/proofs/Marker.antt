@@ -14,7 +14,7 @@ use Rattle.contact.specs.declared.Search.{Search}
 use Rattle.contact.proofs.Stays.{grows, on}
 use Rattle.contact_laws.specs.Zeroes.{zeroesIn}
 use Rattle.contact_laws.proofs.Counts.{in-most, in-ones, in-zeroes, run}
-use Rattle.contact_laws.proofs.Walk.{First, Still, still-fewer, still-more, z, ones}
+use Rattle.contact_laws.proofs.Walk.{Still, still-fewer, still-more, z, ones}
 use Rattle.contact_laws.proofs.Passes.{Passed, passes-at}
 use Rattle.contact_laws.proofs.Quiet.{on-on, short}
 

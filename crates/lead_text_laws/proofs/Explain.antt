@@ -4,9 +4,7 @@
 use Prim.Native.Nat.{ℕ, _+_, _*_, _/_, _%_, _≤_}
 use native.Mathlib.Omega.{arith}
 use mathlib.Core.Path.{_≡_, refl, sym, ap, ap₂, _∙_}
-use mathlib.Core.Bool.{true}
-use mathlib.Core.List.{List, [], _∷_, _++_}
-use lib.Dec.{eqb}
+use mathlib.Core.List.{List, _++_}
 use lib.ListN.{length, take, drop, length-append}
 use lib.Seq.{length-take-le}
 use borrow.Author.Tests.{eq-eqb}
@@ -19,7 +17,6 @@ use Rattle.ride.specs.State.{freshRide}
 use Rattle.ride.specs.Step.{end}
 use Rattle.ride.specs.Over.{firstRecords, records, Ridden, rideOver}
 use Rattle.ride.proofs.Cutting.{records-length, take-records, front-records, cut-records}
-use Rattle.recording.specs.Recording.{recorded}
 use Rattle.ride_text.specs.Style.{withReasons}
 use Rattle.ride_text.specs.declared.Done.{Done}
 use Rattle.ride_text.specs.declared.Listed.{Listed}
@@ -34,7 +31,7 @@ use Rattle.ride_text.proofs.Reasoned.{joined, ride-reasoned, end-reasoned}
 use Rattle.ride_text.proofs.Judging.{list-taken}
 use Rattle.ride_text.proofs.Taken.{few-taken}
 use Rattle.lead_text_laws.specs.Calls.{ExplainInto}
-use Rattle.lead_text_laws.specs.Live.{Good, Ended, explains, Live}
+use Rattle.lead_text_laws.specs.Live.{Good, Ended, explains}
 use Rattle.lead_text_laws.specs.Explain.{Explained, none, more, traceOf, Explain}
 use Rattle.lead_text_laws.proofs.Telling.{tell-on}
 use Rattle.lead_text_laws.proofs.Room.{end-put}

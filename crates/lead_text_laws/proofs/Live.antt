@@ -4,17 +4,15 @@
 use Prim.Native.Nat.{ℕ, _+_, _≤_, _<_}
 use native.Mathlib.Omega.{arith}
 use mathlib.Core.Path.{_≡_, refl, sym, ap, ap₂, _∙_, subst}
-use mathlib.Core.Bool.{Bool, true, false}
-use mathlib.Core.List.{List, [], _∷_, _++_, append-assoc, append-nil}
+use mathlib.Core.List.{List, _++_, append-assoc}
 use lib.ListN.{length, take, drop, take-append-drop, length-append}
 use Rattle.words.specs.Limits.{largest64}
 use Rattle.settings.specs.declared.Store.{Store}
 use Rattle.settings.specs.At.{gapAt}
 use Rattle.ride.specs.declared.Ride.{Ride}
-use Rattle.ride.specs.State.{freshRide}
 use Rattle.recording.specs.declared.Tape.{Tape}
 use Rattle.recording.specs.Recording as recording
-use Rattle.recording.specs.Recording.{Taped, andThen, overLead, theEnd, recorded}
+use Rattle.recording.specs.Recording.{Taped, overLead, theEnd, recorded}
 use Rattle.ride_text.specs.Style.{withReasons}
 use Rattle.ride_text.specs.Told.{Told, tellOver, endText}
 use Rattle.lead_text.specs.declared.HowFar.{HowFar}
@@ -22,11 +20,11 @@ use Rattle.lead_text.specs.declared.Underway.{Underway}
 use Rattle.lead_text.specs.declared.Written.{Written}
 use Rattle.lead_text.specs.Places.{Place, toCome, after, afterEnds}
 use Rattle.lead_text.specs.List as listing
-use Rattle.lead_text.specs.List.{placeOf, standing, ofFrames, ofEnd, listFrames, listEnd, atTape}
+use Rattle.lead_text.specs.List.{placeOf, ofFrames, ofEnd, listFrames, listEnd, atTape}
 use Rattle.lead_text.specs.Says.{saysWritten}
 use Rattle.lead_text.proofs.Judged.{frames-listed, end-listed}
-use Rattle.lead_text_laws.specs.Calls.{Fresh, ListFrames, ListEnd, PutEnd}
-use Rattle.lead_text_laws.specs.Live.{Good, Heard, none, again, next, Closed, over, Ended, put, joined, Whole, InPieces, explains, Live}
+use Rattle.lead_text_laws.specs.Calls.{Fresh, ListFrames, ListEnd}
+use Rattle.lead_text_laws.specs.Live.{Good, Heard, none, again, next, Closed, over, Ended, InPieces, explains, Live}
 use Rattle.lead_text_laws.proofs.Telling.{tell-on, taken-one, some-left, count, enough, counted, Over, over-all, Full, full-some}
 use Rattle.lead_text_laws.proofs.Comes.{leftOf, come-after, end-after, start, comesAll, all-pieces}
 use Rattle.lead_text_laws.proofs.Room.{end-put}
