@@ -36,7 +36,7 @@ use Rattle.ride.specs.Closing.{close, leave}
 use Rattle.ride.specs.Step.{closeBehind, missedLines, afterMissed, goOn, treat, end}
 use Rattle.ride.specs.Over.{rideOver}
 use Rattle.ride_text.specs.Text.{codes, digits, decimal, seen, textWith, textOf}
-use Rattle.chain_laws.specs.InFull.{room, A, B, cable, recordA, recordB, ridden, InFull}
+use Rattle.chain_laws.specs.InFull.{room, cable, recordA, recordB, ridden, InFull}
 
 -- The bytes of the line.
 abbrev bytes : List ℕ

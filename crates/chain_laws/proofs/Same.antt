@@ -1,7 +1,7 @@
 -- What a record says is what was judged.
 -- Assumes nothing.
-use Prim.Native.Nat.{ℕ, _+_, _*_, _/_, _%_, _≤_, _<_}
-use mathlib.Core.Path.{_≡_, refl, sym, ap, _∙_, subst}
+use Prim.Native.Nat.{ℕ, _+_, _*_, _/_, _%_, _≤_}
+use mathlib.Core.Path.{_≡_, refl, sym, ap, _∙_}
 use mathlib.Core.Bool.{Bool, true, false}
 use mathlib.Core.List.{List}
 use native.Mathlib.Omega.{arith}
@@ -9,7 +9,6 @@ use lib.Dec.{ltb}
 use borrow.Author.Tests.{le-ltb, ltb-false}
 use Rattle.words.specs.Answer.{Outcome, gives, refuses, then, pick}
 use Rattle.telegram.specs.Stretch.{bitsAt}
-use Rattle.telegram.specs.Telegram.{Received, telegram}
 use Rattle.telegram.specs.Place.{wordsAt}
 use Rattle.telegram.specs.declared.Telegram.{Telegram}
 use Rattle.contact.specs.Judge.{read, judge}
@@ -23,7 +22,7 @@ use Rattle.recorder.proofs.Determined.{wentOf, went-back}
 use Rattle.recorder.proofs.Received.{place-words, as-received}
 use Rattle.group.specs.Balise.{partOf, partSaid, partHeard}
 use Rattle.group.specs.declared.Heard.{Heard}
-use Rattle.ride.specs.Record.{odometerOf, passedOf, inOrder, Entry, checkRecord}
+use Rattle.ride.specs.Record.{odometerOf, passedOf, inOrder, checkRecord}
 use Rattle.ride.specs.declared.Ride.{Ride}
 use Rattle.ride.specs.declared.Passed.{Passed}
 use Rattle.ride.specs.declared.Checked.{Checked}

@@ -11,7 +11,7 @@ use borrow.Author.Tests.{leb-true, leb-false, eqb-true, eqb-false, eq-eqb}
 use Rattle.words.specs.Answer.{pick}
 use Rattle.words.proofs.Ranges.{both, upto, below}
 use Rattle.telegram.specs.Stretch.{bitAt, bitsAt}
-use Rattle.telegram.specs.Place.{areSyncs, isPlace}
+use Rattle.telegram.specs.Place.{areSyncs}
 use Rattle.telegram.proofs.Window.{cut}
 use Rattle.balise_line.specs.Line.{OneBalise, Proper, repeated, sentBit, unequal, lineBit}
 use Rattle.balise_line.proofs.Sums.{notAt, unequal-lt, unequal-none, unequal-same, Missing, one-missing}
@@ -19,7 +19,7 @@ use Rattle.balise_line.proofs.Round.{pattern, seven}
 use Rattle.balise_line.proofs.Offsets.{apart}
 use Rattle.balise_line.proofs.Places.{and-parts, or-parts, place-parts}
 use Rattle.balise_line.proofs.Wrong.{Bytes, outer-bits, as-syncs, sent-apart}
-use Rattle.contact_laws.specs.Pass.{Ones, Pass}
+use Rattle.contact_laws.specs.Pass.{Pass}
 use Rattle.contact_laws.specs.Heard.{endsInFourOnes, NoFalse}
 use Rattle.contact_laws.proofs.Sound.{received}
 

@@ -4,7 +4,7 @@ use Prim.Native.Nat.{ℕ, _+_, _-_, _≤_}
 use mathlib.Core.Path.{refl, sym, subst}
 use mathlib.Core.Logic.{_⊎_, inl, inr}
 use native.Mathlib.Omega.{arith}
-use Rattle.balise_line.specs.Line.{OneBalise, Proper}
+use Rattle.balise_line.specs.Line.{OneBalise}
 use Rattle.contact.specs.Contacts.{contactsFrom, fromStart}
 use Rattle.contact_laws.specs.Zeroes.{zeroesSent}
 use Rattle.contact_laws.specs.Heard.{AllShort, NeverRead, SureToBeHeard}

@@ -14,9 +14,17 @@ use Rattle.contact.specs.declared.Search.{Search}
 use Rattle.contact.proofs.Stays.{grows, on}
 use Rattle.contact_laws.specs.Zeroes.{zeroesIn}
 use Rattle.contact_laws.proofs.Counts.{in-most, in-ones, in-zeroes, run}
-use Rattle.contact_laws.proofs.Walk.{First, Still, still-fewer, still-more, z, ones}
+use Rattle.contact_laws.proofs.Walk.{Still, still-fewer, still-more, z, ones}
 use Rattle.contact_laws.proofs.Passes.{Passed, passes-at}
 use Rattle.contact_laws.proofs.Quiet.{on-on, short}
+
+-- A number that is at most n and not below it.
+no-sooner : (k n : ℕ) → k ≤ n → (k < n → ⊥) → k ≡ n
+no-sooner k n low none = go (leb n k) refl
+  where
+    go : (t : Bool) → leb n k ≡ t → k ≡ n
+    go true q = omega (arith, leb-true n k q)
+    go false q = absurd (none (leb-false n k q))
 
 module _ (b : List ℕ) (h s len end : ℕ) (still : Still h) (zs : (i : ℕ) → i < len → bitAt b (s + i) ≡ 0) (long : 8 ≤ len)
     (after-it : (k : ℕ) → k < 12 → bitAt b (s + len + k) ≡ 1) (room : s + len + 12 ≤ end) where
@@ -65,26 +73,10 @@ module _ (b : List ℕ) (h s len end : ℕ) (still : Still h) (zs : (i : ℕ) �
   p = passes-at b h s len end still many after-it room 7 (omega arith) at-eight
 
   opens-eighth : p .opening .at ≡ 7
-  opens-eighth = go (leb 7 (p .opening .at)) refl
-    where
-      go : (t : Bool) → leb 7 (p .opening .at) ≡ t → p .opening .at ≡ 7
-      go true q =
-          let up = leb-true 7 (p .opening .at) q in
-          omega (arith, p .opening .low)
-      go false q =
-          let down = leb-false 7 (p .opening .at) q in
-          absurd (omega (arith, p .opening .now, not-sooner (p .opening .at) down))
+  opens-eighth = no-sooner (p .opening .at) 7 (p .opening .low) (λ down. omega (arith, p .opening .now, not-sooner (p .opening .at) down))
 
   closes-twelfth : p .closing .at ≡ 11
-  closes-twelfth = go (leb 11 (p .closing .at)) refl
-    where
-      go : (t : Bool) → leb 11 (p .closing .at) ≡ t → p .closing .at ≡ 11
-      go true q =
-          let up = leb-true 11 (p .closing .at) q in
-          omega (arith, p .closing .low)
-      go false q =
-          let down = leb-false 11 (p .closing .at) q in
-          absurd (omega (arith, p .closing .now, not-before (p .closing .at) down))
+  closes-twelfth = no-sooner (p .closing .at) 11 (p .closing .low) (λ down. omega (arith, p .closing .now, not-before (p .closing .at) down))
 
   pub marker-contact : (then : Search) × (later : ℕ) × Still later
       × (contacts b outside h s (end - s) ≡ contact (s + 7) (len + 4) then (contacts b outside later (s + len + 12) (end - (s + len + 12))))

@@ -1,7 +1,7 @@
 -- Contacts shorter than 64 bits over one balise are not read: two places would begin 32 bits apart,
 -- or more.
 -- Assumes nothing.
-use Prim.Native.Nat.{ℕ, _+_, _-_, _%_, _≤_, _<_}
+use Prim.Native.Nat.{ℕ, _+_, _-_, _%_, _≤_}
 use mathlib.Core.Path.{_≡_, refl, sym, ap, _∙_}
 use mathlib.Core.Bool.{Bool, true, false}
 use native.Mathlib.Omega.{arith}
@@ -15,12 +15,12 @@ use Rattle.telegram.specs.declared.Telegram.{Telegram}
 use Rattle.telegram.proofs.Taken.{part-taken}
 use Rattle.balise_line.specs.Line.{OneBalise, Proper, lineBit}
 use Rattle.balise_line.proofs.Places.{place-parts, parts-place}
-use Rattle.balise_line.proofs.Sent.{Sent, sent-parts}
+use Rattle.balise_line.proofs.Sent.{sent-parts}
 use Rattle.balise_line.proofs.TooFew.{few-flips-few}
 use Rattle.balise_line.proofs.Stretch.{place-sent}
 use Rattle.balise_line.proofs.Clean.{clean-few}
 use Rattle.contact.specs.Contacts.{Contacts, contact, quiet, refused}
-use Rattle.contact.specs.Judge.{Contact, marker, isMarker, judge}
+use Rattle.contact.specs.Judge.{Contact, marker, isMarker}
 use Rattle.contact.specs.declared.Judged.{Judged}
 use Rattle.contact.proofs.Determined.{judgedOf}
 use Rattle.contact_laws.specs.Calls.{JudgeContact}

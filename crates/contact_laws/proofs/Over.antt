@@ -15,10 +15,10 @@ use Rattle.contact.proofs.Steps.{ends-outside}
 use Rattle.contact.proofs.Stays.{on}
 use Rattle.contact.proofs.Calls.{called-from-begin}
 use Rattle.contact_laws.specs.Calls.{Listened}
-use Rattle.contact_laws.specs.Zeroes.{zeroesIn, zeroesSent, fewest, Audible}
+use Rattle.contact_laws.specs.Zeroes.{zeroesIn, zeroesSent, Audible}
 use Rattle.contact_laws.specs.Pass.{Ones, between, Pass, cutBits}
 use Rattle.contact_laws.specs.Heard.{OverIt}
-use Rattle.contact_laws.proofs.Walk.{First, Still}
+use Rattle.contact_laws.proofs.Walk.{Still}
 use Rattle.contact_laws.proofs.Passes.{Passed, passes}
 use Rattle.contact_laws.proofs.Quiet.{still-on, quiet-on}
 use Rattle.contact_laws.proofs.Sound.{zeroes-sent, eight-in-one}

@@ -2,7 +2,7 @@
 -- the other.
 -- Assumes nothing.
 use Prim.Native.Nat.{ℕ, _+_, _-_, _≤_, _<_}
-use mathlib.Core.Path.{_≡_, refl, sym, ap, _∙_, subst}
+use mathlib.Core.Path.{_≡_, sym, ap, _∙_, subst}
 use mathlib.Core.Bool.{Bool, true}
 use mathlib.Core.List.{List, [], _∷_}
 use native.Mathlib.Omega.{arith}
@@ -15,10 +15,10 @@ use Rattle.contact.specs.History.{sixteenOnes}
 use Rattle.contact.specs.Contacts.{outside, Contacts, contact, contacts}
 use Rattle.contact.specs.declared.Search.{Search}
 use Rattle.contact.specs.declared.Judged.{Judged}
-use Rattle.contact_laws.specs.Pass.{Ones, between, cutBits, Pass}
-use Rattle.contact_laws.specs.Heard.{enough, OverIt, IsRead, NoFalse}
-use Rattle.contact_laws.specs.Marker.{sixty, MarkerPass, MarkerHeard}
-use Rattle.contact_laws.specs.Row.{Thing, balise, marker, firstBit, firstAfter, Long, Passed, Row, MarkersOwn, AsPassed, RowHeard}
+use Rattle.contact_laws.specs.Pass.{Ones, between}
+use Rattle.contact_laws.specs.Heard.{OverIt, IsRead}
+use Rattle.contact_laws.specs.Marker.{sixty, MarkerHeard}
+use Rattle.contact_laws.specs.Row.{Thing, balise, marker, Long, Row, MarkersOwn, AsPassed, RowHeard}
 use Rattle.contact_laws.proofs.Walk.{Still}
 use Rattle.contact_laws.proofs.Over.{listened, from-taken, ones-still, ones-on, ones-last, cut-low, over-it}
 use Rattle.contact_laws.proofs.Within.{is-read}

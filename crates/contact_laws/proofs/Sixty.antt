@@ -22,7 +22,6 @@ use Rattle.contact.specs.Judge.{Contact, marker, judge, onesAtEnd, allZero, isM
 use Rattle.contact.specs.declared.Judged.{Judged}
 use Rattle.contact.proofs.Determined.{judgedOf}
 use Rattle.contact.proofs.MarkerRule.{Marker, is-marker}
-use Rattle.contact_laws.specs.Calls.{JudgeContact}
 use Rattle.contact_laws.specs.Pass.{Ones, between}
 use Rattle.contact_laws.specs.Marker.{sixty, FromSixty}
 use Rattle.contact_laws.proofs.Alike.{judges}

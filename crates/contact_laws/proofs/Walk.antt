@@ -8,10 +8,8 @@ use mathlib.Core.List.{List}
 use native.Mathlib.Omega.{arith}
 use lib.Dec.{leb}
 use borrow.Author.Tests.{leb-true, leb-false}
-use Rattle.telegram.specs.Stretch.{bitAt}
-use Rattle.contact.specs.History.{after, zeroesOf, zeroes}
-use Rattle.contact.specs.Contacts.{outside, since, Contacts, contact, quiet, contacts}
-use Rattle.contact.specs.declared.Search.{Search}
+use Rattle.contact.specs.History.{zeroesOf, zeroes}
+use Rattle.contact.specs.Contacts.{outside, since, contact, contacts}
 use Rattle.contact.proofs.Steps.{goes-in, stays-out, goes-out, stays-in}
 use Rattle.contact.proofs.Stays.{grows, on, behind}
 use Rattle.contact_laws.proofs.Counts.{at-most}

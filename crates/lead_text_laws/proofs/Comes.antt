@@ -1,12 +1,11 @@
 -- What is to come after some records is what is left of them; and what comes of pieces, one after
 -- the other, is what comes of the lead.
 -- Assumes nothing.
-use Prim.Native.Nat.{ℕ, zero, suc, _+_, _-_, _*_, _/_, _%_, _≤_, _<_}
+use Prim.Native.Nat.{ℕ, zero, suc, _-_, _*_, _/_, _≤_, _<_}
 use native.Mathlib.Omega.{arith}
 use mathlib.Core.Path.{_≡_, refl, sym, ap, _∙_}
 use mathlib.Core.List.{List, [], _∷_, _++_, append-assoc}
 use lib.ListN.{length, drop}
-use Rattle.words.proofs.Never.{cannot-be}
 use Rattle.settings.specs.declared.Store.{Store}
 use Rattle.recording.specs.declared.Tape.{Tape}
 use Rattle.recording.specs.Recording.{Taped, silent, andThen, overFrames, framesOf, overLead, theEnd}

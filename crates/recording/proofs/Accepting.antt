@@ -1,6 +1,6 @@
 -- A record as it is made is accepted after any odometer not above its own.
 -- Assumes nothing.
-use Prim.Native.Nat.{ℕ, _+_, _-_, _*_, _/_, _%_, _≤_}
+use Prim.Native.Nat.{ℕ, _+_, _*_, _/_, _%_, _≤_}
 use mathlib.Core.Path.{_≡_, refl, ap, _∙_}
 use mathlib.Core.Bool.{Bool, true, false}
 use mathlib.Core.List.{List}
@@ -10,7 +10,6 @@ use borrow.Author.Tests.{le-ltb}
 use Rattle.words.specs.Answer.{Outcome, gives, refuses, then, pick}
 use Rattle.contact.specs.Judge.{Contact, read, marker}
 use Rattle.telegram.specs.Spelling.{Words, spell}
-use Rattle.contact.specs.History.{after}
 use Rattle.recorder.specs.Record.{Content, telegramOf, informed, contentOf, bytesOf, blank, atOdometer, recordOf}
 use Rattle.ride.specs.Record.{odometerOf, inOrder, checkRecord}
 use Rattle.recording.specs.Kept.{orUnreadable, recordAt}

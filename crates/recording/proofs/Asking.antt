@@ -4,7 +4,7 @@
 use Prim.Native.Nat.{ℕ, zero, suc, _+_, _-_, _≤_, _<_}
 use mathlib.Core.Path.{_≡_, refl, sym, ap, _∙_}
 use mathlib.Core.Bool.{Bool, true, false}
-use mathlib.Core.List.{List, [], _∷_, _++_}
+use mathlib.Core.List.{List, _∷_}
 use native.Mathlib.Omega.{arith}
 use lib.Dec.{ltb}
 use borrow.Author.Tests.{ltb-true, ltb-false, le-ltb}
@@ -12,15 +12,14 @@ use Rattle.words.specs.Answer.{pick}
 use Rattle.telegram.specs.Stretch.{bitAt}
 use Rattle.settings.specs.declared.Store.{Store}
 use Rattle.antenna.specs.declared.Stand.{Stand}
-use Rattle.antenna.specs.declared.Ear.{Ear}
 use Rattle.antenna.specs.Hearing.{Step, nothing, opened, closed, hear}
 use Rattle.recorder.specs.Record.{bytesOf, blank}
 use Rattle.recording.specs.declared.Last.{Last}
 use Rattle.recording.specs.declared.Tape.{Tape}
 use Rattle.recording.specs.Frame.{lineOf}
 use Rattle.recording.specs.Kept.{recordAt}
-use Rattle.recording.specs.Recording.{Taped, silent, andThen, hearsOn, opens, closes, positioned, cut, afterStep, overBits, isDue, position, afterFrame, heldAt, inFrame, itsBits, overFrames, framesOf, overLead, isAbove, lastPosition, cutIn, theEnd}
-use Rattle.recording.specs.Asking.{InBits, recordedAt, heardOut, orOn, firstIn, Going, gave, usedUp, orNext, firstOf, goOn, Ending, one, none, finishIn, finish}
+use Rattle.recording.specs.Recording.{Taped, silent, andThen, hearsOn, opens, closes, positioned, afterStep, overBits, isDue, position, afterFrame, heldAt, inFrame, itsBits, overFrames, framesOf, isAbove, lastPosition, cutIn, theEnd}
+use Rattle.recording.specs.Asking.{InBits, recordedAt, heardOut, orOn, firstIn, Going, gave, usedUp, orNext, firstOf, one, none, finishIn, finish}
 use Rattle.recording.specs.Laws.{thenTaped, AskedOn, Asked, over, more, AskedAll, thenEnded, EndAsked}
 use Rattle.recording.proofs.Turning.{still, goes}
 

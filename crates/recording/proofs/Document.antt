@@ -1,27 +1,20 @@
 -- The line of a lead bit by bit is the line in one buffer.
 -- Assumes nothing.
 use Prim.Native.Nat.{ℕ, zero, suc, _+_, _-_, _*_, _/_, _%_, _^_, _≤_, _<_}
-use mathlib.Core.Path.{_≡_, refl, sym, ap, _∙_, subst}
+use mathlib.Core.Path.{_≡_, refl, sym, ap, _∙_}
 use mathlib.Core.Bool.{Bool, true, false}
-use mathlib.Core.List.{List, [], _++_}
+use mathlib.Core.List.{List, _++_}
 use native.Mathlib.Omega.{arith}
 use lib.Dec.{ltb}
 use borrow.Author.Tests.{ltb-true, ltb-false}
 use lib.ListN.{length, getD, length-append, List·getD-append}
 use lib.Seq.{getD-append-add}
-use Rattle.words.specs.Answer.{Outcome, gives, pick}
-use Rattle.telegram.specs.Stretch.{bitAt, bitsAt}
-use Rattle.telegram.specs.declared.Telegram.{Telegram}
-use Rattle.contact.specs.Contacts.{outside, contacts}
-use Rattle.contact.specs.History.{sixteenOnes}
-use Rattle.contact.specs.Judge.{Contact, read, judge}
-use Rattle.contact.specs.declared.Judged.{Judged}
-use Rattle.settings.specs.declared.Store.{Store}
+use Rattle.words.specs.Answer.{pick}
+use Rattle.telegram.specs.Stretch.{bitAt}
 use Rattle.antenna.specs.declared.Ear.{Ear}
 use Rattle.antenna.specs.Hearing as hearing
-use Rattle.antenna.specs.Line.{Told, told, isInside, heard, after}
+use Rattle.antenna.specs.Line.{isInside}
 use Rattle.antenna.proofs.Law.{hears-all, only-the-bits}
-use Rattle.recorder.specs.Record.{bytesOf}
 use Rattle.recorder.proofs.Received.{as-received}
 use Rattle.recording.specs.Frame.{lineOf, odometerOf, acceptedAfter}
 use Rattle.recording.specs.Kept.{orUnreadable, recordAt}

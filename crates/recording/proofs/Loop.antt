@@ -1,11 +1,11 @@
 -- The loop of going on: what is to come from where it stands is what was to come.
 -- Assumes nothing.
 use Prim.Native.Nat.{ℕ, _+_, _-_, _^_, _≤_, _<_}
-use mathlib.Core.Path.{_≡_, refl, sym, ap, _∙_, subst}
+use mathlib.Core.Path.{_≡_, sym, ap, _∙_, subst}
 use mathlib.Core.Bool.{Bool, true, false}
 use mathlib.Core.List.{List}
 use native.Mathlib.Omega.{arith}
-use Rattle.words.specs.Answer.{Outcome, gives, refuses, pick}
+use Rattle.words.specs.Answer.{gives, pick}
 use Rattle.words.proofs.Never.{cannot-be}
 use Rattle.settings.specs.declared.Store.{Store}
 use Rattle.settings.specs.declared.Held.{Held}
@@ -22,7 +22,7 @@ use Rattle.recording.specs.declared.Tape.{Tape}
 use Rattle.recording.specs.Frame.{lineOf, odometerOf, acceptedAfter}
 use Rattle.recording.specs.Kept.{recordAt}
 use Rattle.recording.specs.Recording.{withOdometer, hearsOn, opens, closes, positioned, isDue, heldAt, inFrame, framesOf}
-use Rattle.recording.specs.Asking.{Going, gave, usedUp, firstOf}
+use Rattle.recording.specs.Asking.{Going, gave, firstOf}
 use Rattle.recording.proofs.Held.{InForce, held-on}
 use Rattle.recording.proofs.Turning.{turn-opened, turn-closed, turn-due, turn-on}
 

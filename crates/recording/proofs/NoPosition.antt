@@ -1,7 +1,7 @@
 -- The records of a trace that are not positions: they join as the trace does, and a contact's
 -- record is one of them.
 -- Assumes nothing.
-use Prim.Native.Nat.{ℕ, _+_, _-_}
+use Prim.Native.Nat.{ℕ}
 use mathlib.Core.Path.{_≡_, refl, ap}
 use mathlib.Core.Bool.{Bool, true, false}
 use mathlib.Core.List.{List, [], _∷_, _++_}
@@ -13,7 +13,6 @@ use Rattle.antenna.specs.Line.{Told, placed}
 use Rattle.recorder.specs.Record.{telegramOf, informed, contentOf, bytesOf, atOdometer, recordOf}
 use Rattle.ride.specs.Record.{kindOf}
 use Rattle.recording.specs.Kept.{orUnreadable, recordAt}
-use Rattle.recording.specs.Recording.{position}
 use Rattle.recording.specs.Contacts.{recordFor, recordsFor, withoutPositions}
 
 pub without-join : (a b : List (List ℕ)) → withoutPositions (a ++ b) ≡ withoutPositions a ++ withoutPositions b

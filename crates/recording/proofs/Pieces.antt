@@ -1,15 +1,15 @@
 -- Cut into pieces of whole frames, a lead gives the same records.
 -- Assumes nothing.
-use Prim.Native.Nat.{ℕ, zero, suc, _+_, _-_, _*_, _/_, _≤_, _<_}
+use Prim.Native.Nat.{ℕ, zero, suc, _+_, _-_, _*_, _≤_, _<_}
 use mathlib.Core.Path.{_≡_, refl, sym, ap, _∙_, subst}
-use mathlib.Core.List.{List, [], _∷_, _++_, append-assoc}
+use mathlib.Core.List.{List, _++_, append-assoc}
 use native.Mathlib.Omega.{arith}
 use lib.ListN.{length, take, drop, getD, length-append, length-drop, List·getD-append}
 use lib.Seq.{take-append-le, drop-append-le, drop-append-add, getD-append-add}
 use Rattle.settings.specs.declared.Store.{Store}
 use Rattle.recording.specs.declared.Tape.{Tape}
 use Rattle.recording.specs.Frame.{lineOf, odometerOf, acceptedAfter}
-use Rattle.recording.specs.Recording.{Taped, silent, andThen, withOdometer, overBits, afterFrame, heldAt, inFrame, itsBits, overFrames, framesOf, overLead}
+use Rattle.recording.specs.Recording.{Taped, andThen, withOdometer, overBits, afterFrame, heldAt, itsBits, overFrames, framesOf, overLead}
 use Rattle.recording.specs.Laws.{AnyPieces}
 
 -- ---- one thing after another

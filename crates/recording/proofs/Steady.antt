@@ -1,12 +1,11 @@
 -- A tape whose last record is not above the odometer at which its open contact opened, and that not
 -- above the odometer in force: what comes of it rises.
 -- Assumes nothing.
-use Prim.Native.Nat.{ℕ, _+_, _-_, _≤_}
+use Prim.Native.Nat.{ℕ, _≤_}
 use mathlib.Core.Path.{_≡_, refl, sym, ap, _∙_, subst⁻¹}
 use mathlib.Core.List.{List, [], _∷_, _++_}
 use Rattle.antenna.specs.declared.Stand.{Stand}
 use Rattle.antenna.specs.Hearing.{opened}
-use Rattle.contact.specs.History.{after}
 use Rattle.ride.specs.Record.{odometerOf}
 use Rattle.recording.specs.declared.Last.{Last}
 use Rattle.recording.specs.declared.Tape.{Tape}

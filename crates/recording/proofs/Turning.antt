@@ -6,7 +6,7 @@ use mathlib.Core.Bool.{Bool, true, false}
 use mathlib.Core.List.{List}
 use native.Mathlib.Omega.{arith}
 use lib.Dec.{ltb}
-use borrow.Author.Tests.{le-ltb, lt-ltb, ltb-true, ltb-false}
+use borrow.Author.Tests.{le-ltb}
 use Rattle.words.specs.Answer.{Outcome, pick}
 use Rattle.telegram.specs.Stretch.{bitAt}
 use Rattle.settings.specs.declared.Store.{Store}
@@ -14,14 +14,13 @@ use Rattle.settings.specs.declared.Held.{Held}
 use Rattle.antenna.specs.declared.Ear.{Ear}
 use Rattle.antenna.specs.Hearing.{Step, nothing, opened, closed, hear}
 use Rattle.antenna.specs.Piece.{First, openedAt, closedAt, usedUp as over, orOn as ear-orOn, first}
-use Rattle.antenna.proofs.Within.{Within, within}
 use Rattle.contact.specs.Judge.{Contact}
 use Rattle.recorder.specs.Record.{bytesOf, blank}
 use Rattle.recording.specs.declared.Tape.{Tape}
 use Rattle.recording.specs.Frame.{lineOf, odometerOf, acceptedAfter}
 use Rattle.recording.specs.Kept.{recordAt}
 use Rattle.recording.specs.Recording.{withOdometer, hearsOn, opens, closes, positioned, isDue, heldAt, inFrame, framesOf}
-use Rattle.recording.specs.Asking.{InBits, recordedAt, heardOut, orOn, firstIn, Going, gave, usedUp, orNext, firstOf, goOn}
+use Rattle.recording.specs.Asking.{InBits, recordedAt, heardOut, orOn, firstIn, gave, usedUp, orNext, firstOf, goOn}
 
 -- ---- in a frame
 

@@ -6,8 +6,6 @@ use Prim.Native.Nat.{ℕ}
 use Rattle.text.specs.Text.{codes, digits, decimal}
 use Rattle.recording.specs.Frame.{odometerOf}
 use Rattle.recording_text.specs.declared.First.{First}
-use Rattle.recording_text.specs.declared.Frames.{Frames}
-use Rattle.recording_text.specs.declared.Records.{Records}
 use Rattle.recording_text.specs.Counts.{more, judgeFrame, noFrames, overFrames, countFrames, noRecords, countRecord, countRecords}
 use Rattle.refusals.specs.Words.{table, worded, refused}
 use Rattle.recording_text.specs.Lines.{refusedLine, firstLine, whereAny, sumLine, endLines}

@@ -2,7 +2,7 @@
 -- refused, and adds one where its kind says so.
 -- Assumes nothing.
 use Prim.Native.Nat.{ℕ, zero, suc, _+_, _≤_, _<_}
-use mathlib.Core.Path.{_≡_, refl, sym, ap, _∙_}
+use mathlib.Core.Path.{_≡_, refl}
 use mathlib.Core.Bool.{Bool, true, false, not, _&&_, _||_}
 use mathlib.Core.List.{List, [], _∷_}
 use native.Mathlib.Omega.{arith}
@@ -12,10 +12,9 @@ use borrow.Author.Tests.{leb-true, le-ltb, ltb-true, ltb-false, eqb-true, eqb-fa
 use Rattle.words.specs.Answer.{Outcome, gives, refuses, pick}
 use Rattle.words.specs.Limits.{largest64}
 use Rattle.words.proofs.Never.{cannot-be}
-use Rattle.settings.specs.declared.Store.{Store}
 use Rattle.ride.specs.Record.{odometerOf, kindOf, passedOf, blank, inOrder, Entry, checkRecord}
 use Rattle.recording.specs.Recording.{recorded}
-use Rattle.recording.specs.Rising.{Accepted, AllAccepted}
+use Rattle.recording.specs.Rising.{AllAccepted}
 use Rattle.recording.specs.Contacts.{withoutPositions}
 use Rattle.recording.proofs.Rising.{none-refused}
 use Rattle.recording_text.specs.declared.Records.{Records}

@@ -3,7 +3,7 @@
 -- Assumes nothing.
 use mathlib.Core.Path.{_≡_, refl, sym, ap, ap₂, subst, _∙_}
 use mathlib.Core.List.{List, [], _∷_, _++_}
-use Prim.Native.Nat.{ℕ, suc, _+_, _*_, _/_, _%_, _≤_, _<_}
+use Prim.Native.Nat.{ℕ, _+_, _/_, _%_, _≤_, _<_}
 use native.Mathlib.Numerals.{add-one}
 use native.Mathlib.Omega.{arith}
 use lib.ListN.{length, getD, drop}
@@ -14,9 +14,9 @@ use Rattle.words.proofs.Never.{cannot-be}
 use Rattle.lines.specs.Words.{largest}
 use Rattle.trace_text.specs.declared.What.{What}
 use Rattle.trace_text.specs.declared.Said.{Said}
-use Rattle.trace_text.specs.Record.{bytesOf, recordOf}
+use Rattle.trace_text.specs.Record.{recordOf}
 use Rattle.trace_text.specs.Thing.{placeOf, thingOf, thingAt}
-use Rattle.trace_text_laws.specs.Laws.{Bytes, HasRecord}
+use Rattle.trace_text_laws.specs.Laws.{Bytes}
 use Rattle.trace_text_laws.proofs.Recording.{records-back}
 
 -- Eight bytes, and the bytes after them.

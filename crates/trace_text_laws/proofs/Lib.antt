@@ -5,4 +5,5 @@ pub mod LineBack
 pub mod Eight
 pub mod Told
 pub mod Texts
+pub mod OneLine
 pub mod TextsMet

@@ -1,6 +1,6 @@
 -- A printed line stands in the buffer where it was put, and its words, read there, say the thing.
 -- Assumes nothing.
-use mathlib.Core.Path.{_≡_, refl, sym, ap, _∙_}
+use mathlib.Core.Path.{_≡_, sym, ap, _∙_}
 use mathlib.Core.Bool.{true}
 use mathlib.Core.List.{List, [], _∷_, _++_, append-assoc}
 use Prim.Native.Nat.{ℕ, _+_, _≤_}
@@ -8,9 +8,8 @@ use native.Mathlib.Omega.{arith}
 use lib.ListN.{length, take, drop, length-append}
 use lib.Seq.{length-take-le, drop-at}
 use Rattle.text.specs.Text.{codes, decimal}
-use Rattle.text.specs.Put.{placed, Put, put, came}
+use Rattle.text.specs.Put.{placed, put, came}
 use Rattle.text.proofs.Standing.{Stands, stands}
-use Rattle.lines.specs.declared.TextLine.{TextLine}
 use Rattle.lines.specs.declared.Got.{Got}
 use Rattle.lines.specs.Text.{upTo, newline, wordsOf}
 use Rattle.lines.specs.Words.{largest, lineOf, noWords, keptAll}

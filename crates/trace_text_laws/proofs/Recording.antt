@@ -3,15 +3,14 @@
 -- Assumes nothing.
 use mathlib.Core.Path.{_≡_, refl, sym, ap, _∙_}
 use mathlib.Core.Bool.{Bool, true, false, _&&_}
-use mathlib.Core.List.{List}
 use Prim.Native.Nat.{ℕ, _<_}
 use lib.Dec.{eqb}
 use borrow.Author.Tests.{eqb-true}
-use Rattle.words.specs.Answer.{Outcome, gives, refuses, pick}
+use Rattle.words.specs.Answer.{gives, refuses, pick}
 use Rattle.words.proofs.Linear.{and-parts}
 use Rattle.telegram.specs.Telegram.{Received, telegram}
 use Rattle.telegram.specs.declared.Telegram.{Telegram}
-use Rattle.telegram.specs.Spelling.{asked, spell}
+use Rattle.telegram.specs.Spelling.{asked}
 use Rattle.recorder.proofs.Received.{spelt-back}
 use Rattle.trace_text.specs.declared.What.{What}
 use Rattle.trace_text.specs.Record.{bytesOf, recordOf}

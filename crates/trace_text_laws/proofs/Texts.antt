@@ -3,16 +3,14 @@
 -- Assumes nothing.
 use mathlib.Core.Path.{_≡_, refl, sym, ap, subst, _∙_}
 use mathlib.Core.Bool.{Bool, true, false}
-use mathlib.Core.List.{List, [], _∷_, _++_, append-assoc, append-nil}
-use Prim.Native.Nat.{ℕ, zero, suc, _+_, _*_, _/_, _%_, _^_, _≤_, _<_}
+use mathlib.Core.List.{List, [], _∷_, _++_, append-nil}
+use Prim.Native.Nat.{ℕ, zero, suc, _+_, _*_, _/_, _^_, _≤_, _<_}
 use native.Mathlib.Omega.{arith}
 use lib.Dec.{eqb}
-use lib.ListN.{length, take, drop, getD, length-append}
-use lib.Seq.{drop-length, take-at, length-take-le}
+use lib.ListN.{length, take, drop, length-append}
+use lib.Seq.{drop-length}
 use Rattle.words.specs.Answer.{gives, pick}
-use Rattle.words.proofs.Never.{cannot-be}
-use Rattle.text.specs.Text.{codes, digits, decimal}
-use Rattle.text.specs.Put.{placed}
+use Rattle.text.specs.Text.{codes, decimal}
 use Rattle.text.proofs.Decimal.{decimal-length, five-digits, at-most}
 use Rattle.text.proofs.Placing.{placed-none, placed-start}
 use Rattle.text.proofs.Standing.{Stands, behind, keeps}
@@ -24,8 +22,8 @@ use Rattle.trace_text.specs.Record.{recordOf}
 use Rattle.trace_text.specs.Thing.{thingAt}
 use Rattle.trace_text.specs.Line.{byteText, balise, whatText, recordLine}
 use Rattle.trace_text_laws.specs.Laws.{Bytes, HasRecord, asSaid}
-use Rattle.trace_text_laws.specs.Texts.{Puts, one, over, Printed, none, block, Result, made, Writes, Taken, ThereAndBack}
-use Rattle.trace_text_laws.proofs.Words.{its-figures, Small}
+use Rattle.trace_text_laws.specs.Texts.{Puts, one, over, Printed, none, block, made, Writes, ThereAndBack}
+use Rattle.trace_text_laws.proofs.Words.{its-figures}
 use Rattle.trace_text_laws.proofs.Saying.{same-record}
 use Rattle.trace_text_laws.proofs.LineBack.{bare, with-newline, says-thing, put-so}
 use Rattle.trace_text_laws.proofs.Eight.{eight, AThing, thing-there, none-there, in-eight, first-bytes, last-bytes}

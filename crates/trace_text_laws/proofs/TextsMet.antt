@@ -3,25 +3,19 @@
 -- Assumes nothing.
 use mathlib.Core.Path.{_≡_, refl, sym, ap, subst, _∙_}
 use mathlib.Core.Logic.{inr}
-use mathlib.Core.Bool.{true}
 use mathlib.Core.List.{List, [], _∷_, _++_, append-nil}
-use Prim.Native.Nat.{ℕ, _+_, _≤_}
+use Prim.Native.Nat.{ℕ}
 use native.Mathlib.Omega.{arith}
 use lib.ListN.{length, take, replicate, length-replicate}
-use denote.Ref.{RefT}
 use Rattle.text.specs.Text.{codes, digits, decimal}
 use Rattle.text.specs.Put.{placed, put, came}
 use Rattle.text.proofs.Placing.{placed-start}
 use Rattle.text.proofs.Standing.{was-put}
 use Rattle.figures.specs.Figures.{hexDigit, hex}
-use Rattle.lines.specs.declared.Got.{Got}
-use Rattle.lines.specs.declared.TextLine.{TextLine}
 use Rattle.lines.specs.Text.{beginning}
 use Rattle.lines.specs.Words.{noWords, kept}
 use Rattle.lines.specs.Reading.{digitOn, numberOn, lettersOn, noLetters, letterOn, named, byteOf, done, closed, fresh, character, whole, unfinished, lineFrom, nextLine}
-use Rattle.lines_laws.specs.Calls.{NextLine}
-use Rattle.lines_laws.specs.Texts.{line, used, ReadOut}
-use Rattle.lines_laws.specs.Texts as reading
+use Rattle.lines_laws.specs.Texts.{line, ReadOut}
 use Rattle.trace_text.specs.declared.What.{What}
 use Rattle.trace_text.specs.declared.Said.{Said}
 use Rattle.trace_text.specs.declared.MakingWent.{MakingWent}
@@ -31,16 +25,14 @@ use Rattle.trace_text.specs.Thing.{blank, thingOf, thingAt}
 use Rattle.trace_text.specs.Line.{whatText, recordLine}
 use Rattle.trace_text_laws.specs.Calls.{ThingAt, PutRecord}
 use Rattle.trace_text_laws.specs.Laws.{Bytes}
-use Rattle.trace_text_laws.specs.Texts.{Puts, one, over, Printed, none, block, Result, made, Comes, no-more, nothing, thing, Taken}
+use Rattle.trace_text_laws.specs.Texts.{one, over, Printed, none, block, made, Comes, no-more, nothing, thing, Taken}
+use Rattle.trace_text_laws.proofs.OneLine.{lent, first, last, read-out}
 
 abbrev marker : List ℕ
 marker = 0 ∷ 0 ∷ 0 ∷ 5 ∷ 1 ∷ 0 ∷ 0 ∷ 0 ∷ []
 
 abbrev text : List ℕ
 text = codes "5 marker # 1\n"
-
-abbrev lent : List ℕ → RefT (List ℕ)
-lent bytes = record { ptr = (0, 0); name = 0; now = bytes }
 
 -- ---- printed
 
@@ -76,43 +68,18 @@ bytes-met = (omega arith, (omega arith, (omega arith, (omega arith, (omega arith
 
 -- ---- read
 
-abbrev first : Got
-first = nextLine fresh text 0
-
-abbrev second : Got
-second = nextLine (first .reader) text (first .next)
-
-abbrev last : Got
-last = nextLine (second .reader) [] 0
-
-read-out : ReadOut text [] (first .line ∷ last .line ∷ [])
+all-read : ReadOut text [] (first text .line ∷ last text .line ∷ [])
 unfolding beginning nextLine lineFrom character fresh noWords noLetters letterOn numberOn digitOn lettersOn closed kept done byteOf named whole unfinished
-read-out =
-    record {
-      fresh = fresh;
-      is-fresh = (tt, refl);
-      from = 0;
-      begins = (([], tt), lent text, (lent text, tt), refl, refl);
-      in-first = first .line ∷ [];
-      next = second .reader;
-      through = line first (([], tt), lent text, (fresh, (lent text, (0, tt))), refl, refl) refl
-          (used second (([], tt), lent text, (first .reader, (lent text, (first .next, tt))), refl, refl) refl);
-      in-others = [];
-      last = second .reader;
-      on = reading.none;
-      end = last;
-      ends = (([], tt), lent [], (second .reader, (lent [], (0, tt))), refl, refl);
-      all = refl;
-    }
+all-read = read-out text refl refl refl
 
-comes : Comes (first .line ∷ last .line ∷ []) (made (marker ∷ []))
+comes : Comes (first text .line ∷ last text .line ∷ []) (made (marker ∷ []))
 unfolding beginning nextLine lineFrom character fresh noWords noLetters letterOn numberOn digitOn lettersOn closed kept done byteOf hex hexDigit named whole unfinished said whatOf recordOf
 comes =
-    thing {place = 5} {what = What.Marker} (record { bytes = marker; how = MakingWent.Made }) ((first .line, tt), refl) ((5, (What.Marker, tt)), refl) refl
-    (nothing ((last .line, tt), refl) no-more)
+    thing {place = 5} {what = What.Marker} (record { bytes = marker; how = MakingWent.Made }) ((first text .line, tt), refl) ((5, (What.Marker, tt)), refl) refl
+    (nothing ((last text .line, tt), refl) no-more)
 
 taken-met : Taken text (made (marker ∷ []))
-taken-met = record { first = text; others = []; whole = append-nil text; enough = inr refl; lines = first .line ∷ last .line ∷ []; read = read-out; comes = comes }
+taken-met = record { first = text; others = []; whole = append-nil text; enough = inr refl; lines = first text .line ∷ last text .line ∷ []; read = all-read; comes = comes }
 
 -- What is read is what was printed.
 pub back-met : Taken (take 13 filled ++ []) (made (marker ∷ []))

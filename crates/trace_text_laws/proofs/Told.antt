@@ -12,7 +12,7 @@ use Rattle.words.specs.Answer.{Outcome, gives, refuses, then, pick}
 use Rattle.words.proofs.Never.{cannot-be}
 use Rattle.telegram.specs.Spelling.{Words, asked, spell}
 use Rattle.lines.specs.declared.TextLine.{TextLine}
-use Rattle.lines.specs.Text.{blank, hash, upTo, cut, some, wordsOf, linesOf, beginning, linesIn}
+use Rattle.lines.specs.Text.{upTo, cut, some, wordsOf, linesOf, beginning, linesIn}
 use Rattle.lines.specs.Words.{lineOf, noWords, keptAll}
 use Rattle.lines_laws.specs.Laws.{OneLine}
 use Rattle.lines_laws.specs.Texts.{keptOf, joined}
@@ -26,7 +26,7 @@ use Rattle.trace_text.specs.Said.{said}
 use Rattle.trace_text.specs.Record.{Made, Recording, recording, recordOf, bytesOf}
 use Rattle.trace_text.specs.Record as recorded
 use Rattle.trace_text.specs.Says.{saysMakingWent, saysRecorded}
-use Rattle.trace_text_laws.specs.Calls.{ReadLine, RecordOf}
+use Rattle.trace_text_laws.specs.Calls.{RecordOf}
 use Rattle.trace_text_laws.specs.Texts.{Result, made, unreadable, refused, before, Writes, Comes, no-more, nothing, thing, wrong, bad, Taken}
 
 -- Line after line: each says a thing, and the trace is their records.

@@ -7,21 +7,19 @@ use mathlib.Core.Logic.{inr}
 use mathlib.Core.List.{List, [], _∷_, _++_}
 use native.Mathlib.Omega.{arith}
 use lib.ListN.{take, replicate}
-use denote.Ref.{RefT}
 use Rattle.text.specs.Text.{codes}
-use Rattle.lines.specs.declared.Got.{Got}
 use Rattle.lines.specs.Text.{beginning}
 use Rattle.lines.specs.Words.{noWords, kept}
 use Rattle.lines.specs.Reading as reads
 use Rattle.lines.specs.Reading.{digitOn, numberOn, lettersOn, noLetters, letterOn, named, byteOf, done, character, whole, unfinished, lineFrom, nextLine}
-use Rattle.lines_laws.specs.Texts.{line, used, ReadOut}
-use Rattle.lines_laws.specs.Texts as reading
+use Rattle.lines_laws.specs.Texts.{line, ReadOut}
 use Rattle.figures.specs.Figures.{hexDigit, hex}
 use Rattle.trace_text.specs.declared.What.{What}
 use Rattle.trace_text.specs.declared.MakingWent.{MakingWent}
 use Rattle.trace_text.specs.Said.{whatOf, said}
 use Rattle.trace_text.specs.Record.{recordOf}
 use Rattle.trace_text_laws.specs.Texts.{made, Comes, no-more, nothing, thing, Taken}
+use Rattle.trace_text_laws.proofs.OneLine.{lent, first, last, read-out}
 use Rattle.track_text.specs.Read.{read}
 use Rattle.track_lead.specs.declared.Thing.{Thing}
 use Rattle.track_lead.specs.declared.Mark.{Mark}
@@ -37,51 +35,23 @@ use Rattle.track_laws.specs.ByCalls as calls
 abbrev text : List ℕ
 text = codes "0 marker\n"
 
-abbrev pub lent : List ℕ → RefT (List ℕ)
-lent bytes = record { ptr = (0, 0); name = 0; now = bytes }
-
 -- ---- its lines
-
-abbrev first : Got
-first = nextLine reads.fresh text 0
-
-abbrev second : Got
-second = nextLine (first .reader) text (first .next)
-
-abbrev last : Got
-last = nextLine (second .reader) [] 0
-
-read-out : ReadOut text [] (first .line ∷ last .line ∷ [])
-unfolding beginning nextLine lineFrom character reads.fresh noWords noLetters letterOn numberOn digitOn lettersOn reads.closed kept done byteOf named whole unfinished
-read-out =
-    record {
-      fresh = reads.fresh;
-      is-fresh = (tt, refl);
-      from = 0;
-      begins = (([], tt), lent text, (lent text, tt), refl, refl);
-      in-first = first .line ∷ [];
-      next = second .reader;
-      through = line first (([], tt), lent text, (reads.fresh, (lent text, (0, tt))), refl, refl) refl
-          (used second (([], tt), lent text, (first .reader, (lent text, (first .next, tt))), refl, refl) refl);
-      in-others = [];
-      last = second .reader;
-      on = reading.none;
-      end = last;
-      ends = (([], tt), lent [], (second .reader, (lent [], (0, tt))), refl, refl);
-      all = refl;
-    }
 
 abbrev pub marker : List ℕ
 marker = 0 ∷ 0 ∷ 0 ∷ 0 ∷ 1 ∷ 0 ∷ 0 ∷ 0 ∷ []
 
-comes : Comes (first .line ∷ last .line ∷ []) (made (marker ∷ []))
+all-read : ReadOut text [] (first text .line ∷ last text .line ∷ [])
+unfolding beginning nextLine lineFrom character reads.fresh noWords noLetters letterOn numberOn digitOn lettersOn reads.closed kept done byteOf named whole unfinished
+all-read = read-out text refl refl refl
+
+comes : Comes (first text .line ∷ last text .line ∷ []) (made (marker ∷ []))
 unfolding beginning nextLine lineFrom character reads.fresh noWords noLetters letterOn numberOn digitOn lettersOn reads.closed kept done byteOf hex hexDigit named whole unfinished said whatOf recordOf
 comes =
-    thing {place = 0} {what = What.Marker} (record { bytes = marker; how = MakingWent.Made }) ((first .line, tt), refl) ((0, (What.Marker, tt)), refl) refl
-    (nothing ((last .line, tt), refl) no-more)
+    thing {place = 0} {what = What.Marker} (record { bytes = marker; how = MakingWent.Made }) ((first text .line, tt), refl) ((0, (What.Marker, tt)), refl) refl
+    (nothing ((last text .line, tt), refl) no-more)
 
 pub taken-met : Taken text (made (marker ∷ []))
-taken-met = record { first = text; others = []; whole = refl; enough = inr refl; lines = first .line ∷ last .line ∷ []; read = read-out; comes = comes }
+taken-met = record { first = text; others = []; whole = refl; enough = inr refl; lines = first text .line ∷ last text .line ∷ []; read = all-read; comes = comes }
 
 -- ---- its lead: a frame of zeroes, then ten of ones
 
@@ -109,9 +79,9 @@ room = replicate 176 0
 abbrev small : List ℕ
 small = replicate 16 0
 
-items-are : calls.Items (first .line ∷ last .line ∷ []) (record { place = 0; thing = Thing.Marker } ∷ [])
+items-are : calls.Items (first text .line ∷ last text .line ∷ []) (record { place = 0; thing = Thing.Marker } ∷ [])
 unfolding beginning nextLine lineFrom character reads.fresh noWords noLetters letterOn numberOn digitOn lettersOn reads.closed kept done byteOf hex hexDigit named whole unfinished said whatOf read
-items-are = calls.thing 0 Thing.Marker ((first .line, tt), refl) (calls.nothing ((last .line, tt), refl) calls.none)
+items-are = calls.thing 0 Thing.Marker ((first text .line, tt), refl) (calls.nothing ((last text .line, tt), refl) calls.none)
 
 feeds : calls.Feeds 11 at-first (record { place = 0; thing = Thing.Marker } ∷ []) (lead ++ [])
 unfolding write frames frame after lineIn passes
@@ -131,8 +101,8 @@ tracked-met =
       others = [];
       whole = refl;
       enough = inr refl;
-      lines = first .line ∷ last .line ∷ [];
-      read = read-out;
+      lines = first text .line ∷ last text .line ∷ [];
+      read = all-read;
       items = record { place = 0; thing = Thing.Marker } ∷ [];
       are = items-are;
       fresh = ways.fresh;

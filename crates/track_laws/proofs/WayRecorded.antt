@@ -31,7 +31,8 @@ use Rattle.recording_laws.specs.Calls.{FreshTape, GoOn, EndOf}
 use Rattle.recording_laws.specs.Recorded.{came, used, none, piece, no-more, Recorded}
 use Rattle.trace_text_laws.specs.Texts.{made}
 use Rattle.track_laws.proofs.TextMet.{store, pair, throughout}
-use Rattle.track_laws.proofs.WayMet.{lent, lead, marker, tracked-met, sure-met, taken-met}
+use Rattle.trace_text_laws.proofs.OneLine.{lent}
+use Rattle.track_laws.proofs.WayMet.{lead, marker, tracked-met, sure-met, taken-met}
 use Rattle.track_laws.proofs.ByCalls.{the-whole-way}
 
 abbrev tape : ℕ → ℕ → Last → Tape

@@ -3,18 +3,16 @@
 use Prim.Native.Nat.{ℕ, zero, suc, _+_, _-_, _*_, _/_, _≤_, _<_}
 use mathlib.Core.Path.{_≡_, refl, sym, ap, ap₂, _∙_, subst}
 use mathlib.Core.Bool.{Bool, true, false}
-use mathlib.Core.List.{List, [], _∷_, _++_, append-assoc, append-nil}
+use mathlib.Core.List.{List, [], _++_, append-assoc, append-nil}
 use native.Mathlib.Omega.{arith}
-use native.Mathlib.Numerals.{add-one}
 use lib.Dec.{ltb}
-use lib.ListN.{length, take, drop, length-append, length-take, length-drop}
+use lib.ListN.{length, drop, length-append}
 use borrow.Author.Tests.{lt-ltb, le-ltb, ltb-true, ltb-false}
-use Rattle.words.specs.Answer.{pick}
 use Rattle.text.specs.Put.{placed, put, came}
 use Rattle.text.proofs.Placing.{placed-length, placed-join, placed-none}
 use Rattle.text.proofs.Standing.{stands}
 use Rattle.track_lead.specs.declared.Feed.{Feed}
-use Rattle.track_lead.specs.Feed.{frame, after, Fed, frames, Writing, onto, write}
+use Rattle.track_lead.specs.Feed.{frame, after, Fed, frames, onto, write}
 use Rattle.track_lead.proofs.Ones.{line-long}
 use Rattle.track_lead.specs.Laws.{andThen, AnyBlocks}
 

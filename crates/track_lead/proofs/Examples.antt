@@ -4,13 +4,12 @@
 use mathlib.Core.Path.{_≡_, refl}
 use mathlib.Core.List.{List, [], _∷_}
 use Prim.Native.Nat.{ℕ}
-use lib.ListN.{length, take, drop}
-use Rattle.words.specs.Answer.{Answer, gives, refuses}
+use lib.ListN.{take}
+use Rattle.words.specs.Answer.{gives, refuses}
 use Rattle.balise_writer.specs.Write.{telegrams}
 use Rattle.track_lead.specs.declared.Thing.{Thing}
 use Rattle.track_lead.specs.declared.Mark.{Mark}
-use Rattle.track_lead.specs.declared.Way.{Way}
-use Rattle.track_lead.specs.Way.{fresh, after, Bad, refused, tooNear, from, until}
+use Rattle.track_lead.specs.Way.{fresh, after, refused, tooNear, from, until}
 use Rattle.track_lead.specs.Way as way-specs
 use Rattle.track_lead.specs.Sent.{lineIn}
 use Rattle.track_lead.specs.Lead.{Item, wayFrom, wayOf, latest, lineAt, frameAt}

@@ -1,22 +1,20 @@
 -- A feed stands at a frame of a lead: what it writes from there on are the lead's frames, as long
 -- as no thing begins.
 -- Assumes nothing.
-use Prim.Native.Nat.{ℕ, zero, suc, _+_, _-_, _*_, _/_, _%_, _≤_, _<_, min}
+use Prim.Native.Nat.{ℕ, zero, suc, _+_, _-_, _*_, _/_, _≤_, _<_, min}
 use mathlib.Core.Path.{_≡_, refl, sym, ap, ap₂, _∙_, subst}
 use mathlib.Core.Bool.{Bool, true, false}
-use mathlib.Core.List.{List, [], _∷_, _++_}
+use mathlib.Core.List.{List, [], _++_}
 use native.Mathlib.Omega.{arith}
 use native.Mathlib.Nat.{mul-add-div, div-eq-of-lt, lt-of-mul-lt-mul-left, mul-suc}
 use lib.Dec.{ltb}
-use lib.ListN.{length}
-use borrow.Author.Tests.{lt-ltb, le-ltb, ltb-true, ltb-false}
+use borrow.Author.Tests.{ltb-true, ltb-false}
 use Rattle.words.specs.Answer.{pick}
-use Rattle.balise_writer.specs.Write.{telegrams}
 use Rattle.track_lead.specs.declared.Thing.{Thing}
 use Rattle.track_lead.specs.declared.Feed.{Feed}
-use Rattle.track_lead.specs.Sent.{twelve, sends, lineIn}
+use Rattle.track_lead.specs.Sent.{twelve, lineIn}
 use Rattle.track_lead.specs.Feed.{frameOf, frame, after, Fed, frames}
-use Rattle.track_lead.specs.Lead.{Item, Over, odometerAt, latest}
+use Rattle.track_lead.specs.Lead.{Over, odometerAt}
 use Rattle.track_lead.proofs.Ones.{ones-there, balise-over}
 use Rattle.track_lead.proofs.Blocks.{one}
 

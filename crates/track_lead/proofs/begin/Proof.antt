@@ -3,7 +3,6 @@ use Prim.Native.Nat.{ℕ}
 use mathlib.Core.Path.{ap}
 use borrow.Author.Needs.{needs}
 use Rattle.track_lead.specs.declared.Thing.{Thing}
-use Rattle.track_lead.specs.declared.Feed.{Feed}
 use Rattle.track_lead.specs.Feed.{begin}
 use Rattle.track_lead.proofs.begin.Statement.{statement}
 use Rattle.track_lead.proofs.begin.Tie as tie

@@ -1,7 +1,7 @@
 -- What is to come from where the loop stands is what was to come.
 -- Assumes nothing.
 use Prim.Native.Nat.{_+_, _-_, _*_, _≤_}
-use mathlib.Core.Path.{_≡_, refl, sym, ap, _∙_, subst⁻¹}
+use mathlib.Core.Path.{refl, sym, ap, _∙_, subst⁻¹}
 use native.Mathlib.Omega.{arith}
 use borrow.Author.Needs.{needs}
 use Rattle.settings.specs.declared.Held.{Held}

@@ -1,9 +1,8 @@
 -- A line where the first refused frame came just now, else nothing.
 -- Assumes nothing.
-use mathlib.Core.Path.{sym, ap, subst, _∙_}
+use mathlib.Core.Path.{sym, ap, _∙_}
 use mathlib.Core.List.{List}
-use Prim.Native.Nat.{ℕ, _+_, _≤_}
-use lib.ListN.{length}
+use Prim.Native.Nat.{ℕ}
 use Rattle.text.specs.Put.{put}
 use Rattle.text.proofs.Standing.{room-as}
 use Rattle.recording_text.specs.declared.First.{First}

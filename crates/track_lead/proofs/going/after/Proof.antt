@@ -1,10 +1,9 @@
 -- `after` keeps the place of what is sent.
-use mathlib.Core.Path.{_≡_, sym, ap, ap₂, _∙_}
+use mathlib.Core.Path.{sym, ap₂, _∙_}
 use mathlib.Core.Bool.{Bool}
 use borrow.Author.Needs.{needs}
 use Rattle.words.specs.Answer.{pick}
 use Rattle.track_lead.specs.declared.Mark.{Mark}
-use Rattle.track_lead.specs.declared.Way.{Way}
 use Rattle.track_lead.specs.Way.{after}
 use Rattle.track_lead.proofs.going.after.Statement.{statement}
 use Rattle.track_lead.proofs.going.after.Tie as tie

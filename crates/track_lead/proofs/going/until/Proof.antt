@@ -1,5 +1,5 @@
 -- `until` is one after the way's last decimetre.
-use mathlib.Core.Path.{_≡_, refl, sym, ap, ap₂, _∙_}
+use mathlib.Core.Path.{sym, ap, _∙_}
 use Prim.Native.Nat.{ℕ, _+_}
 use borrow.Author.Needs.{needs}
 use Rattle.track_lead.specs.declared.Mark.{Mark}

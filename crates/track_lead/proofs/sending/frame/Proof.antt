@@ -1,7 +1,5 @@
 -- `frame` is the odometer's four bytes and the twelve of the line.
-use Prim.Native.Nat.{ℕ}
 use mathlib.Core.Path.{_≡_, sym, ap, _∙_}
-use mathlib.Core.List.{List, _∷_}
 use lib.ListN.{length}
 use borrow.Author.Needs.{needs}
 use Rattle.track_lead.specs.Feed.{frameOf, frame}

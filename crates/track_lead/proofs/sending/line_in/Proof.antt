@@ -1,5 +1,5 @@
 -- `line_in` goes by what the thing is.
-use mathlib.Core.Path.{_≡_, sym, ap, _∙_}
+use mathlib.Core.Path.{sym, ap, _∙_}
 use native.Mathlib.Omega.{arith}
 use borrow.Author.Needs.{needs}
 use Rattle.track_lead.specs.declared.Thing.{Thing}
