@@ -1,31 +1,14 @@
 -- `explain`: the texts of its calls and of the end are what is told of the trace, each line with
 -- the group that closed.
 -- Assumes nothing.
-<<<<<<< HEAD
 use Prim.Native.Nat.{ℕ}
 use mathlib.Core.Path.{_≡_, sym, ap, ap₂, _∙_}
 use mathlib.Core.List.{List, _++_}
-=======
-use Prim.Native.Nat.{ℕ, _+_, _*_, _/_, _%_, _≤_}
-use native.Mathlib.Omega.{arith}
-use mathlib.Core.Path.{_≡_, refl, sym, ap, ap₂, _∙_}
-use mathlib.Core.List.{List, _++_}
-use lib.ListN.{length, take, drop, length-append}
-use lib.Seq.{length-take-le}
-use borrow.Author.Tests.{eq-eqb}
-use Rattle.words.specs.Answer.{Outcome, gives, refuses}
-use Rattle.text.proofs.Placing.{placed-start}
->>>>>>> rows
 use Rattle.settings.specs.declared.Store.{Store}
 use Rattle.settings.specs.At.{gapAt}
 use Rattle.ride.specs.State.{freshRide}
 use Rattle.ride.specs.Step.{end}
-<<<<<<< HEAD
 use Rattle.ride.specs.Over.{records, Ridden, rideOver}
-=======
-use Rattle.ride.specs.Over.{firstRecords, records, Ridden, rideOver}
-use Rattle.ride.proofs.Cutting.{records-length, take-records, front-records, cut-records}
->>>>>>> rows
 use Rattle.ride_text.specs.Style.{withReasons}
 use Rattle.ride_text.specs.declared.Listed.{Listed}
 use Rattle.ride_text.specs.Told.{endText}
@@ -33,20 +16,11 @@ use Rattle.ride_text.specs.SameLines.{Said, saidOver, linesOf, saidText}
 use Rattle.ride_text.specs.Reasoned.{saidAtEnd}
 use Rattle.ride_text.proofs.SameLines.{lines-by, lines-join, text-by, text-join, same-lines}
 use Rattle.ride_text.proofs.Reasoned.{joined, ride-reasoned, end-reasoned}
-<<<<<<< HEAD
 use Rattle.demands.specs.TraceCalls.{Call}
 use Rattle.demands.specs.ListCalls.{ByList, textFrom, afterCalls}
 use Rattle.demands.proofs.Beside.Told.{listed}
 use Rattle.lead_text_laws.specs.Live.{Good, Ended, explains}
 use Rattle.lead_text_laws.specs.Explain.{traceOf, Explain}
-=======
-use Rattle.ride_text.proofs.Judging.{list-taken}
-use Rattle.ride_text.proofs.Taken.{few-taken}
-use Rattle.lead_text_laws.specs.Calls.{ExplainInto}
-use Rattle.lead_text_laws.specs.Live.{Good, Ended, explains}
-use Rattle.lead_text_laws.specs.Explain.{Explained, none, more, traceOf, Explain}
-use Rattle.lead_text_laws.proofs.Telling.{tell-on}
->>>>>>> rows
 use Rattle.lead_text_laws.proofs.Room.{end-put}
 use Rattle.lead_text_laws.proofs.Eights.{trace-records}
 use Rattle.lead_text_laws.proofs.Live.{live}

@@ -25,12 +25,8 @@ use Rattle.lead_text.specs.Says.{saysWritten}
 use Rattle.lead_text.proofs.Judged.{frames-listed, end-listed}
 use Rattle.lead_text_laws.specs.Calls.{Fresh, ListFrames, ListEnd}
 use Rattle.lead_text_laws.specs.Live.{Good, Heard, none, again, next, Closed, over, Ended, InPieces, explains, Live}
-<<<<<<< HEAD
 use Rattle.demands.proofs.Beside.Told.{tell-on}
 use Rattle.lead_text_laws.proofs.Telling.{taken-one, some-left, count, enough, counted, Over, over-all, Full, full-some}
-=======
-use Rattle.lead_text_laws.proofs.Telling.{tell-on, taken-one, some-left, count, enough, counted, Over, over-all, Full, full-some}
->>>>>>> rows
 use Rattle.lead_text_laws.proofs.Comes.{leftOf, come-after, end-after, start, comesAll, all-pieces}
 use Rattle.lead_text_laws.proofs.Room.{end-put}
 

@@ -1,18 +1,10 @@
 -- What one listing of some records says.
 -- Assumes nothing.
-<<<<<<< HEAD
 use Prim.Native.Nat.{ℕ, _+_, _≤_, _<_}
 use native.Mathlib.Omega.{arith}
 use mathlib.Core.Path.{_≡_, refl, sym, ap, ap₂, _∙_}
 use mathlib.Core.Bool.{Bool, true, false}
 use mathlib.Core.List.{List, [], _∷_, _++_, append-nil}
-=======
-use Prim.Native.Nat.{ℕ, suc, _+_, _≤_, _<_}
-use native.Mathlib.Omega.{arith}
-use mathlib.Core.Path.{_≡_, refl, sym, ap, ap₂, _∙_}
-use mathlib.Core.Bool.{Bool, true, false}
-use mathlib.Core.List.{List, [], _∷_, _++_, append-assoc, append-nil}
->>>>>>> rows
 use lib.ListN.{length, take, drop, take-append-drop}
 use lib.Seq.{length-take-le, drop-nil}
 use borrow.Author.Tests.{le-leb, lt-ltb}
