@@ -36,7 +36,8 @@ is-dropped ride gap r next e =
     let t = three (eqb (kindOf r) 3) (isQuiet (treat ride gap r .lines)) (isAccepted (checkRecord (treat ride gap r .ride .odometer) next)) e in
     record { kind = eqb-true (kindOf r) 3 (t .0); quiet = t .1; next-accepted = t .2 }
 
--- ---- a state, and one that is lower: with a lower last odometer before a record that is accepted, or the same
+-- ---- a state, and one that is lower: with a lower last odometer before a record that is accepted,
+-- or the same
 
 pub data Lower (ride : Ride) : Ride → List (List ℕ) → Type 0 where
   level : {rs : List (List ℕ)} → Lower ride ride rs

@@ -61,8 +61,9 @@ by-step gaps ride [] p = tt
 by-step gaps ride (r ∷ rs) p =
     (((ride, (gaps (odometerOf r), (r, tt))), p .0), by-step gaps (ride-is.steppedOf (step ride (gaps (odometerOf r)) r) .ride) rs (p .1))
 
--- ---- the gap is 40, and 100 from 2000 on. The position at 1041 closes a group, and so does that at 2101; 2041 is within the gap; that at 1040 is refused, so the one
--- before it is kept; the last is kept
+-- ---- the gap is 40, and 100 from 2000 on. The position at 1041 closes a group, and so does that
+-- at 2101; 2041 is within the gap; that at 1040 is refused, so the one before it is kept; the last
+-- is kept
 
 abbrev pub two : Store
 two = add (begin 40 0x72 0x0D .store) (record { place = 2000; gap = 100; s = 0x72; t = 0x0D }) .store

@@ -1,5 +1,6 @@
 // The contacts of a line that an open file gives, piece by piece as its bytes come: a line of text
-// for each as soon as it has closed, which `listen` writes, or its strips, which `scope` draws.
+// for each as soon as it has closed, which `listen` and `scope` write, or its strips, which `scope`
+// draws.
 // Promises: it is safe and it ends; contacts are those of the crate antenna, lines those of
 // antenna_text and contact_text, strips those of contact_drawing.
 // Specification: none of its own; what the pieces come to is crates/antenna_text_laws, that strips

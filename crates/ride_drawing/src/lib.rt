@@ -4,7 +4,8 @@
 // edge; its title is the line as `explain` writes it; every entry of the plan has one sign, at its
 // place; any blocks give the whole; no record adds more than the room that is kept for it; the
 // bytes around a text stay.
-// Specification: specs/Strip.antt (the strips), Span.antt (speeds, and where a signal is due),
+// Specification: specs/Element.antt (what a page is made of), Metres.antt (lengths), Says.antt
+// (what answers say), Strip.antt (the strips), Span.antt (speeds, and where a signal is due),
 // Sign.antt (the signs), Row.antt (a plan's entries), Ticks.antt (refused records), Way.antt (from
 // strip to strip), Drawing.antt (a record and the end), Draw.antt (a block of records); the
 // promises: Laws.antt, Places.antt (of places), Titles.antt (of titles).

@@ -1,5 +1,5 @@
 // The printed list: the words of the long code M(16,11) in upper-case hexadecimal, each at its
-// figure, 0 to 2,047. Figure x stands in line x + 4 of this file. The program `codes` prints the
+// figure, 0 to 2,047. Figure x stands in line x + 5 of this file. The program `codes` prints the
 // list.
 pub const WORDS: [u16; 2048] = [
     0x0000,

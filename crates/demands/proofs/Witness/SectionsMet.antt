@@ -75,7 +75,8 @@ pub whole-met : Whole firstCard × Whole secondCard
 unfolding badLength
 whole-met = (refl, refl)
 
--- ---- with a number: `1000 1 8 5` and `1030 9 2 4` on the first card, `1060 12 1612` and `6000 position` on the second
+-- ---- with a number: `1000 1 8 5` and `1030 9 2 4` on the first card, `1060 12 1612` and `6000
+-- position` on the second
 
 abbrev pub beforeNumber : List ℕ
 beforeNumber = 0x00 ∷ 0x00 ∷ 0x03 ∷ 0xE8 ∷ 0x00 ∷ 0x17 ∷ 0x8E ∷ 0x5A ∷ 0x00 ∷ 0x00 ∷ 0x04 ∷ 0x06 ∷ 0x00 ∷ 0x99 ∷ 0x2B ∷ 0x4D ∷ []
