@@ -4,8 +4,8 @@
 // Promises: the lines are those that the crate ride_text writes with reasons of the records that
 // the crate recording makes of the lead; bytes around the text stay.
 // Specification: specs/Places.antt (where a reading stands), List.antt (the listing), Says.antt
-// (the answers), Inside.antt (the next record, one record listed); what is promised of all calls together:
-// crates/lead_text_laws/specs.
+// (the answers), Inside.antt (the next record, one record listed); what is promised of all calls
+// together: crates/lead_text_laws/specs.
 ghost use mathlib.Core.Path.{_≡_};
 ghost use Rattle.lead_text.specs.List.{fresh, listFrames, listEnd};
 ghost use Rattle.lead_text.specs.Says.{saysWritten};

@@ -1,4 +1,5 @@
--- Each arm puts the refusal of its number; a number from 20 on without an arm has no row in the table.
+-- Each arm puts the refusal of its number; a number from 20 on without an arm has no row in the
+-- table.
 use native.Mathlib.Omega.{arith}
 use mathlib.Core.Path.{_≡_, ap, _∙_}
 use mathlib.Core.List.{List, []}
