@@ -5,6 +5,7 @@ pub mod Judging
 pub mod SameLines
 pub mod Taken
 pub mod Closed
+pub mod OneOn
 pub mod Reasoned
 pub mod Examples
 pub mod Determined

@@ -108,27 +108,24 @@ pub fn over(
     let mut now = ride;
     let mut held = first;
     let mut next = number;
-    let mut i: usize = 0;
-    let mut at: usize = 0;
-    while (i < count) & ((out.len() - at >= needed) & (next < u64::MAX)) {
-        held = ride::held_at(store, held, trace, i);
-        let treated = ride::treat_at(now, held.gap, trace, i);
+    let mut records: usize = 0;
+    let mut bytes: usize = 0;
+    while (records < count) & ((out.len() - bytes >= needed) & (next < u64::MAX)) {
+        held = ride::held_at(store, held, trace, records);
+        let treated = ride::treat_at(now, held.gap, trace, records);
         let reply = treated.reply;
         let Reply::Record(given) = reply else {
             break;
         };
         let group = now.group;
-        at = put_given(reasons, next, group, given, out, at);
+        bytes = put_given(reasons, next, group, given, out, bytes);
         now = treated.ride;
         next += 1;
-        i += 1;
+        records += 1;
     }
     Listed {
         ride: now,
         number: next,
-        done: Done::Took {
-            records: i,
-            bytes: at,
-        },
+        done: Done::Took { records, bytes },
     }
 }
