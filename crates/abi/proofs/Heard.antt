@@ -14,9 +14,9 @@ use Rattle.ear_bytes.specs.declared.Wrote.{Wrote}
 use Rattle.ear_bytes.specs.Ears.{earBytes, earIn}
 use Rattle.ear_bytes.specs.Hearing.{Written, hear, end}
 use Rattle.ear_bytes.specs.Says.{says}
-use Rattle.abi.specs.Face.{returned, left}
+use Rattle.abi.specs.Face.{returned}
 use Rattle.abi.specs.Stores.{keptNumber}
-use Rattle.abi.specs.Leads.{Heard, heard, earLeft, recordsLeft, usedLeft, thenHears, earAfter}
+use Rattle.abi.specs.Leads.{Heard, heard, earLeft, recordsLeft, usedLeft, earAfter}
 
 abbrev with-answer : Written → Outcome Kept → Heard
 with-answer w q = record { answer = q; written = w }

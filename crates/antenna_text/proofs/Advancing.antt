@@ -11,7 +11,7 @@ use Rattle.telegram.specs.Stretch.{inside}
 use Rattle.contact.specs.declared.Judged.{Judged}
 use Rattle.antenna.specs.declared.Ear.{Ear}
 use Rattle.antenna.specs.declared.Until.{Until}
-use Rattle.antenna.specs.Piece.{First, openedAt, closedAt, first, hearPiece}
+use Rattle.antenna.specs.Piece.{First, openedAt, first, hearPiece}
 use Rattle.antenna.specs.Says.{saysUntil}
 use Rattle.antenna.proofs.Within.{Within, within}
 

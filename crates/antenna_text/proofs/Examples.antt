@@ -5,7 +5,7 @@ use Rattle.text.specs.Text.{codes, digits, decimal}
 use Rattle.telegram.specs.declared.Telegram.{Telegram}
 use Rattle.contact.specs.declared.Judged.{Judged}
 use Rattle.refusals.specs.Words.{table, worded}
-use Rattle.contact_text.specs.Lines.{figures, what, heard, refusal}
+use Rattle.contact_text.specs.Lines.{figures, what, heard}
 use Rattle.antenna_text.specs.Lines.{shown, refusedAs, toldLine, closedBefore}
 
 pub a-telegram : toldLine (closedBefore 328 292 (Judged.Read (Telegram.Figures 1 8 5) 20 8)) ≡ codes "36 292 telegram 1 8 5 places 8 from 56\n"

@@ -1,9 +1,7 @@
 -- The answer that says a judgement is the answer that was judged, with its place on the line.
 -- Assumes nothing.
 use Prim.Native.Nat.{ℕ, _+_, _-_, _≤_, _<_}
-use mathlib.Core.Path.{_≡_, refl, sym, ap, _∙_}
-use mathlib.Core.List.{List}
-use native.Mathlib.Omega.{arith}
+use mathlib.Core.Path.{_≡_, refl}
 use borrow.Author.Tests.{lt-ltb, le-ltb}
 use Rattle.words.specs.Limits.{largest64}
 use Rattle.telegram.specs.declared.Telegram.{Telegram}

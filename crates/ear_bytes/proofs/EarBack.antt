@@ -9,7 +9,6 @@ use native.Mathlib.Omega.{arith}
 use lib.Dec.{eqb}
 use lib.ListN.{length, getD}
 use lib.Seq.{getD-append-add}
-use borrow.Author.Tests.{eq-eqb, ne-eqb}
 use Rattle.telegram.specs.declared.Telegram.{Telegram}
 use Rattle.antenna.specs.declared.Places.{Places}
 use Rattle.antenna.specs.declared.Sound.{Sound}
@@ -17,7 +16,7 @@ use Rattle.antenna.specs.declared.Stand.{Stand}
 use Rattle.recording.specs.declared.Last.{Last}
 use Rattle.state_bytes.specs.Figures.{figureAt}
 use Rattle.ear_bytes.specs.declared.Hearing.{Hearing}
-use Rattle.ear_bytes.specs.Ears.{telegramFigures, placesFigures, asFigure, standFigures, lastKind, lastPlace, figuresOf, telegramIn, placesIn, soundIn, standIn, lastIn, earIn}
+use Rattle.ear_bytes.specs.Ears.{telegramFigures, placesFigures, asFigure, standFigures, lastKind, lastPlace, figuresOf, telegramIn, placesIn, standIn, lastIn, earIn}
 use Rattle.ear_bytes.specs.Sizes.{TelegramFits, PlacesFit, StandFits, LastFits, HearingFits}
 use Rattle.ear_bytes.proofs.Read.{figures-read, number-read, none-read, alike-read, differ-read, sound-read, outside-read, inside-read, never-read, at-read, hearing-read}
 

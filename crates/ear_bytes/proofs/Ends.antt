@@ -16,7 +16,6 @@ use Rattle.recording.specs.Recording.{Taped, positioned, isAbove, theEnd}
 use Rattle.recording.specs.Asking.{Ending, one, none, finishIn, finish}
 use Rattle.recording.specs.Laws.{thenEnded}
 use Rattle.recording.proofs.Asking.{end-asked}
-use Rattle.ear_bytes.specs.declared.Hearing.{Hearing}
 use Rattle.ear_bytes.specs.Hearing.{joined, Stood, afterEnding, someOfEnd, roomFor, end}
 use Rattle.ear_bytes.specs.Laws.{AnyRoomAtEnd, NoneLeft}
 use Rattle.ear_bytes.proofs.Pieces.{joined-two, wrote-so}

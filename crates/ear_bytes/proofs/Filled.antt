@@ -1,8 +1,8 @@
 -- Records put one after the other into a buffer: from each of them on it comes to the same.
 -- Assumes nothing.
-use Prim.Native.Nat.{ℕ, zero, suc, _+_, _-_, _/_, _≤_, _<_}
-use mathlib.Core.Path.{_≡_, refl, sym, ap, ap₂, _∙_}
-use mathlib.Core.List.{List, [], _∷_, _++_}
+use Prim.Native.Nat.{ℕ, suc, _+_, _-_, _/_, _≤_, _<_}
+use mathlib.Core.Path.{_≡_, sym, ap, ap₂, _∙_}
+use mathlib.Core.List.{List, _++_}
 use native.Mathlib.Omega.{arith}
 use native.Mathlib.Nat.{add-zero, zero-add, sub-zero}
 use lib.ListN.{length, length-append}
@@ -17,9 +17,7 @@ use Rattle.recording.specs.declared.Ended.{Ended}
 use Rattle.recording.specs.Asking.{Going, gave, usedUp, goOn, Ending, one, none, finish}
 use Rattle.recording.specs.Says.{Went, went, saysCame, saysTaken, Closing, closing, endCame, saysEnded}
 use Rattle.ear_bytes.specs.declared.Hearing.{Hearing}
-use Rattle.ear_bytes.specs.declared.Wrote.{Wrote}
 use Rattle.ear_bytes.specs.Hearing.{joined, Stood, stands, first, afterGoing, someOf, afterEnding, someOfEnd, Written, written, roomFor, hear, end}
-use Rattle.ear_bytes.specs.Says.{says}
 
 -- What is written of what came, after `at` bytes.
 abbrev parts : Tape → ℕ → ℕ → ℕ → List ℕ → Written

@@ -1,7 +1,7 @@
 -- What is made of figures that were read is what stands in the bytes.
 -- Assumes nothing.
 use Prim.Native.Nat.{ℕ, _%_}
-use mathlib.Core.Path.{_≡_, refl, sym, ap, ap₂, _∙_}
+use mathlib.Core.Path.{_≡_, refl, sym, ap, _∙_}
 use mathlib.Core.Bool.{Bool, true, false, not}
 use mathlib.Core.List.{List}
 use lib.Dec.{eqb}
@@ -12,10 +12,9 @@ use Rattle.antenna.specs.declared.Places.{Places}
 use Rattle.antenna.specs.declared.Sound.{Sound}
 use Rattle.antenna.specs.declared.Stand.{Stand}
 use Rattle.recording.specs.declared.Last.{Last}
-use Rattle.recording.specs.declared.Tape.{Tape}
 use Rattle.state_bytes.specs.Figures.{figureAt}
 use Rattle.ear_bytes.specs.declared.Hearing.{Hearing}
-use Rattle.ear_bytes.specs.Ears.{telegramIn, placesIn, soundIn, standIn, lastIn, tapeIn, earIn}
+use Rattle.ear_bytes.specs.Ears.{telegramIn, placesIn, soundIn, standIn, lastIn, earIn}
 
 -- ---- by a test
 

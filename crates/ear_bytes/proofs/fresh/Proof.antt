@@ -1,8 +1,7 @@
 -- A fresh tape, and no bit of a frame.
 -- Assumes nothing.
-use mathlib.Core.Path.{_≡_, sym, ap, subst, _∙_}
+use mathlib.Core.Path.{ap}
 use Rattle.recording.specs.declared.Tape.{Tape}
-use Rattle.ear_bytes.specs.declared.Hearing.{Hearing}
 use Rattle.ear_bytes.specs.Hearing.{fresh}
 use borrow.Author.Needs.{needs}
 use Rattle.ear_bytes.proofs.fresh.Statement.{statement}

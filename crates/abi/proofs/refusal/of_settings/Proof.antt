@@ -3,7 +3,7 @@
 use mathlib.Core.Path.{_≡_, sym, ap, subst}
 use Prim.Native.Nat.{_<_}
 use lib.Dec.{T, ltb, ltb→lt}
-use lib.IntN.{ℤ, pos, negℤ}
+use lib.IntN.{pos, negℤ}
 use Rattle.settings.specs.declared.Bad.{Bad}
 use Rattle.settings.specs.Says.{saysBad}
 use borrow.Author.Needs.{needs}

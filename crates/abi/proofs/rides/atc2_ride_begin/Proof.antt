@@ -1,6 +1,6 @@
 -- `atc2_ride_begin` leaves the bytes of a fresh ride.
 -- Assumes nothing.
-use mathlib.Core.Path.{_≡_, refl, ap, _∙_}
+use mathlib.Core.Path.{refl, ap, _∙_}
 use Rattle.ride_bytes.specs.Rides.{rideBytes}
 use borrow.Author.Needs.{needs}
 use Rattle.abi.proofs.rides.atc2_ride_begin.Statement.{statement}

@@ -1,6 +1,6 @@
 -- `atc2_ride_known` puts the figures of the ride that the bytes hold.
 -- Assumes nothing.
-use mathlib.Core.Path.{_≡_, refl, ap, _∙_}
+use mathlib.Core.Path.{refl, ap, _∙_}
 use Rattle.ride_bytes.specs.Rides.{knownFigures}
 use borrow.Author.Needs.{needs}
 use Rattle.abi.proofs.rides.atc2_ride_known.Statement.{statement}

@@ -1,18 +1,14 @@
 -- `atc2_ride_list` lists with the ride and the settings that the bytes hold, and leaves the ride
 -- after it; refused, all stays.
 -- Assumes nothing.
-use Prim.Native.Nat.{ℕ}
 use mathlib.Core.Path.{_≡_, refl, sym, ap, ap₂, _∙_}
-use mathlib.Core.List.{List}
-use Rattle.words.specs.Answer.{Outcome, gives, refuses}
 use Rattle.settings.specs.declared.Store.{Store}
 use Rattle.settings.specs.Says.{saysBad}
 use Rattle.ride.specs.declared.Ride.{Ride}
 use Rattle.ride_text.specs.Style.{Style}
-use Rattle.ride_text.specs.List.{Taken, Listing, list}
+use Rattle.ride_text.specs.List.{Listing, list}
 use Rattle.ride_text.specs.declared.Done.{Done}
 use Rattle.ride_text.specs.Says.{saysDone, saysListed}
-use Rattle.state_bytes.specs.Stores.{storeIn}
 use Rattle.ride_bytes.specs.Rides.{rideIn}
 use Rattle.abi.specs.Rides.{styleOf, listed}
 use Rattle.abi.proofs.Minus.{back}

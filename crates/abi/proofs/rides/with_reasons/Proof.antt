@@ -1,6 +1,5 @@
 -- 0 is plain.
 -- Assumes nothing.
-use mathlib.Core.Path.{_≡_}
 use borrow.Author.Tests.{eq-eqb, ne-eqb}
 use Rattle.abi.proofs.rides.with_reasons.Statement.{statement}
 use Rattle.abi.proofs.rides.with_reasons.Tie as tie

@@ -1,17 +1,11 @@
 -- `atc2_settings_begin` leaves the store that `begin` opens, or returns its refusal and leaves what
 -- was lent.
 -- Assumes nothing.
-use Prim.Native.Nat.{ℕ}
-use mathlib.Core.Path.{_≡_, refl, sym, ap, _∙_}
-use mathlib.Core.List.{List}
-use Rattle.words.specs.Answer.{Outcome, gives, refuses}
-use Rattle.settings.specs.declared.Store.{Store}
-use Rattle.settings.specs.declared.Version.{Version}
-use Rattle.settings.specs.declared.Verdict.{Verdict}
-use Rattle.settings.specs.Versions.{Kept, kept}
-use Rattle.settings.specs.Store.{Change, begin, add}
-use Rattle.settings.specs.Says.{saysBad, saysVerdict, saysBegun, saysAdded}
-use Rattle.state_bytes.specs.Stores.{storeIn}
+use mathlib.Core.Path.{_≡_, sym, ap, _∙_}
+use Rattle.words.specs.Answer.{gives, refuses}
+use Rattle.settings.specs.Versions.{kept}
+use Rattle.settings.specs.Store.{Change, begin}
+use Rattle.settings.specs.Says.{saysBad, saysVerdict, saysBegun}
 use Rattle.abi.proofs.Minus.{back}
 use Rattle.abi.proofs.Stored.{stored, unstored}
 use borrow.Author.Needs.{needs}

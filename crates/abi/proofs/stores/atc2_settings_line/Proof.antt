@@ -1,8 +1,6 @@
 -- `atc2_settings_line` returns the line that `read` names.
 -- Assumes nothing.
-use Prim.Native.Nat.{_<_, _^_}
-use mathlib.Core.Path.{_≡_, ap, _∙_}
-use native.Mathlib.Omega.{arith}
+use mathlib.Core.Path.{ap, _∙_}
 use lib.IntN.{pos}
 use Rattle.settings_text.specs.declared.Sheet.{Sheet}
 use Rattle.abi.proofs.Carried.{as-i64}

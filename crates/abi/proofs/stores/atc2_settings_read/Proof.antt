@@ -1,16 +1,10 @@
 -- `atc2_settings_read` leaves the store that the text makes, or returns what is wrong with its
 -- first bad line and leaves what was lent.
 -- Assumes nothing.
-use Prim.Native.Nat.{ℕ}
 use mathlib.Core.Path.{_≡_, refl, sym, ap, _∙_}
-use mathlib.Core.List.{List}
-use Rattle.words.specs.Answer.{Outcome, gives, refuses}
-use Rattle.settings.specs.declared.Store.{Store}
-use Rattle.settings.specs.Versions.{Kept, kept}
 use Rattle.settings_text.specs.declared.Condition.{Condition}
 use Rattle.settings_text.specs.declared.Sheet.{Sheet}
 use Rattle.settings_text.specs.Sheet.{sheet}
-use Rattle.state_bytes.specs.Stores.{storeIn}
 use Rattle.abi.specs.Stores.{howAnswer}
 use Rattle.abi.proofs.Minus.{back}
 use Rattle.abi.proofs.Stored.{stored, unstored}

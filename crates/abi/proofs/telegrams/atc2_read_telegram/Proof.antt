@@ -2,8 +2,6 @@
 -- `read` answers.
 -- Assumes nothing.
 use mathlib.Core.Path.{_∙_, ap}
-use Prim.Native.Nat.{_<_}
-use native.Mathlib.Omega.{arith}
 use lib.IntN.{ℤ, pos}
 use Rattle.telegram.specs.Telegram.{Received}
 use Rattle.telegram.specs.Says.{saysTelegramRead}

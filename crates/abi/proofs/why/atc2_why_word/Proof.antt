@@ -1,12 +1,11 @@
 -- `atc2_why_word` returns the number of what `read_short` or `read_long` answers.
 -- Assumes nothing.
-use Prim.Native.Nat.{ℕ, _%_}
-use mathlib.Core.Path.{_≡_, sym, ap, _∙_}
+use Prim.Native.Nat.{_%_}
+use mathlib.Core.Path.{sym, ap, _∙_}
 use mathlib.Core.Bool.{Bool}
-use lib.IntN.{ℤ, pos}
+use lib.IntN.{pos}
 use borrow.Author.Tests.{eq-eqb, ne-eqb}
-use Rattle.words.specs.Answer.{Answer, pick}
-use Rattle.words.specs.Why.{Why}
+use Rattle.words.specs.Answer.{pick}
 use Rattle.words.specs.Code.{readShort, readLong}
 use Rattle.abi.specs.Face.{wordNumber}
 use Rattle.abi.proofs.Carried.{as-i32}

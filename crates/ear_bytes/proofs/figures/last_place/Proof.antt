@@ -1,6 +1,6 @@
 -- The place of the last record, or 0.
 -- Assumes nothing.
-use mathlib.Core.Path.{_≡_, sym, ap, subst, _∙_}
+use mathlib.Core.Path.{sym, ap, subst}
 use Rattle.ear_bytes.specs.Ears.{lastPlace}
 use Rattle.ear_bytes.specs.Sizes.{LastFits}
 use borrow.Author.Needs.{needs}

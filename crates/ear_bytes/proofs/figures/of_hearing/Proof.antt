@@ -1,6 +1,5 @@
 -- The row of where the ear stands ends that of the hearing.
 -- Assumes nothing.
-use mathlib.Core.Path.{_≡_, sym, ap, subst, _∙_}
 use Rattle.ear_bytes.proofs.Rows.{of-all}
 use borrow.Author.Needs.{needs}
 use Rattle.ear_bytes.proofs.figures.of_hearing.Statement.{statement}

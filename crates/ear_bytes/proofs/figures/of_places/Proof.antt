@@ -1,6 +1,6 @@
 -- Each case is its row; the telegram's own row ends it.
 -- Assumes nothing.
-use mathlib.Core.Path.{_≡_, sym, ap, subst, _∙_}
+use mathlib.Core.Path.{sym, ap, subst, _∙_}
 use Rattle.ear_bytes.specs.Ears.{placesFigures}
 use Rattle.ear_bytes.specs.Sizes.{PlacesFit}
 use Rattle.ear_bytes.proofs.Rows.{of-alike}

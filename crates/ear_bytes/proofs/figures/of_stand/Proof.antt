@@ -1,6 +1,6 @@
 -- Each case is its row; that of the places ends it.
 -- Assumes nothing.
-use mathlib.Core.Path.{_≡_, sym, ap, subst, _∙_}
+use mathlib.Core.Path.{sym, ap, subst, _∙_}
 use Rattle.ear_bytes.specs.Ears.{standFigures}
 use Rattle.ear_bytes.specs.Sizes.{StandFits}
 use Rattle.ear_bytes.proofs.Rows.{of-inside}

@@ -1,6 +1,6 @@
 -- Each case is its row, and its figures are as small as their types.
 -- Assumes nothing.
-use mathlib.Core.Path.{_≡_, sym, ap, subst, _∙_}
+use mathlib.Core.Path.{sym, ap, subst}
 use Rattle.ear_bytes.specs.Ears.{telegramFigures}
 use Rattle.ear_bytes.specs.Sizes.{TelegramFits}
 use borrow.Author.Needs.{needs}
