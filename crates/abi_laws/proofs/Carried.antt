@@ -1,7 +1,7 @@
 -- What a list decides of an answer, it decides of whatever is told of that answer; a number below 0
 -- tells of a refusal, which leaves a lent array as it was.
 -- Assumes nothing.
-use mathlib.Core.Path.{_≡_, refl, sym, ap, subst, _∙_}
+use mathlib.Core.Path.{_≡_, refl, ap, subst}
 use mathlib.Core.Bool.{Bool, true, false}
 use mathlib.Core.List.{List, [], _∷_}
 use Prim.Native.Nat.{ℕ, suc}
@@ -10,7 +10,7 @@ use lib.IntN.{ℤ, pos, negsuc, negℤ}
 use Rattle.words.specs.Answer.{Outcome, gives, refuses}
 use Rattle.abi.specs.Face.{returned, left}
 use Rattle.demands.specs.Rules.{Rule, Decided}
-use Rattle.abi_laws.specs.Demand1.{toldBy, Told, DecidedAs, Refused}
+use Rattle.abi_laws.specs.Demand1.{toldBy, Told, Refused}
 
 -- one list, told
 module _ {A B : Type 0} (tell : A → B) (Reading : A → Type 0) where

@@ -7,17 +7,16 @@ use mathlib.Core.List.{List, [], _∷_}
 use Prim.Native.Nat.{ℕ, _+_, _*_}
 use lib.IntN.{ℤ, pos}
 use denote.Ref.{now}
-use Rattle.words.specs.Answer.{Answer, Outcome, gives, refuses}
+use Rattle.words.specs.Answer.{Answer, Outcome, refuses}
 use Rattle.words.specs.Why.{Why, numbered, notCodeWord}
 use Rattle.words.specs.Plain.{figure}
 use Rattle.words.specs.Code.{exchanged, sent, readWord, writeWord}
 use Rattle.telegram.specs.Telegram.{Received, telegram}
-use Rattle.telegram.specs.Place.{Single, find}
-use Rattle.contact.specs.declared.Search.{Search}
+use Rattle.telegram.specs.Place.{find}
 use Rattle.contact.specs.Contacts.{Handed, begin, fromStart, nextContact}
-use Rattle.contact.specs.Judge.{Contact, judge}
+use Rattle.contact.specs.Judge.{judge}
 use Rattle.group.specs.Distance.{distance}
-use Rattle.balise_writer.specs.Write.{Writing, onto, write}
+use Rattle.balise_writer.specs.Write.{write}
 use Rattle.abi.specs.Face.{returned, left, itself, asOne, told, whyNumber, foundNumber, foundPut}
 use Rattle.abi.specs.Contacts.{searchIn, begunNumber, begunPut, nextNumber, nextPut, nextMoved, judgedNumber, judgedPut}
 use Rattle.telegram.specs.Sync.{differing, isGood}

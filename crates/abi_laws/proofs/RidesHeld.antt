@@ -1,7 +1,7 @@
 -- The bytes are the ride: the contracts say so.
 -- Assumes nothing.
 use Prim.Native.Nat.{ℕ}
-use mathlib.Core.Path.{_≡_, sym, ap, _∙_}
+use mathlib.Core.Path.{sym, ap, _∙_}
 use mathlib.Core.List.{List}
 use Rattle.words.specs.Answer.{Outcome}
 use Rattle.ride_text.specs.List.{Taken, Listing}

@@ -4,7 +4,7 @@
 use mathlib.Core.Path.{_≡_, sym, ap, subst, _∙_}
 use mathlib.Core.Bool.{Bool}
 use mathlib.Core.List.{List, [], _∷_}
-use Prim.Native.Nat.{ℕ, _%_, _≤_}
+use Prim.Native.Nat.{ℕ, _%_}
 use native.Mathlib.Omega.{arith}
 use lib.IntN.{ℤ, pos}
 use denote.Ref.{now}
@@ -27,7 +27,6 @@ use Rattle.demands.specs.Table02.{full}
 use Rattle.demands.specs.Stores.{settingsRules, versionRules, storeRules}
 use Rattle.demands.proofs.Demand1.Refusals.{reading}
 use Rattle.demands.proofs.Demand1.Stores.{begin-so, add-so, opened-answer, added-answer}
-use Rattle.abi_laws.specs.Demand1.{Refused, DecidedAs}
 use Rattle.abi_laws.specs.Calls.{SettingsBegin, SettingsAdd, SettingsRead}
 use Rattle.abi_laws.specs.Settings.{SettingsDecided, SettingsUntouched, ReadsBack}
 use Rattle.abi_laws.proofs.Demand1.{decided-of, kept-there}

@@ -4,16 +4,14 @@
 use Prim.Native.Nat.{ℕ}
 use mathlib.Core.Path.{_≡_, refl, ap, _∙_}
 use mathlib.Core.List.{List}
-use lib.IntN.{ℤ}
 use Rattle.words.specs.Answer.{gives, refuses, pick}
-use Rattle.settings.specs.declared.Store.{Store}
 use Rattle.settings.specs.Store.{noStore}
 use Rattle.lines.specs.Text.{linesIn}
 use Rattle.settings_text.specs.declared.Condition.{Condition}
 use Rattle.settings_text.specs.declared.Sheet.{Sheet}
 use Rattle.settings_text.specs.Sheet.{isFine, sheet}
 use Rattle.abi.specs.Face.{returned}
-use Rattle.abi.specs.Stores.{keptNumber, howAnswer, changeOf}
+use Rattle.abi.specs.Stores.{keptNumber, howAnswer}
 use Rattle.settings_text_laws.specs.Demand1.{fault, says, textRules, leaves}
 use Rattle.settings_text_laws.proofs.Text.{sheet-so}
 use Rattle.demands.specs.Rules.{Is}

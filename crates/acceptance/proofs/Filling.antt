@@ -1,16 +1,16 @@
 -- The records of a plan one by one: the bytes of one of them, and the entries that are filled in.
 -- Assumes nothing.
-use Prim.Native.Nat.{ℕ, zero, suc, _+_, _-_, _*_, _/_, _≤_, _<_}
+use Prim.Native.Nat.{ℕ, suc, _+_, _-_, _*_, _/_, _≤_, _<_}
 use native.Mathlib.Omega.{arith}
 use mathlib.Core.Path.{_≡_, refl, sym, ap, ap₂, _∙_}
 use mathlib.Core.Bool.{Bool, true, false, _&&_}
 use mathlib.Core.List.{List, [], _∷_, _++_, map, append-assoc}
-use lib.ListN.{length, take, drop, getD, set, replicate, length-append, length-drop, length-map}
+use lib.ListN.{length, take, drop, getD, set, replicate, length-map}
 use lib.Seq.{drop-drop, getD-take, getD-drop, set-at}
 use native.Mathlib.Nat.{add-zero}
 use Rattle.group_rows.specs.declared.Kind.{Kind}
 use Rattle.ride.specs.Record.{byte}
-use Rattle.ride.specs.Over.{firstRecords, records}
+use Rattle.ride.specs.Over.{firstRecords}
 use Rattle.ride.proofs.Cutting.{records-length, more-records}
 use Rattle.acceptance.specs.declared.Entry.{Entry}
 use Rattle.acceptance.specs.declared.Met.{Met}

@@ -1,19 +1,17 @@
 -- What the library has taken is what `take` answers: the run, the text of the groups, and the
 -- counts of what went wrong.
 -- Assumes nothing.
-use Prim.Native.Nat.{ℕ, suc, _+_, _≤_, _<_}
+use Prim.Native.Nat.{ℕ, suc, _+_, _≤_}
 use native.Mathlib.Omega.{arith}
 use native.Mathlib.Nat.{add-zero}
-use mathlib.Core.Path.{_≡_, refl, sym, ap, ap₂, _∙_}
+use mathlib.Core.Path.{_≡_, refl, sym, ap, _∙_}
 use mathlib.Core.Bool.{Bool, true, false}
 use mathlib.Core.List.{List, [], _∷_, _++_, append-nil, append-assoc}
 use lib.Dec.{leb, ltb}
-use borrow.Author.Tests.{le-leb, leb-true, lt-ltb, ltb-true, ltb-false}
+use borrow.Author.Tests.{le-leb, leb-true, ltb-true, ltb-false}
 use Rattle.words.specs.Answer.{pick}
 use Rattle.words.specs.Limits.{largest64}
 use Rattle.ride.specs.declared.Line.{Line}
-use Rattle.acceptance.specs.declared.Acceptance.{Acceptance}
-use Rattle.acceptance.specs.declared.Took.{Took}
 use Rattle.acceptance.specs.Taking.{oneMore, takeLine}
 use Rattle.acceptance.specs.Report.{upToMost}
 use Rattle.acceptance_text.specs.Taking.{partLine, Taking, takeOne, takeAll}

@@ -1,12 +1,12 @@
 -- A line taken: what it can come to, and what the plan is after it.
 -- Assumes nothing.
-use Prim.Native.Nat.{ℕ, zero, suc, _+_, _≤_, _<_}
+use Prim.Native.Nat.{ℕ, _≤_, _<_}
 use native.Mathlib.Omega.{arith}
-use mathlib.Core.Path.{_≡_, refl, sym, ap, ap₂, subst, _∙_}
+use mathlib.Core.Path.{_≡_, refl, sym, ap, ap₂, _∙_}
 use mathlib.Core.Bool.{Bool, true, false, _&&_}
 use mathlib.Core.List.{List, [], _∷_, map}
 use lib.Dec.{ltb}
-use lib.ListN.{length, take, getD, set, length-take}
+use lib.ListN.{length, getD, set, length-take}
 use lib.Seq.{take-set-lt, getD-take}
 use borrow.Author.Tests.{ltb-true, ltb-false}
 use Rattle.words.specs.Answer.{pick}
@@ -17,7 +17,7 @@ use Rattle.acceptance.specs.declared.Acceptance.{Acceptance}
 use Rattle.acceptance.specs.declared.Role.{Role}
 use Rattle.acceptance.specs.declared.Took.{Took}
 use Rattle.acceptance.specs.Plan.{noEntry, apart}
-use Rattle.acceptance.specs.Taking.{planned, isPresent, isFor, waiting, metAt, afterWanted, afterExtra, takeGroup, noPart, takeLine}
+use Rattle.acceptance.specs.Taking.{planned, isFor, waiting, metAt, afterWanted, afterExtra, takeGroup, noPart, takeLine}
 use Rattle.acceptance_laws.specs.Lines.{isGroup, isGroupFor}
 use Rattle.acceptance_laws.proofs.Placed.{placeIn, kindIn, group-for}
 use Rattle.acceptance_laws.proofs.Meeting.{metOnce, with, meet, one-met, none-met}

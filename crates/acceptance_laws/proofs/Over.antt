@@ -1,12 +1,11 @@
 -- Lines taken one after the other: the plan after them, the answers, and the counts.
 -- Assumes nothing.
-use Prim.Native.Nat.{ℕ, zero, suc, _+_, _*_, _≤_, _<_}
+use Prim.Native.Nat.{ℕ, suc, _+_, _*_, _≤_, _<_}
 use native.Mathlib.Omega.{arith}
-use mathlib.Core.Path.{_≡_, refl, sym, ap, ap₂, subst, _∙_}
-use mathlib.Core.Bool.{Bool, true, false, not, _&&_, _||_}
+use mathlib.Core.Path.{_≡_, refl, sym, ap, ap₂, _∙_}
+use mathlib.Core.Bool.{Bool, true, false, _&&_}
 use mathlib.Core.List.{List, [], _∷_, map}
 use lib.Dec.{ltb}
-use lib.ListN.{length, take, getD, set}
 use borrow.Author.Tests.{lt-ltb}
 use Rattle.words.specs.Answer.{pick}
 use Rattle.words.specs.Limits.{largest64}
@@ -14,15 +13,14 @@ use Rattle.ride.specs.declared.Line.{Line}
 use Rattle.acceptance.specs.declared.Met.{Met}
 use Rattle.acceptance.specs.declared.Entry.{Entry}
 use Rattle.acceptance.specs.declared.Acceptance.{Acceptance}
-use Rattle.acceptance.specs.declared.Role.{Role}
 use Rattle.acceptance.specs.declared.Took.{Took}
-use Rattle.acceptance.specs.Plan.{noEntry, isBeyond, apart}
-use Rattle.acceptance.specs.Taking.{planned, isAbsent, metAt, oneMore, afterWanted, afterExtra, noPart, takeLine}
+use Rattle.acceptance.specs.Plan.{isBeyond, apart}
+use Rattle.acceptance.specs.Taking.{planned, afterWanted, afterExtra, takeLine}
 use Rattle.acceptance.specs.Report.{metIn}
-use Rattle.acceptance_laws.specs.Lines.{isGroup, groupsIn, isGroupFor, someFor, firstFor, isWanted, isExtra, wantedIn, extraIn}
+use Rattle.acceptance_laws.specs.Lines.{isGroup, groupsIn, isGroupFor, firstFor, isWanted, isExtra, wantedIn, extraIn}
 use Rattle.acceptance_laws.proofs.Placed.{placeIn, kindIn, first-of, first-same}
 use Rattle.acceptance_laws.proofs.Meeting.{metOnce, with, one-more}
-use Rattle.acceptance_laws.proofs.Cases.{Case, none, wanted, extra, case, waitsFor, wantedTook, extraTook, afterLine, wanted-plan, extra-plan, plan-after, tolerance-after}
+use Rattle.acceptance_laws.proofs.Cases.{Case, none, wanted, extra, case, waitsFor, afterLine, wanted-plan, extra-plan, plan-after, tolerance-after}
 
 -- The run after some lines, and the answers to them.
 unfoldable pub runOver : Acceptance → List Line → Acceptance

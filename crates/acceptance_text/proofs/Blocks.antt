@@ -1,12 +1,11 @@
 -- What a block comes to, for whoever calls `accept` again and again: it takes no more records than
 -- there are, and with 128 bytes a record it takes them all.
 -- Assumes nothing.
-use Prim.Native.Nat.{ℕ, zero, suc, _+_, _*_, _≤_}
+use Prim.Native.Nat.{ℕ, suc, _+_, _*_, _≤_}
 use native.Mathlib.Omega.{arith}
 use mathlib.Core.Path.{_≡_, refl, sym, ap, subst, _∙_}
 use mathlib.Core.Bool.{Bool, true, false}
-use mathlib.Core.List.{List, [], _∷_, _++_}
-use lib.Dec.{leb}
+use mathlib.Core.List.{List, [], _∷_}
 use lib.ListN.{length, length-append}
 use borrow.Author.Tests.{le-leb}
 use Rattle.words.specs.Answer.{Outcome, gives, refuses, pick}

@@ -1,22 +1,21 @@
 -- The end of the ride and the refusals of a block, from what their tests say.
 -- Assumes nothing.
-use Prim.Native.Nat.{ℕ, _+_, _%_, _≤_, _<_}
+use Prim.Native.Nat.{ℕ, _%_, _≤_, _<_}
 use native.Mathlib.Omega.{arith}
-use mathlib.Core.Path.{_≡_, refl, sym, ap, ap₂, _∙_}
+use mathlib.Core.Path.{_≡_, sym, ap, ap₂, _∙_}
 use mathlib.Core.Bool.{true, false}
 use mathlib.Core.List.{List}
-use lib.Dec.{eqb, leb}
+use lib.Dec.{eqb}
 use lib.ListN.{length}
 use borrow.Author.Tests.{le-leb, lt-leb}
-use Rattle.words.specs.Answer.{gives, refuses, pick}
-use Rattle.text.specs.Put.{Put, placed, put}
+use Rattle.words.specs.Answer.{gives, refuses}
+use Rattle.text.specs.Put.{placed, put}
 use Rattle.text.proofs.Standing.{stands}
 use Rattle.settings.specs.declared.Store.{Store}
 use Rattle.settings.specs.Versions.{kept}
 use Rattle.settings.specs.Store.{judged}
 use Rattle.settings.specs.At.{gapAt}
 use Rattle.ride.specs.declared.Ride.{Ride}
-use Rattle.ride.specs.declared.Line.{Line}
 use Rattle.ride.specs.declared.Ended.{Ended}
 use Rattle.ride.specs.Step.{End, end}
 use Rattle.ride.specs.Over.{records}
@@ -26,8 +25,8 @@ use Rattle.acceptance_text.specs.declared.Going.{Going}
 use Rattle.acceptance_text.specs.declared.Ending.{Ending}
 use Rattle.acceptance_text.specs.declared.taking.Troubles.{Troubles}
 use Rattle.acceptance_text.specs.declared.taking.Written.{Written}
-use Rattle.acceptance_text.specs.Taking.{Taking, started, takeAll}
-use Rattle.acceptance_text.specs.Accept.{began, Advance, acceptTaken, accept, Finish, finish}
+use Rattle.acceptance_text.specs.Taking.{Taking, takeAll}
+use Rattle.acceptance_text.specs.Accept.{began, acceptTaken, accept, Finish, finish}
 use Rattle.acceptance_text.specs.Accept as spec
 use Rattle.acceptance_text.specs.Inside.{Writing, writes, written}
 use Rattle.acceptance_text.proofs.Takings.{lines-short}

@@ -1,6 +1,6 @@
 -- The contacts handed out are those of the whole line, and so are their lines.
 -- Assumes nothing.
-use mathlib.Core.Path.{_≡_, refl, ap₂}
+use mathlib.Core.Path.{refl, ap₂}
 use mathlib.Core.Bool.{Bool}
 use mathlib.Core.List.{List, _++_}
 use Rattle.antenna.specs.Line.{Told}

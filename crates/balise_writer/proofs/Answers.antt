@@ -7,7 +7,7 @@ use Prim.Native.Nat.{ℕ, _+_, _*_, _≤_, _<_}
 use lib.Dec.{leb, ltb}
 use lib.ListN.{length, drop}
 use borrow.Author.Tests.{ltb-true, ltb-false, le-leb, lt-leb, le-ltb, lt-ltb}
-use Rattle.words.specs.Answer.{Outcome, gives, refuses, pick}
+use Rattle.words.specs.Answer.{gives, refuses}
 use Rattle.telegram.specs.Sync.{isGood}
 use Rattle.telegram.specs.Spelling.{Words}
 use Rattle.balise_writer.specs.Write.{telegrams, inRange, bytesOf, onto}

@@ -1,20 +1,18 @@
 -- The blocks of a trace, and then the record that waits after the last, are the compaction of the
 -- whole.
 -- Assumes nothing.
-use Prim.Native.Nat.{ℕ, zero, suc, _+_, _*_, _/_, _≤_}
+use Prim.Native.Nat.{ℕ, zero, suc, _+_, _*_, _≤_}
 use native.Mathlib.Omega.{arith}
-use mathlib.Core.Path.{_≡_, refl, sym, ap, ap₂, _∙_}
+use mathlib.Core.Path.{_≡_, refl, sym, ap, _∙_}
 use mathlib.Core.Bool.{Bool, true, false}
 use mathlib.Core.List.{List, [], _∷_, _++_, append-assoc}
-use lib.ListN.{length, take, drop, length-append, length-drop}
+use lib.ListN.{length, drop, length-append, length-drop}
 use lib.Seq.{length-take-le}
 use Rattle.words.specs.Answer.{pick}
 use Rattle.ride.specs.declared.Ride.{Ride}
 use Rattle.ride.specs.Record.{odometerOf}
 use Rattle.ride.specs.Step.{treat}
-use Rattle.ride.specs.Over.{firstRecords, records, rideOver}
-use Rattle.ride.proofs.Cutting.{records-length}
-use Rattle.ride.proofs.Sections.{unnumbered}
+use Rattle.ride.specs.Over.{firstRecords, rideOver}
 use Rattle.compaction.specs.declared.Waiting.{Waiting}
 use Rattle.compaction.specs.Dropped.{isDropped, compactOver}
 use Rattle.compaction.specs.Blocks.{waitingRecord, settled, waitsNext, keptOver, waitsAfter}

@@ -1,14 +1,13 @@
 -- The end of a trace: what the blocks left, and then the record that waits, is the compaction.
 -- Assumes nothing.
-use Prim.Native.Nat.{ℕ, _+_, _*_, _/_, _%_, _≤_}
+use Prim.Native.Nat.{ℕ, _+_, _*_, _/_, _≤_}
 use native.Mathlib.Omega.{arith}
 use native.Mathlib.Nat.{add-zero}
 use mathlib.Core.Path.{_≡_, refl, sym, ap, ap₂, _∙_}
 use mathlib.Core.Bool.{Bool, true, false}
 use mathlib.Core.List.{List, [], _∷_, _++_, append-nil}
-use lib.Dec.{eqb}
 use lib.ListN.{length, length-append}
-use Rattle.words.specs.Answer.{gives, refuses, pick}
+use Rattle.words.specs.Answer.{gives, pick}
 use Rattle.text.specs.Put.{placed}
 use Rattle.text.proofs.Placing.{placed-none}
 use Rattle.ride.specs.declared.Ride.{Ride}

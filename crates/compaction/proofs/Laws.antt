@@ -2,22 +2,20 @@
 -- the odometer matters to refusal 17 alone.
 -- Assumes nothing.
 use Prim.Native.Nat.{ℕ, _≤_}
-use native.Mathlib.Nat.{le-refl, le-trans}
+use native.Mathlib.Nat.{le-trans}
 use mathlib.Core.Path.{_≡_, refl, sym, ap, _∙_}
-use mathlib.Core.Bool.{Bool, true, false, not, _&&_}
-use mathlib.Core.List.{List, [], _∷_, _++_}
-use lib.Dec.{eqb, ltb}
-use borrow.Author.Tests.{le-ltb, ltb-false, eqb-true}
+use mathlib.Core.Bool.{Bool, true, false, not}
+use mathlib.Core.List.{List}
+use lib.Dec.{ltb}
+use borrow.Author.Tests.{le-ltb, ltb-false}
 use Rattle.words.specs.Answer.{Outcome, gives, refuses, pick}
 use Rattle.group.specs.declared.Group.{Group}
-use Rattle.ride.specs.declared.Known.{Known}
-use Rattle.ride.specs.declared.Line.{Line}
 use Rattle.ride.specs.declared.Passed.{Passed}
 use Rattle.ride.specs.declared.Ride.{Ride}
 use Rattle.ride.specs.Record.{odometerOf, kindOf, passedOf, inOrder, Entry, checkRecord}
 use Rattle.ride.specs.Joining.{isBehind, takeUp}
-use Rattle.ride.specs.Closing.{Closing, close, leave}
-use Rattle.ride.specs.Step.{closeBehind, isMissed, missedLines, Step, afterClosing, goOn, refuseOr, treat}
+use Rattle.ride.specs.Closing.{close, leave}
+use Rattle.ride.specs.Step.{closeBehind, isMissed, missedLines, Step, goOn, refuseOr, treat}
 use Rattle.ride.proofs.Steps.{quiet}
 use Rattle.compaction.specs.Dropped.{isQuiet, isAccepted}
 use Rattle.words.proofs.Never.{cannot-be}

@@ -1,19 +1,18 @@
 -- A compacted trace: its records are those that are kept, and it is no longer than it was.
 -- Assumes nothing.
-use Prim.Native.Nat.{ℕ, zero, suc, _+_, _*_, _/_, _%_, _≤_}
+use Prim.Native.Nat.{ℕ, _+_, _*_, _/_, _%_, _≤_}
 use native.Mathlib.Omega.{arith}
-use mathlib.Core.Path.{_≡_, refl, sym, ap, ap₂, _∙_}
+use mathlib.Core.Path.{_≡_, refl, ap, ap₂, _∙_}
 use mathlib.Core.List.{List, [], _∷_, _++_, append-nil}
-use lib.ListN.{length, take, drop, length-append}
+use lib.ListN.{length, length-append}
 use lib.Seq.{take-at, drop-at, drop-length}
 use Rattle.words.specs.Answer.{gives}
 use Rattle.ride.specs.declared.Ride.{Ride}
 use Rattle.ride.specs.Over.{firstRecords, records, rideOver}
 use Rattle.ride.proofs.Cutting.{records-length}
 use Rattle.compaction.specs.Dropped.{compactOver}
-use Rattle.compaction.specs.Smaller.{KeptOf, nothing, kept, dropped, Smaller}
-use Rattle.compaction.specs.Compact.{bytesOf, onto, Compaction, smallerTrace}
-use Rattle.compaction.proofs.Walk.{beyond, onto-length}
+use Rattle.compaction.specs.Smaller.{KeptOf, nothing, kept, dropped}
+use Rattle.compaction.specs.Compact.{bytesOf, onto, smallerTrace}
 use Rattle.compaction.proofs.Blocks.{Eights, eights}
 use Rattle.compaction.proofs.Smaller.{smaller}
 

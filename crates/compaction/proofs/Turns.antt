@@ -8,7 +8,7 @@ use mathlib.Core.List.{List, [], _∷_}
 use lib.Dec.{eqb}
 use lib.ListN.{length, take}
 use lib.Seq.{take-length}
-use Rattle.words.specs.Answer.{Outcome, gives, refuses, pick}
+use Rattle.words.specs.Answer.{Outcome, gives, pick}
 use Rattle.settings.specs.declared.Store.{Store}
 use Rattle.settings.specs.declared.Held.{Held}
 use Rattle.settings.specs.Versions.{kept}
@@ -17,7 +17,7 @@ use Rattle.settings.specs.At.{gapAt, heldFor}
 use Rattle.settings.proofs.Holding.{Holding, keeps}
 use Rattle.ride.specs.declared.Ride.{Ride}
 use Rattle.ride.specs.declared.trace.Treated.{Treated}
-use Rattle.ride.specs.Record.{odometerOf, kindOf, Entry, checkRecord}
+use Rattle.ride.specs.Record.{odometerOf, kindOf, checkRecord}
 use Rattle.ride.specs.Joining.{allowed}
 use Rattle.ride.specs.Step.{Step, treat}
 use Rattle.ride.specs.Says.{saysReply, saysTreated}

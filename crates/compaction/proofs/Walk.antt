@@ -1,15 +1,12 @@
 -- The records of a block one after the other: what is kept stands at the block's start, and
 -- everything after it is as it was.
 -- Assumes nothing.
-use Prim.Native.Nat.{ℕ, zero, suc, _+_, _-_, _*_, _/_, _≤_, _<_}
+use Prim.Native.Nat.{ℕ, _+_, _-_, _*_, _/_, _≤_, _<_}
 use native.Mathlib.Omega.{arith}
-use native.Mathlib.Nat.{zero-add, add-zero}
 use mathlib.Core.Path.{_≡_, refl, sym, ap, ap₂, _∙_}
-use mathlib.Core.Bool.{Bool, true, false}
 use mathlib.Core.List.{List, [], _∷_, _++_, append-assoc, append-nil}
 use lib.ListN.{length, take, drop, length-append, length-drop}
 use lib.Seq.{take-at, drop-append-add, drop-drop}
-use Rattle.words.specs.Answer.{pick}
 use Rattle.text.specs.Put.{placed}
 use Rattle.ride.specs.Over.{firstRecords}
 use Rattle.ride.proofs.Cutting.{more-records}

@@ -8,13 +8,13 @@ use mathlib.Core.List.{List, [], _∷_, _++_}
 use lib.Dec.{eqb}
 use lib.ListN.{length, take, drop}
 use lib.Seq.{take-at}
-use borrow.Author.Tests.{eq-eqb, eqb-true}
+use borrow.Author.Tests.{eqb-true}
 use Rattle.words.specs.Answer.{Outcome, gives, refuses, pick}
 use Rattle.settings.specs.declared.Store.{Store}
 use Rattle.settings.specs.Versions.{Kept, kept}
 use Rattle.settings.specs.Store.{judged}
-use Rattle.settings.specs.At.{heldAt, gapAt}
-use Rattle.settings.proofs.Holding.{Holding, holding-at}
+use Rattle.settings.specs.At.{gapAt}
+use Rattle.settings.proofs.Holding.{holding-at}
 use Rattle.ride.specs.declared.Ride.{Ride}
 use Rattle.ride.specs.declared.Stepped.{Stepped}
 use Rattle.ride.specs.declared.Line.{Line}
@@ -25,7 +25,6 @@ use Rattle.ride.specs.Over.{records, linesFor, rideOver}
 use Rattle.ride.specs.Says.{saysStepped}
 use Rattle.ride.proofs.Steps.{step-allowed}
 use Rattle.compaction.specs.Dropped.{compactOver}
-use Rattle.compaction.specs.Smaller.{Smaller}
 use Rattle.compaction.specs.Compact.{bytesOf, onto, Compaction, untouched, smallerTrace, judgedFirst, compact}
 use Rattle.compaction.proofs.Walk.{beyond}
 use Rattle.compaction.proofs.Trace.{new-records}

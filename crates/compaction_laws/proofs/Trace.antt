@@ -2,13 +2,13 @@
 -- compaction/specs/Smaller.antt are about those.
 -- Assumes nothing.
 use Prim.Native.Nat.{ℕ, _%_}
-use mathlib.Core.Path.{_≡_, refl, sym, ap, ap₂, subst, _∙_}
-use mathlib.Core.Bool.{Bool, true, false}
+use mathlib.Core.Path.{_≡_, sym, ap, ap₂, subst, _∙_}
+use mathlib.Core.Bool.{true}
 use mathlib.Core.List.{List}
 use lib.Dec.{eqb}
-use lib.ListN.{length, take, drop}
+use lib.ListN.{length, take}
 use borrow.Author.Tests.{eq-eqb}
-use Rattle.words.specs.Answer.{gives, refuses}
+use Rattle.words.specs.Answer.{gives}
 use Rattle.words.proofs.Told.{told}
 use Rattle.settings.specs.declared.Store.{Store}
 use Rattle.settings.specs.Versions.{kept}
@@ -21,7 +21,7 @@ use Rattle.ride.specs.Says.{saysRan}
 use Rattle.ride.proofs.Determined as ride-is
 use Rattle.ride.proofs.Under.{run-through}
 use Rattle.compaction.specs.Dropped.{compactOver}
-use Rattle.compaction.specs.Smaller.{Smaller, KeptOf}
+use Rattle.compaction.specs.Smaller.{KeptOf}
 use Rattle.compaction.specs.Compact.{bytesOf, Compaction, smallerTrace, compact}
 use Rattle.compaction.specs.Says.{saysSize, saysCompacted}
 use Rattle.compaction.specs.declared.Size.{Size}

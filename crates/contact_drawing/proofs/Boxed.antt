@@ -9,7 +9,7 @@ use mathlib.Core.List.{List, [], _∷_, _++_}
 use native.Mathlib.Omega.{arith}
 use lib.Dec.{leb, ltb}
 use borrow.Author.Tests.{le-leb, lt-leb, ltb-true, ltb-false}
-use Rattle.words.specs.Answer.{Outcome, gives, refuses, pick}
+use Rattle.words.specs.Answer.{pick}
 use Rattle.text.specs.Put.{placed}
 use Rattle.text.specs.Pieces.{whole}
 use Rattle.telegram.specs.Stretch.{bitAt, bitsAt, inside}
@@ -19,7 +19,7 @@ use Rattle.telegram.proofs.Places.{fits, one-offset, is-place, too-short}
 use Rattle.telegram.proofs.Taken.{part-taken}
 use Rattle.balise_line.proofs.Bits.{spelt-alike}
 use Rattle.contact_drawing.specs.Strips.{drawn, each, boxes, isFound, boxed, telegramOf, telegrams, stripsWith, strips}
-use Rattle.contact_drawing.specs.Laws.{Call, asked, Allowed, Lent, drawnPlaces, boxesAt, Holds, Boxed}
+use Rattle.contact_drawing.specs.Laws.{Call, asked, drawnPlaces, boxesAt, Holds, Boxed}
 use Rattle.contact_drawing.proofs.Each.{drawn-within}
 use Rattle.contact_drawing.proofs.Roomy.{roomy}
 

@@ -1,10 +1,10 @@
 -- What stands for each number of a range: the first of them, then the rest.
 -- Assumes nothing.
-use Prim.Native.Nat.{ℕ, zero, suc, _+_, _-_, _<_, _≤_}
+use Prim.Native.Nat.{ℕ, suc, _+_, _-_, _<_, _≤_}
 use mathlib.Core.Path.{_≡_, refl, sym, ap, _∙_}
-use mathlib.Core.List.{List, [], _∷_, _++_}
+use mathlib.Core.List.{List, [], _++_}
 use native.Mathlib.Omega.{arith}
-use Rattle.text.specs.Put.{Put, put, came}
+use Rattle.text.specs.Put.{Put, came}
 use Rattle.text.specs.Pieces.{puts}
 use Rattle.text.proofs.Putting.{none, puts-append}
 use mathlib.Core.Bool.{Bool, true, false}

@@ -8,7 +8,7 @@ use Prim.Native.Nat.{ℕ, zero, suc, _+_, _-_, _/_, _%_, _<_}
 use native.Mathlib.Omega.{arith}
 use lib.Dec.{eqb, ltb}
 use borrow.Author.Tests.{ltb-true, ne-eqb}
-use Rattle.words.specs.Answer.{Outcome, gives, refuses, pick}
+use Rattle.words.specs.Answer.{pick}
 use Rattle.words.proofs.Linear.{and-parts}
 use Rattle.text.specs.Text.{codes, digit, digits, decimal}
 use Rattle.refusals.specs.Words.{table, worded, refused}
@@ -16,7 +16,7 @@ use Rattle.telegram.specs.declared.Telegram.{Telegram}
 use Rattle.contact.specs.declared.Judged.{Judged}
 use Rattle.contact.specs.Says.{saysJudged}
 use Rattle.antenna.specs.Line.{placed}
-use Rattle.contact_text.specs.Lines.{figures, what, heard, refusal}
+use Rattle.contact_text.specs.Lines.{figures, what, heard}
 use Rattle.antenna_text.specs.Lines.{judgedAs, toldLine, closedBefore, endLine}
 use Rattle.contact_drawing.specs.Laws.{isPlain, arePlain, NoEscape}
 

@@ -4,15 +4,15 @@
 use Prim.Native.Nat.{ℕ, zero, suc, _+_, _-_, _*_, _/_, _≤_}
 use native.Mathlib.Nat.{mul-suc}
 use native.Mathlib.Omega.{arith}
-use mathlib.Core.Path.{_≡_, refl, sym, ap, _∙_}
+use mathlib.Core.Path.{_≡_, refl, _∙_}
 use mathlib.Core.Bool.{Bool, true, false}
 use mathlib.Core.List.{List, [], _∷_, _++_}
 use lib.Dec.{eqb, ltb}
 use lib.ListN.{length, length-append}
 use Rattle.words.specs.Answer.{pick}
 use Rattle.text.specs.Text.{codes, decimal}
-use Rattle.text.specs.Put.{placed, put, came}
-use Rattle.text.specs.Pieces.{puts, whole}
+use Rattle.text.specs.Put.{put}
+use Rattle.text.specs.Pieces.{whole}
 use Rattle.text.proofs.Decimal.{decimal-length}
 use Rattle.text.proofs.Standing.{stands}
 use Rattle.text.proofs.Fitting.{fitting}

@@ -21,7 +21,7 @@ pub mod Bare
 pub mod Stores
 pub mod Viewing
 pub mod Plans
-use mathlib.Core.Path.{ap, ap₂, _∙_}
+use mathlib.Core.Path.{ap, _∙_}
 use mathlib.Core.List.{List}
 use Prim.Native.Nat.{ℕ}
 use lib.ListN.{take}

@@ -9,8 +9,6 @@ use denote.Ref.{RefT}
 use borrow.Fn.Kinds.{Dens, endedOf}
 use denote.Triple.Clauses.{AtExit}
 use Rattle.figures.specs.Fields.{lies}
-use Rattle.figures.specs.declared.Figure.{Figure}
-use Rattle.figures.specs.declared.Byte.{Byte}
 use Rattle.figures.proofs.decimal.Kinds as decimal-kinds
 use Rattle.figures.proofs.decimal.Reads as decimal-reads
 use Rattle.figures.proofs.hex.Kinds as hex-kinds

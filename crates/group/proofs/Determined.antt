@@ -6,7 +6,6 @@ use lib.Dec.{eqb}
 use Rattle.words.specs.Answer.{Outcome, gives, refuses, pick}
 use Rattle.words.proofs.Told.{Fixed, told}
 use Rattle.group.specs.declared.Measured.{Measured}
-use Rattle.group.specs.declared.Told.{Told}
 use Rattle.group.specs.declared.Message.{Message}
 use Rattle.group.specs.declared.GroupJudged.{GroupJudged}
 use Rattle.group.specs.Says.{saysMeasured, saysGroupJudged}

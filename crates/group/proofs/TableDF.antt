@@ -9,7 +9,7 @@ use native.Mathlib.Nat.{mul-le-mul-left}
 use native.Mathlib.Omega.{arith}
 use lib.Dec.{leb}
 use borrow.Author.Tests.{leb-true}
-use Rattle.words.specs.Answer.{Outcome, gives, refuses, pick}
+use Rattle.words.specs.Answer.{gives, refuses, pick}
 use Rattle.group.specs.Distance.{Column, column, plus, minus, columns, inColumn, inTable, distance}
 use Rattle.words.proofs.Never.{cannot-be}
 

@@ -9,9 +9,8 @@ use Rattle.words.specs.Answer.{Outcome, gives, refuses, pick}
 use Rattle.group_rows.specs.declared.Kind.{Kind}
 use Rattle.group_rows.specs.declared.Placed.{Placed}
 use Rattle.group_rows.specs.declared.Picked.{Picked}
-use Rattle.group_rows.specs.Row.{Y, Z, Found, none, found, first}
+use Rattle.group_rows.specs.Row.{Y, Z, Found, none, found}
 use Rattle.group_rows.proofs.Bools.{false-true}
-use Rattle.group.specs.Balise as received
 use Rattle.group.specs.Distance.{noIncrease}
 use Rattle.group.specs.Judge.{yOf, zOf, B, C, distanceOf}
 use Rattle.group_reason.specs.Reason.{figure, noReason, because}

@@ -17,8 +17,7 @@ use Rattle.group_rows.specs.Row.{any, isCategory, Y, Z, Found, none, found, fir
 use Rattle.group_rows.proofs.Figures.{meets-any}
 use Rattle.group_rows.proofs.Bools.{both, false-true}
 use Rattle.group.specs.Distance.{Column, columns, inTable, inColumn, distance, linkDistance, noIncrease}
-use Rattle.group.specs.Judge.{yOf, B}
-use Rattle.group_reason.specs.Reason.{figure}
+use Rattle.group.specs.Judge.{yOf}
 use Rattle.group_reason.specs.Explain.{indexOf, isFound, oneToFourteen, bBreaks, cBreaks}
 use Rattle.group_reason.specs.Truths.{At, BBreaks, preset-barred, without-14, with-14, no-column, CBreaks}
 use Rattle.group_reason.proofs.Openings.{or-cases}

@@ -11,7 +11,7 @@ use Rattle.words.specs.Answer.{pick}
 use Rattle.group_rows.specs.declared.Direction.{Direction}
 use Rattle.group_rows.specs.declared.Kind.{Kind}
 use Rattle.group_rows.specs.declared.Placed.{Placed}
-use Rattle.group_rows.specs.Row.{_to_, Member, A, must, may, Row, row, isCategory, meets, fits, found, calledA, Fit, misfit, fit, fitWith, fitRow, orElse, fitRows}
+use Rattle.group_rows.specs.Row.{Member, A, must, may, Row, row, isCategory, meets, fits, calledA, Fit, misfit, fit, fitWith, fitRow, orElse, fitRows}
 use Rattle.group_rows.specs.Rows.{present, opposite, howMany, fitIn}
 use Rattle.group_rows.specs.Fitting.{rowsFor}
 use Rattle.group_rows.specs.Opening.{Opens}

@@ -9,7 +9,7 @@ use lib.Dec.{leb}
 use borrow.Author.Tests.{leb-true, le-leb}
 use Rattle.group_rows.specs.declared.Direction.{Direction}
 use Rattle.group_rows.specs.declared.Placed.{Placed}
-use Rattle.group_rows.specs.Row.{_to_, A, Row, row, fits, found, Fit, misfit, fit, fitRow, fitRows}
+use Rattle.group_rows.specs.Row.{Row, row, fits, Fit, misfit, fit, fitRow, fitRows}
 use Rattle.group_rows.specs.Rows.{present, opposite, howMany, fitIn}
 use Rattle.group_rows.specs.Fitting.{rowsFor}
 use Rattle.group_rows.specs.Opening.{Opens, areSendable}

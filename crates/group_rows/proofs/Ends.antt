@@ -1,6 +1,5 @@
 -- A group that ends where the walk stands fits as that stand says.
 -- Assumes nothing.
-use Prim.Native.Nat.{ℕ}
 use mathlib.Core.Path.{_≡_, refl, sym, ap, _∙_}
 use mathlib.Core.List.{List, [], _∷_}
 use Rattle.words.specs.Answer.{Outcome, gives}

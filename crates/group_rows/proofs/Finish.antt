@@ -19,7 +19,7 @@ use Rattle.group_rows.specs.Row.{fit}
 use Rattle.group_rows.specs.Rows.{howMany}
 use Rattle.group_rows.specs.Open.{fitFrom, fitRest, fitMost}
 use Rattle.group_rows.specs.Opening.{areSendable}
-use Rattle.group_rows.specs.Stands.{mustBe, mayBe, rowsBefore, withRest, rowsOf}
+use Rattle.group_rows.specs.Stands.{mustBe, mayBe, withRest, rowsOf}
 use Rattle.group_rows.proofs.Laws.{along-self}
 
 -- A balise of this category.

@@ -11,7 +11,7 @@ use Rattle.words.specs.Answer.{pick}
 use Rattle.group_rows.specs.declared.Direction.{Direction}
 use Rattle.group_rows.specs.declared.Kind.{Kind}
 use Rattle.group_rows.specs.declared.Placed.{Placed}
-use Rattle.group_rows.specs.Row.{Member, A, must, may, isCategory, meets, Found, none, found, Fit, misfit, fit, orElse}
+use Rattle.group_rows.specs.Row.{Member, A, must, may, isCategory, meets, Found, found, Fit, misfit, fit, orElse}
 use Rattle.group_rows.specs.Open.{Rest, rest, on, after, fitFrom, along, fitRest, fitMost}
 use Rattle.group_rows.specs.Rows.{howMany}
 use Rattle.group_rows.specs.Fitting.{speedOf}

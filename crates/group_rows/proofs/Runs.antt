@@ -11,7 +11,6 @@ use borrow.Author.Tests.{ltb-true, ltb-false}
 use lib.ListN.{length, take, drop, take-append-drop}
 use lib.Seq.{take-all, take-take, length-take-le}
 use Rattle.words.specs.Answer.{pick}
-use Rattle.group_rows.specs.declared.Direction.{Direction}
 use Rattle.group_rows.specs.declared.Kind.{Kind}
 use Rattle.group_rows.specs.declared.Placed.{Placed}
 use Rattle.group_rows.specs.declared.Fitted.{Fitted}
@@ -19,7 +18,6 @@ use Rattle.group_rows.specs.declared.running.Run.{Run}
 use Rattle.group_rows.specs.Row.{Fit, misfit, fit}
 use Rattle.group_rows.specs.Rows.{fitIn}
 use Rattle.group_rows.specs.Fitting.{rowsFor, fitting, saysFitted}
-use Rattle.group_rows.specs.Open.{fitRest}
 use Rattle.group_rows.specs.Stands.{rowsOf, ended}
 use Rattle.group_rows.specs.Opening.{Opens, Longest, Ran}
 use Rattle.group_rows.proofs.Laws.{at-end}

@@ -3,8 +3,6 @@
 -- Assumes nothing.
 use mathlib.Core.Path.{_≡_, refl}
 use mathlib.Core.List.{[], _∷_}
-use Prim.Native.Nat.{ℕ}
-use lib.ListN.{length, getD}
 use Rattle.words.specs.Bits.{word}
 use Rattle.lead_noise.specs.Generator.{next, drawn, flips}
 use Rattle.lead_noise.specs.Noise.{noisyByte, isLine, noisyAt, listed, withNoise}

@@ -7,13 +7,13 @@ use mathlib.Core.List.{List, _++_}
 use native.Mathlib.Omega.{arith}
 use lib.Dec.{leb, ltb}
 use lib.ListN.{length, getD, length-append, List·getD-append}
-use lib.Seq.{ext-getD, getD-append-add}
+use lib.Seq.{getD-append-add}
 use borrow.Author.Tests.{lt-ltb, le-ltb, ltb-true, ltb-false}
 use Rattle.words.specs.Answer.{pick}
-use Rattle.words.specs.Bits.{bit, word}
+use Rattle.words.specs.Bits.{bit}
 use Rattle.words.proofs.Digits.{word-bits, word-ext}
 use Rattle.lead_noise.specs.Generator.{drawn, flips}
-use Rattle.lead_noise.specs.Noise.{Noise, noisyBit, noisyByte, framesOf, bitsBefore, isLine, noisyAt, listed, withNoise}
+use Rattle.lead_noise.specs.Noise.{noisyBit, noisyByte, framesOf, bitsBefore, isLine, noisyAt, listed, withNoise}
 use Rattle.lead_noise.specs.Laws.{AnyPieces, NoneAtZero}
 use Rattle.lead_noise.proofs.Bytes.{drawn-on, later-byte}
 use Rattle.lead_noise.proofs.SoFar.{listed-length, listed-at, is-listed}

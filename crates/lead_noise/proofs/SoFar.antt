@@ -3,16 +3,15 @@
 use Prim.Native.Nat.{ℕ, zero, suc, _+_, _-_, _*_, _/_, _%_, _≤_, _<_}
 use mathlib.Core.Path.{_≡_, refl, sym, ap, ap₂, _∙_, subst}
 use mathlib.Core.Bool.{Bool, true, false, _&&_}
-use mathlib.Core.List.{List, [], _∷_}
+use mathlib.Core.List.{List}
 use native.Mathlib.Omega.{arith}
-use lib.Dec.{leb, ltb}
+use lib.Dec.{ltb}
 use lib.ListN.{length, getD, set, length-set}
 use lib.Seq.{ext-getD, getD-set-same, getD-set-other}
 use borrow.Author.Count.{below-more}
 use borrow.Author.Tests.{lt-ltb, le-ltb, le-leb, lt-leb, ltb-true, ltb-false}
-use Rattle.words.specs.Answer.{pick}
 use Rattle.lead_noise.specs.Generator.{drawn}
-use Rattle.lead_noise.specs.Noise.{Noise, noisyByte, framesOf, bitsBefore, isLine, noisyAt, listed, withNoise}
+use Rattle.lead_noise.specs.Noise.{noisyByte, bitsBefore, isLine, noisyAt, listed, withNoise}
 use Rattle.lead_noise.proofs.Bytes.{drawn-on, later-byte}
 
 -- ---- the list f 0, f 1, ..

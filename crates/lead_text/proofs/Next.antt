@@ -9,7 +9,7 @@ use Rattle.recording.specs.declared.Tape.{Tape}
 use Rattle.recording.specs.declared.Came.{Came}
 use Rattle.recording.specs.declared.Taken.{Taken}
 use Rattle.recording.specs.declared.Ended.{Ended}
-use Rattle.recording.specs.Asking.{Going, gave, usedUp, goOn, Ending, one, none, finish}
+use Rattle.recording.specs.Asking.{Going, usedUp, goOn, Ending, one, none, finish}
 use Rattle.recording.specs.Says.{Went, bytesIn, went, saysCame, saysTaken, Closing, bytesAt, closing, endCame, saysEnded}
 use Rattle.lead_text.specs.Places.{Place}
 use Rattle.lead_text.specs.Inside.{ofPiece, ofEnding, coming}

@@ -1,14 +1,14 @@
 -- One record, listed by itself behind what stands in the buffer.
 -- Assumes nothing.
-use Prim.Native.Nat.{ℕ, zero, suc, _+_, _-_, _*_, _/_, _%_, _≤_, _<_}
-use mathlib.Core.Path.{_≡_, refl, sym, ap, ap₂, _∙_}
+use Prim.Native.Nat.{ℕ, zero, suc, _+_, _-_, _/_, _%_, _≤_}
+use mathlib.Core.Path.{_≡_, sym, ap, _∙_}
 use mathlib.Core.Bool.{Bool, true, false}
 use mathlib.Core.List.{List, [], _∷_, _++_, append-assoc, append-nil}
 use native.Mathlib.Omega.{arith}
 use native.Mathlib.Numerals.{add-one}
 use native.Mathlib.Nat.{add-zero}
-use lib.Dec.{eqb, ltb}
-use lib.ListN.{length, take, drop, length-append, length-drop, length-take, take-append-drop}
+use lib.Dec.{ltb}
+use lib.ListN.{length, take, drop, length-append, length-drop, length-take}
 use lib.Seq.{take-all, drop-drop, drop-length}
 use borrow.Author.Tests.{eq-eqb}
 use borrow.Rule.Slice.PartMut.{putMid, midOf, postOf}
@@ -29,7 +29,7 @@ use Rattle.ride_text.specs.declared.Done.{Done}
 use Rattle.ride_text.specs.declared.Listed.{Listed as Answer}
 use Rattle.ride_text.specs.List.{Taken, Listing}
 use Rattle.ride_text.specs.Says.{saysDone, saysListed}
-use Rattle.ride_text.specs.Told.{Told, stepText, tellOver}
+use Rattle.ride_text.specs.Told.{stepText, tellOver}
 use Rattle.ride_text.specs.List.{isTaken, taken, listOf, listTaken}
 use Rattle.ride_text.specs.List as explaining
 use Rattle.ride_text.proofs.Judging.{list-taken}

@@ -1,9 +1,9 @@
 -- The listing of records one after the other: from each of them on it comes to the same.
 -- Assumes nothing.
-use Prim.Native.Nat.{ℕ, zero, suc, _+_, _-_, _≤_}
+use Prim.Native.Nat.{ℕ, suc, _+_, _-_, _≤_}
 use native.Mathlib.Omega.{arith}
 use native.Mathlib.Nat.{add-zero, zero-add, sub-zero}
-use mathlib.Core.Path.{_≡_, refl, ap, sym, _∙_}
+use mathlib.Core.Path.{_≡_, ap, sym, _∙_}
 use mathlib.Core.Bool.{Bool, true, false}
 use mathlib.Core.List.{List, [], _∷_, _++_}
 use lib.ListN.{length, take, drop, length-append}
@@ -12,13 +12,13 @@ use Rattle.text.specs.Put.{placed}
 use Rattle.text.proofs.Placing.{placed-none, placed-length, placed-join}
 use Rattle.ride.specs.declared.Ride.{Ride}
 use Rattle.ride.specs.Record.{odometerOf}
-use Rattle.ride.specs.Step.{Step, treat}
+use Rattle.ride.specs.Step.{treat}
 use Rattle.ride_text.specs.Style.{withReasons}
 use Rattle.ride_text.specs.Told.{stepText, Told, tellOver}
 use Rattle.ride_text.specs.List.{isTaken, taken}
 use Rattle.lead_text.specs.declared.Underway.{Underway}
 use Rattle.lead_text.specs.Places.{Place}
-use Rattle.lead_text.specs.List.{standing, Wrote, Telling, noneLeft, listOf}
+use Rattle.lead_text.specs.List.{standing, Telling, noneLeft, listOf}
 
 -- A listing as its parts.
 abbrev pub listing : ℕ → Bool → Place → Ride → ℕ → List ℕ → Telling

@@ -1,6 +1,6 @@
 -- Each contract fixes its function's whole answer: any two answers that it allows are equal.
 -- Assumes nothing.
-use mathlib.Core.Path.{_≡_, sym, _∙_}
+use mathlib.Core.Path.{sym, _∙_}
 use Rattle.lines.proofs.fresh.Kinds as fresh-kinds
 use Rattle.lines.proofs.fresh.Reads as fresh-reads
 use Rattle.lines.proofs.begin.Kinds as begin-kinds

@@ -1,8 +1,8 @@
 -- A line read on from a place, by the character that stands there.
 -- Assumes nothing.
 use mathlib.Core.Path.{_≡_, refl, sym, ap, _∙_}
-use mathlib.Core.Bool.{Bool, true, false}
-use mathlib.Core.List.{List, [], _∷_}
+use mathlib.Core.Bool.{true, false}
+use mathlib.Core.List.{List, _∷_}
 use Prim.Native.Nat.{ℕ, _+_, _≤_, _<_}
 use native.Mathlib.Numerals.{add-one}
 use lib.Dec.{eqb}
@@ -13,7 +13,6 @@ use Rattle.words.specs.Answer.{pick}
 use Rattle.lines.specs.declared.TextLine.{TextLine}
 use Rattle.lines.specs.declared.Letters.{Letters}
 use Rattle.lines.specs.declared.Reader.{Reader}
-use Rattle.lines.specs.declared.Got.{Got}
 use Rattle.lines.specs.Text.{hash}
 use Rattle.lines.specs.Reading.{stops, letterOn, noLetters, closed, character, whole, unfinished, lineFrom}
 

@@ -2,7 +2,7 @@
 -- and the pair were judged.
 -- Assumes nothing.
 use Prim.Native.Nat.{ℕ}
-use mathlib.Core.Path.{_≡_, refl, subst, _∙_}
+use mathlib.Core.Path.{_≡_, refl, subst}
 use mathlib.Core.Bool.{Bool, true, false, not}
 use mathlib.Core.List.{[], _∷_}
 use lib.Dec.{eqb}
@@ -22,11 +22,10 @@ use Rattle.audibility.specs.declared.Sound.{Sound}
 use Rattle.demands.specs.Rules.{rowOf, row, Decided, Given, Is}
 use Rattle.demands.specs.Table.{notCode, notSeven}
 use Rattle.demands.specs.Table02.{someAbove, someFifteen}
-use Rattle.demands.specs.Untouched.{Bare}
 use Rattle.demands.proofs.Common.Rules.{if-so, if-not, given}
 use Rattle.demands.proofs.Demand1.{demand1}
 use Rattle.demands.proofs.Demand1.Writes.{above-is, fifteen-is}
-use Rattle.number_laws.specs.Numbers.{ReadByList, SoundOf, NumbersDecided}
+use Rattle.number_laws.specs.Numbers.{ReadByList, NumbersDecided}
 
 by-list : (w : ℕ) (r : LongRead) → ReadByList w r → Decided (Is (figure 16 (exchanged 16 w))) (rowOf (notCodeWord 16 w) (notCode 16 w) ∷ []) (saysLongRead r)
 by-list w r c =

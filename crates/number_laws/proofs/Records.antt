@@ -1,10 +1,10 @@
 -- A record is refused for what was judged, then for its odometer; a frame for its odometer alone.
 -- Assumes nothing.
-use Prim.Native.Nat.{ℕ, zero, suc, _+_, _*_, _/_, _<_}
+use Prim.Native.Nat.{ℕ, _/_, _<_}
 use native.Mathlib.Omega.{arith}
 use mathlib.Core.Path.{_≡_, refl, sym, ap, subst, _∙_}
 use mathlib.Core.Bool.{Bool, true, false}
-use mathlib.Core.List.{List, [], _∷_, _++_}
+use mathlib.Core.List.{List, [], _∷_}
 use lib.Dec.{ltb}
 use lib.ListN.{length}
 use Rattle.words.specs.Answer.{Outcome, gives, refuses, then, pick}
@@ -16,8 +16,8 @@ use Rattle.contact.proofs.Determined.{judgedOf, judged-back}
 use Rattle.antenna.specs.declared.Until.{Until}
 use Rattle.antenna.specs.Piece.{First, openedAt, closedAt, usedUp}
 use Rattle.antenna.specs.Says.{saysUntil}
-use Rattle.telegram.specs.Spelling.{Words, asked, tooLarge, hasFifteen, wordsOf, spell}
-use Rattle.recorder.specs.Record.{Content, Made, made, Recording, telegramOf, informed, bytesOf, contentOf, atOdometer, recordOf, recording, eightZeroes}
+use Rattle.telegram.specs.Spelling.{asked, tooLarge, hasFifteen, wordsOf, spell}
+use Rattle.recorder.specs.Record.{Content, Made, made, Recording, informed, bytesOf, contentOf, atOdometer, recordOf, recording, eightZeroes}
 use Rattle.recorder.specs.Says.{saysWent}
 use Rattle.recorder.proofs.Determined.{wentOf, went-back}
 use Rattle.recording.specs.Frame.{odometerOf}
@@ -26,7 +26,7 @@ use Rattle.recording_text.specs.declared.Frames.{Frames}
 use Rattle.recording_text.proofs.FrameLaws.{any-pieces}
 use Rattle.demands.specs.Rules.{Rule, row, Decided, Is}
 use Rattle.demands.specs.Table.{above}
-use Rattle.demands.specs.Table02.{someAbove, someFifteen, tooHigh}
+use Rattle.demands.specs.Table02.{tooHigh}
 use Rattle.demands.proofs.Common.Rules.{true-not-false, if-so}
 use Rattle.demands.proofs.Demand1.Writes.{above-is, fifteen-is}
 use Rattle.number_laws.specs.Records.{makingRules, RecordsDecided, frameRules, FramesDecided}

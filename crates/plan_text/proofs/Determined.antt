@@ -1,6 +1,6 @@
 -- Each contract fixes its function's whole answer: any two answers that it allows are equal.
 -- Assumes nothing.
-use mathlib.Core.Path.{_≡_, sym, _∙_}
+use mathlib.Core.Path.{sym, _∙_}
 use Rattle.plan_text.proofs.read.Kinds as read-kinds
 use Rattle.plan_text.proofs.read.Reads as read-reads
 use Rattle.plan_text.proofs.entry_of.Kinds as entry-of-kinds

@@ -1,11 +1,11 @@
 -- What is kept of a reading are the words received: each figure has one word.
 -- Assumes nothing.
-use Prim.Native.Nat.{ℕ, _+_, _*_, _/_, _%_, _≤_, _<_}
-use mathlib.Core.Path.{_≡_, refl, sym, ap, ap₂, _∙_, subst}
+use Prim.Native.Nat.{ℕ, _+_, _*_, _/_, _%_, _<_}
+use mathlib.Core.Path.{_≡_, refl, sym, ap, _∙_, subst}
 use mathlib.Core.Bool.{Bool, true, false, _&&_, not}
 use mathlib.Core.List.{List}
 use native.Mathlib.Omega.{arith}
-use lib.Dec.{T, eqb, leb, ltb}
+use lib.Dec.{eqb, leb, ltb}
 use lib.ListN.{length}
 use borrow.Author.Tests.{le-ltb, eqb-true}
 use Rattle.words.specs.Answer.{Answer, Outcome, gives, refuses, then, pick}
@@ -16,15 +16,14 @@ use Rattle.words.proofs.Widths.{short, long}
 use Rattle.words.proofs.Laws.{writes-back, figure-small}
 use Rattle.telegram.specs.Stretch.{bitsAt, inside}
 use Rattle.telegram.specs.Sync.{isGood}
-use Rattle.telegram.specs.Telegram.{Received, named, notFifteen, shortWord, longWord, telegram}
+use Rattle.telegram.specs.Telegram.{named, notFifteen, shortWord, longWord, telegram}
 use Rattle.telegram.specs.Place.{wordsAt, places}
 use Rattle.telegram.specs.declared.Telegram.{Telegram}
 use Rattle.telegram.specs.declared.Word.{Word}
 use Rattle.telegram.proofs.Window.{bits-lt}
 use Rattle.contact.specs.Judge.{allAlike, firstPlace, isMarker, Contact, read, marker, judgement, judge}
-use Rattle.contact.specs.declared.Judged.{Judged}
 use Rattle.telegram.specs.Spelling.{Words, asked, tooLarge, hasFifteen, wordsOf, spell}
-use Rattle.recorder.specs.Record.{Content, telegramOf, informed, contentOf, bytesOf, atOdometer, recordOf}
+use Rattle.recorder.specs.Record.{telegramOf, contentOf, atOdometer, recordOf}
 use Rattle.recorder.specs.Received.{AsReceived}
 use Rattle.words.proofs.Never.{cannot-be}
 

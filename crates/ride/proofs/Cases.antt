@@ -11,7 +11,6 @@ use borrow.Author.Tests.{ne-eqb}
 use Rattle.words.specs.Answer.{Outcome, refuses}
 use Rattle.group.specs.declared.Balise.{Balise}
 use Rattle.group.specs.declared.Group.{Group}
-use Rattle.group_rows.specs.declared.Kind.{Kind}
 use Rattle.group.specs.declared.Number.{Number}
 use Rattle.group.specs.declared.Told.{Told}
 use Rattle.group.specs.declared.Content.{Content}

@@ -1,7 +1,6 @@
 -- Each contract fixes its function's whole answer: any two answers that it allows are equal.
 -- Assumes nothing.
 use mathlib.Core.Path.{_≡_, refl, sym, ap, _∙_}
-use mathlib.Core.Bool.{Bool}
 use mathlib.Core.List.{List, [], _∷_}
 use Prim.Native.Nat.{ℕ}
 use lib.Dec.{eqb}
@@ -21,7 +20,6 @@ use Rattle.ride.specs.declared.Report.{Report}
 use Rattle.ride.specs.declared.trace.Given.{Given}
 use Rattle.ride.specs.declared.trace.Reply.{Reply}
 use Rattle.ride.specs.declared.trace.Treated.{Treated}
-use Rattle.ride.specs.declared.Ride.{Ride}
 use Rattle.ride.specs.declared.Stepped.{Stepped}
 use Rattle.ride.specs.declared.Ended.{Ended}
 use Rattle.ride.specs.declared.Way.{Way}

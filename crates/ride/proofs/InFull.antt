@@ -27,7 +27,7 @@ use Rattle.ride.specs.State.{noGroup, nothingKnown, freshRide}
 use Rattle.ride.specs.Record.{odometerOf, passedOf, inOrder, checkRecord}
 use Rattle.ride.specs.Joining.{join, takeUp}
 use Rattle.ride.specs.Closing.{close, leave}
-use Rattle.ride.specs.Step.{closeBehind, missedLines, afterMissed, goOn, treat, End, end}
+use Rattle.ride.specs.Step.{closeBehind, missedLines, afterMissed, goOn, treat, end}
 use Rattle.ride.specs.Over.{firstRecords, records, rideOver}
 
 -- "Gap 40. Records: 000003E8 00 17 8E 5A / 00000406 00 99 2B 4D / 00001770 03 00 00 00."

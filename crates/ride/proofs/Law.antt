@@ -1,16 +1,15 @@
 -- Laws of the ride that hold for every state: what a refusal leaves, how the odometer goes, where a
 -- line comes from.
 -- Assumes nothing.
-use Prim.Native.Nat.{ℕ, zero, suc, _+_, _*_, _≤_}
+use Prim.Native.Nat.{ℕ, suc, _+_, _≤_}
 use native.Mathlib.Omega.{arith}
 use native.Mathlib.Nat.{le-refl, le-trans}
-use mathlib.Core.Path.{_≡_, refl, sym, ap, subst, _∙_}
+use mathlib.Core.Path.{_≡_, refl, ap, subst}
 use mathlib.Core.Bool.{Bool, true, false, not}
 use mathlib.Core.Logic.{_⊎_, inl, inr, ⊎-elim}
-use mathlib.Core.List.{List, [], _∷_, _++_, append-nil, append-assoc, foldl, List·Memᴰ, List·Memᴰ·not-nil, List·Memᴰ·append-cases}
+use mathlib.Core.List.{List, [], _∷_, _++_, append-nil, foldl, List·Memᴰ, List·Memᴰ·not-nil, List·Memᴰ·append-cases}
 use lib.Dec.{ltb}
-use lib.ListN.{length, take, drop}
-use lib.Seq.{drop-drop}
+use lib.ListN.{length}
 use borrow.Author.Tests.{ltb-false}
 use Rattle.words.specs.Answer.{Outcome, gives, refuses, pick}
 use Rattle.ride.specs.declared.Line.{Line}
@@ -18,7 +17,7 @@ use Rattle.ride.specs.declared.Ride.{Ride}
 use Rattle.ride.specs.Record.{Entry, odometerOf, passedOf, inOrder, checkRecord}
 use Rattle.ride.specs.Joining.{allowed}
 use Rattle.ride.specs.Step.{Step, refused, goOn, refuseOr, treat, step, end}
-use Rattle.ride.specs.Over.{firstRecords, linesFor, Ridden, before, rideOver}
+use Rattle.ride.specs.Over.{linesFor, rideOver}
 use Rattle.words.proofs.Never.{cannot-be}
 
 -- ---- a refused record changes nothing

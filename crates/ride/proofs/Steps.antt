@@ -1,13 +1,12 @@
 -- The steps of the definitions, each from what its tests say.
 -- Assumes nothing.
-use Prim.Native.Nat.{ℕ, _+_, _≤_, _<_}
+use Prim.Native.Nat.{ℕ, _+_, _≤_}
 use native.Mathlib.Omega.{arith}
 use mathlib.Core.Path.{_≡_, refl}
 use mathlib.Core.Bool.{Bool, true, false, not, _&&_}
 use mathlib.Core.List.{List, [], _∷_, _++_, append-nil}
 use lib.Dec.{ltb}
 use lib.ListN.{length, set}
-use borrow.Author.Tests.{lt-ltb, le-ltb}
 use Rattle.words.specs.Answer.{gives, refuses, pick}
 use Rattle.group.specs.declared.Heard.{Heard}
 use Rattle.group.specs.declared.Balise.{Balise}

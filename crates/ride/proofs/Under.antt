@@ -13,7 +13,7 @@ use denote.Enum.Declared.{tagOf}
 use Rattle.words.specs.Answer.{Outcome, gives, refuses, pick}
 use Rattle.settings.specs.declared.Store.{Store}
 use Rattle.settings.specs.declared.Held.{Held}
-use Rattle.settings.specs.Versions.{highest, Kept, kept}
+use Rattle.settings.specs.Versions.{highest, kept}
 use Rattle.settings.specs.Store.{judged}
 use Rattle.settings.specs.At.{heldAt, gapAt, heldFor}
 use Rattle.settings.proofs.Holding.{Holding, keeps, held-is}

@@ -4,7 +4,6 @@ use Prim.Native.Nat.{ℕ, _+_, _-_, _*_, _/_, _%_, _<_}
 use mathlib.Core.Path.{_≡_, refl, sym, ap, ap₂, _∙_}
 use mathlib.Core.List.{List, [], _∷_, _++_}
 use native.Mathlib.Omega.{arith}
-use lib.Dec.{ltb}
 use lib.ListN.{length, getD}
 use borrow.Author.Tests.{lt-ltb}
 use Rattle.words.specs.Answer.{pick}
@@ -20,7 +19,7 @@ use Rattle.ride.specs.declared.Linking.{Linking}
 use Rattle.ride.specs.declared.Known.{Known}
 use Rattle.ride.specs.declared.Ride.{Ride}
 use Rattle.ride_bytes.specs.Things.{toldOf, numberOf, linkingOf, heardFigure, heardOf}
-use Rattle.ride_bytes.specs.Rides.{groupFigures, groupOf, knownOf, baliseOf, rideOf}
+use Rattle.ride_bytes.specs.Rides.{groupFigures, groupOf, knownOf, rideOf}
 
 -- ---- thing by thing
 

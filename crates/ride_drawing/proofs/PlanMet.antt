@@ -7,8 +7,7 @@ use mathlib.Core.Bool.{true}
 use mathlib.Core.List.{List, [], _∷_}
 use lib.ListN.{length, getD}
 use Rattle.words.specs.Answer.{gives}
-use Rattle.ride.specs.Record.{byte, blank}
-use Rattle.ride.specs.Over.{firstRecords, records}
+use Rattle.ride.specs.Over.{firstRecords}
 use Rattle.acceptance.specs.Plan.{placeOf, kindOf, isGood, allGood, entryOf, apart, noEntry, planWith, good, wellFormed, plan}
 use Rattle.ride_drawing.specs.declared.Plan.{Plan}
 use Rattle.ride_drawing.specs.Row.{row, furthest}

@@ -1,9 +1,6 @@
 -- Document 01's lines as text.
 -- Assumes nothing.
 use mathlib.Core.Path.{_≡_, refl}
-use mathlib.Core.List.{List, _++_}
-use Prim.Native.Nat.{ℕ}
-use lib.ListN.{replicate}
 use Rattle.group_rows.specs.declared.Direction.{Direction}
 use Rattle.group_rows.specs.declared.Kind.{Kind}
 use Rattle.group.specs.declared.Number.{Number}

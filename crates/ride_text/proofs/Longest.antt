@@ -2,7 +2,7 @@
 -- Assumes nothing.
 use mathlib.Core.Bool.{true, false}
 use mathlib.Core.Path.{_≡_, refl}
-use mathlib.Core.List.{List, [], _∷_, _++_}
+use mathlib.Core.List.{List, []}
 use Prim.Native.Nat.{ℕ, _+_, _≤_}
 use native.Mathlib.Omega.{arith}
 use lib.ListN.{length, length-append}
@@ -16,7 +16,7 @@ use Rattle.group.specs.declared.Group.{Group}
 use Rattle.group_reason.specs.Explain.{explain}
 use Rattle.group_reason.proofs.Pieces.{reason-length}
 use Rattle.ride_text.specs.Style.{Style, withReasons}
-use Rattle.ride_text.specs.Text.{codes, digits, decimal, direction, kind, mark, number, seen, textWith, text, whyText, lineText}
+use Rattle.ride_text.specs.Text.{direction, kind, mark, number, seen, textWith, text, whyText, lineText}
 use Rattle.ride_text.specs.List.{roomFor}
 use Rattle.text.proofs.Decimal.{at-most, decimal-length}
 

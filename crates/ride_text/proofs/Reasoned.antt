@@ -3,7 +3,7 @@
 -- Assumes nothing.
 use Prim.Native.Nat.{ℕ, suc, _+_, _≤_}
 use native.Mathlib.Omega.{arith}
-use mathlib.Core.Path.{_≡_, refl, sym, ap, _∙_, subst}
+use mathlib.Core.Path.{_≡_, refl, ap}
 use mathlib.Core.Bool.{Bool, true, false}
 use mathlib.Core.List.{List, [], _∷_, _++_}
 use lib.Dec.{eqb}
@@ -15,7 +15,7 @@ use Rattle.group.specs.declared.Message.{Message}
 use Rattle.group.specs.Judge.{judge}
 use Rattle.group_reason.specs.Reason.{balises, bad, opens, figure, Cause, Explained, because}
 use Rattle.group_reason.specs.Explain.{explain}
-use Rattle.group_reason.specs.Text.{baliseAt, soMany, reasonText, badly}
+use Rattle.group_reason.specs.Text.{baliseAt, soMany, reasonText}
 use Rattle.group_reason.specs.Truths.{Why, why-10, why-11, why-12, why-13, why-15, Right}
 use Rattle.group_reason.proofs.Truths.{of-group}
 use Rattle.ride.specs.declared.Known.{Known}
@@ -29,7 +29,7 @@ use Rattle.ride.specs.Closing.{Closing, lineOf, close, leave}
 use Rattle.ride.specs.Step.{Step, isMissed, missedLines, afterClosing, closeBehind, goOn, refuseOr, treat, end}
 use Rattle.ride.specs.Over.{linesFor}
 use Rattle.ride_text.specs.SameLines.{Said, saidBy, saidOver}
-use Rattle.ride_text.specs.Reasoned.{Reasoned, HasReason, AllReasoned, saidAtEnd}
+use Rattle.ride_text.specs.Reasoned.{HasReason, AllReasoned, saidAtEnd}
 
 -- ---- a reason has words
 

@@ -19,7 +19,7 @@ use Rattle.ride.specs.Says.{saysWrong, saysLines, saysGiven}
 use Rattle.ride_text.specs.Style.{Style, plain}
 use Rattle.ride_text.specs.Text.{textWith, text, textOf, lineText, linesText}
 use Rattle.ride_text.specs.List.{roomFor}
-use Rattle.ride_text.proofs.Longest.{half, halves, line-length}
+use Rattle.ride_text.proofs.Longest.{halves, line-length}
 
 -- ---- as document 01 has them
 

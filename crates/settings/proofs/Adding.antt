@@ -1,7 +1,7 @@
 -- One version more at the end of a store: it stays in order, answers below the added place stay,
 -- and from it on the added version is in force.
 -- Assumes nothing.
-use Prim.Native.Nat.{ℕ, zero, suc, _+_, _-_, _<_, _≤_}
+use Prim.Native.Nat.{ℕ, suc, _+_, _-_, _<_, _≤_}
 use mathlib.Core.Path.{_≡_, refl, sym, ap, _∙_}
 use mathlib.Core.Bool.{Bool, true, false}
 use mathlib.Core.List.{List, [], _∷_, _++_}
@@ -20,8 +20,8 @@ use Rattle.settings.specs.Store.{noVersion, versionsOf, allFollow, inOrd
 use Rattle.settings.specs.At.{ending, holds, heldFrom, heldAmong}
 use Rattle.settings.specs.Laws.{versionIn}
 use Rattle.settings.proofs.Walking.{first-of}
-use Rattle.settings.proofs.Counts.{at-least, at-most, in-order, room}
-use Rattle.settings.proofs.Following.{first-kept, next-is, Next, follow-split}
+use Rattle.settings.proofs.Counts.{at-least, in-order, room}
+use Rattle.settings.proofs.Following.{first-kept, next-is, follow-split}
 use Rattle.settings.proofs.Holding.{opened-of}
 
 -- ---- among some versions

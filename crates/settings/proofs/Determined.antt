@@ -1,7 +1,6 @@
 -- Each contract fixes its function's whole answer: any two answers that it allows are equal.
 -- Assumes nothing.
 use mathlib.Core.Path.{_≡_, refl, sym, ap, _∙_}
-use mathlib.Core.Bool.{Bool}
 use Prim.Native.Nat.{ℕ}
 use lib.Dec.{eqb}
 use Rattle.words.specs.Answer.{Outcome, gives, refuses, pick}

@@ -5,14 +5,13 @@ use mathlib.Core.Path.{_≡_, refl}
 use mathlib.Core.Bool.{true, false}
 use mathlib.Core.List.{List, [], _∷_}
 use lib.ListN.{replicate}
-use Rattle.words.specs.Answer.{Outcome, gives, refuses}
+use Rattle.words.specs.Answer.{gives, refuses}
 use Rattle.telegram.specs.Sync.{differing, isGood, goodPair}
 use Rattle.settings.specs.declared.Version.{Version}
 use Rattle.settings.specs.declared.Store.{Store}
-use Rattle.settings.specs.declared.Held.{Held}
 use Rattle.settings.specs.Versions.{allowed, kept, settingsOf, follows}
-use Rattle.settings.specs.Store.{noVersion, noStore, versionsOf, opened, begin, allFollow, inOrder, judged, withOne, mayAdd, add}
-use Rattle.settings.specs.At.{heldFrom, heldAt, gapAt, asked}
+use Rattle.settings.specs.Store.{noStore, versionsOf, opened, begin, allFollow, inOrder, judged, withOne, mayAdd, add}
+use Rattle.settings.specs.At.{heldFrom, heldAt, asked}
 
 -- "The gap is a setting, 1 to 200 dm."
 narrowest : allowed 1 ≡ true

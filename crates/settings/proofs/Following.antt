@@ -3,7 +3,7 @@
 use Prim.Native.Nat.{ℕ, _<_, _≤_}
 use mathlib.Core.Path.{_≡_, refl, ap}
 use mathlib.Core.Bool.{Bool, true, false}
-use mathlib.Core.List.{List, [], _∷_}
+use mathlib.Core.List.{List, _∷_}
 use borrow.Author.Tests.{leb-false, ltb-false}
 use lib.Dec.{leb, ltb}
 use Rattle.words.specs.Answer.{Outcome, gives, refuses, pick}

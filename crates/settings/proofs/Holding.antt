@@ -4,7 +4,7 @@
 -- Assumes nothing.
 use Prim.Native.Nat.{ℕ, _<_, _≤_}
 use mathlib.Core.Path.{_≡_, refl, sym, ap, _∙_}
-use mathlib.Core.Bool.{Bool, true, false, _&&_, _||_}
+use mathlib.Core.Bool.{Bool, true, false, _||_}
 use mathlib.Core.List.{List, [], _∷_}
 use native.Mathlib.Omega.{arith}
 use borrow.Author.Tests.{le-leb, lt-leb, leb-false, ltb-false, eqb-true}
@@ -13,11 +13,11 @@ use Rattle.words.specs.Answer.{Outcome, gives, refuses, pick}
 use Rattle.settings.specs.declared.Version.{Version}
 use Rattle.settings.specs.declared.Store.{Store}
 use Rattle.settings.specs.declared.Held.{Held}
-use Rattle.settings.specs.Versions.{then, allowed, highest, Kept, kept, settingsOf, follows}
+use Rattle.settings.specs.Versions.{then, allowed, highest, Kept, kept, settingsOf}
 use Rattle.settings.specs.Store.{versionsOf, allFollow, inOrder, judged}
-use Rattle.settings.specs.At.{ending, holds, heldFrom, heldAmong, heldAt, gapAt, asked, leaves, heldOr, hold, heldFor}
+use Rattle.settings.specs.At.{holds, heldFrom, heldAmong, heldAt, asked, leaves, heldOr, hold, heldFor}
 use Rattle.settings.proofs.Counts.{in-order}
-use Rattle.settings.proofs.Following.{never, same, first-kept, Next, follow-split, gap-good}
+use Rattle.settings.proofs.Following.{never, same, first-kept, follow-split, gap-good}
 use Rattle.words.proofs.Never.{cannot-be}
 
 -- ---- among some versions

@@ -1,7 +1,7 @@
 -- The laws of the settings.
 -- Assumes nothing.
-use Prim.Native.Nat.{ℕ, zero, suc, _+_, _<_, _≤_}
-use mathlib.Core.Path.{_≡_, refl, sym, ap, _∙_}
+use Prim.Native.Nat.{ℕ, _<_, _≤_}
+use mathlib.Core.Path.{_≡_, sym, ap, _∙_}
 use mathlib.Core.List.{List, [], _∷_}
 use native.Mathlib.Omega.{arith}
 use borrow.Author.Tests.{le-ltb, ltb-false}
@@ -11,14 +11,14 @@ use Rattle.words.specs.Answer.{Outcome, gives, refuses}
 use Rattle.settings.specs.declared.Version.{Version}
 use Rattle.settings.specs.declared.Store.{Store}
 use Rattle.settings.specs.declared.Held.{Held}
-use Rattle.settings.specs.Versions.{then, highest, Kept, kept, settingsOf}
-use Rattle.settings.specs.Store.{noVersion, noStore, versionsOf, firstOf, opened, openedIf, begin, allFollow, inOrder, judged, withOne, mayAdd, addedIf, add, Change}
-use Rattle.settings.specs.At.{ending, holds, heldFrom, heldAmong, heldAt, asked}
+use Rattle.settings.specs.Versions.{highest, Kept, kept, settingsOf}
+use Rattle.settings.specs.Store.{noVersion, noStore, versionsOf, firstOf, opened, openedIf, begin, allFollow, inOrder, judged, withOne, mayAdd, addedIf, add}
+use Rattle.settings.specs.At.{ending, heldAmong, heldAt, asked}
 use Rattle.settings.specs.Laws.{versionAt, versionIn, answer, InForce, Settings}
 use Rattle.settings.proofs.Counts.{at-most, in-order}
 use Rattle.settings.proofs.Following.{never}
 use Rattle.settings.proofs.Holding.{opened-of, no-versions, Holding, holding-at, held-given}
-use Rattle.settings.proofs.Standing.{Among, among, not-above, before-end, ends, highest-such}
+use Rattle.settings.proofs.Standing.{among, not-above, before-end, ends, highest-such}
 use Rattle.settings.proofs.Adding.{was-good, place-within, still-good, below-added, from-added}
 
 -- ---- asking

@@ -2,11 +2,9 @@
 -- everywhere.
 -- Assumes nothing.
 use Prim.Native.Nat.{ℕ}
-use mathlib.Core.Path.{_≡_, refl, sym, ap, _∙_}
+use mathlib.Core.Path.{_≡_, refl, ap, _∙_}
 use mathlib.Core.Bool.{true, false}
-use lib.Dec.{leb}
 use Rattle.words.specs.Answer.{Outcome, gives, refuses}
-use Rattle.words.specs.Bits.{bit}
 use Rattle.telegram.specs.Sync.{differing, isGood, goodPair}
 use Rattle.settings.specs.declared.Store.{Store}
 use Rattle.settings.specs.Versions.{allowed, Kept, kept, settingsOf}

@@ -16,7 +16,7 @@ use Rattle.settings.specs.Versions.{highest, kept}
 use Rattle.settings.specs.Store.{noVersion, allFollow}
 use Rattle.settings.specs.At.{ending, holds, heldFrom}
 use Rattle.settings.specs.Laws.{versionIn}
-use Rattle.settings.proofs.Following.{Next, follow-split}
+use Rattle.settings.proofs.Following.{follow-split}
 use Rattle.settings.proofs.Holding.{from-above}
 
 -- One of them.

@@ -1,18 +1,17 @@
 -- The versions of a store, one after the other.
 -- Assumes nothing.
 use Prim.Native.Nat.{ℕ, zero, suc, _+_, _<_, _≤_}
-use mathlib.Core.Path.{_≡_, refl, sym, ap, _∙_}
-use mathlib.Core.Bool.{Bool, true, false}
+use mathlib.Core.Path.{_≡_, sym, ap, _∙_}
+use mathlib.Core.Bool.{true, false}
 use mathlib.Core.List.{List, [], _∷_, map}
 use native.Mathlib.Numerals.{add-one}
 use native.Mathlib.Omega.{arith}
 use lib.Dec.{leb}
 use lib.ListN.{length, take, drop, getD, length-map}
 use lib.Seq.{drop-cons, getD-take, length-take-le}
-use Rattle.words.specs.Answer.{Outcome, gives, refuses, pick}
+use Rattle.words.specs.Answer.{gives, refuses}
 use Rattle.settings.specs.declared.Version.{Version}
-use Rattle.settings.specs.declared.Held.{Held}
-use Rattle.settings.specs.Versions.{then, Kept, kept, follows}
+use Rattle.settings.specs.Versions.{kept, follows}
 use Rattle.settings.specs.Store.{noVersion, allFollow}
 use Rattle.settings.specs.At.{ending, holds, heldFrom, heldAmong}
 

@@ -1,7 +1,7 @@
 -- Lines and texts, computed.
 -- Assumes nothing.
 use mathlib.Core.Path.{_≡_, refl}
-use mathlib.Core.List.{List, [], _∷_, _++_}
+use mathlib.Core.List.{List, [], _∷_}
 use Prim.Native.Nat.{ℕ}
 use Rattle.text.specs.Text.{codes, digits, decimal as spelled}
 use Rattle.figures.specs.Figures.{allDigits, continued, decimal, hexDigit, hex}

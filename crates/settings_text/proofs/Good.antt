@@ -1,13 +1,13 @@
 -- The store of a text that is fine is good, and of one that is not fine there is none: every line
 -- that is taken leaves a good store, or none.
 -- Assumes nothing.
-use mathlib.Core.Path.{_≡_, refl, sym, ap, _∙_}
+use mathlib.Core.Path.{_≡_, refl, _∙_}
 use mathlib.Core.Bool.{Bool, true, false}
 use mathlib.Core.List.{List, [], _∷_}
 use Prim.Native.Nat.{ℕ, _+_}
 use lib.Dec.{eqb, leb}
 use lib.ListN.{length, length-set}
-use borrow.Author.Tests.{eqb-true, eqb-false}
+use borrow.Author.Tests.{eqb-false}
 use Rattle.words.specs.Answer.{Outcome, gives, refuses, pick}
 use Rattle.words.proofs.Never.{cannot-be}
 use Rattle.settings.specs.declared.Version.{Version}

@@ -1,6 +1,6 @@
 -- A text line by line: its first line, as it is read, and the lines after it.
 -- Assumes nothing.
-use mathlib.Core.Path.{_≡_, refl, sym, ap, _∙_}
+use mathlib.Core.Path.{_≡_, refl, ap, _∙_}
 use mathlib.Core.Bool.{Bool, true, false, _&&_}
 use mathlib.Core.List.{List, [], _∷_}
 use Prim.Native.Nat.{ℕ, suc, _+_, _-_, _≤_, _<_}
@@ -10,7 +10,6 @@ use lib.ListN.{length, drop, getD}
 use borrow.Author.Tests.{leb-true}
 use Rattle.words.specs.Answer.{pick}
 use Rattle.words.proofs.Never.{cannot-be}
-use Rattle.words.proofs.Linear.{and-parts}
 use Rattle.lines.specs.declared.Reader.{Reader}
 use Rattle.lines.specs.Text.{newline, upTo, onto, cut, linesOf, beginning}
 use Rattle.lines.specs.Words.{lineOf}

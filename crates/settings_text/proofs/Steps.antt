@@ -14,7 +14,7 @@ use Rattle.settings.specs.declared.Store.{Store}
 use Rattle.settings.specs.Store.{noStore}
 use Rattle.lines.specs.Text.{newline, upTo, linesOf, beginning, linesIn}
 use Rattle.lines.specs.Words.{lineOf}
-use Rattle.lines.specs.Reading.{fresh, lineFrom, nextLine}
+use Rattle.lines.specs.Reading.{fresh, nextLine}
 use Rattle.settings_text.specs.declared.Condition.{Condition}
 use Rattle.settings_text.specs.declared.Taken.{Taken}
 use Rattle.settings_text.specs.declared.Sheet.{Sheet}

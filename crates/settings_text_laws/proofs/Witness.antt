@@ -1,12 +1,10 @@
 -- The hypotheses are met: a line and a text, taken and read, that are fine, and one of each that is
 -- not.
 -- Assumes nothing.
-use mathlib.Core.Path.{_≡_, refl}
-use mathlib.Core.List.{List, [], _∷_}
+use mathlib.Core.Path.{refl}
+use mathlib.Core.List.{List, []}
 use Prim.Native.Nat.{ℕ}
-use Rattle.text.specs.Text.{codes}
 use Rattle.settings.specs.declared.Store.{Store}
-use Rattle.settings.specs.Store.{noStore}
 use Rattle.lines.specs.declared.TextLine.{TextLine}
 use Rattle.demands.proofs.Witness.CallsMet.{lent}
 use Rattle.settings_text.specs.Taking.{takeLine}

@@ -1,13 +1,13 @@
 -- The laws of figures and bytes: a figure below 2^64 reads back from its eight bytes, whatever its
 -- place among others.
 -- Assumes nothing.
-use Prim.Native.Nat.{ℕ, zero, suc, _+_, _-_, _*_, _/_, _%_, _^_, _<_, _≤_}
+use Prim.Native.Nat.{ℕ, zero, suc, _+_, _-_, _*_, _/_, _%_, _<_, _≤_}
 use mathlib.Core.Path.{_≡_, refl, sym, ap, ap₂, subst, _∙_}
 use mathlib.Core.List.{List, [], _∷_, _++_}
 use native.Mathlib.Omega.{arith}
 use lib.Dec.{ltb}
 use mathlib.Core.Logic.{_≢_}
-use lib.ListN.{length, getD, set, take, drop, length-append, List·getD-append, drop-of-length-le}
+use lib.ListN.{length, getD, set, take, length-append, List·getD-append, drop-of-length-le}
 use lib.Seq.{getD-at, ext-getD, getD-set-same, getD-set-other, set-split, length-take-le, getD-take}
 use borrow.Author.Tests.{ltb-true, ltb-false, lt-ltb}
 use mathlib.Core.Bool.{Bool, true, false}

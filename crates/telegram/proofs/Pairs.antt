@@ -1,7 +1,7 @@
 -- The ones of S xor S* are the bits in which the two differ; and what the answer about a pair shows
 -- of it.
 -- Assumes nothing.
-use mathlib.Core.Path.{_≡_, refl, sym, ap, ap₂, _∙_}
+use mathlib.Core.Path.{_≡_, refl, ap₂, _∙_}
 use Prim.Native.Nat.{ℕ, zero, suc, _+_, _^_, _<_}
 use mathlib.Core.Bool.{Bool, true, false}
 use lib.Dec.{eqb}

@@ -3,12 +3,12 @@
 use Prim.Native.Nat.{ℕ, _+_, _≤_}
 use native.Mathlib.Omega.{arith}
 use native.Mathlib.Nat.{add-zero}
-use mathlib.Core.Path.{_≡_, refl, sym, ap, _∙_}
-use mathlib.Core.List.{List, [], _∷_, _++_}
-use lib.ListN.{length, length-append}
-use Rattle.text.specs.Put.{Put, put, came}
+use mathlib.Core.Path.{_≡_, refl, sym, _∙_}
+use mathlib.Core.List.{List, [], _∷_}
+use lib.ListN.{length}
+use Rattle.text.specs.Put.{put, came}
 use Rattle.text.proofs.Placing.{placed-none}
-use Rattle.text.proofs.Standing.{less, was-put, join, room-after}
+use Rattle.text.proofs.Standing.{was-put, join, room-after}
 use Rattle.text.specs.Pieces.{puts, whole}
 
 -- what putting a text gives

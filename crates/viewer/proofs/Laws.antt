@@ -1,32 +1,27 @@
 -- A viewer that was opened shows after any calls what the plain definition says, and that is what a
 -- fresh ride comes to.
 -- Assumes nothing.
-use Prim.Native.Nat.{ℕ, _+_, _/_, _%_}
-use mathlib.Core.Path.{_≡_, refl, sym, ap, subst, _∙_}
+use Prim.Native.Nat.{ℕ, _%_}
+use mathlib.Core.Path.{_≡_, refl, sym, ap, _∙_}
 use mathlib.Core.Bool.{Bool, true, false}
 use mathlib.Core.List.{List, [], _∷_}
-use lib.Dec.{eqb, ltb}
-use lib.ListN.{length, take}
+use lib.Dec.{eqb}
+use lib.ListN.{length}
 use denote.Ref.{RefT, now}
-use Rattle.words.specs.Answer.{Outcome, gives, refuses, pick}
+use Rattle.words.specs.Answer.{Outcome, gives, refuses}
 use Rattle.settings.specs.declared.Store.{Store}
-use Rattle.settings.specs.Versions.{allowed, Kept, kept}
+use Rattle.settings.specs.Versions.{Kept, kept}
 use Rattle.settings.specs.Store.{judged}
 use Rattle.settings.specs.At.{gapAt}
-use Rattle.ride.specs.State.{freshRide}
-use Rattle.ride.specs.Record.{odometerOf}
-use Rattle.ride.specs.Step.{treat}
-use Rattle.ride.specs.At.{recordAt}
-use Rattle.ride.specs.Over.{records, Ridden}
 use Rattle.viewer.specs.declared.OpeningWent.{OpeningWent}
 use Rattle.viewer.specs.declared.Viewer.{Viewer}
 use Rattle.viewer.specs.declared.Started.{Started}
 use Rattle.viewer.specs.Stand.{opened}
 use Rattle.viewer.specs.Viewing.{Done, done, start, Forward, forward, Back}
 use Rattle.viewer.specs.Says.{Holding, Over, saysOpeningWent}
-use Rattle.viewer.specs.History.{Plain, first, goForth, Call, forth, back, called, plainly, straight}
-use Rattle.viewer.specs.Laws.{Starts, Lead, Shows, Views, Viewing}
-use Rattle.viewer.proofs.Straight.{Held, first-held, plainly-held}
+use Rattle.viewer.specs.History.{Plain, first, Call, forth, back, called, plainly, straight}
+use Rattle.viewer.specs.Laws.{Starts, Lead, Views, Viewing}
+use Rattle.viewer.proofs.Straight.{first-held, plainly-held}
 use Rattle.viewer.proofs.Ring.{Alike, opened-alike, called-alike}
 use Rattle.words.proofs.Never.{cannot-be}
 

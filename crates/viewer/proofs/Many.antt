@@ -9,7 +9,7 @@ use native.Mathlib.Omega.{arith}
 use borrow.Author.Tests.{lt-ltb, ltb-true, ltb-false, ne-eqb, leb-true, leb-false}
 use lib.Dec.{eqb, leb, ltb}
 use lib.ListN.{length, getD}
-use Rattle.words.specs.Answer.{Outcome, gives, refuses, pick}
+use Rattle.words.specs.Answer.{gives, refuses, pick}
 use Rattle.settings.specs.Versions.{kept}
 use Rattle.settings.specs.Store.{judged}
 use Rattle.ride.specs.declared.Ride.{Ride}
@@ -17,7 +17,7 @@ use Rattle.ride.specs.State.{freshRide}
 use Rattle.ride.specs.At.{recordAt}
 use Rattle.viewer.specs.declared.Standing.{Standing}
 use Rattle.viewer.specs.Stand.{passed, returned}
-use Rattle.viewer.specs.Viewing.{Done, done, stays, stepOf, Forward, forward, Back, back}
+use Rattle.viewer.specs.Viewing.{stepOf, Forward, Back, back}
 use Rattle.viewer.specs.Going.{Ending, all, refused, answerOf, Moved, stopped, after, further, forwards, backs}
 use Rattle.viewer.proofs.Calls.{forward-end, forward-refused, forward-step, back-none, back-done}
 

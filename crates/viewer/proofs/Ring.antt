@@ -8,7 +8,7 @@ use mathlib.Core.List.{List, [], _∷_}
 use native.Mathlib.Omega.{arith}
 use borrow.Author.Tests.{ltb-true, ltb-false, ne-eqb}
 use lib.Dec.{eqb, ltb}
-use lib.ListN.{length, getD, set, take, replicate, length-set, length-replicate}
+use lib.ListN.{length, getD, set, take, length-set, length-replicate}
 use lib.Seq.{getD-set-same, getD-set-other}
 use Rattle.words.specs.Answer.{gives, pick}
 use Rattle.settings.specs.declared.Store.{Store}
@@ -18,12 +18,12 @@ use Rattle.settings.specs.At.{gapAt}
 use Rattle.ride.specs.declared.Ride.{Ride}
 use Rattle.ride.specs.State.{freshRide}
 use Rattle.ride.specs.Record.{odometerOf}
-use Rattle.ride.specs.Step.{Step, treat}
+use Rattle.ride.specs.Step.{treat}
 use Rattle.ride.specs.At.{recordAt}
 use Rattle.viewer.specs.declared.Standing.{Standing}
-use Rattle.viewer.specs.Stand.{opened, oneMore, passed, returned}
+use Rattle.viewer.specs.Stand.{opened, passed, returned}
 use Rattle.viewer.specs.Viewing.{stepOf, forward, back as goesBack}
-use Rattle.viewer.specs.History.{Plain, first, goForth, backTo, goBack, Call, forth, back, called, plainly}
+use Rattle.viewer.specs.History.{Plain, first, goForth, backTo, Call, forth, back, called}
 use Rattle.viewer.proofs.Calls.{forward-end, forward-step, back-none, back-done}
 use Rattle.viewer.proofs.Straight.{taken-at}
 

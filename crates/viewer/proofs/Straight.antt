@@ -1,23 +1,23 @@
 -- The plain definition goes back to states of a fresh ride: each state that it holds is that of a
 -- fresh ride over the records before it.
 -- Assumes nothing.
-use Prim.Native.Nat.{ℕ, zero, suc, _+_, _-_, _*_, _/_, _<_, _≤_}
+use Prim.Native.Nat.{ℕ, zero, suc, _+_, _-_, _/_, _<_, _≤_}
 use mathlib.Core.Path.{_≡_, refl, sym, ap, _∙_}
 use mathlib.Core.Bool.{Bool, true, false}
-use mathlib.Core.List.{List, [], _∷_, _++_}
+use mathlib.Core.List.{List, [], _∷_}
 use native.Mathlib.Omega.{arith}
-use borrow.Author.Tests.{ltb-true, ltb-false}
+use borrow.Author.Tests.{ltb-true}
 use lib.Dec.{ltb}
-use lib.ListN.{length, getD, take, drop}
+use lib.ListN.{length, getD, take}
 use Rattle.ride.specs.declared.Ride.{Ride}
 use Rattle.ride.specs.State.{freshRide}
 use Rattle.ride.specs.Record.{odometerOf}
 use Rattle.ride.specs.Step.{treat}
 use Rattle.ride.specs.At.{recordAt}
-use Rattle.ride.specs.Over.{firstRecords, records, Ridden, rideOver}
+use Rattle.ride.specs.Over.{firstRecords, Ridden, rideOver}
 use Rattle.ride.proofs.Cutting.{more-records, take-records}
 use Rattle.ride.proofs.Sections.{ride-on}
-use Rattle.viewer.specs.History.{Plain, first, goForth, backTo, goBack, Call, forth, back, called, plainly, straight}
+use Rattle.viewer.specs.History.{Plain, first, goForth, backTo, Call, forth, back, called, plainly, straight}
 
 -- one record more
 pub one-more : (gaps : ℕ → ℕ) (trace : List ℕ) (n : ℕ) → n < length trace / 8

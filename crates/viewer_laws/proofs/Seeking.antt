@@ -22,7 +22,6 @@ use Rattle.ride.proofs.Cutting.{records-length}
 use Rattle.ride_text.specs.Style.{withReasons}
 use Rattle.ride_text.specs.Told.{stepText}
 use Rattle.viewer.specs.declared.Standing.{Standing}
-use Rattle.viewer.specs.declared.Moved.{Moved}
 use Rattle.viewer.specs.Stand.{passed}
 use Rattle.viewer.specs.Viewing.{stepOf}
 use Rattle.viewer.specs.Going.{all, after, Moved as Moves, forwards}
@@ -30,7 +29,7 @@ use Rattle.viewer.proofs.Many.{forwards-next}
 use Rattle.viewer_text.specs.declared.seeking.Sought.{Sought}
 use Rattle.viewer_text.specs.Finding.{has}
 use Rattle.viewer_text.specs.Seeking.{further, seekIn, under, seek}
-use Rattle.viewer_laws.specs.Seeking.{Seeks, Seeking}
+use Rattle.viewer_laws.specs.Seeking.{Seeking}
 
 -- ---- among as many records as there are
 

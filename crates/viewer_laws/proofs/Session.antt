@@ -1,39 +1,36 @@
 -- Each move keeps a viewer alike to the plain definition, whose state is that of a fresh ride over
 -- the records before its number.
 -- Assumes nothing.
-use Prim.Native.Nat.{ℕ, zero, suc, _+_, _*_, _/_, _%_, _≤_}
+use Prim.Native.Nat.{ℕ, zero, suc, _*_, _/_, _%_, _≤_}
 use mathlib.Core.Path.{_≡_, refl, sym, ap, subst, _∙_}
 use mathlib.Core.Bool.{Bool, true, false}
-use mathlib.Core.List.{List, [], _∷_, _++_}
+use mathlib.Core.List.{List, [], _∷_}
 use native.Mathlib.Omega.{arith}
 use borrow.Author.Tests.{eq-eqb}
 use lib.Dec.{eqb}
 use lib.ListN.{length, take, drop, take-append-drop}
 use lib.Seq.{length-take-le}
-use Rattle.words.specs.Answer.{Outcome, gives, refuses, pick}
+use Rattle.words.specs.Answer.{Outcome, gives, refuses}
 use Rattle.settings.specs.declared.Store.{Store}
 use Rattle.settings.specs.Versions.{Kept, kept}
 use Rattle.settings.specs.Store.{judged}
 use Rattle.settings.specs.At.{gapAt}
-use Rattle.ride.specs.declared.Ride.{Ride}
-use Rattle.ride.specs.declared.Ran.{Ran}
 use Rattle.ride.specs.State.{freshRide}
 use Rattle.ride.specs.Over.{firstRecords, records, rideOver, Run, run}
 use Rattle.ride.proofs.Cutting.{take-records, front-records}
 use Rattle.viewer.specs.declared.OpeningWent.{OpeningWent}
 use Rattle.viewer.specs.declared.Standing.{Standing}
 use Rattle.viewer.specs.declared.Opened.{Opened}
-use Rattle.viewer.specs.declared.Moved.{Moved}
 use Rattle.viewer.specs.Stand.{opened}
 use Rattle.viewer.specs.Viewing.{Done, done, Start, start, forward as forwardOf, back as backOf}
 use Rattle.viewer.specs.Going.{further, Moved as Moves, forwards, backs}
 use Rattle.viewer.specs.Says.{saysOpeningWent}
-use Rattle.viewer.specs.History.{Plain, first, goForth, goBack, Call, forth, back as backCall, straight}
+use Rattle.viewer.specs.History.{Plain, first, goForth, goBack, forth, back as backCall, straight}
 use Rattle.viewer.proofs.Straight.{Held, first-held, plainly-held}
 use Rattle.viewer.proofs.Ring.{Alike, opened-alike, called-alike}
 use Rattle.viewer.proofs.Often.{forward-stays, back-stays}
 use Rattle.viewer.proofs.Laws.{opens-by}
-use Rattle.viewer_laws.specs.Session.{StartAt, RunOver, Move, forward, back, afresh, Lead, often, moved, session, Views, Sessions}
+use Rattle.viewer_laws.specs.Session.{StartAt, Move, forward, back, afresh, Lead, often, moved, session, Views, Sessions}
 
 -- ---- many calls
 

@@ -8,8 +8,6 @@ use Rattle.words.specs.Bits.{word}
 use Rattle.words.specs.Plain.{isCheck, covers, count, even, isCode, onwards, figure}
 use Rattle.words.specs.Code.{other, exchanged, readWord}
 use Rattle.telegram.specs.Telegram.{shortWord, longWord, telegram}
-use Rattle.settings.specs.Store.{plain, judged}
-use Rattle.settings.specs.At.{gapAt}
 use Rattle.group_rows.specs.Row.{fits, first, fitRow, fitRows}
 use Rattle.group_rows.specs.Rows.{howMany, fitIn}
 use Rattle.group_rows.specs.Fitting.{fitting}

@@ -1,19 +1,18 @@
 -- A record listed alone, and a turn of the search over those that are left.
 -- Assumes nothing.
-use Prim.Native.Nat.{ℕ, zero, suc, _+_, _-_, _*_, _/_, _%_, _≤_, _<_}
-use mathlib.Core.Path.{_≡_, refl, sym, ap, ap₂, subst, _∙_}
+use Prim.Native.Nat.{ℕ, suc, _+_, _-_, _*_, _/_, _%_, _≤_, _<_}
+use mathlib.Core.Path.{_≡_, refl, sym, ap, ap₂, _∙_}
 use mathlib.Core.Bool.{Bool, true, false}
 use mathlib.Core.List.{List, [], _∷_, append-nil}
 use native.Mathlib.Omega.{arith}
 use native.Mathlib.Numerals.{add-one}
 use borrow.Author.Tests.{eq-eqb}
-use lib.Dec.{eqb}
 use lib.ListN.{length, take, drop, length-drop}
 use lib.Seq.{length-take-le, take-length, drop-drop}
-use Rattle.words.specs.Answer.{Outcome, gives, refuses, pick}
+use Rattle.words.specs.Answer.{gives, refuses, pick}
 use Rattle.words.specs.Limits.{largest64}
 use Rattle.settings.specs.declared.Store.{Store}
-use Rattle.settings.specs.Versions.{Kept, kept}
+use Rattle.settings.specs.Versions.{kept}
 use Rattle.settings.specs.Store.{judged}
 use Rattle.settings.specs.At.{gapAt}
 use Rattle.ride.specs.declared.Ride.{Ride}
@@ -24,14 +23,14 @@ use Rattle.ride.specs.Over.{firstRecords, records}
 use Rattle.text.specs.Put.{placed}
 use Rattle.text.proofs.Placing.{placed-length, placed-start}
 use Rattle.ride_text.specs.Style.{withReasons}
-use Rattle.ride_text.specs.Told.{stepText, Told, tellOver}
-use Rattle.ride_text.specs.List.{Listing, taken, listOf, listTaken, list, judgedFirst, unlisted}
+use Rattle.ride_text.specs.Told.{stepText, tellOver}
+use Rattle.ride_text.specs.List.{Listing, listOf, listTaken, list}
 use Rattle.ride_text.specs.declared.Listed.{Listed}
 use Rattle.ride_text.specs.Says.{saysDone, saysListed}
 use Rattle.ride_text.proofs.Taken.{all-taken, step-short}
 use Rattle.viewer_text.specs.Finding.{has}
 use Rattle.viewer_text.specs.declared.seeking.Sought.{Sought}
-use Rattle.viewer_text.specs.Seeking.{further, seekIn, bytesOf, under, seek}
+use Rattle.viewer_text.specs.Seeking.{further, seekIn, bytesOf, seek}
 
 -- ---- records before the first
 

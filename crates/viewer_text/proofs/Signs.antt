@@ -1,11 +1,10 @@
 -- The visible signs of a word, one by one.
 -- Assumes nothing.
 use Prim.Native.Nat.{ℕ, zero, suc, _+_, _<_}
-use mathlib.Core.Path.{_≡_, refl, sym, ap, _∙_}
+use mathlib.Core.Path.{_≡_, refl}
 use mathlib.Core.List.{List, [], _∷_, map}
 use native.Mathlib.Omega.{arith}
 use lib.ListN.{length, getD, length-map, length-append}
-use Rattle.text.specs.Text.{codes}
 use Rattle.viewer_text.specs.Missing.{visible, noLine}
 
 -- A sign of the word, made visible;

@@ -1,9 +1,8 @@
 -- Making a check even adds at most the check's own bit.
 -- Assumes nothing.
 use mathlib.Core.Path.{_≡_, ap, subst, _∙_}
-use Prim.Native.Nat.{ℕ, _+_, _*_, _%_, _^_, _≤_, _<_}
-use native.Mathlib.Nat.{one-mul, mul-le-mul-right, le-trans, le-of-suc-le-suc, mod-lt, zero-lt-suc, mod-eq-of-lt, lt-of-le-of-lt}
-use native.Mathlib.Omega.{arith}
+use Prim.Native.Nat.{ℕ, _*_, _%_, _^_, _≤_, _<_}
+use native.Mathlib.Nat.{one-mul, mul-le-mul-right, le-of-suc-le-suc, mod-lt, zero-lt-suc, mod-eq-of-lt, lt-of-le-of-lt}
 use lib.Dec.{lit<}
 use lib.Pow.{pow-mono}
 

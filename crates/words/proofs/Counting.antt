@@ -3,13 +3,13 @@
 -- Assumes nothing.
 use mathlib.Core.Path.{_≡_, sym, ap, _∙_}
 use mathlib.Core.Bool.{Bool, true, false}
-use Prim.Native.Nat.{ℕ, zero, suc, _+_, _*_, _/_, _%_, _^_, _≤_, _<_}
+use Prim.Native.Nat.{ℕ, zero, suc, _+_, _*_, _/_, _%_, _≤_, _<_}
 use native.Mathlib.Nat.{add-comm, le-refl, mod-lt, zero-lt-suc}
 use native.Mathlib.Numerals.{add-one}
 use native.Mathlib.Omega.{arith}
 use lib.Dec.{eqb, lit<}
 use Rattle.words.specs.Answer.{pick}
-use Rattle.words.specs.Bits.{bit, word}
+use Rattle.words.specs.Bits.{bit}
 use Rattle.words.specs.Plain.{covers, count}
 use Rattle.words.specs.Code.{other, exchanged}
 use Rattle.words.proofs.Digits.{bit-lt, bit-mul, bit-word}

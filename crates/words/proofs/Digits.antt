@@ -8,9 +8,8 @@ use native.Mathlib.Nat.{pow-suc, mod-lt, zero-lt-suc, mul-le-mul-right, le-of-su
 use native.Mathlib.Omega.{arith}
 use lib.Dec.{lit<}
 use lib.Bits.{bitXor, differ, xor-shr, xor-mod, xor-lt, xor-zero-r}
-use lib.Pow.{high, pow-pos, pow-add, mod-pow-add, split}
+use lib.Pow.{high, pow-pos, pow-add, mod-pow-add}
 use Rattle.words.specs.Bits.{bit, word}
-use Rattle.words.proofs.HowMany.{onesOf}
 
 -- A bit is 0 or 1.
 pub bit-lt : (w i : ℕ) → bit w i < 2

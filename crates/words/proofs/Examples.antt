@@ -3,7 +3,7 @@
 use mathlib.Core.Path.{_≡_, refl}
 use mathlib.Core.List.{List, [], _∷_, map}
 use Prim.Native.Nat.{ℕ, zero, suc}
-use Rattle.words.specs.Answer.{Outcome, gives, refuses}
+use Rattle.words.specs.Answer.{gives, refuses}
 use Rattle.words.specs.Bits.{word, onesOf}
 use Rattle.words.specs.Why.{why, are, parity}
 use Rattle.words.specs.declared.Parity.{Parity}

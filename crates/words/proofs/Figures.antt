@@ -1,9 +1,9 @@
 -- Laws of the figure that a plain word carries: it grows as positions are read, and n positions
 -- keep it below 2 ^ n.
 -- Assumes nothing.
-use mathlib.Core.Path.{_≡_, refl, sym, ap, _∙_, subst}
+use mathlib.Core.Path.{_≡_, sym, ap, _∙_, subst}
 use mathlib.Core.Bool.{Bool, true, false}
-use Prim.Native.Nat.{ℕ, zero, suc, _+_, _*_, _%_, _^_, _≤_, _<_}
+use Prim.Native.Nat.{ℕ, zero, suc, _+_, _*_, _^_, _≤_, _<_}
 use native.Mathlib.Nat.{le-refl, le-trans, mul-one, mul-assoc, mul-comm, pow-suc, mul-le-mul-right, one-mul, lt-of-lt-of-le}
 use native.Mathlib.Numerals.{add-one}
 use lib.Pow.{pow-mono}

@@ -1,7 +1,7 @@
 -- The codes are linear: counts, figures and the exchange of an exclusive or are those of its two
 -- parts together.
 -- Assumes nothing.
-use mathlib.Core.Path.{_≡_, refl, sym, ap, ap₂, _∙_, subst}
+use mathlib.Core.Path.{_≡_, refl, sym, ap, ap₂, _∙_}
 use mathlib.Core.Bool.{Bool, true, false, _&&_}
 use mathlib.Core.List.{List, [], _∷_}
 use Prim.Native.Nat.{ℕ, zero, suc, _+_, _*_, _%_, _^_, _<_}
@@ -10,7 +10,7 @@ use lib.Dec.{eqb}
 use lib.Bits.{bitXor, differ, xor-block, xor-lt}
 use borrow.Author.Tests.{eqb-true}
 use Rattle.words.specs.Answer.{pick}
-use Rattle.words.specs.Bits.{bit, word}
+use Rattle.words.specs.Bits.{bit}
 use Rattle.words.specs.Plain.{covers, count, even, checks, allEven, isCode, isCheck, onwards, figure}
 use Rattle.words.specs.Code.{other, exchanged}
 use Rattle.words.proofs.Digits.{bit-lt, two-bits, xor-bit, bit-xor, word-lt, bits-ext}

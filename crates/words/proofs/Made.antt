@@ -3,20 +3,18 @@
 -- Assumes nothing.
 use mathlib.Core.Path.{_≡_, refl, sym, ap, ap₂, _∙_, subst}
 use mathlib.Core.Logic.{_⊎_, inl, inr}
-use mathlib.Core.Bool.{Bool, true, false, _&&_, _||_, not}
-use mathlib.Core.List.{List, [], _∷_}
+use mathlib.Core.Bool.{Bool}
 use Prim.Native.Nat.{ℕ, zero, suc, _+_, _*_, _/_, _%_, _^_, _≤_, _<_}
-use native.Mathlib.Nat.{not-suc-le-zero, le-of-suc-le-suc, lt-suc-self, lt-trans, lt-of-lt-of-le, eq-or-lt-of-le, zero-mul, mul-zero, one-mul, add-zero, div-eq-of-lt, lt-irrefl}
+use native.Mathlib.Nat.{not-suc-le-zero, le-of-suc-le-suc, lt-suc-self, lt-trans, eq-or-lt-of-le, zero-mul, mul-zero, one-mul, add-zero, div-eq-of-lt, lt-irrefl}
 use native.Mathlib.Decide.{decLt}
 use native.Mathlib.Omega.{arith}
-use lib.Dec.{T, eqb, eqb→eq}
-use borrow.Author.Tests.{eq-eqb, ne-eqb, eqb-true, eqb-false}
+use lib.Dec.{eqb}
+use borrow.Author.Tests.{eq-eqb, ne-eqb}
 use Rattle.words.specs.Answer.{pick}
 use Rattle.words.specs.Bits.{bit, word}
-use Rattle.words.specs.Plain.{among, covers, count, even, allEven, madeEven, allMadeEven}
+use Rattle.words.specs.Plain.{covers, count, madeEven}
 use Rattle.words.proofs.Digits.{bit-lt, word-lt, bit-word, word-bits}
 use Rattle.words.proofs.Counting.{pick-lt}
-use Rattle.words.proofs.Ranges.{both, both-left, both-right}
 
 -- the bits of h, but b at position c
 abbrev withBit : ℕ → ℕ → ℕ → ℕ → ℕ

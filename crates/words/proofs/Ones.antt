@@ -1,10 +1,9 @@
 -- The machine's own count of ones is the count over a word's bits.
 -- Assumes nothing.
-use mathlib.Core.Path.{_≡_, refl, sym, ap, ap₂, _∙_, subst}
-use Prim.Native.Nat.{ℕ, zero, suc, _+_, _*_, _/_, _%_, _^_, _≤_, _<_}
+use mathlib.Core.Path.{_≡_, refl, sym, ap, ap₂, _∙_}
+use Prim.Native.Nat.{ℕ, zero, suc, _+_, _%_, _^_, _<_}
 use native.Mathlib.Nat.{mod-one, mod-lt, mod-eq-of-lt, not-suc-le-zero, le-of-suc-le-suc}
-use native.Mathlib.Numerals.{add-one, one-add}
-use native.Mathlib.Omega.{arith}
+use native.Mathlib.Numerals.{one-add}
 use lib.Count.{ones, onesIn, ones-cat}
 use lib.Pow.{mod-pow-add, pow-pos}
 use Rattle.words.specs.Bits.{bit}

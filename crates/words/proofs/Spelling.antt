@@ -2,10 +2,9 @@
 -- the next bit is worth 2 ^ i.
 -- Assumes nothing.
 use mathlib.Core.Path.{_≡_, refl, sym, ap, ap₂, _∙_, subst}
-use Prim.Native.Nat.{ℕ, suc, _+_, _*_, _^_, _≤_, _<_}
-use native.Mathlib.Nat.{add-comm, pow-suc, le-trans, le-add-left, le-add-right, lt-of-le-of-lt, lt-of-lt-of-le}
+use Prim.Native.Nat.{ℕ, _+_, _*_, _^_, _≤_, _<_}
+use native.Mathlib.Nat.{add-comm, pow-suc, lt-of-lt-of-le}
 use native.Mathlib.Numerals.{add-one}
-use native.Mathlib.Omega.{arith}
 use lib.Pow.{pow-mono}
 use Rattle.words.specs.Bits.{word}
 use Rattle.words.proofs.Digits.{word-lt}

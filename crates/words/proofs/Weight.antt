@@ -3,16 +3,15 @@
 -- Assumes nothing.
 use mathlib.Core.Path.{_≡_, refl, sym, ap, ap₂, _∙_, subst}
 use mathlib.Core.Logic.{_⊎_, inl, inr}
-use mathlib.Core.Bool.{Bool, true, false, not}
+use mathlib.Core.Bool.{Bool, true, not}
 use Prim.Native.Nat.{ℕ, zero, suc, _+_, _*_, _%_, _^_, _≤_, _<_}
 use native.Mathlib.Nat.{not-suc-le-zero, le-of-suc-le-suc, lt-suc-self, lt-trans, lt-of-lt-of-le, one-mul, eq-or-lt-of-le}
-use native.Mathlib.Decide.{decLt}
 use native.Mathlib.Omega.{arith}
 use lib.Dec.{T, eqb}
 use lib.Pow.{pow-pos}
 use borrow.Author.Tests.{eqb-true, eq-eqb}
 use Rattle.words.specs.Bits.{bit}
-use Rattle.words.specs.Plain.{checks, among, isCheck, covers, count, even, isCode}
+use Rattle.words.specs.Plain.{checks, isCheck, covers, count, even, isCode}
 use Rattle.words.proofs.Digits.{bit-lt, bits-ext}
 use Rattle.words.proofs.Ranges.{both, upto, below}
 use Rattle.words.proofs.Zero.{even-at, bit-zero}

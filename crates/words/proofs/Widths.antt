@@ -1,17 +1,17 @@
 -- The two widths, 8 and 16 bits: the exchange stays within each, undoes itself, and keeps the
 -- number of ones.
 -- Assumes nothing.
-use mathlib.Core.Path.{_≡_, refl, sym, ap, ap₂, _∙_, subst}
+use mathlib.Core.Path.{_≡_, refl, sym, ap, ap₂, _∙_}
 use mathlib.Core.Bool.{Bool}
 use Prim.Native.Nat.{ℕ, zero, suc, _+_, _^_, _≤_, _<_}
-use native.Mathlib.Nat.{lt-suc-self, lt-of-lt-of-le, le-refl, le-of-suc-le}
+use native.Mathlib.Nat.{lt-suc-self, lt-of-lt-of-le}
 use native.Mathlib.Omega.{arith}
-use lib.Dec.{T, eqb, ltb, eqb→eq, ltb→lt, lit<, lit≤}
+use lib.Dec.{eqb, ltb, eqb→eq, ltb→lt, lit<, lit≤}
 use Rattle.words.specs.Bits.{bit}
 use Rattle.words.specs.Code.{other, exchanged}
 use Rattle.words.proofs.Digits.{bits-ext}
 use Rattle.words.proofs.Counting.{bit-exchanged}
-use Rattle.words.proofs.Ranges.{upto, below}
+use Rattle.words.proofs.Ranges.{below}
 use Rattle.words.proofs.Linear.{exchanged-lt}
 use Rattle.words.proofs.HowMany.{onesOf}
 

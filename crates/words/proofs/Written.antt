@@ -2,18 +2,17 @@
 -- the other, and none that is made later is looked at by one made before.
 -- Assumes nothing.
 use mathlib.Core.Path.{_≡_, refl, sym, ap, ap₂, _∙_, subst}
-use mathlib.Core.Logic.{_⊎_, inl, inr}
 use mathlib.Core.Bool.{Bool, true, false, _&&_, _||_, not}
 use mathlib.Core.List.{List, [], _∷_}
-use Prim.Native.Nat.{ℕ, zero, suc, _+_, _*_, _/_, _%_, _^_, _≤_, _<_}
-use native.Mathlib.Nat.{not-suc-le-zero, lt-suc-self, lt-trans, zero-mul, mul-one, mod-eq-of-lt, mod-one, mul-assoc, mul-comm, pow-suc, add-mul, add-assoc, add-zero}
-use native.Mathlib.Numerals.{add-one, one-add}
+use Prim.Native.Nat.{ℕ, zero, suc, _+_, _*_, _%_, _^_, _<_}
+use native.Mathlib.Nat.{lt-suc-self, lt-trans, zero-mul, mul-one, mod-eq-of-lt, mod-one, mul-assoc, mul-comm, pow-suc, add-mul, add-assoc, add-zero}
+use native.Mathlib.Numerals.{add-one}
 use native.Mathlib.Omega.{arith}
-use lib.Dec.{T, eqb, leb, ltb, eqb→eq}
+use lib.Dec.{T, eqb, eqb→eq}
 use lib.Pow.{mod-pow-add}
-use borrow.Author.Tests.{eqb-true, eqb-false, eq-eqb, ne-eqb}
+use borrow.Author.Tests.{eqb-true, eqb-false, eq-eqb}
 use Rattle.words.specs.Answer.{pick}
-use Rattle.words.specs.Bits.{bit, word}
+use Rattle.words.specs.Bits.{bit}
 use Rattle.words.specs.Plain.{checks, among, isCheck, covers, count, even, allEven, isCode, onwards, figure, carriers, carried, madeEven, allMadeEven, plainWord}
 use Rattle.words.proofs.Digits.{bit-lt, word-lt, bit-word}
 use Rattle.words.proofs.Counting.{pick-lt}

@@ -2,16 +2,16 @@
 -- Assumes nothing.
 use mathlib.Core.Path.{_≡_, refl, sym, ap, ap₂, _∙_, subst}
 use mathlib.Core.Logic.{_⊎_, inl, inr}
-use mathlib.Core.Bool.{Bool, true, false, _&&_, _||_, not}
+use mathlib.Core.Bool.{Bool, true, false, _||_, not}
 use mathlib.Core.List.{List, [], _∷_}
-use Prim.Native.Nat.{ℕ, zero, suc, _+_, _*_, _/_, _%_, _^_, _≤_, _<_}
-use native.Mathlib.Nat.{not-suc-le-zero, le-of-suc-le-suc, eq-or-lt-of-le, lt-suc-self, lt-trans, zero-mul, one-mul, mul-zero, mod-eq-of-lt, lt-irrefl, lt-of-lt-of-le, zero-lt-suc, zero-div}
+use Prim.Native.Nat.{ℕ, zero, suc, _+_, _*_, _%_, _^_, _≤_, _<_}
+use native.Mathlib.Nat.{not-suc-le-zero, le-of-suc-le-suc, eq-or-lt-of-le, lt-suc-self, lt-trans, zero-mul, one-mul, mul-zero, mod-eq-of-lt, lt-irrefl, lt-of-lt-of-le, zero-div}
 use native.Mathlib.Omega.{arith}
-use lib.Dec.{T, eqb, eqb→eq, lit<, lit≤}
+use lib.Dec.{T, eqb, eqb→eq}
 use lib.Pow.{pow-pos}
 use borrow.Author.Tests.{eqb-true, ne-eqb}
 use Rattle.words.specs.Answer.{pick}
-use Rattle.words.specs.Bits.{bit, word}
+use Rattle.words.specs.Bits.{bit}
 use Rattle.words.specs.Plain.{checks, among, isCheck, covers, count, even, allEven, isCode, onwards, figure}
 use Rattle.words.proofs.Digits.{bit-lt, bits-ext}
 use Rattle.words.proofs.Ranges.{both, both-left, both-right, upto, below}

@@ -1,10 +1,7 @@
 -- Each contract fixes its function's whole answer: any two answers that it allows are equal.
 -- Assumes nothing.
-use mathlib.Core.Path.{_≡_, sym, _∙_}
-use mathlib.Core.List.{List}
-use Prim.Native.Nat.{ℕ}
+use mathlib.Core.Path.{sym, _∙_}
 use Rattle.words.specs.Says.{saysLongRead}
-use Rattle.words.specs.declared.LongRead.{LongRead}
 use Rattle.words.proofs.Told.{Fixed, told}
 use Rattle.words.proofs.Determined.{longRead, longRead-back}
 use Rattle.words_list.proofs.list.Kinds as list-kinds

@@ -1,5 +1,5 @@
 -- `accept` asks the store for place 0, looks at the length, and then takes the records.
-use mathlib.Core.Path.{_≡_, ap, sym, _∙_}
+use mathlib.Core.Path.{ap, sym, _∙_}
 use borrow.Author.Tests.{eq-eqb, ne-eqb}
 use Rattle.settings.specs.Says.{saysAsked}
 use Rattle.settings.proofs.Holding.{held-given, store-refused}

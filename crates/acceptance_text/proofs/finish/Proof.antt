@@ -1,8 +1,5 @@
 -- With room the end's lines are taken from the buffer's start on; without, nothing is done.
 -- Assumes nothing.
-use Prim.Native.Nat.{ℕ}
-use mathlib.Core.Path.{_≡_, sym, ap, _∙_}
-use borrow.Author.Tests.{le-leb, lt-leb}
 use Rattle.acceptance_text.proofs.Ends.{no-end, at-end}
 use borrow.Author.Needs.{needs}
 use Rattle.acceptance_text.proofs.finish.Statement.{statement}

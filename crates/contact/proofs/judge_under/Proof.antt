@@ -1,5 +1,5 @@
 -- `judge_under` asks the store, and judges with the pair in force.
-use mathlib.Core.Path.{_≡_, sym, ap, _∙_}
+use mathlib.Core.Path.{sym, ap, _∙_}
 use Rattle.settings.specs.Says.{saysAsked}
 use Rattle.contact.specs.Under.{judgeUnder}
 use borrow.Author.Needs.{needs}

@@ -1,7 +1,7 @@
 -- The pieces in their order.
 -- Assumes nothing.
 use mathlib.Core.Path.{ap₂}
-use Prim.Native.Nat.{ℕ, _≤_}
+use Prim.Native.Nat.{ℕ}
 use native.Mathlib.Omega.{arith}
 use Rattle.text.proofs.Putting.{then, after, all-as}
 use Rattle.contact_drawing.specs.Strips.{drawn, telegrams, pictureWith, stripsWith, strips}

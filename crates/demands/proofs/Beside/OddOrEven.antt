@@ -1,14 +1,14 @@
 -- Odd or even, over the readers' contracts: a received word is what was sent and its flips
 -- together, and what was sent is even.
 -- Assumes nothing.
-use mathlib.Core.Path.{_≡_, refl, sym, ap, _∙_}
+use mathlib.Core.Path.{_≡_, refl, sym, _∙_}
 use mathlib.Core.Bool.{Bool, true, false}
 use mathlib.Core.Logic.{_↔_}
-use Prim.Native.Nat.{ℕ, _+_, _%_}
+use Prim.Native.Nat.{ℕ, _%_}
 use native.Mathlib.Omega.{arith}
 use lib.Dec.{eqb}
 use lib.Bits.{bitXor}
-use borrow.Author.Tests.{eq-eqb, eqb-true, eqb-false}
+use borrow.Author.Tests.{eqb-true, eqb-false}
 use Rattle.words.specs.Answer.{Answer, gives, refuses, pick}
 use Rattle.words.specs.Bits.{word, onesOf}
 use Rattle.words.specs.Plain.{isCheck, covers, count, even, isCode, onwards, figure}

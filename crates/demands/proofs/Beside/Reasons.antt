@@ -1,25 +1,22 @@
 -- The reasons are true, and the balises that they count are those that joined.
 -- Assumes nothing.
-use Prim.Native.Nat.{ℕ, suc, _+_, _<_, _≤_}
+use Prim.Native.Nat.{ℕ, suc, _+_, _<_}
 use native.Mathlib.Omega.{arith}
-use mathlib.Core.Path.{_≡_, refl, sym, ap, _∙_}
+use mathlib.Core.Path.{_≡_, refl, ap, _∙_}
 use mathlib.Core.Bool.{Bool, true, false}
-use lib.Dec.{eqb, ltb}
-use borrow.Author.Tests.{ltb-true, ltb-false, lt-ltb, le-ltb, ne-eqb}
+use lib.Dec.{ltb}
+use borrow.Author.Tests.{ltb-true, ltb-false, lt-ltb, ne-eqb}
 use Rattle.words.specs.Answer.{pick}
 use Rattle.group.specs.declared.Group.{Group}
 use Rattle.group.specs.declared.Heard.{Heard}
-use Rattle.group_reason.specs.declared.Reason.{Reason}
-use Rattle.group_reason.specs.Reason.{Explained, balises, because}
-use Rattle.group_reason.specs.Says.{saysReason}
+use Rattle.group_reason.specs.Reason.{balises, because}
 use Rattle.group_reason.specs.Explain.{explain}
 use Rattle.group_reason.proofs.Truths.{truths, explains-tied, judges-tied}
 use Rattle.ride.specs.declared.Passed.{Passed}
 use Rattle.ride.specs.declared.Ride.{Ride}
 use Rattle.ride.specs.State.{noGroup, isOpen}
 use Rattle.ride.specs.Joining.{counted, join, takeUp}
-use Rattle.demands.specs.Steps.{OneStep}
-use Rattle.demands.specs.Reasons.{ExplainGroup, Joined, opened, after-another, joined, passed, upTo255, Reasons}
+use Rattle.demands.specs.Reasons.{Joined, opened, after-another, joined, passed, upTo255, Reasons}
 use Rattle.demands.proofs.Demand2.Riding.{riding}
 
 -- One balise more is counted.

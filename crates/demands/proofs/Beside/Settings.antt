@@ -1,7 +1,7 @@
 -- What is promised of settings that change on the way: every store that calls made is judged good,
 -- and the laws of the definitions carry over.
 -- Assumes nothing.
-use Prim.Native.Nat.{ℕ, _≤_, _<_}
+use Prim.Native.Nat.{ℕ, _≤_}
 use mathlib.Core.Path.{_≡_, refl, sym, ap, subst, subst⁻¹, _∙_}
 use lib.ListN.{length, length-set}
 use borrow.Author.Tests.{ltb-false}
@@ -9,19 +9,18 @@ use Rattle.words.specs.Answer.{Outcome, gives, refuses}
 use Rattle.settings.specs.declared.Version.{Version}
 use Rattle.settings.specs.declared.Store.{Store}
 use Rattle.settings.specs.declared.Held.{Held}
-use Rattle.settings.specs.declared.Begun.{Begun}
 use Rattle.settings.specs.declared.Added.{Added}
 use Rattle.settings.specs.declared.Asked.{Asked}
 use Rattle.settings.specs.Versions.{highest, Kept, kept, settingsOf}
 use Rattle.settings.specs.Store.{noVersion, noStore, firstOf, Change, opened, openedIf, begin, judged, withOne, mayAdd, addedIf, add}
 use Rattle.settings.specs.At.{ending, holds, asked}
 use Rattle.settings.specs.Says.{saysVerdict, saysAsked}
-use Rattle.settings.specs.Laws.{versionIn, answer, InForce}
+use Rattle.settings.specs.Laws.{answer, InForce}
 use Rattle.settings.proofs.Counts.{at-most, at-least}
 use Rattle.settings.proofs.Holding.{held-given}
 use Rattle.settings.proofs.Laws.{settings}
-use Rattle.demands.specs.Stores.{BeginStore, AddVersion, AskAt}
-use Rattle.demands.specs.Settings.{Made, OneMore, SettingsKept}
+use Rattle.demands.specs.Stores.{AddVersion, AskAt}
+use Rattle.demands.specs.Settings.{Made, SettingsKept}
 use Rattle.words.proofs.Never.{cannot-be}
 
 -- ---- every store that calls made is good, and has its 32 places

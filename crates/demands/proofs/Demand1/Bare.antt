@@ -1,8 +1,6 @@
 -- No refusal carries a figure, and what is refused stays as it was.
 -- Assumes nothing.
-use mathlib.Core.Path.{sym, ap, ap₂, _∙_}
-use mathlib.Core.List.{List}
-use Prim.Native.Nat.{ℕ}
+use mathlib.Core.Path.{sym, ap, _∙_}
 use Rattle.words.specs.Says.{saysShortRead, saysShortWritten, saysLongRead, saysLongWritten}
 use Rattle.telegram.specs.Says.{saysPair, saysReach, saysTelegramRead, saysFound, saysSurveyed}
 use Rattle.balise_writer.specs.Write.{Writing, write}

@@ -1,23 +1,22 @@
 -- The plan's refusals are those of the list, in its order.
 -- Assumes nothing.
-use Prim.Native.Nat.{ℕ, _+_, _*_, _/_, _%_, _≤_, _<_}
+use Prim.Native.Nat.{ℕ, _+_, _*_, _/_, _%_}
 use native.Mathlib.Omega.{arith}
 use mathlib.Core.Path.{_≡_, refl, sym, ap, ap₂, subst, _∙_}
 use mathlib.Core.Bool.{Bool, true, false, not, _&&_, _||_}
 use mathlib.Core.List.{List, [], _∷_, map}
 use lib.Dec.{eqb, leb, ltb}
-use lib.ListN.{length, getD}
+use lib.ListN.{length}
 use borrow.Author.Tests.{leb-true, leb-false, lt-ltb, le-ltb}
 use Rattle.words.specs.Answer.{Outcome, gives, refuses, pick}
 use Rattle.ride.specs.Record.{byte, blank}
 use Rattle.ride.specs.Over.{records}
 use Rattle.acceptance.specs.declared.Acceptance.{Acceptance}
-use Rattle.acceptance.specs.declared.Entry.{Entry}
 use Rattle.acceptance.specs.declared.Planned.{Planned}
 use Rattle.acceptance.specs.Plan.{Good, good, Planning, placeOf, isGood, allGood, entryOf, entriesOf, isBeyond, apart, planWith, emptyPlan, wellFormed, plan}
 use Rattle.acceptance.specs.Says.{saysPlanned}
 use Rattle.demands.specs.Rules.{Decided, Is}
-use Rattle.demands.specs.Plans.{Plans, tooWide, badEntry, someBad, badPlan, nearNext, someNear, planRules, PlansDecided, PlansUntouched}
+use Rattle.demands.specs.Plans.{Plans, badEntry, someBad, badPlan, nearNext, someNear, planRules, PlansDecided, PlansUntouched}
 
 -- A number that is not above another, and one that is.
 above-not : (a b : ℕ) → ltb b a ≡ not (leb a b)

@@ -1,25 +1,24 @@
 -- Demand 1 holds of the functions that make a store or ask one: each judges the store first.
 -- Assumes nothing.
-use Prim.Native.Nat.{ℕ, _%_}
-use mathlib.Core.Path.{_≡_, refl, sym, ap, ap₂, subst, _∙_}
-use mathlib.Core.Bool.{Bool, true, false, not}
+use Prim.Native.Nat.{ℕ}
+use mathlib.Core.Path.{_≡_, refl, sym, ap, subst, _∙_}
+use mathlib.Core.Bool.{Bool, true, false}
 use mathlib.Core.List.{List, [], _∷_}
-use lib.Dec.{eqb, ltb}
-use lib.ListN.{length}
+use lib.Dec.{ltb}
 use Rattle.words.specs.Answer.{Outcome, gives, refuses, then, pick}
 use Rattle.settings.specs.declared.Version.{Version}
 use Rattle.settings.specs.declared.Store.{Store}
 use Rattle.settings.specs.declared.Held.{Held}
 use Rattle.settings.specs.Versions.{highest, Kept, kept, settingsOf, follows}
 use Rattle.settings.specs.Store.{noStore, firstOf, Change, openedIf, begin, judged, lastPlace, mayAdd, addedIf, add}
-use Rattle.settings.specs.At.{heldAt, gapAt, asked}
+use Rattle.settings.specs.At.{heldAt, asked}
 use Rattle.contact.specs.Judge.{Contact, judge as judgedContact}
 use Rattle.contact.specs.Under.{judgeUnder}
 use Rattle.demands.specs.Table02.{tooHigh, full}
-use Rattle.demands.specs.Rules.{row, Decided, Given, Is}
+use Rattle.demands.specs.Rules.{row, Decided, Is}
 use Rattle.demands.specs.Lists.{judgeRules, JudgeReads}
 use Rattle.demands.specs.Stores.{settingsRules, versionRules, storeRules, StoresDecided, StoresUntouched}
-use Rattle.demands.proofs.Common.Rules.{true-not-false, if-so, if-not}
+use Rattle.demands.proofs.Common.Rules.{if-so, if-not}
 use Rattle.demands.proofs.Demand1.Contacts.{judging}
 use Rattle.demands.proofs.Demand1.Rides.{gives-not}
 use Rattle.demands.proofs.Demand1.StoreRules.{settings-so, version-so, store-so}

@@ -6,11 +6,11 @@ use mathlib.Core.List.{List, [], _∷_}
 use Prim.Native.Nat.{ℕ, _/_, _≤_, _<_}
 use lib.Dec.{ltb}
 use lib.ListN.{length}
-use Rattle.words.specs.Answer.{Outcome, gives, refuses, pick}
+use Rattle.words.specs.Answer.{gives, refuses, pick}
 use Rattle.ride.specs.State.{noGroup}
 use Rattle.ride.specs.Joining.{allowed}
-use Rattle.ride.specs.Step.{Step, treat, step}
-use Rattle.ride.specs.At.{recordAt, Standing, noRecord, Treatment, byStep, stays, treatAt}
+use Rattle.ride.specs.Step.{treat}
+use Rattle.ride.specs.At.{recordAt, noRecord, Treatment, byStep, stays, treatAt}
 use Rattle.ride.specs.Says.{saysStepped, saysTreated}
 use Rattle.ride.specs.declared.Ride.{Ride}
 use Rattle.ride.specs.declared.Stepped.{Stepped}

@@ -7,7 +7,7 @@ use Prim.Native.Nat.{ℕ}
 use lib.Dec.{eqb, ltb, leb}
 use Rattle.words.specs.Answer.{Outcome, gives, refuses, pick}
 use Rattle.group.specs.Balise.{balises, then, readAll}
-use Rattle.group_rows.specs.Row.{Figures, all, _to_, Asked, category, M, any, A, Member, Row, row, isCategory, isOneOf, within, Y, Z, meets, fits, Found, none, found, first, calledA, Fit, misfit, fit, fitWith, fitRow, orElse, fitRows}
+use Rattle.group_rows.specs.Row.{Figures, all, _to_, Asked, category, M, any, Member, Row, row, isCategory, isOneOf, within, Y, Z, meets, fits, Found, none, found, first, calledA, Fit, misfit, fit, fitWith, fitRow, orElse, fitRows}
 use Rattle.group_rows.specs.Rows.{signal, warning, annulled, line, route, present, nineThen, nineTwo, markerTwo, markerThree, opposite, howMany, fitIn}
 use Rattle.group.specs.declared.Content.{Content}
 use Rattle.group.specs.Numbers.{numberOf}

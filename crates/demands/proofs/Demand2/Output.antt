@@ -2,7 +2,7 @@
 -- Assumes nothing.
 use Prim.Native.Nat.{ℕ, _+_, _-_, _*_, _%_, _≤_, _<_}
 use native.Mathlib.Omega.{arith}
-use mathlib.Core.Path.{_≡_, refl, sym, ap, ap₂, _∙_, subst}
+use mathlib.Core.Path.{_≡_, refl, sym, ap, ap₂, _∙_}
 use mathlib.Core.Bool.{Bool, true, false}
 use mathlib.Core.List.{List, [], _∷_, _++_, map}
 use lib.Dec.{eqb}
@@ -14,7 +14,7 @@ use Rattle.words.proofs.Told.{told}
 use Rattle.settings.specs.declared.Store.{Store}
 use Rattle.ride.specs.State.{freshRide}
 use Rattle.ride.specs.Step.{End, end}
-use Rattle.ride.specs.Over.{records, rideOver}
+use Rattle.ride.specs.Over.{records}
 use Rattle.ride.specs.Says.{saysLines}
 use Rattle.ride.specs.declared.Line.{Line}
 use Rattle.ride.specs.declared.Ride.{Ride}

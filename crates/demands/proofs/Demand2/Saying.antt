@@ -1,18 +1,14 @@
 -- What accepted groups say is what document 01's tables and sentences give for their balises.
 -- Assumes nothing.
-use Prim.Native.Nat.{ℕ, zero, suc, _-_, _*_, _≤_, _<_}
+use Prim.Native.Nat.{ℕ, _-_}
 use mathlib.Core.Path.{_≡_, refl, sym, ap, _∙_}
 use mathlib.Core.Bool.{Bool, true, false, _&&_}
-use mathlib.Core.List.{List, [], _∷_}
-use native.Mathlib.Nat.{not-suc-le-zero, le-of-suc-le-suc}
-use lib.Dec.{eqb, leb, ltb}
-use lib.ListN.{length, getD}
-use borrow.Author.Tests.{le-leb, leb-true}
+use mathlib.Core.List.{List}
+use lib.Dec.{eqb, ltb}
 use Rattle.words.specs.Answer.{Outcome, gives, refuses, pick}
 use Rattle.words.proofs.Told.{told}
 use Rattle.group.specs.Balise.{balises, then, readAll}
-use Rattle.group_rows.specs.Row.{Found, none, found, Y}
-use Rattle.group.specs.Distance.{columns, inColumn, inTable, distance, linkDistance, isPreset, noIncrease}
+use Rattle.group.specs.Distance.{isPreset, noIncrease}
 use Rattle.group.specs.Speed.{signalSpeed, targetFigure}
 use Rattle.group_rows.specs.Fitting.{routeSpeed}
 use Rattle.group_rows.proofs.OneWay.{one-way}
@@ -27,8 +23,8 @@ use Rattle.group.specs.declared.Told.{Told}
 use Rattle.group.proofs.Determined as group-is
 use Rattle.group.proofs.Entries.{speed-in, speed-out}
 use Rattle.demands.specs.Table.{someUnread, unread, listOf, partsOf}
-use Rattle.demands.specs.Said.{used, Announces, Speeds}
-use Rattle.demands.specs.Demand2.{noColumn, Groups}
+use Rattle.demands.specs.Said.{Announces, Speeds}
+use Rattle.demands.specs.Demand2.{Groups}
 use Rattle.demands.proofs.Common.Rules.{true-not-false, never}
 use Rattle.demands.proofs.Demand1.Balises.{Read, bad, all, read-is}
 use Rattle.demands.proofs.Demand2.Prefix.{target-prefixed, target-not}

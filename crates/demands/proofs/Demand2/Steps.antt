@@ -21,7 +21,6 @@ use Rattle.ride.specs.Says.{saysStepped, saysEnded}
 use Rattle.ride.specs.declared.Line.{Line}
 use Rattle.ride.specs.declared.Ride.{Ride}
 use Rattle.ride.specs.declared.Ended.{Ended}
-use Rattle.demands.specs.Table.{badGap}
 use Rattle.demands.specs.Contracts.{JudgeGroup, EndOf}
 use Rattle.demands.specs.Steps.{OneStep, Accepts, LeavesBehind, NoneOpen}
 use Rattle.demands.proofs.Common.Rules.{not-false}

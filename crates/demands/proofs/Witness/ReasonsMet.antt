@@ -3,7 +3,6 @@
 use mathlib.Core.Path.{refl}
 use mathlib.Core.List.{List, [], _∷_}
 use Prim.Native.Nat.{ℕ}
-use lib.ListN.{set}
 use Rattle.group.specs.declared.Heard.{Heard}
 use Rattle.ride.specs.Record.{odometerOf, passedOf, inOrder, checkRecord}
 use Rattle.ride.specs.State.{noGroup, nothingKnown, freshRide}

@@ -1,7 +1,6 @@
 -- By the test.
 -- Assumes nothing.
 use borrow.Author.Tests.{lt-ltb, le-ltb}
-use borrow.Author.Needs.{needs}
 use Rattle.group_rows.proofs.at_most_five.Statement.{statement}
 use Rattle.group_rows.proofs.at_most_five.Tie as tie
 

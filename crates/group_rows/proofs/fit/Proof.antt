@@ -1,6 +1,5 @@
 -- A walk over all balises stands at the row that they fit; one that stops before finds none.
 -- Assumes nothing.
-use Prim.Native.Nat.{_≤_}
 use mathlib.Core.Path.{_≡_, ap, _∙_}
 use native.Mathlib.Omega.{arith}
 use lib.ListN.{length}

@@ -1,5 +1,4 @@
 -- A fresh tape and a fresh ride, and the first record has the number 1.
-use mathlib.Core.Path.{_≡_}
 use borrow.Author.Needs.{needs}
 use Rattle.lead_text.specs.List as listing
 use Rattle.lead_text.proofs.fresh.Statement.{statement}

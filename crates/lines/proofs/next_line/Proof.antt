@@ -1,14 +1,13 @@
 -- `next_line` takes one character a turn: what is left of the block, with the line so far, comes to
 -- what the whole does.
-use mathlib.Core.Path.{_≡_, refl, sym, ap, _∙_}
+use mathlib.Core.Path.{_≡_, refl, sym, _∙_}
 use mathlib.Core.Bool.{Bool}
-use Prim.Native.Nat.{ℕ, _-_, _<_}
+use Prim.Native.Nat.{_-_}
 use native.Mathlib.Omega.{arith}
 use lib.ListN.{length, drop}
 use Rattle.lines.specs.declared.TextLine.{TextLine}
 use Rattle.lines.specs.declared.Letters.{Letters}
 use Rattle.lines.specs.declared.Reader.{Reader}
-use Rattle.lines.specs.Text.{hash}
 use Rattle.lines.specs.Reading.{nextLine, lineFrom}
 use Rattle.lines.proofs.Steps.{at-the-end, at-newline, goes-on, in-comment, at-stop, at-letter}
 use Rattle.lines.proofs.next_line.Statement.{statement}

@@ -1,5 +1,5 @@
 -- `run` asks the store for place 0, looks at the length, and else takes all records.
-use mathlib.Core.Path.{_≡_, ap, sym, _∙_}
+use mathlib.Core.Path.{ap, sym, _∙_}
 use Rattle.words.specs.Answer.{gives}
 use borrow.Author.Tests.{eq-eqb, ne-eqb}
 use Rattle.settings.specs.Says.{saysAsked}

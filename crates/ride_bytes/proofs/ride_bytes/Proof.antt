@@ -1,12 +1,11 @@
 -- The eighteen figures are spread over the bytes, from which each reads back.
 -- Assumes nothing.
-use mathlib.Core.Path.{_≡_, refl, sym, ap, ap₂, subst, _∙_}
+use mathlib.Core.Path.{_≡_, sym, ap, ap₂, subst, _∙_}
 use Prim.Native.Nat.{ℕ, _/_, _<_}
 use mathlib.Core.List.{List, _++_}
 use lib.ListN.{length, getD, replicate, length-replicate}
-use Rattle.state_bytes.specs.Figures.{spread, figureAt, each}
-use Rattle.state_bytes.proofs.Bytes.{is-each}
-use Rattle.ride_bytes.specs.Rides.{knownFigures, rideBytes, rideOf}
+use Rattle.state_bytes.specs.Figures.{spread, figureAt}
+use Rattle.ride_bytes.specs.Rides.{knownFigures, rideBytes}
 use Rattle.ride_bytes.proofs.Back.{alike, eighteen, joined, ride-back}
 use borrow.Author.Needs.{needs}
 use Rattle.ride_bytes.proofs.ride_bytes.Statement.{statement}

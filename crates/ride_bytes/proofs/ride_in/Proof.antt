@@ -1,6 +1,6 @@
 -- Odometer, group and what is known.
 -- Assumes nothing.
-use mathlib.Core.Path.{_≡_, refl, sym, ap, ap₂, _∙_}
+use mathlib.Core.Path.{_≡_, ap, _∙_}
 use Prim.Native.Nat.{ℕ, _%_}
 use Rattle.group.specs.declared.Group.{Group}
 use Rattle.ride.specs.declared.Known.{Known}

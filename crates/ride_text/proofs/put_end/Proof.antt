@@ -1,14 +1,12 @@
 -- `put_end` spells the line in a space of its own, and puts it into the buffer if it fits there.
 use mathlib.Core.Bool.{true, false}
-use mathlib.Core.Path.{_≡_, ap, ap₂, _∙_}
+use mathlib.Core.Path.{ap, ap₂, _∙_}
 use mathlib.Core.List.{List}
 use Prim.Native.Nat.{ℕ, _≤_}
 use native.Mathlib.Omega.{arith}
 use lib.ListN.{length, replicate}
 use Rattle.text.specs.Put.{put}
 use Rattle.text.proofs.Standing.{Begins, begins, as-long, put-as}
-use Rattle.group.specs.declared.Group.{Group}
-use Rattle.ride.specs.declared.Line.{Line}
 use Rattle.ride.specs.Step.{End}
 use Rattle.ride.specs.Says.{saysLines}
 use Rattle.ride_text.specs.Style.{Style}

@@ -1,10 +1,6 @@
 -- `put_styled` spells the line in a space of its own, and puts it into the buffer if it fits there.
-use Prim.Native.Nat.{_≤_}
 use native.Mathlib.Omega.{arith}
-use lib.ListN.{length}
 use Rattle.text.proofs.Standing.{Begins, begins, as-long, put-as}
-use Rattle.group.specs.declared.Group.{Group}
-use Rattle.ride.specs.declared.Line.{Line}
 use Rattle.ride_text.specs.Text.{lineText}
 use Rattle.ride_text.proofs.Longest.{line-within}
 use borrow.Author.Needs.{needs}

@@ -1,5 +1,5 @@
 -- `add` puts the version after the last where it may be added, and else leaves the store.
-use mathlib.Core.Path.{_≡_, sym, ap, _∙_}
+use mathlib.Core.Path.{sym, ap, _∙_}
 use Rattle.settings.specs.Store.{add}
 use Rattle.settings.specs.Says.{saysVerdict}
 use Rattle.settings.proofs.Counts.{room}

@@ -1,5 +1,5 @@
 -- `at` judges the store, then the place, and looks up the version in force.
-use mathlib.Core.Path.{_≡_, sym, ap, _∙_}
+use mathlib.Core.Path.{sym, ap, _∙_}
 use borrow.Author.Tests.{lt-ltb, le-ltb}
 use Rattle.settings.specs.At.{asked}
 use Rattle.settings.specs.Says.{saysVerdict}

@@ -1,7 +1,6 @@
 -- `bad` has a store of no version.
 use mathlib.Core.Path.{ap}
 use Rattle.settings.specs.declared.Store.{Store}
-use Rattle.settings_text.specs.declared.Sheet.{Sheet}
 use Rattle.settings_text.specs.Sheet.{bad}
 use borrow.Author.Needs.{needs}
 use Rattle.settings_text.proofs.bad.Statement.{statement}

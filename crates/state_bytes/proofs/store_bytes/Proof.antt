@@ -5,7 +5,7 @@ use Prim.Native.Nat.{ℕ, _/_, _<_}
 use mathlib.Core.List.{List}
 use lib.ListN.{length, getD, replicate, length-replicate}
 use borrow.Author.Needs.{needs}
-use Rattle.state_bytes.specs.Figures.{spread, figureAt}
+use Rattle.state_bytes.specs.Figures.{spread}
 use Rattle.state_bytes.specs.Stores.{storeBytes}
 use Rattle.state_bytes.proofs.StoreBack.{store-back}
 use Rattle.state_bytes.proofs.store_bytes.Statement.{statement}

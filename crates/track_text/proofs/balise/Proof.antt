@@ -1,5 +1,5 @@
 -- `balise` goes by what spelling the words answers.
-use mathlib.Core.Path.{_≡_, sym, ap, _∙_}
+use mathlib.Core.Path.{sym, ap, _∙_}
 use borrow.Author.Needs.{needs}
 use Rattle.telegram.specs.Says.{saysSpelt}
 use Rattle.track_text.specs.Read.{balise}

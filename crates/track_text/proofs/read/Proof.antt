@@ -1,5 +1,5 @@
 -- `read` reads the line as a trace's, and what it said as a track's.
-use mathlib.Core.Path.{_≡_, sym, ap, _∙_}
+use mathlib.Core.Path.{ap, _∙_}
 use borrow.Author.Needs.{needs}
 use Rattle.track_text.specs.Read.{readSaid, read}
 use Rattle.track_text.proofs.read.Statement.{statement}

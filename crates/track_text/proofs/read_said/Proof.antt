@@ -1,5 +1,5 @@
 -- `read_said` goes by what was said.
-use mathlib.Core.Path.{_≡_, sym, ap, _∙_}
+use mathlib.Core.Path.{sym, ap, _∙_}
 use borrow.Author.Needs.{needs}
 use Rattle.track_text.specs.Read.{readSaid}
 use Rattle.track_text.proofs.read_said.Statement.{statement}

@@ -1,5 +1,5 @@
 -- `thing_at` goes by what lies there.
-use mathlib.Core.Path.{_≡_, sym, ap, _∙_}
+use mathlib.Core.Path.{sym, ap, _∙_}
 use borrow.Author.Needs.{needs}
 use Rattle.track_text.specs.Read.{thingAt}
 use Rattle.track_text.proofs.thing_at.Statement.{statement}

@@ -1,21 +1,20 @@
 -- `start` meets its contract, a walk of its MIR by hand: `start_at`, then `seen`. A slice is Copy:
 -- what it owns is had three times, for the two calls and for the exit.
 -- Assumes nothing.
-use mathlib.Core.Path.{_≡_, refl, ap, sym, _∙_, subst}
+use mathlib.Core.Path.{_≡_, refl, ap, sym, subst}
 use Prim.Native.Nat.{ℕ}
 use mathlib.Core.List.{List, [], _∷_}
 use types.Kit.{some as some′}
 use denote.Struct.Laws as LL
-use Rattle.viewer.proofs.Walking.{Holds, URA, Lifetime, Ty, Tys, tyStruct, tcons, tnil, Local, local, valueLocal, Fn, named, erased, Val, WT, hasTy, SProp, ent, sep, emp, via, fst∗, snd∗, exE, id⊢, Lft, Share, Fml, ftrue, flft, fat, fullShare, Memory, fieldAt, Routine, Heap, Calls, Loops, WpFn, Tables, Atoms, sem, Lfts, Fun, fact, givenOf, tables, tablesOf, Given, ‵, raw, _⊛_, given, ⋆, later, _$_, _∵_, !, qed, by, move, drop, use1, use2, use3, split, join, learn, pick, rewrite, fsplit, fjoin, suffices, frame, await, done, whole, sub, look-in, agg, look, init, forget, stop, fld, from, load, of-opd, and-then, no-more, assigns, land, returns, enter, alloc1, alloc0, params1, pass1, pass0, free1, free0, FmC, fmOf, WpFn-mono, RattleType, owns, Is, shows, u8, RefT, NamedLft, now, plain, namedLft, ShrSlice, slice-vals, shr-slice-tells, shr-slice-lawful, shr-slice-copy, only, peeks, heard, nothing, all-own, own-open, own-shut, Values, Contract, Triple, calls-at, Vals, onEntry, Meets, tripleOf, entered, cited, says, Stays, stay-none, stay-none-slice, walkOf, goes-none, goes-none-slice, Walks, ends-at, walked, walk-meets, yes, ensured, lasts}
+use Rattle.viewer.proofs.Walking.{Holds, URA, Ty, Local, local, valueLocal, Fn, named, erased, Val, WT, hasTy, SProp, ent, sep, emp, via, fst∗, snd∗, exE, id⊢, Lft, Share, Fml, ftrue, flft, fat, fullShare, Memory, Routine, Heap, Calls, Loops, WpFn, Tables, Atoms, sem, Fun, fact, givenOf, tables, tablesOf, Given, ‵, raw, _⊛_, given, ⋆, later, _$_, _∵_, !, qed, by, move, use1, use2, use3, split, join, learn, pick, rewrite, fsplit, fjoin, suffices, frame, await, done, whole, sub, look-in, agg, look, init, forget, stop, fld, from, load, of-opd, and-then, no-more, assigns, land, returns, enter, alloc1, alloc0, params1, pass1, pass0, free1, free0, FmC, fmOf, WpFn-mono, owns, Is, shows, u8, RefT, NamedLft, now, plain, namedLft, ShrSlice, slice-vals, shr-slice-tells, shr-slice-lawful, only, peeks, heard, nothing, all-own, own-open, own-shut, Contract, Triple, calls-at, Vals, onEntry, Meets, tripleOf, entered, cited, says, Stays, stay-none, stay-none-slice, walkOf, goes-none, goes-none-slice, Walks, ends-at, walked, walk-meets, yes, ensured, lasts}
 use Rattle.viewer.specs.Viewing.{Start, start as starts}
 use Rattle.viewer.specs.Says.{saysOpened, sliceOf, lentTo}
 use Rattle.viewer.specs.declared.Opened.{Opened}
 use Rattle.viewer.specs.declared.Started.{Started}
-use Rattle.viewer.proofs.Standing as P
 use Rattle.viewer.proofs.Standing.Laws as P′
 use Rattle.viewer.proofs.Viewer as T
 use Rattle.viewer.proofs.Viewer.Laws as T′
-use Rattle.viewer.proofs.Turning.{viewer, StandTy, SliceTy, ViewerTy, offset, slice, mach, parts, Own, Trace, is-viewer, typed-viewer}
+use Rattle.viewer.proofs.Turning.{viewer, StandTy, SliceTy, ViewerTy, slice, parts, Own, typed-viewer}
 use Rattle.viewer.proofs.Beginning.{BegunTy, GaveTy, AnswerTy, gave-1, answer, answered, Got, Lent, slice-is, there, again, typed-gave, typed-answer}
 use Rattle.viewer.proofs.Opened as N
 use Rattle.viewer.proofs.Opened.Laws as N′

@@ -2,7 +2,7 @@
 -- elsewhere.
 -- Assumes nothing.
 use Prim.Native.Nat.{_/_, _<_}
-use mathlib.Core.Path.{_≡_, sym, ap, _∙_}
+use mathlib.Core.Path.{sym, ap, _∙_}
 use native.Mathlib.Nat.{mod-eq-of-lt}
 use native.Mathlib.Omega.{arith}
 use borrow.Author.Needs.{needs}

@@ -1,5 +1,5 @@
 -- `parity` is right because the machine's count of ones is the count over the word's bits.
-use mathlib.Core.Path.{_≡_, sym, ap, _∙_}
+use mathlib.Core.Path.{sym, ap, _∙_}
 use mathlib.Core.Bool.{Bool}
 use Rattle.words.specs.Answer.{pick}
 use Rattle.words.specs.declared.Parity.{Parity}

@@ -2,7 +2,6 @@
 use mathlib.Core.Path.{ap}
 use mathlib.Core.Bool.{true}
 use Rattle.ride.specs.declared.Ride.{Ride}
-use Rattle.acceptance_console.specs.declared.blocks.Compared.{Compared}
 use Rattle.acceptance_console.specs.SetOut.{setOut}
 use borrow.Author.Needs.{needs}
 use Rattle.acceptance_console.proofs.blocks.set_out.Statement.{statement}

@@ -1,9 +1,8 @@
 -- A refused record has no text and is counted; else its lines are taken.
 -- Assumes nothing.
 use Prim.Native.Nat.{ℕ}
-use mathlib.Core.Path.{_≡_, sym, ap, ap₂, _∙_}
-use mathlib.Core.List.{List, [], _∷_}
-use Rattle.text.specs.Put.{Put, put}
+use mathlib.Core.Path.{sym, ap, ap₂, _∙_}
+use Rattle.text.specs.Put.{Put}
 use Rattle.ride.specs.declared.trace.Given.{Given}
 use Rattle.ride.specs.Over.{linesFor}
 use Rattle.ride.specs.Says.{saysGiven}

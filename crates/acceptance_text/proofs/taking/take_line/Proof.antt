@@ -1,12 +1,11 @@
 -- The line is taken, its text put, and what went wrong counted.
 -- Assumes nothing.
 use mathlib.Core.Path.{ap, _∙_}
-use mathlib.Core.List.{List}
 use Rattle.text.specs.Put.{Put, put}
 use Rattle.acceptance.specs.declared.Took.{Took}
 use Rattle.acceptance.specs.Taking.{takeLine}
 use Rattle.acceptance_text.specs.declared.taking.Troubles.{Troubles}
-use Rattle.acceptance_text.specs.Taking.{partLine, troubledBy, takeOne, takeAll}
+use Rattle.acceptance_text.specs.Taking.{partLine, takeOne, takeAll}
 use borrow.Author.Needs.{needs}
 use Rattle.acceptance_text.proofs.taking.take_line.Statement.{statement}
 use Rattle.acceptance_text.proofs.taking.take_line.Tie as tie

@@ -1,16 +1,11 @@
 -- By how many lines there are; two lines put one after the other are one text put.
 -- Assumes nothing.
-use Prim.Native.Nat.{ℕ, _+_, _≤_}
-use native.Mathlib.Omega.{arith}
-use mathlib.Core.Path.{_≡_, sym, ap, _∙_}
-use mathlib.Core.List.{List, [], _∷_, _++_}
-use lib.ListN.{length}
-use Rattle.text.specs.Put.{Put, put}
-use Rattle.ride.specs.declared.Line.{Line}
+use mathlib.Core.Path.{sym, ap, _∙_}
+use Rattle.text.specs.Put.{Put}
 use Rattle.ride.specs.declared.Lines.{Lines}
 use Rattle.ride.specs.Says.{saysLines}
 use Rattle.acceptance_text.specs.Taking.{started, takeAll}
-use Rattle.acceptance_text.specs.Inside.{Writing, writes}
+use Rattle.acceptance_text.specs.Inside.{writes}
 use Rattle.acceptance_text.proofs.Takings.{put-nothing, one-then-one, room-for-one}
 use borrow.Author.Needs.{needs}
 use Rattle.acceptance_text.proofs.taking.take_lines.Statement.{statement}

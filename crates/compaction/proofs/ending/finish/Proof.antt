@@ -1,13 +1,13 @@
 -- `finish` puts the record that waits after the bytes that are kept, and treats it.
-use Prim.Native.Nat.{ℕ, _+_, _≤_}
+use Prim.Native.Nat.{_+_, _≤_}
 use native.Mathlib.Omega.{arith}
-use mathlib.Core.Path.{_≡_, ap, _∙_}
+use mathlib.Core.Path.{ap, _∙_}
 use lib.ListN.{length}
 use borrow.Author.Needs.{needs}
 use borrow.Author.Tests.{not-true, not-false}
 use Rattle.ride.specs.Step.{Step}
 use Rattle.ride.proofs.Steps.{step-allowed}
-use Rattle.compaction.proofs.Last.{Finished, finish-none, finish-one}
+use Rattle.compaction.proofs.Last.{finish-none, finish-one}
 use Rattle.compaction.proofs.ending.finish.Statement.{statement}
 use Rattle.compaction.proofs.ending.finish.Tie as tie
 

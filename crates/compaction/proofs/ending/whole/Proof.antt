@@ -4,8 +4,7 @@ use mathlib.Core.Path.{_≡_}
 use lib.ListN.{length}
 use borrow.Author.Needs.{needs}
 use Rattle.settings.specs.At.{gapAt}
-use Rattle.compaction.specs.Inside.{Over}
-use Rattle.compaction.proofs.Last.{Finished, finished-so, there-is-room, is-whole}
+use Rattle.compaction.proofs.Last.{finished-so, there-is-room, is-whole}
 use Rattle.compaction.proofs.ending.whole.Statement.{statement}
 use Rattle.compaction.proofs.ending.whole.Tie as tie
 

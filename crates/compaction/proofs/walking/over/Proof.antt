@@ -4,7 +4,7 @@
 use Prim.Native.Nat.{ℕ, _+_, _-_, _*_, _/_, _≤_, _<_}
 use native.Mathlib.Omega.{arith}
 use mathlib.Core.Path.{_≡_, refl, sym, ap, subst, _∙_}
-use mathlib.Core.Bool.{Bool, true, false, not}
+use mathlib.Core.Bool.{Bool, true, not}
 use mathlib.Core.Logic.{⊎-elim}
 use mathlib.Core.List.{List, [], _∷_}
 use lib.ListN.{length}
@@ -15,8 +15,7 @@ use Rattle.settings.specs.At.{gapAt}
 use Rattle.settings.proofs.Holding.{Holding, holding-at}
 use Rattle.ride.specs.declared.Ride.{Ride}
 use Rattle.compaction.specs.declared.Waiting.{Waiting}
-use Rattle.compaction.specs.Blocks.{waitsNext}
-use Rattle.compaction.specs.Inside.{Serves, Over}
+use Rattle.compaction.specs.Inside.{Serves}
 use Rattle.compaction.proofs.Turns.{none-waits, settles, held-serves}
 use Rattle.compaction.proofs.Walk.{Walk, walk-first, walk-length, walk-same, walk-kept, walk-dropped}
 use Rattle.compaction.proofs.walking.over.Statement.{statement}

@@ -2,7 +2,6 @@
 use mathlib.Core.Path.{ap}
 use lib.IntN.{pos, negℤ}
 use Rattle.console.specs.declared.progress.Far.{Far}
-use Rattle.console.specs.declared.blocks.Pass.{Pass}
 use Rattle.console.specs.Pass.{passFrom}
 use borrow.Author.Needs.{needs}
 use Rattle.console.proofs.blocks.begin.Statement.{statement}

@@ -1,6 +1,6 @@
 -- `go_over_all` measures card after card, and keeps each length in its own place. The lent slices
 -- keep their lengths.
-use Prim.Native.Nat.{ℕ, _-_, _≤_}
+use Prim.Native.Nat.{_-_, _≤_}
 use mathlib.Core.Path.{_≡_, refl, _∙_}
 use native.Mathlib.Omega.{arith}
 use lib.ListN.{length, length-set}

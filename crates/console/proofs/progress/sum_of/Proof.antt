@@ -1,6 +1,5 @@
 -- `sum_of` goes over the lengths once.
 use Prim.Native.Nat.{_-_}
-use native.Mathlib.Omega.{arith}
 use lib.ListN.{length}
 use borrow.Author.Needs.{needs}
 use Rattle.console.proofs.progress.sum_of.Statement.{statement}

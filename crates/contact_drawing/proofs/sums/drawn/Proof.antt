@@ -2,7 +2,6 @@
 -- Assumes nothing.
 use borrow.Author.Tests.{lt-ltb, le-ltb}
 use Rattle.contact_drawing.specs.Strips.{drawn}
-use borrow.Author.Needs.{needs}
 use Rattle.contact_drawing.proofs.sums.drawn.Statement.{statement}
 use Rattle.contact_drawing.proofs.sums.drawn.Tie as tie
 

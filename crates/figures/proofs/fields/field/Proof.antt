@@ -1,5 +1,5 @@
 -- `field` takes what stands from the field's start to the next sign.
-use mathlib.Core.Path.{_≡_, ap, ap₂, subst, sym, _∙_}
+use mathlib.Core.Path.{_≡_, ap, subst, sym, _∙_}
 use mathlib.Core.List.{List}
 use Prim.Native.Nat.{ℕ, _-_, _≤_}
 use native.Mathlib.Omega.{arith}

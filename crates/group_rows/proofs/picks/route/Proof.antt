@@ -1,7 +1,6 @@
 -- By AY, and the range of AZ.
 -- Assumes nothing.
 use mathlib.Core.Path.{_∙_}
-use mathlib.Core.Bool.{and-false}
 use Prim.Native.Nat.{_≤_, _<_}
 use native.Mathlib.Omega.{arith}
 use lib.Dec.{leb·zero}

@@ -1,13 +1,11 @@
 -- `with_noise` makes one bit a turn, the highest first: after i turns it has the first i bits, and
 -- the generator's number after them.
-use Prim.Native.Nat.{ℕ, suc, _+_, _-_, _%_, _≤_, _<_}
-use mathlib.Core.Path.{_≡_, refl, sym, ap, ap₂, _∙_, subst}
+use Prim.Native.Nat.{ℕ, suc, _+_, _-_, _≤_, _<_}
+use mathlib.Core.Path.{_≡_, refl, sym, ap, ap₂, _∙_}
 use native.Mathlib.Numerals.{add-one}
 use native.Mathlib.Omega.{arith}
 use borrow.Author.Needs.{needs}
-use Rattle.words.proofs.Digits.{bit-lt}
 use Rattle.lead_noise.specs.Generator.{drawn}
-use Rattle.lead_noise.specs.declared.byte.Noisy.{Noisy}
 use Rattle.lead_noise.proofs.Bytes.{top, heardBit, made-low, whole, one-more}
 use Rattle.lead_noise.proofs.byte.with_noise.Statement.{statement}
 use Rattle.lead_noise.proofs.byte.with_noise.Tie as tie

@@ -1,7 +1,7 @@
 -- `over` goes over the whole frames byte by byte: the bytes passed have their noise, those ahead
 -- none yet, and x is that of the next byte of line.
-use Prim.Native.Nat.{ℕ, _+_, _-_, _≤_}
-use mathlib.Core.Path.{_≡_, refl, ap, _∙_}
+use Prim.Native.Nat.{_+_, _-_, _≤_}
+use mathlib.Core.Path.{ap, _∙_}
 use mathlib.Core.Logic.{⊎-elim}
 use native.Mathlib.Omega.{arith}
 use lib.ListN.{set}

@@ -1,10 +1,10 @@
 -- `list_one` lists the record by itself in the rest of the buffer.
 -- Assumes nothing.
-use Prim.Native.Nat.{ℕ, _+_, _-_, _≤_}
-use mathlib.Core.Path.{_≡_, sym, ap, _∙_}
-use mathlib.Core.List.{List, [], _∷_}
+use Prim.Native.Nat.{_-_}
+use mathlib.Core.Path.{_≡_, ap}
+use mathlib.Core.List.{[], _∷_}
 use native.Mathlib.Omega.{arith}
-use lib.ListN.{length, drop}
+use lib.ListN.{drop}
 use Rattle.settings.specs.At.{gapAt}
 use Rattle.ride_text.specs.Style.{withReasons}
 use Rattle.ride_text.specs.Says.{saysDone, saysListed}

@@ -1,7 +1,6 @@
 -- `closed` keeps the word that was being read, if there was one.
-use borrow.Author.Tests.{eq-eqb, ne-eqb, le-leb, lt-leb, lt-ltb, le-ltb}
+use borrow.Author.Tests.{eq-eqb, ne-eqb}
 use mathlib.Core.Path.{ap, _∙_}
-use Rattle.lines.specs.declared.Word.{Word}
 use Rattle.lines.specs.Words.{kept}
 use Rattle.lines.specs.Reading.{closed}
 use borrow.Author.Needs.{needs}

@@ -1,5 +1,5 @@
 -- `kept` puts the word after the last, as long as there is a place.
-use borrow.Author.Tests.{eq-eqb, ne-eqb, le-leb, lt-leb, lt-ltb, le-ltb}
+use borrow.Author.Tests.{lt-ltb, le-ltb}
 use Rattle.lines.specs.Words.{kept}
 use borrow.Author.Needs.{needs}
 use Rattle.lines.proofs.keeping.kept.Statement.{statement}

@@ -1,5 +1,5 @@
 -- `byte_of` reads a word of two characters.
-use borrow.Author.Tests.{eq-eqb, ne-eqb, le-leb, lt-leb, lt-ltb, le-ltb}
+use borrow.Author.Tests.{eq-eqb, ne-eqb}
 use Rattle.lines.specs.Reading.{byteOf}
 use borrow.Author.Needs.{needs}
 use Rattle.lines.proofs.spelling.byte_of.Statement.{statement}

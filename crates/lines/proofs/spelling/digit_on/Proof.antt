@@ -1,7 +1,7 @@
 -- `digit_on` tests whether the number would be too large before it is made.
 use Prim.Native.Nat.{_+_, _*_, _≤_, _<_}
 use native.Mathlib.Omega.{arith}
-use borrow.Author.Tests.{eq-eqb, ne-eqb, le-leb, lt-leb, lt-ltb, le-ltb}
+use borrow.Author.Tests.{le-leb, lt-leb}
 use Rattle.lines.specs.Reading.{digitOn}
 use borrow.Author.Needs.{needs}
 use Rattle.lines.proofs.spelling.digit_on.Statement.{statement}

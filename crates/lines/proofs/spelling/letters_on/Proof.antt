@@ -1,5 +1,5 @@
 -- `letters_on` goes by the kind of character.
-use borrow.Author.Tests.{eq-eqb, ne-eqb, le-leb, lt-leb, lt-ltb, le-ltb}
+use borrow.Author.Tests.{le-leb, lt-leb, lt-ltb, le-ltb}
 use Rattle.lines.specs.Reading.{lettersOn}
 use borrow.Author.Needs.{needs}
 use Rattle.lines.proofs.spelling.letters_on.Statement.{statement}

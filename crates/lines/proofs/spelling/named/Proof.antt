@@ -1,6 +1,6 @@
 -- `named` compares the letters with those of each name.
-use mathlib.Core.Path.{_≡_, refl, sym, ap, _∙_}
-use borrow.Author.Tests.{eq-eqb, ne-eqb, le-leb, lt-leb, lt-ltb, le-ltb}
+use mathlib.Core.Path.{sym, ap}
+use borrow.Author.Tests.{ne-eqb}
 use Rattle.lines.specs.Reading.{named}
 use Rattle.lines.proofs.spelling.named.Statement.{statement}
 use Rattle.lines.proofs.spelling.named.Tie as tie

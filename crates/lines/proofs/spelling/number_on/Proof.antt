@@ -1,8 +1,6 @@
 -- `number_on` goes by the kind of character, and by what the number is so far.
-use mathlib.Core.Path.{_≡_, refl, sym, ap, _∙_}
-use borrow.Author.Tests.{eq-eqb, ne-eqb, le-leb, lt-leb, lt-ltb, le-ltb}
-use Rattle.lines.specs.Reading.{numberOn, numbered}
-use Rattle.lines.specs.declared.Number.{Number}
+use borrow.Author.Tests.{le-leb, lt-leb}
+use Rattle.lines.specs.Reading.{numberOn}
 use borrow.Author.Needs.{needs}
 use Rattle.lines.proofs.spelling.number_on.Statement.{statement}
 use Rattle.lines.proofs.spelling.number_on.Tie as tie

@@ -1,5 +1,5 @@
 -- `all` sends piece after piece, and counts its turns down. The block keeps its length.
-use Prim.Native.Nat.{ℕ, _≤_}
+use Prim.Native.Nat.{_≤_}
 use mathlib.Core.Path.{_≡_, refl, _∙_}
 use native.Mathlib.Omega.{arith}
 use lib.ListN.{length}

@@ -1,7 +1,6 @@
 -- One piece after the other; the two buffers keep their lengths, and the turns are counted down.
 -- Assumes nothing.
 use mathlib.Core.Path.{_≡_}
-use native.Mathlib.Omega.{arith}
 use lib.ListN.{length}
 use borrow.Author.Needs.{needs}
 use Rattle.record.proofs.pieces.all.Statement.{statement}

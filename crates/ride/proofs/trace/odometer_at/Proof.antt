@@ -1,5 +1,5 @@
 -- `odometer_at` reads the four bytes by their numbers.
-use mathlib.Core.Path.{ap, sym, _∙_}
+use mathlib.Core.Path.{ap, _∙_}
 use Prim.Native.Nat.{_*_, _+_, _≤_}
 use native.Mathlib.Omega.{arith}
 use lib.ListN.{length}

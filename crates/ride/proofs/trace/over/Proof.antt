@@ -1,7 +1,7 @@
 -- `over` takes the records one by one, with what is held for each: the ride over those that are
 -- left, from here, is the ride over all.
 use mathlib.Core.Path.{_≡_, refl, _∙_}
-use Prim.Native.Nat.{ℕ, _-_, _/_, _≤_}
+use Prim.Native.Nat.{_-_, _/_, _≤_}
 use native.Mathlib.Omega.{arith}
 use lib.ListN.{length}
 use Rattle.settings.specs.At.{gapAt}

@@ -1,7 +1,5 @@
 -- `treat_at` judges the gap, then the index, and treats the record that stands there.
 use mathlib.Core.Path.{ap, sym, _∙_}
-use mathlib.Core.List.{List}
-use Prim.Native.Nat.{ℕ}
 use borrow.Author.Tests.{not-true, not-false}
 use Rattle.ride.specs.Step.{treat}
 use Rattle.ride.specs.At.{byStep}

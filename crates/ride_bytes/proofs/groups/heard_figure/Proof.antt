@@ -1,6 +1,6 @@
 -- What was heard reads back: words have eight bits.
 -- Assumes nothing.
-use mathlib.Core.Path.{_≡_, refl, sym, ap, ap₂, _∙_}
+use mathlib.Core.Path.{sym, ap, _∙_}
 use native.Mathlib.Omega.{arith}
 use Rattle.ride_bytes.specs.Things.{heardFigure, heardOf}
 use Rattle.ride_bytes.proofs.Back.{heard-back}

@@ -1,6 +1,5 @@
 -- By the size of its distance.
 -- Assumes nothing.
-use mathlib.Core.Path.{_≡_, refl, sym, ap, ap₂, _∙_}
 use borrow.Author.Tests.{lt-ltb, le-ltb}
 use Rattle.ride_bytes.specs.Things.{linkingOf}
 use borrow.Author.Needs.{needs}

@@ -1,6 +1,5 @@
 -- By its size.
 -- Assumes nothing.
-use mathlib.Core.Path.{_≡_, refl, sym, ap, ap₂, _∙_}
 use borrow.Author.Tests.{lt-ltb, le-ltb}
 use Rattle.ride_bytes.specs.Things.{numberOf}
 use borrow.Author.Needs.{needs}

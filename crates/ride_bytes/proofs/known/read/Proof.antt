@@ -1,7 +1,6 @@
 -- Each from its figures.
 -- Assumes nothing.
-use mathlib.Core.Path.{_≡_, refl, sym, ap, ap₂, _∙_}
-use Prim.Native.Nat.{ℕ}
+use mathlib.Core.Path.{_≡_, ap, ap₂, _∙_}
 use Rattle.group.specs.declared.Number.{Number}
 use Rattle.group.specs.declared.Told.{Told}
 use Rattle.ride.specs.declared.Linking.{Linking}

@@ -1,6 +1,6 @@
 -- A speed reads back: it has sixteen bits.
 -- Assumes nothing.
-use mathlib.Core.Path.{_≡_, refl, sym, ap, ap₂, _∙_}
+use mathlib.Core.Path.{sym, ap, _∙_}
 use native.Mathlib.Omega.{arith}
 use Rattle.ride_bytes.specs.Things.{toldFigure, toldOf}
 use Rattle.ride_bytes.proofs.Back.{told-back}

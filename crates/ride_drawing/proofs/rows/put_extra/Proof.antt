@@ -1,7 +1,6 @@
 -- By the line, and by whether it is extra.
 -- Assumes nothing.
-use mathlib.Core.Bool.{true, false}
-use mathlib.Core.Path.{_≡_, sym, ap, _∙_}
+use mathlib.Core.Path.{sym, ap, _∙_}
 use Rattle.ride.specs.declared.Line.{Line}
 use Rattle.ride_drawing.proofs.Entries.{extra-drawn, extra-none}
 use Rattle.text.proofs.Putting.{all-as, none-as}

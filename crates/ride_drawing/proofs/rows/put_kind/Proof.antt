@@ -2,7 +2,6 @@
 -- Assumes nothing.
 use mathlib.Core.Path.{sym, ap}
 use Rattle.text.specs.Put.{put}
-use Rattle.group_rows.specs.declared.Kind.{Kind}
 use Rattle.acceptance_text.specs.Lines.{kindWord}
 use Rattle.text.proofs.Putting.{word-as}
 use borrow.Author.Needs.{needs}

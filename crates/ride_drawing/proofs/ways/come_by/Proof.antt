@@ -1,7 +1,6 @@
 -- By whether the entry lies on the way.
 -- Assumes nothing.
-use mathlib.Core.Bool.{true, false}
-use mathlib.Core.Path.{_≡_, sym, _∙_}
+use mathlib.Core.Path.{sym, _∙_}
 use borrow.Author.Tests.{not-true, not-false}
 use Rattle.ride_drawing.proofs.Entries.{by-none, by-drawn}
 use Rattle.text.proofs.Putting.{none, after, all-as, none-as}

@@ -1,7 +1,7 @@
 -- `put_missed` puts the place, and the word after it.
 use Rattle.text.specs.Text.{codes, decimal}
 use Rattle.text.proofs.Standing.{join}
-use Rattle.ride_text.specs.Text.{textWith, text}
+use Rattle.ride_text.specs.Text.{textWith}
 use borrow.Author.Needs.{needs}
 use Rattle.ride_text.proofs.lines.put_missed.Statement.{statement}
 use Rattle.ride_text.proofs.lines.put_missed.Tie as tie

@@ -1,8 +1,7 @@
 -- `put_why` puts nothing, or the colon and the explainer's reason.
 use mathlib.Core.Path.{sym, ap, _∙_}
-use mathlib.Core.List.{List, _++_}
-use Prim.Native.Nat.{ℕ, _+_, _≤_}
-use lib.ListN.{length}
+use mathlib.Core.List.{List}
+use Prim.Native.Nat.{ℕ}
 use borrow.Author.Tests.{not-true, not-false}
 use Rattle.text.specs.Text.{codes}
 use Rattle.text.specs.Put.{put}

@@ -1,9 +1,8 @@
 -- `put_lines` puts at most two lines one after the other.
 use mathlib.Core.Path.{sym, ap, _∙_}
 use mathlib.Core.List.{List}
-use Prim.Native.Nat.{ℕ, _+_, _≤_}
+use Prim.Native.Nat.{ℕ}
 use native.Mathlib.Omega.{arith}
-use lib.ListN.{length}
 use Rattle.text.specs.Put.{put}
 use Rattle.text.proofs.Standing.{room-after, join, by-case}
 use Rattle.ride.specs.declared.Lines.{Lines}

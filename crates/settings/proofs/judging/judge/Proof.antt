@@ -1,9 +1,8 @@
 -- `judge` looks at the count, at the first version, and has the others looked at.
-use mathlib.Core.Path.{_≡_, sym, ap, _∙_}
+use mathlib.Core.Path.{sym, ap, _∙_}
 use Prim.Native.Nat.{_≤_}
 use native.Mathlib.Omega.{arith}
 use borrow.Author.Tests.{eq-eqb, ne-eqb}
-use Rattle.settings.specs.Versions.{then, Kept}
 use Rattle.settings.specs.Says.{saysVerdict}
 use Rattle.settings.proofs.Walking.{unmapped}
 use Rattle.settings.proofs.Counts.{too-many, empty, first-place, first-settings}

@@ -1,8 +1,7 @@
 -- `may_add` judges the store, then the version, then whether there is room.
-use mathlib.Core.Path.{_≡_, sym, ap, _∙_}
+use mathlib.Core.Path.{sym, ap, _∙_}
 use borrow.Author.Tests.{lt-ltb, le-ltb}
-use Rattle.words.specs.Answer.{gives}
-use Rattle.settings.specs.Versions.{kept, follows}
+use Rattle.settings.specs.Versions.{follows}
 use Rattle.settings.specs.Store.{mayAdd}
 use Rattle.settings.specs.Says.{saysVerdict}
 use Rattle.settings.proofs.Counts.{at-least, at-most}

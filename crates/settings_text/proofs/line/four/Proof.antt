@@ -1,5 +1,5 @@
 -- `four` takes the first four words.
-use mathlib.Core.Path.{_≡_, ap, ap₂, _∙_}
+use mathlib.Core.Path.{ap₂, _∙_}
 use Rattle.figures.specs.declared.Byte.{Byte}
 use Rattle.settings_text.specs.declared.line.Figure.{Figure}
 use Rattle.settings_text.specs.Line.{wordAt, version}

@@ -1,6 +1,6 @@
 -- The eight bytes of the figure, in two halves.
 -- Assumes nothing.
-use mathlib.Core.Path.{_≡_, ap₂, _∙_}
+use mathlib.Core.Path.{ap₂}
 use Prim.Native.Nat.{ℕ, _+_, _*_}
 use borrow.Author.Needs.{needs}
 use Rattle.state_bytes.specs.Figures.{eightAt}

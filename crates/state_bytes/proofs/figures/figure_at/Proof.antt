@@ -1,6 +1,5 @@
 -- The eight bytes where they are there, 0 beyond.
 -- Assumes nothing.
-use mathlib.Core.Path.{_≡_, sym, ap, _∙_}
 use borrow.Author.Tests.{lt-ltb, le-ltb}
 use borrow.Author.Needs.{needs}
 use Rattle.state_bytes.specs.Figures.{figureAt}

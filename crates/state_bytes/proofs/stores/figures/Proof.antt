@@ -1,14 +1,13 @@
 -- Figure after figure is the rule's, and the count comes last.
 -- Assumes nothing.
 use Prim.Native.Nat.{ℕ, _+_, _-_, _/_, _%_, _<_, _≤_}
-use mathlib.Core.Path.{_≡_, refl, sym, ap, subst, _∙_}
-use mathlib.Core.List.{List, [], _∷_, _++_}
+use mathlib.Core.Path.{_≡_, refl, sym, subst, _∙_}
+use mathlib.Core.List.{List}
 use native.Mathlib.Omega.{arith}
 use lib.ListN.{length, getD, set, length-set}
 use borrow.Author.Needs.{needs}
 use Rattle.settings.specs.declared.Version.{Version}
 use Rattle.settings.specs.Store.{noVersion}
-use Rattle.state_bytes.specs.Figures.{each}
 use Rattle.state_bytes.specs.Inside.{widthOf}
 use Rattle.state_bytes.specs.Stores.{versionFigure, figuresOf}
 use Rattle.state_bytes.proofs.Bytes.{then-last, more, and-then}

@@ -1,6 +1,6 @@
 -- The low bits of the version's four figures.
 -- Assumes nothing.
-use mathlib.Core.Path.{_≡_, ap, ap₂, _∙_}
+use mathlib.Core.Path.{_≡_, ap, _∙_}
 use Prim.Native.Nat.{ℕ, _%_}
 use Rattle.settings.specs.declared.Version.{Version}
 use borrow.Author.Needs.{needs}

@@ -1,8 +1,6 @@
 -- `spells` compares the decimal number that a text is.
-use mathlib.Core.Path.{_≡_, sym, ap, _∙_}
-use Prim.Native.Nat.{ℕ}
+use mathlib.Core.Path.{sym, ap, _∙_}
 use borrow.Author.Needs.{needs}
-use Rattle.figures.specs.declared.Figure.{Figure}
 use Rattle.test_rows.specs.Spelling.{is, spells}
 use Rattle.test_rows.proofs.spelling.spells.Statement.{statement}
 use Rattle.test_rows.proofs.spelling.spells.Tie as tie

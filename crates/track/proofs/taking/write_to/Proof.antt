@@ -1,9 +1,7 @@
 -- `write_to` writes block after block, and counts its turns down. The room keeps its length.
-use Prim.Native.Nat.{ℕ, _≤_}
 use mathlib.Core.Path.{_≡_, refl, _∙_}
 use native.Mathlib.Omega.{arith}
 use lib.ListN.{length}
-use borrow.Author.Needs.{needs}
 use Rattle.track.proofs.taking.write_to.Statement.{statement}
 use Rattle.track.proofs.taking.write_to.Tie as tie
 

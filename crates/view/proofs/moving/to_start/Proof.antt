@@ -1,9 +1,7 @@
 -- `to_start` stays within the buffer: each byte goes from its place to one that is not after it.
-use mathlib.Core.Path.{_≡_, refl, sym, ap, _∙_}
-use Prim.Native.Nat.{ℕ, _+_, _-_, _*_, _/_, _<_, _≤_}
-use native.Mathlib.Omega.{arith}
+use mathlib.Core.Path.{_≡_}
+use Prim.Native.Nat.{_-_}
 use lib.ListN.{length}
-use lib.Seq.{length-take-le}
 use borrow.Author.Needs.{needs}
 use Rattle.view.proofs.moving.to_start.Statement.{statement}
 use Rattle.view.proofs.moving.to_start.Tie as tie

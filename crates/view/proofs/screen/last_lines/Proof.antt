@@ -1,10 +1,8 @@
 -- `last_lines` stays within the trace and the buffer: each block ends after it began, and no later
 -- than the last record.
-use mathlib.Core.Path.{_≡_, refl, sym, ap, _∙_}
-use Prim.Native.Nat.{ℕ, _+_, _-_, _*_, _/_, _<_, _≤_}
-use native.Mathlib.Omega.{arith}
+use mathlib.Core.Path.{_≡_}
+use Prim.Native.Nat.{_-_, _≤_}
 use lib.ListN.{length}
-use lib.Seq.{length-take-le}
 use borrow.Author.Needs.{needs}
 use Rattle.view.proofs.screen.last_lines.Statement.{statement}
 use Rattle.view.proofs.screen.last_lines.Tie as tie

@@ -13,7 +13,7 @@ use Rattle.ride.specs.State.{freshRide}
 use Rattle.viewer.specs.declared.Standing.{Standing}
 use Rattle.viewer.specs.Going.{Ending, all, refused, Moved, stopped}
 use Rattle.viewer.specs.Says.{saysEnding}
-use Rattle.viewer.proofs.Many.{farBack, backs-stay, backs-move}
+use Rattle.viewer.proofs.Many.{backs-stay, backs-move}
 use denote.Struct.Laws as LL
 use Rattle.viewer.proofs.Standing as P
 use Rattle.viewer.proofs.Standing.Laws as P′

@@ -1,7 +1,7 @@
 -- `forwards_at` asks whether any forward is wanted, then whether the settings are good; if not,
 -- none is made.
 use mathlib.Core.Path.{ap, sym, _∙_}
-use Rattle.settings.specs.Says.{saysAsked, saysBad}
+use Rattle.settings.specs.Says.{saysAsked}
 use Rattle.settings.proofs.Holding.{held-given, store-refused}
 use Rattle.viewer.specs.Going.{Ending, stopped}
 use Rattle.viewer.proofs.Many.{forwards-none, forwards-refused}

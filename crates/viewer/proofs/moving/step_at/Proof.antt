@@ -1,15 +1,14 @@
 -- `step_at` treats the record by its step: it stands in the trace, and the gap is allowed.
-use mathlib.Core.Path.{_≡_, ap, sym, _∙_}
+use mathlib.Core.Path.{ap, _∙_}
 use Prim.Native.Nat.{_+_}
 use native.Mathlib.Omega.{arith}
 use mathlib.Core.List.{List}
 use Rattle.words.specs.Answer.{gives}
 use Rattle.ride.specs.declared.Line.{Line}
 use Rattle.viewer.specs.declared.Standing.{Standing}
-use Rattle.ride.specs.Step.{Step}
 use Rattle.ride.specs.Over.{linesFor}
 use Rattle.ride.specs.Says.{saysGiven}
-use Rattle.ride.proofs.At.{Took, took, past}
+use Rattle.ride.proofs.At.{took, past}
 use Rattle.viewer.specs.Viewing.{done, Forward, byStep}
 use borrow.Author.Needs.{needs}
 use Rattle.viewer.proofs.moving.step_at.Statement.{statement}

@@ -1,5 +1,5 @@
 -- `unmoved` hands out no group.
-use Rattle.ride.specs.State.{noGroup, freshRide}
+use Rattle.ride.specs.State.{freshRide}
 use borrow.Author.Needs.{needs}
 use Rattle.viewer.proofs.moving.unmoved.Statement.{statement}
 use Rattle.viewer.proofs.moving.unmoved.Tie as tie

@@ -3,10 +3,9 @@ use mathlib.Core.Path.{_≡_, refl, sym, subst, _∙_}
 use Prim.Native.Nat.{ℕ, _+_, _-_, _^_, _<_, _≤_}
 use native.Mathlib.Nat.{mul-one}
 use native.Mathlib.Omega.{arith}
-use lib.ListN.{length, getD}
+use lib.ListN.{length}
 use Rattle.viewer_text.specs.Finding.{small, standsAt}
 use Rattle.viewer_text.proofs.Scanning.{stands-on, stands-not, stands-done}
-use borrow.Author.Needs.{needs}
 use Rattle.viewer_text.proofs.finding.stands_at.Statement.{statement}
 use Rattle.viewer_text.proofs.finding.stands_at.Tie as tie
 

@@ -1,6 +1,6 @@
 -- `put_no_line` asks whether there is room for the whole line, and then puts its three parts.
 use mathlib.Core.List.{map, _++_}
-use Prim.Native.Nat.{ℕ, _+_, _≤_}
+use Prim.Native.Nat.{_+_, _≤_}
 use native.Mathlib.Omega.{arith}
 use lib.ListN.{length}
 use Rattle.text.specs.Text.{codes}

@@ -9,7 +9,6 @@ use lib.ListN.{length}
 use borrow.Author.Tests.{lt-ltb, le-ltb}
 use Rattle.words.specs.Answer.{pick}
 use Rattle.text.specs.Put.{put}
-use Rattle.trace_text.specs.declared.Said.{Said}
 use Rattle.trace_text.specs.Thing.{thingAt}
 use Rattle.viewer_text.specs.Screen.{saidBeside, beside}
 use borrow.Author.Needs.{needs}

@@ -1,5 +1,5 @@
 -- `put_mark` puts one or the other.
-use mathlib.Core.Path.{_≡_, sym, ap, _∙_}
+use mathlib.Core.Path.{sym, ap, _∙_}
 use mathlib.Core.Bool.{Bool}
 use Rattle.text.specs.Put.{put}
 use Rattle.viewer_text.specs.Screen.{mark}

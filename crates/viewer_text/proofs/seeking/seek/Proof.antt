@@ -1,5 +1,5 @@
 -- `seek` asks the store for place 0, and goes over the records that are left.
-use mathlib.Core.Path.{_≡_, ap, sym, _∙_}
+use mathlib.Core.Path.{ap, sym, _∙_}
 use Rattle.settings.specs.Says.{saysAsked}
 use Rattle.settings.proofs.Holding.{held-given, store-refused}
 use Rattle.viewer_text.proofs.Onward.{seek-good, seek-bad}

@@ -1,12 +1,11 @@
 -- `put_all` puts the pieces one after the other, and the last newline.
-use mathlib.Core.Path.{_≡_, sym, ap, subst, _∙_}
+use mathlib.Core.Path.{ap, _∙_}
 use mathlib.Core.List.{List, _++_}
 use Prim.Native.Nat.{ℕ, _+_, _≤_}
 use lib.ListN.{length}
-use Rattle.text.specs.Text.{codes, decimal}
+use Rattle.text.specs.Text.{codes}
 use Rattle.text.specs.Put.{put}
 use Rattle.text.proofs.Standing.{less, join, room-after, join-3, join-4}
-use Rattle.viewer_text.specs.Text.{state}
 use Rattle.viewer_text.specs.Pieces.{onPlace, onGroup, onLinking, onSpeeds}
 use Rattle.viewer_text.proofs.Pieces.{state-is, room-as}
 use borrow.Author.Needs.{needs}

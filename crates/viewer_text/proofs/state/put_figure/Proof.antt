@@ -1,9 +1,5 @@
 -- `put_figure` goes by whether there is a number.
-use mathlib.Core.Path.{_≡_, sym, ap, subst, _∙_}
-use mathlib.Core.List.{List, _++_}
-use Prim.Native.Nat.{ℕ, _+_, _≤_}
-use lib.ListN.{length}
-use Rattle.text.specs.Text.{codes, decimal}
+use mathlib.Core.Path.{sym, ap, _∙_}
 use Rattle.text.specs.Put.{put}
 use Rattle.group.specs.declared.Number.{Number}
 use Rattle.viewer_text.specs.Text.{figure}

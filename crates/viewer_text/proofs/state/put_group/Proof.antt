@@ -2,13 +2,11 @@
 use mathlib.Core.Path.{_≡_, refl, ap, _∙_}
 use mathlib.Core.List.{List, [], _∷_, _++_}
 use Prim.Native.Nat.{ℕ, _<_}
-use lib.ListN.{length, getD}
+use lib.ListN.{getD}
 use Rattle.text.specs.Text.{codes, decimal}
 use Rattle.text.specs.Put.{put}
-use mathlib.Core.Bool.{true, false}
 use native.Mathlib.Omega.{arith}
-use borrow.Author.Tests.{lt-ltb, le-ltb}
-use lib.Dec.{ltb}
+use borrow.Author.Tests.{lt-ltb}
 use Rattle.group.specs.declared.Group.{Group}
 use Rattle.group.specs.declared.Balise.{Balise}
 use Rattle.group.specs.declared.Heard.{Heard}

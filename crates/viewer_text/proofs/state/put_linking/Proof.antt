@@ -1,7 +1,7 @@
 -- `put_linking` goes by whether linking is set.
-use mathlib.Core.Path.{_≡_, sym, ap, subst, _∙_}
-use mathlib.Core.List.{List, _++_}
-use Prim.Native.Nat.{ℕ, _+_, _≤_}
+use mathlib.Core.Path.{sym, ap, subst, _∙_}
+use mathlib.Core.List.{_++_}
+use Prim.Native.Nat.{_+_, _≤_}
 use lib.ListN.{length}
 use Rattle.text.specs.Text.{codes, decimal}
 use Rattle.text.specs.Put.{put}

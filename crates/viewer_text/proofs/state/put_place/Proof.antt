@@ -1,10 +1,7 @@
 -- `put_place` puts one number after the other.
-use mathlib.Core.Path.{_≡_, sym, ap, subst, _∙_}
-use mathlib.Core.List.{List, _++_}
-use Prim.Native.Nat.{ℕ, _+_, _≤_}
-use lib.ListN.{length}
+use mathlib.Core.List.{_++_}
+use Prim.Native.Nat.{_+_}
 use Rattle.text.specs.Text.{codes, decimal}
-use Rattle.text.specs.Put.{put}
 use Rattle.text.proofs.Standing.{join-4}
 use Rattle.viewer_text.specs.Pieces.{onPlace}
 use borrow.Author.Needs.{needs}

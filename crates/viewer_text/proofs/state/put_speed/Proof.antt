@@ -1,9 +1,9 @@
 -- `put_speed` goes by whether the speed is known.
-use mathlib.Core.Path.{_≡_, sym, ap, subst, _∙_}
-use mathlib.Core.List.{List, _++_}
-use Prim.Native.Nat.{ℕ, _+_, _≤_}
+use mathlib.Core.Path.{sym, ap, subst, _∙_}
+use mathlib.Core.List.{_++_}
+use Prim.Native.Nat.{_+_, _≤_}
 use lib.ListN.{length}
-use Rattle.text.specs.Text.{codes, decimal}
+use Rattle.text.specs.Text.{codes}
 use Rattle.text.specs.Put.{put}
 use Rattle.group.specs.declared.Told.{Told}
 use Rattle.text.proofs.Standing.{join}

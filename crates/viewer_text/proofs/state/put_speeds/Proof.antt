@@ -1,10 +1,8 @@
 -- `put_speeds` puts main, target and number one after the other.
-use mathlib.Core.Path.{_≡_, sym, ap, subst, _∙_}
-use mathlib.Core.List.{List, _++_}
-use Prim.Native.Nat.{ℕ, _+_, _≤_}
+use mathlib.Core.List.{_++_}
+use Prim.Native.Nat.{_+_, _≤_}
 use lib.ListN.{length}
-use Rattle.text.specs.Text.{codes, decimal}
-use Rattle.text.specs.Put.{put}
+use Rattle.text.specs.Text.{codes}
 use Rattle.text.proofs.Standing.{less, join, room-after, join-3}
 use Rattle.viewer_text.specs.Text.{speed}
 use Rattle.viewer_text.specs.Pieces.{onFigure, onSpeeds}

@@ -1,12 +1,11 @@
 -- `end` goes back over the blanks: where the first signs end decides.
 use mathlib.Core.Path.{_≡_, refl, sym, _∙_}
-use Prim.Native.Nat.{ℕ, _-_, _≤_}
+use Prim.Native.Nat.{_-_, _≤_}
 use native.Mathlib.Omega.{arith}
 use borrow.Author.Tests.{not-true, not-false}
 use lib.ListN.{length}
 use Rattle.viewer_text.specs.Commands.{endsAt}
 use Rattle.viewer_text.proofs.Scanning.{ends-on, ends-here, ends-none}
-use borrow.Author.Needs.{needs}
 use Rattle.viewer_text.proofs.trimming.end.Statement.{statement}
 use Rattle.viewer_text.proofs.trimming.end.Tie as tie
 

@@ -1,7 +1,6 @@
 -- `carrier` is 0 at a check and 1 elsewhere, as `is_check` says.
-use mathlib.Core.Path.{_≡_, sym, ap, _∙_}
+use mathlib.Core.Path.{sym, ap, _∙_}
 use mathlib.Core.Bool.{Bool}
-use Prim.Native.Nat.{ℕ}
 use borrow.Author.Needs.{needs}
 use Rattle.words.specs.Answer.{pick}
 use Rattle.words.proofs.writing.carrier.Statement.{statement}

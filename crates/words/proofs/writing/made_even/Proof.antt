@@ -1,9 +1,9 @@
 -- `made_even` is its definition; the sum fits, since one check adds at most its own bit.
-use mathlib.Core.Path.{_≡_, ap, ap₂, subst, sym}
-use Prim.Native.Nat.{ℕ, _+_, _*_, _%_, _^_, _≤_, _<_}
+use mathlib.Core.Path.{ap₂}
+use Prim.Native.Nat.{ℕ, _+_, _*_, _%_}
 use native.Mathlib.Omega.{arith}
 use borrow.Author.Needs.{needs}
-use Rattle.words.specs.Plain.{covers, count, madeEven}
+use Rattle.words.specs.Plain.{count, madeEven}
 use Rattle.words.proofs.Checking.{worth-le, shifted, added-le}
 use Rattle.words.proofs.writing.made_even.Statement.{statement}
 use Rattle.words.proofs.writing.made_even.Tie as tie

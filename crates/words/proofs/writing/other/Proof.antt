@@ -1,6 +1,6 @@
 -- `other` names the position that document 01 exchanges with i: each arm of the match is one line
 -- of the definition.
-use borrow.Author.Tests.{eq-eqb, ne-eqb}
+use borrow.Author.Tests.{ne-eqb}
 use Rattle.words.specs.Code.{other}
 use Rattle.words.proofs.writing.other.Statement.{statement}
 use Rattle.words.proofs.writing.other.Tie as tie
