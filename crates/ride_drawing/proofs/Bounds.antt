@@ -23,7 +23,7 @@ use Rattle.ride_text.specs.Text.{lineText}
 use Rattle.ride_text.proofs.Longest.{line-within}
 use Rattle.ride_drawing.specs.Metres.{metres}
 use Rattle.ride_drawing.specs.Strip.{onStrip}
-use Rattle.ride_drawing.specs.Sign.{title, shape, beside, numberBeside, placeBeside, label, sign}
+use Rattle.ride_drawing.specs.Sign.{title, shape, raised, beside, numberBeside, placeBeside, label, sign}
 use Rattle.ride_drawing.specs.Row.{entryShape, entryTitle, rowNumber, entrySign, extraSign}
 use Rattle.ride_drawing.proofs.Sizes.{size, size-none, size-one, size-append, worded, metres-size, either, nothing}
 
@@ -39,7 +39,7 @@ title-size g l =
 number-size : (d : Direction) (n : Number) (x : ℕ) → size (numberBeside d n x) ≤ 160
 unfolding size
 number-size d Number.None x = omega arith
-number-size d (Number.Figure m) x = simp length-append (omega (arith, decimal-length (x / 10), decimal-length (x % 10), decimal-length (beside d), decimal-length m))
+number-size d (Number.Figure m) x = simp length-append (omega (arith, decimal-length (x / 10), decimal-length (x % 10), decimal-length (beside d x), decimal-length m))
 
 place-size : (edge place : ℕ) → size (placeBeside edge place) ≤ 30
 place-size edge place =
@@ -50,13 +50,17 @@ label-size : (l : Line) (edge x : ℕ) → size (label l edge x) ≤ 160
 unfolding label
 label-size (Line.Group s) edge x = number-size (s .direction) (s .number) x
 label-size (Line.Fault place n) edge x =
-    let w : List ℕ = codes "<text class='x' dx='9' y='152' x='" in
+    let w : List ℕ = codes "<text class='x' dx='9' x='" in
     let rest : List (List ℕ) = placeBeside edge place ++ codes "</text>" ∷ [] in
+    let high : List ℕ = codes "' y='" ++ decimal (146 - raised x) in
+    let figure : List ℕ = codes "'>" ++ decimal n in
     omega (
       arith,
-      size-append (metres w x) ((codes "'>" ++ decimal n) ∷ rest),
+      size-append (metres w x) (high ∷ figure ∷ rest),
       metres-size w x,
-      size-one (codes "'>" ++ decimal n) rest,
+      size-one high (figure ∷ rest),
+      worded (codes "' y='") (146 - raised x),
+      size-one figure rest,
       worded (codes "'>") n,
       size-append (placeBeside edge place) (codes "</text>" ∷ []),
       place-size edge place,

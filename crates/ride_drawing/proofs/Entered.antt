@@ -27,7 +27,7 @@ use Rattle.ride_drawing.specs.Row.{row, isExtra, isOnTheWay, furthest}
 use Rattle.ride_drawing.specs.Element.{Element, plain, mark, extra}
 use Rattle.ride_drawing.specs.Way.{Past, past, wayPast}
 use Rattle.ride_drawing.specs.Ticks.{inTheRow, onTheTicks, drawRefused}
-use Rattle.ride_drawing.specs.Drawing.{extraMark, placeOf, reached, afterLine, afterLines, onItsStrip, drawLines, certain, drawAccepted, drawStep, penAfter, lastStrip, theRest, drawEnd}
+use Rattle.ride_drawing.specs.Drawing.{extraMark, placeOf, afterLine, afterLines, onItsStrip, drawLines, certain, drawAccepted, drawStep, penAfter, lastStrip, theRest, drawEnd, knownBefore}
 use Rattle.ride_drawing.specs.Draw.{stepPen, stepElements, Picture, drawOver}
 use Rattle.ride_drawing.specs.Says.{freshPen}
 use Rattle.ride_drawing.specs.Laws.{signsOf, OneEntry}
@@ -57,7 +57,7 @@ module _ (plan : Plan) (k : ℕ) (h : k < length (row plan)) where
   line-signs pen known closed l odometer =
       let place : ℕ = placeOf l odometer in
       let there : Pen = arrive pen place place in
-      let rest : List Element = plain (span (there .edge) (there .from) (reached there l place) known) ∷ mark closed l (there .edge) place ∷ extraMark plan l (there .edge) in
+      let rest : List Element = plain (knownBefore there known l place) ∷ mark closed l (there .edge) place ∷ extraMark plan l (there .edge) in
       omega (arith, signs-append k (wayPast plan pen place place known) rest, extra-signs l (there .edge), way-signs plan k h pen place place known)
 
   lines-signs : (ls : List Line) (pen : Pen) (known then : Known) (closed : Group) (odometer : ℕ)

@@ -22,7 +22,7 @@ use Rattle.ride_drawing.specs.Row.{row, isExtra, furthest}
 use Rattle.ride_drawing.specs.Element.{Element, plain, mark, extra}
 use Rattle.ride_drawing.specs.Way.{way, Past, past, wayPast}
 use Rattle.ride_drawing.specs.Ticks.{inTheRow, onTheTicks, drawRefused}
-use Rattle.ride_drawing.specs.Drawing.{extraMark, placeOf, reached, afterLine, afterLines, onItsStrip, drawLines, certain, drawAccepted, drawStep, lastStrip, theRest, drawEnd}
+use Rattle.ride_drawing.specs.Drawing.{extraMark, placeOf, afterLine, afterLines, onItsStrip, drawLines, certain, drawAccepted, drawStep, lastStrip, theRest, drawEnd, knownBefore}
 use Rattle.ride_drawing.specs.Draw.{stepPen, stepElements, Picture, drawOver}
 use Rattle.ride_drawing.specs.Places.{AtOwnPlace, AllBelong, Rising, OwnPlace}
 use Rattle.ride_drawing.proofs.Rising.{first-rise, begins, goes-on}
@@ -73,7 +73,7 @@ module _ (plan : Plan) (h : Rising (plan .run)) where
       let place : ℕ = placeOf l odometer in
       let there : Pen = arrive pen place place in
       let near : place < there .edge + 10000 = not-behind pen place place in
-      let sign : List Element = plain (span (there .edge) (there .from) (reached there l place) known) ∷ mark closed l (there .edge) place ∷ extraMark plan l (there .edge) in
+      let sign : List Element = plain (knownBefore there known l place) ∷ mark closed l (there .edge) place ∷ extraMark plan l (there .edge) in
       both plan (wayPast plan pen place place known ++ sign) (drawLines plan (afterLine pen l odometer) then then closed ls odometer)
       (both plan (wayPast plan pen place place known) sign (way-belongs pen place place known) (tt, (own l odometer (there .edge) near, extra-belongs l odometer (there .edge) near)))
       (lines-belong ls (afterLine pen l odometer) then then closed odometer)

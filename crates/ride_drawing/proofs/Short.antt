@@ -21,23 +21,30 @@ use Rattle.ride.specs.Says.{saysWrong, saysLines, saysGiven}
 use Rattle.ride_drawing.specs.declared.Pen.{Pen}
 use Rattle.ride_drawing.specs.declared.Plan.{Plan}
 use Rattle.ride_drawing.specs.Strip.{arrive}
-use Rattle.ride_drawing.specs.Span.{span}
+use Rattle.ride_drawing.specs.Span.{band, span}
 use Rattle.ride_drawing.specs.Row.{row, furthest}
 use Rattle.ride_drawing.specs.Element.{Element, plain, mark}
 use Rattle.ride_drawing.specs.Way.{Past, past, wayPast}
 use Rattle.ride_drawing.specs.Ticks.{inTheRow, onTheTicks, drawRefused}
-use Rattle.ride_drawing.specs.Drawing.{extraMark, placeOf, reached, afterLine, afterLines, onItsStrip, drawLines, certain, drawAccepted, drawStep, lastStrip, theRest, drawEnd}
+use Rattle.ride_drawing.specs.Drawing.{extraMark, placeOf, reached, isMissed, knownBefore, afterLine, afterLines, onItsStrip, drawLines, certain, drawAccepted, drawStep, lastStrip, theRest, drawEnd}
 use Rattle.ride_drawing.specs.Draw.{textOf, roomFor}
 use Rattle.ride_drawing.specs.Laws.{Bounded}
-use Rattle.ride_drawing.proofs.Sizes.{size, size-none, size-one, size-append, worded, span-size}
+use Rattle.ride_drawing.proofs.Sizes.{size, either, size-none, size-one, size-append, worded, band-size, span-size}
 use Rattle.ride_drawing.proofs.ShortWays.{bytes, bytes-none, bytes-plain, bytes-mark, bytes-append, all-size, past-way, extra-most}
+
+-- what was known before a line,
+before-size : (pen : Pen) (known : Known) (l : Line) (place : ℕ) → size (knownBefore pen known l place) ≤ 700
+unfolding knownBefore
+before-size pen known l place =
+    either (isMissed l) (band (known .linking) (pen .edge) (pen .from) place) (span (pen .edge) (pen .from) (reached pen l place) known) 700
+    (omega (arith, band-size (known .linking) (pen .edge) (pen .from) place)) (span-size (pen .edge) (pen .from) (reached pen l place) known)
 
 -- a line,
 one-size : (plan : Plan) (pen : Pen) (known : Known) (closed : Group) (l : Line) (place : ℕ) → bytes (onItsStrip plan pen known closed l place) ≤ 151000
 unfolding onItsStrip
 one-size plan pen known closed l place =
     let there : Pen = arrive pen place place in
-    let s : List (List ℕ) = span (there .edge) (there .from) (reached there l place) known in
+    let s : List (List ℕ) = knownBefore there known l place in
     let x : List Element = extraMark plan l (there .edge) in
     let m : List Element = mark closed l (there .edge) place ∷ x in
     omega (
@@ -47,7 +54,7 @@ one-size plan pen known closed l place =
       bytes-plain s m,
       bytes-mark closed l (there .edge) place x,
       extra-most plan l (there .edge),
-      span-size (there .edge) (there .from) (reached there l place) known,
+      before-size there known l place,
     )
 
 -- two lines at most,

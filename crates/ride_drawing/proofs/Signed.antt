@@ -22,7 +22,7 @@ use Rattle.ride_drawing.specs.Row.{row, isExtra, isOnTheWay, furthest}
 use Rattle.ride_drawing.specs.Element.{Element, plain, mark, entry, extra}
 use Rattle.ride_drawing.specs.Way.{way, Past, comeBy, past, wayPast}
 use Rattle.ride_drawing.specs.Ticks.{inTheRow, onTheTicks, drawRefused}
-use Rattle.ride_drawing.specs.Drawing.{extraMark, placeOf, reached, afterLine, afterLines, onItsStrip, drawLines, certain, drawAccepted, drawStep, lastStrip, theRest, drawEnd}
+use Rattle.ride_drawing.specs.Drawing.{extraMark, placeOf, afterLine, afterLines, onItsStrip, drawLines, certain, drawAccepted, drawStep, lastStrip, theRest, drawEnd, knownBefore}
 use Rattle.ride_drawing.specs.Draw.{stepPen, stepElements, drawOver}
 use Rattle.ride_drawing.specs.Laws.{signed, OneSign}
 
@@ -84,7 +84,7 @@ one-signed : (plan : Plan) (pen : Pen) (known : Known) (closed : Group) (l : Lin
 unfolding onItsStrip
 one-signed plan pen known closed l place =
     let there : Pen = arrive pen place place in
-    let rest : List Element = plain (span (there .edge) (there .from) (reached there l place) known) ∷ mark closed l (there .edge) place ∷ extraMark plan l (there .edge) in
+    let rest : List Element = plain (knownBefore there known l place) ∷ mark closed l (there .edge) place ∷ extraMark plan l (there .edge) in
     signed-append (wayPast plan pen place place known) rest
     ∙ ap (λ (ls : List Line). ls ++ (l ∷ signed (extraMark plan l (there .edge)))) (way-signed plan pen place place known)
     ∙ ap (λ (ls : List Line). l ∷ ls) (extra-signed plan l (there .edge))

@@ -97,7 +97,7 @@ middle-size edge from to at = either (leb from at && (ltb at to && ltb (onStrip 
         omega
         (arith, size-append (metres (codes "<path class='c' d='M") (onStrip edge at)) (codes " 124v64'/>\n" ∷ []), metres-size (codes "<path class='c' d='M") (onStrip edge at), size-one (codes " 124v64'/>\n") [], size-none)
 
-band-size : (k : Linking) (edge from to : ℕ) → size (band k edge from to) ≤ 260
+pub band-size : (k : Linking) (edge from to : ℕ) → size (band k edge from to) ≤ 260
 unfolding band
 band-size Linking.Unset edge from to = nothing 260
 band-size (Linking.Set distance a) edge from to =

@@ -17,7 +17,7 @@ use Rattle.ride.specs.Step.{Step, end}
 use Rattle.ride_drawing.specs.declared.Pen.{Pen}
 use Rattle.ride_drawing.specs.declared.Plan.{Plan}
 use Rattle.ride_drawing.specs.Strip.{greater, arrive, closing}
-use Rattle.ride_drawing.specs.Span.{span}
+use Rattle.ride_drawing.specs.Span.{band, span}
 use Rattle.ride_drawing.specs.Row.{row, isExtra, furthest}
 use Rattle.ride_drawing.specs.Element.{Element, plain, mark, extra}
 use Rattle.ride_drawing.specs.Way.{Past, past, wayPast}
@@ -42,17 +42,33 @@ seenTurns Direction.Present Kind.Line = false
 seenTurns Direction.Present Kind.Route = false
 seenTurns Direction.Opposite kind = false
 
--- Whether a line turns what is known: a present signal, a refused group and a missed signal do.
+-- Whether a line turns the speeds: a present signal and a refused group do.
 abbrev pub turns : Line → Bool
 turns (Line.Group s) = seenTurns (s .direction) (s .kind)
 turns (Line.Fault place n) = true
-turns (Line.Missed place) = true
+turns (Line.Missed place) = false
 turns (Line.Record number n) = false
 turns (Line.Trace n) = false
 
 -- Up to where what was known before a line is drawn at its sign.
 abbrev pub reached : Pen → Line → ℕ → ℕ
 reached pen line place = pick (turns line) (greater (pen .from) place) (pen .from)
+
+-- Whether a line is that of a missed signal.
+abbrev pub isMissed : Line → Bool
+isMissed (Line.Group s) = false
+isMissed (Line.Fault place n) = false
+isMissed (Line.Missed place) = true
+isMissed (Line.Record number n) = false
+isMissed (Line.Trace n) = false
+
+-- What was known before a line, drawn at its sign: at a missed signal where it was due, which ends
+-- there; the speeds go on.
+unfoldable pub knownBefore : Pen → Known → Line → ℕ → List (List ℕ)
+knownBefore pen known line place =
+    pick (isMissed line)
+    (band (known .linking) (pen .edge) (pen .from) place)
+    (span (pen .edge) (pen .from) (reached pen line place) known)
 
 -- The pen after the sign of a line.
 unfoldable pub afterLine : Pen → Line → ℕ → Pen
@@ -73,7 +89,7 @@ unfoldable pub onItsStrip : Plan → Pen → Known → Group → Line → ℕ �
 onItsStrip plan pen known closed line place =
     let there : Pen = arrive pen place place in
     wayPast plan pen place place known
-    ++ plain (span (there .edge) (there .from) (reached there line place) known)
+    ++ plain (knownBefore there known line place)
     ∷ mark closed line (there .edge) place
     ∷ extraMark plan line (there .edge)
 

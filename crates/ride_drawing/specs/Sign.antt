@@ -1,6 +1,6 @@
 -- The sign of a line: its shape at its place, the line as its title, and what stands beside it.
 -- Assumes nothing.
-use Prim.Native.Nat.{ℕ, _+_, _-_, _/_}
+use Prim.Native.Nat.{ℕ, _+_, _-_, _*_, _/_, _%_}
 use mathlib.Core.Bool.{Bool, true, false}
 use mathlib.Core.List.{List, [], _∷_, _++_}
 use lib.Dec.{leb, ltb}
@@ -52,16 +52,21 @@ shape (Line.Trace n) = 23
 unfoldable pub title : Group → Line → List ℕ
 title closed line = take (length (lineText withReasons closed line) - 1) (lineText withReasons closed line)
 
--- How far down a number stands beside its sign.
-abbrev pub beside : Direction → ℕ
-beside Direction.Present = 136
-beside Direction.Opposite = 184
+-- What is written beside a sign at x stands at one of three heights, by turns each 4 m, so that it is
+-- read beside that of a neighbour: so far up.
+abbrev pub raised : ℕ → ℕ
+raised x = x / 40 % 3 * 14
+
+-- How far down a number stands beside its sign at x.
+abbrev pub beside : Direction → ℕ → ℕ
+beside Direction.Present x = 127 - raised x
+beside Direction.Opposite x = 198 - raised x
 
 -- A signal's number.
 abbrev pub numberBeside : Direction → Number → ℕ → List (List ℕ)
 numberBeside direction Number.None x = []
 numberBeside direction (Number.Figure m) x =
-    metres (codes "<text dx='9' x='") x ++ (codes "' y='" ++ decimal (beside direction)) ∷ (codes "'>" ++ decimal m) ∷ codes "</text>" ∷ []
+    metres (codes "<text dx='9' x='") x ++ (codes "' y='" ++ decimal (beside direction x)) ∷ (codes "'>" ++ decimal m) ∷ codes "</text>" ∷ []
 
 -- The place of a fault that began further back than the margin.
 abbrev pub placeBeside : ℕ → ℕ → List (List ℕ)
@@ -71,7 +76,10 @@ placeBeside edge place = pick (ltb (place + 1000) edge) ((codes " at " ++ decima
 unfoldable pub label : Line → ℕ → ℕ → List (List ℕ)
 label (Line.Group s) edge x = numberBeside (s .direction) (s .number) x
 label (Line.Fault place n) edge x =
-    metres (codes "<text class='x' dx='9' y='152' x='") x ++ (codes "'>" ++ decimal n) ∷ placeBeside edge place ++ codes "</text>" ∷ []
+    metres (codes "<text class='x' dx='9' x='") x
+    ++ (codes "' y='" ++ decimal (146 - raised x))
+    ∷ (codes "'>" ++ decimal n)
+    ∷ placeBeside edge place ++ codes "</text>" ∷ []
 label (Line.Missed place) edge x = []
 label (Line.Record number n) edge x = []
 label (Line.Trace n) edge x = []

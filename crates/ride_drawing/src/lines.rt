@@ -6,7 +6,7 @@ ghost use Rattle.ride.specs.Step.{end};
 ghost use Rattle.ride_drawing.specs.declared.Pen.{Pen};
 ghost use Rattle.text.specs.Pieces.{puts};
 ghost use Rattle.ride_drawing.specs.Element.{pieces};
-ghost use Rattle.ride_drawing.specs.Drawing.{onItsStrip, drawLines, afterLines};
+ghost use Rattle.ride_drawing.specs.Drawing.{isMissed, knownBefore, onItsStrip, drawLines, afterLines};
 use crate::Pen;
 use crate::Plan;
 use crate::places::after_line;
@@ -15,6 +15,7 @@ use crate::places::place_of;
 use crate::places::reached;
 use crate::rows::put_extra;
 use crate::signs::put_sign;
+use crate::spans::put_band;
 use crate::spans::put_span;
 use crate::ways::put_way_past;
 use group::Group;
@@ -22,6 +23,44 @@ use ride::Known;
 use ride::Line;
 use ride::Lines;
 use ride::Ride;
+
+// Whether a line is that of a missed signal.
+fn is_missed(line: Line) -> bool
+    ensures { λ r. ⌜ r ≡ isMissed line ⌝ }
+{
+    match line {
+        Line::Group(_) => false,
+        Line::Fault(_, _) => false,
+        Line::Missed(_) => true,
+        Line::Record(_, _) => false,
+        Line::Trace(_) => false,
+    }
+}
+
+// What was known before a line.
+fn put_known(
+    pen: Pen,
+    known: Known,
+    line: Line,
+    place: u64,
+    buf: &mut [u8],
+    at: usize,
+) -> usize
+    ensures { λ r. ⌜ came r (now (buf .exit)) ≡ puts (knownBefore pen known line place) (now (buf .entry)) at ⌝ }
+{
+    if is_missed(line) {
+        let linking = known.linking;
+        return put_band(linking, pen.edge, pen.from, place, buf, at);
+    }
+    put_span(
+        pen.edge,
+        pen.from,
+        reached(pen, line, place),
+        known,
+        buf,
+        at,
+    )
+}
 
 // A line on the strip of its place.
 fn put_line(
@@ -38,14 +77,7 @@ fn put_line(
 {
     let there = arrive(pen, place, place);
     let a = put_way_past(plan, pen, place, place, known, buf, at);
-    let b = put_span(
-        there.edge,
-        there.from,
-        reached(there, line, place),
-        known,
-        buf,
-        a,
-    );
+    let b = put_known(there, known, line, place, buf, a);
     let c = put_sign(closed, line, there.edge, place, buf, b);
     put_extra(plan, line, there.edge, buf, c)
 }

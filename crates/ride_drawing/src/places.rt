@@ -87,7 +87,7 @@ fn seen_turns(direction: Direction, kind: Kind) -> bool
     }
 }
 
-// Whether a line turns what is known.
+// Whether a line turns the speeds.
 fn turns(line: Line) -> bool
     ensures { λ r. ⌜ r ≡ turns line ⌝ }
 {
@@ -98,7 +98,7 @@ fn turns(line: Line) -> bool
             seen_turns(direction, kind)
         }
         Line::Fault(_, _) => true,
-        Line::Missed(_) => true,
+        Line::Missed(_) => false,
         Line::Record(_, _) => false,
         Line::Trace(_) => false,
     }

@@ -88,13 +88,13 @@ fn put_title(closed: Group, line: Line, buf: &mut [u8], at: usize) -> usize
     put(&space[..m], buf, at)
 }
 
-// How far down a number stands beside its sign.
-fn beside(direction: Direction) -> u64
-    ensures { λ r. ⌜ r ≡ beside direction ⌝ }
+// How far down a number stands beside its sign at x.
+fn beside(direction: Direction, x: u64) -> u64
+    ensures { λ r. ⌜ r ≡ beside direction x ⌝ }
 {
     match direction {
-        Direction::Present => 136,
-        Direction::Opposite => 184,
+        Direction::Present => 127 - x / 40 % 3 * 14,
+        Direction::Opposite => 198 - x / 40 % 3 * 14,
     }
 }
 
@@ -106,7 +106,7 @@ fn put_beside(direction: Direction, number: Number, x: u64, buf: &mut [u8], at: 
         Number::None => at,
         Number::Figure(m) => {
             let a = put_metres(b"<text dx='9' x='", x, buf, at);
-            let b = put_number(b"' y='", beside(direction), buf, a);
+            let b = put_number(b"' y='", beside(direction, x), buf, a);
             let c = put_number(b"'>", m as u64, buf, b);
             put(b"</text>", buf, c)
         }
@@ -130,10 +130,11 @@ fn put_place(edge: u64, place: u64, buf: &mut [u8], at: usize) -> usize
 fn put_fault(place: u64, n: u8, edge: u64, x: u64, buf: &mut [u8], at: usize) -> usize
     ensures { λ r. ⌜ came r (now (buf .exit)) ≡ puts (label (Line.Fault place n) edge x) (now (buf .entry)) at ⌝ }
 {
-    let a = put_metres(b"<text class='x' dx='9' y='152' x='", x, buf, at);
-    let b = put_number(b"'>", n as u64, buf, a);
-    let c = put_place(edge, place, buf, b);
-    put(b"</text>", buf, c)
+    let a = put_metres(b"<text class='x' dx='9' x='", x, buf, at);
+    let b = put_number(b"' y='", 146 - x / 40 % 3 * 14, buf, a);
+    let c = put_number(b"'>", n as u64, buf, b);
+    let d = put_place(edge, place, buf, c);
+    put(b"</text>", buf, d)
 }
 
 // What stands beside the sign of a line.

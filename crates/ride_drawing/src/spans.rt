@@ -101,7 +101,7 @@ fn put_linked(
 }
 
 // Where the next signal is due, if linking is set.
-fn put_band(linking: Linking, edge: u64, from: u64, to: u64, buf: &mut [u8], at: usize) -> usize
+pub fn put_band(linking: Linking, edge: u64, from: u64, to: u64, buf: &mut [u8], at: usize) -> usize
     ensures { λ n. ⌜ came n (now (buf .exit)) ≡ puts (band linking edge from to) (now (buf .entry)) at ⌝ }
 {
     match linking {
