@@ -38,14 +38,7 @@ fn is_missed(line: Line) -> bool
 }
 
 // What was known before a line.
-fn put_known(
-    pen: Pen,
-    known: Known,
-    line: Line,
-    place: u64,
-    buf: &mut [u8],
-    at: usize,
-) -> usize
+fn put_known(pen: Pen, known: Known, line: Line, place: u64, buf: &mut [u8], at: usize) -> usize
     ensures { λ r. ⌜ came r (now (buf .exit)) ≡ puts (knownBefore pen known line place) (now (buf .entry)) at ⌝ }
 {
     if is_missed(line) {
