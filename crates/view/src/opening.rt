@@ -15,7 +15,7 @@ fn say_too_long(start: Start) {
         ),
         Start::At { place: _, argument } => console::fail_of(
             b"view",
-            b"the cards have more than 4 MiB: compact them first, or look from a later place than",
+            b"the cards have more than 4 MiB from there on: compact them first, or look from a later place than",
             argument,
         ),
     }
