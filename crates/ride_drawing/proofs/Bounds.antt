@@ -23,7 +23,7 @@ use Rattle.ride_text.specs.Text.{lineText}
 use Rattle.ride_text.proofs.Longest.{line-within}
 use Rattle.ride_drawing.specs.Metres.{metres}
 use Rattle.ride_drawing.specs.Strip.{onStrip}
-use Rattle.ride_drawing.specs.Sign.{title, shape, raised, beside, numberBeside, placeBeside, label, sign}
+use Rattle.ride_drawing.specs.Sign.{title, shape, beside, besideFault, numberBeside, placeBeside, label, sign}
 use Rattle.ride_drawing.specs.Row.{entryShape, entryTitle, rowNumber, entrySign, extraSign}
 use Rattle.ride_drawing.proofs.Sizes.{size, size-none, size-one, size-append, worded, metres-size, either, nothing}
 
@@ -39,7 +39,7 @@ title-size g l =
 number-size : (d : Direction) (n : Number) (x : ℕ) → size (numberBeside d n x) ≤ 160
 unfolding size
 number-size d Number.None x = omega arith
-number-size d (Number.Figure m) x = simp length-append (omega (arith, decimal-length (x / 10), decimal-length (x % 10), decimal-length (beside d x), decimal-length m))
+number-size d (Number.Figure m) x = simp length-append (omega (arith, decimal-length (x / 10), decimal-length (x % 10), decimal-length (beside d), decimal-length m))
 
 place-size : (edge place : ℕ) → size (placeBeside edge place) ≤ 30
 place-size edge place =
@@ -52,14 +52,14 @@ label-size (Line.Group s) edge x = number-size (s .direction) (s .number) x
 label-size (Line.Fault place n) edge x =
     let w : List ℕ = codes "<text class='x' dx='9' x='" in
     let rest : List (List ℕ) = placeBeside edge place ++ codes "</text>" ∷ [] in
-    let high : List ℕ = codes "' y='" ++ decimal (146 - raised x) in
+    let high : List ℕ = codes "' y='" ++ decimal (besideFault x) in
     let figure : List ℕ = codes "'>" ++ decimal n in
     omega (
       arith,
       size-append (metres w x) (high ∷ figure ∷ rest),
       metres-size w x,
       size-one high (figure ∷ rest),
-      worded (codes "' y='") (146 - raised x),
+      worded (codes "' y='") (besideFault x),
       size-one figure rest,
       worded (codes "'>") n,
       size-append (placeBeside edge place) (codes "</text>" ∷ []),

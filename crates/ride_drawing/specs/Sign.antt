@@ -52,21 +52,21 @@ shape (Line.Trace n) = 23
 unfoldable pub title : Group → Line → List ℕ
 title closed line = take (length (lineText withReasons closed line) - 1) (lineText withReasons closed line)
 
--- What is written beside a sign at x stands at one of three heights, by turns each 4 m, so that it is
--- read beside that of a neighbour: so far up.
-abbrev pub raised : ℕ → ℕ
-raised x = x / 40 % 3 * 14
+-- How far down a number stands beside its sign.
+abbrev pub beside : Direction → ℕ
+beside Direction.Present = 127
+beside Direction.Opposite = 198
 
--- How far down a number stands beside its sign at x.
-abbrev pub beside : Direction → ℕ → ℕ
-beside Direction.Present x = 127 - raised x
-beside Direction.Opposite x = 198 - raised x
+-- How far down the number of a fault at x stands: at one of three heights, by turns each 4 m, so that
+-- it is read beside a neighbour's.
+abbrev pub besideFault : ℕ → ℕ
+besideFault x = 146 - x / 40 % 3 * 14
 
 -- A signal's number.
 abbrev pub numberBeside : Direction → Number → ℕ → List (List ℕ)
 numberBeside direction Number.None x = []
 numberBeside direction (Number.Figure m) x =
-    metres (codes "<text dx='9' x='") x ++ (codes "' y='" ++ decimal (beside direction x)) ∷ (codes "'>" ++ decimal m) ∷ codes "</text>" ∷ []
+    metres (codes "<text dx='9' x='") x ++ (codes "' y='" ++ decimal (beside direction)) ∷ (codes "'>" ++ decimal m) ∷ codes "</text>" ∷ []
 
 -- The place of a fault that began further back than the margin.
 abbrev pub placeBeside : ℕ → ℕ → List (List ℕ)
@@ -77,7 +77,7 @@ unfoldable pub label : Line → ℕ → ℕ → List (List ℕ)
 label (Line.Group s) edge x = numberBeside (s .direction) (s .number) x
 label (Line.Fault place n) edge x =
     metres (codes "<text class='x' dx='9' x='") x
-    ++ (codes "' y='" ++ decimal (146 - raised x))
+    ++ (codes "' y='" ++ decimal (besideFault x))
     ∷ (codes "'>" ++ decimal n)
     ∷ placeBeside edge place ++ codes "</text>" ∷ []
 label (Line.Missed place) edge x = []

@@ -88,13 +88,13 @@ fn put_title(closed: Group, line: Line, buf: &mut [u8], at: usize) -> usize
     put(&space[..m], buf, at)
 }
 
-// How far down a number stands beside its sign at x.
-fn beside(direction: Direction, x: u64) -> u64
-    ensures { λ r. ⌜ r ≡ beside direction x ⌝ }
+// How far down a number stands beside its sign.
+fn beside(direction: Direction) -> u64
+    ensures { λ r. ⌜ r ≡ beside direction ⌝ }
 {
     match direction {
-        Direction::Present => 127 - x / 40 % 3 * 14,
-        Direction::Opposite => 198 - x / 40 % 3 * 14,
+        Direction::Present => 127,
+        Direction::Opposite => 198,
     }
 }
 
@@ -106,7 +106,7 @@ fn put_beside(direction: Direction, number: Number, x: u64, buf: &mut [u8], at: 
         Number::None => at,
         Number::Figure(m) => {
             let a = put_metres(b"<text dx='9' x='", x, buf, at);
-            let b = put_number(b"' y='", beside(direction, x), buf, a);
+            let b = put_number(b"' y='", beside(direction), buf, a);
             let c = put_number(b"'>", m as u64, buf, b);
             put(b"</text>", buf, c)
         }
