@@ -114,9 +114,6 @@ pub extra-plan : (s : Acceptance) → planned (afterExtra s) ≡ planned s
 unfolding afterExtra
 extra-plan s = refl
 
-abbrev stateOf : Took → Acceptance
-stateOf t = t .state
-
 pub plan-after : (s : Acceptance) (l : Line) → apart (s .tolerance) (planned s) ≡ true → Case s l
     → planned (takeLine s l .state) ≡ map (afterLine (s .tolerance) l) (planned s)
 plan-after s l a (none g is) = ap (λ (t : Took). planned (t .state)) is ∙ sym (others-stay (s .tolerance) l (planned s) g)

@@ -65,15 +65,6 @@ module _ (tolerance place : ℕ) (kind : Kind) where
   unfolding waiting
   waiting-on e es h = ap (λ (b : Bool). pick b 0 (suc (waiting tolerance place kind es))) h
 
-  pub at-most : (es : List Entry) → waiting tolerance place kind es ≤ length es
-  unfolding waiting
-  at-most [] = omega arith
-  at-most (e ∷ es) = by-test (waits tolerance place kind e) (at-most es)
-    where
-      by-test : (b : Bool) → waiting tolerance place kind es ≤ length es → pick b 0 (suc (waiting tolerance place kind es)) ≤ length (e ∷ es)
-      by-test true h = omega arith
-      by-test false h = omega arith
-
   -- The entry met, written anew, is the plan after the group.
   abbrev OneMet : List Entry → Type 0
   OneMet es =

@@ -32,9 +32,6 @@ module _ (tolerance place : ℕ) (kind : Kind) (e : Entry) (fits : isFor toleran
   near : within tolerance (e .place) place ≡ true
   near = and-right (eqb (numberOf (e .kind)) (numberOf kind)) (within tolerance (e .place) place) fits
 
-  pub not-before : e .place ≤ place + tolerance
-  not-before = leb-true (e .place) (place + tolerance) (and-left (leb (e .place) (place + tolerance)) (leb place (e .place + tolerance)) near)
-
   pub not-beyond : place ≤ e .place + tolerance
   not-beyond = leb-true place (e .place + tolerance) (and-right (leb (e .place) (place + tolerance)) (leb place (e .place + tolerance)) near)
 

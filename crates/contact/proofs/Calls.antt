@@ -2,7 +2,7 @@
 -- on, where every answer is one that the contract allows, is the contacts of the whole stretch.
 -- Assumes nothing.
 use Prim.Native.Nat.{ℕ}
-use mathlib.Core.Path.{_≡_, sym, ap, ap₂, subst, _∙_}
+use mathlib.Core.Path.{_≡_, sym, ap, ap₂, _∙_}
 use mathlib.Core.Bool.{Bool, true, false}
 use mathlib.Core.List.{List}
 use contract.Lifetimes.{Lfts}
@@ -54,22 +54,6 @@ all-specified (refuses-with k) = refuses-with (as-specified k)
 -- Whatever comes of calling `next_contact` on and on is the contacts that the search has before it.
 pub called-on : (b : List ℕ) (s : Search) (w : Contacts) → Comes (Called b) s w → w ≡ contactsFrom b s
 called-on b s w p = only b (all-specified p) (law b s)
-
--- What is specified is what the call answers.
-agreed : (b : List ℕ) → ((s : Search) → (o : Outcome Handed) × Called b s o) → (s : Search) {o : Outcome Handed}
-    → Specified b s o → Called b s o
-agreed b ask s e = subst (Called b s) (sym (as-specified (ask s .1)) ∙ e) (ask s .1)
-
-specified-called : (b : List ℕ) → ((s : Search) → (o : Outcome Handed) × Called b s o) → {s : Search} {w : Contacts}
-    → Comes (Specified b) s w → Comes (Called b) s w
-specified-called b ask {s} (further e p) = further (agreed b ask s e) (specified-called b ask p)
-specified-called b ask {s} (ends e) = ends (agreed b ask s e)
-specified-called b ask {s} (refuses-with e) = refuses-with (agreed b ask s e)
-
--- And where every call is answered, their end is reached.
-pub called-to-the-end : (b : List ℕ) → ((s : Search) → (o : Outcome Handed) × Called b s o) → (s : Search)
-    → Comes (Called b) s (contactsFrom b s)
-called-to-the-end b ask s = specified-called b ask (law b s)
 
 -- A search that begins is the one at the stretch's start.
 begun-start : (b : List ℕ) (start len : ℕ) (s : Search) → begin b start len ≡ gives s → s ≡ fromStart start len

@@ -84,10 +84,6 @@ pub answers-so : (b : List ℕ) (start len s t : ℕ) (m : Telegram) → (first 
     → (a : Judged) → JudgeContact b start len s t a → (first : ℕ) × (count : ℕ) × (a ≡ Judged.Read m first count)
 answers-so b start len s t m so a call = (so .0, so .1, judges b start len s t a call ∙ ap judgedOf (so .2))
 
-pub read-so : (o : OneBalise) → Proper o → AllSent o → 2 ≤ length (placesOf o)
-    → (a : Judged) → JudgeContact (o .buffer) (o .start) (o .len) (o .s) (o .t) a → (first : ℕ) × (count : ℕ) × (a ≡ Judged.Read (o .telegram) first count)
-read-so o proper every two = answers-so (o .buffer) (o .start) (o .len) (o .s) (o .t) (o .telegram) (judged-so o proper every two)
-
 -- A list with two different numbers has two.
 pub two-listed : (p q : ℕ) → p < q → (ps : List ℕ) → among p ps ≡ true → among q ps ≡ true → 2 ≤ length ps
 two-listed p q less [] a c = absurd (subst T (sym a) tt)

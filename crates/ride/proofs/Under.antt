@@ -1,7 +1,7 @@
 -- Rides under settings: what is held treats each record as the gap in force at its own odometer
 -- does.
 -- Assumes nothing.
-use Prim.Native.Nat.{ℕ, suc, _/_, _%_, _≤_, _<_}
+use Prim.Native.Nat.{ℕ, _/_, _%_, _≤_, _<_}
 use mathlib.Core.Path.{_≡_, refl, ap, sym, _∙_}
 use mathlib.Core.Bool.{Bool, true, false, not}
 use mathlib.Core.List.{List, [], _∷_}
@@ -24,7 +24,7 @@ use Rattle.ride.specs.declared.trace.Given.{Given}
 use Rattle.ride.specs.declared.trace.Reply.{Reply}
 use Rattle.ride.specs.declared.trace.Treated.{Treated}
 use Rattle.ride.specs.At.{recordAt, odometerAt, Treatment, treatAt}
-use Rattle.ride.specs.Over.{records, linesFor, before, rideOver, through, Run, run}
+use Rattle.ride.specs.Over.{records, rideOver, through, Run, run}
 use Rattle.ride.specs.Says.{saysGiven, saysTreated}
 use Rattle.ride.proofs.At.{took, past, at-record}
 use Rattle.ride.proofs.trace.Reply.{the-type}
@@ -117,16 +117,6 @@ module _ (store : Store) (held next : Held) (ride : Ride) (trace : List ℕ) (i 
         ap (λ (x : Treatment). x .ride) says
             ∙ ap (λ (x : Step). x .ride) (held-treats store held next ride trace i (turn .good) (turn .holding) (turn .next-is) there),
       )
-
--- ---- the rule counts only at the records' own odometers
-
-pub same-rule : (gaps others : ℕ → ℕ) → ((o : ℕ) → gaps o ≡ others o) → (ride : Ride) (number : ℕ) (rs : List (List ℕ)) → rideOver gaps ride number rs ≡ rideOver others ride number rs
-unfolding rideOver
-same-rule gaps others e ride number [] = refl
-same-rule gaps others e ride number (r ∷ rs) =
-    let s : Step = treat ride (others (odometerOf r)) r in
-    ap (λ (g : ℕ). before (linesFor number (treat ride g r .lines)) (rideOver gaps (treat ride g r .ride) (suc number) rs)) (e (odometerOf r))
-    ∙ ap (before (linesFor number (s .lines))) (same-rule gaps others e (s .ride) (suc number) rs)
 
 -- ---- the whole trace
 

@@ -1,15 +1,12 @@
--- A plain gap as a store: it is judged good exactly if the gap is allowed, and has that gap
--- everywhere.
+-- A plain gap as a store: it is judged good exactly if the gap is allowed.
 -- Assumes nothing.
 use Prim.Native.Nat.{ℕ}
 use mathlib.Core.Path.{_≡_, refl, ap, _∙_}
 use mathlib.Core.Bool.{true, false}
 use Rattle.words.specs.Answer.{Outcome, gives, refuses}
 use Rattle.telegram.specs.Sync.{differing, isGood, goodPair}
-use Rattle.settings.specs.declared.Store.{Store}
 use Rattle.settings.specs.Versions.{allowed, Kept, kept, settingsOf}
 use Rattle.settings.specs.Store.{noStore, versionsOf, firstOf, opened, openedIf, begin, plain, allFollow, inOrder, judged}
-use Rattle.settings.specs.At.{heldFrom, heldAt, gapAt}
 
 pair-good : (gap : ℕ) → allowed gap ≡ true → settingsOf gap 0x00 0x7F ≡ gives kept
 unfolding settingsOf goodPair isGood differing
@@ -40,10 +37,3 @@ empty-bad = refl
 
 pub plain-bad : (gap : ℕ) → allowed gap ≡ false → judged (plain gap) ≡ refuses 19
 plain-bad gap e = ap judged (none-is gap e) ∙ empty-bad
-
-opened-gap : (gap place : ℕ) → gapAt (opened (firstOf gap 0x00 0x7F)) place ≡ gap
-unfolding gapAt heldAt versionsOf opened noStore heldFrom
-opened-gap gap place = refl
-
-pub plain-gap : (gap place : ℕ) → allowed gap ≡ true → gapAt (plain gap) place ≡ gap
-plain-gap gap place e = ap (λ (s : Store). gapAt s place) (plain-is gap e) ∙ opened-gap gap place

@@ -1,5 +1,4 @@
--- The store of a text that is fine is good, and of one that is not fine there is none: every line
--- that is taken leaves a good store, or none.
+-- The store of a text that is fine is good: every line that is taken leaves a good store, or none.
 -- Assumes nothing.
 use mathlib.Core.Path.{_≡_, refl, _∙_}
 use mathlib.Core.Bool.{Bool, true, false}
@@ -121,30 +120,3 @@ long-by false s next f = not-fine Condition.TooLong refl f
 pub fine-is-good : (text : List ℕ) → sheet text .how ≡ Condition.Fine → judged (sheet text .store) ≡ gives kept
 unfolding sheet
 fine-is-good text f = long-by (leb (length text) longest) (linesFrom noStore 1 (linesIn text)) (lines-good (linesIn text) noStore 1 none-yet) f
-
--- Of a text that is not fine there is no store.
-abbrev None : Sheet → Type 0
-None s = isFine (s .how) ≡ false → s .store ≡ noStore
-
-bad-none : (n : ℕ) (how : Condition) → None (bad n how)
-unfolding bad
-bad-none n how e = refl
-
-ended-none : (b : Bool) (store : Store) → None (pick b (bad 0 (Condition.Refused 19)) (record { store = store; line = 0; how = Condition.Fine }))
-ended-none true store = bad-none 0 (Condition.Refused 19)
-ended-none false store = λ e. cannot-be cc
-
-line-none : (b : Bool) (how : Condition) (n : ℕ) (rest : Sheet) → None rest → None (pick b rest (bad n how))
-line-none true how n rest next = next
-line-none false how n rest next = bad-none n how
-
-lines-none : (ls : List (List ℕ)) (store : Store) (n : ℕ) → None (linesFrom store n ls)
-unfolding linesFrom ended
-lines-none [] store n = ended-none (eqb (store .count) 0) store
-lines-none (line ∷ ls) store n =
-    let t : Taken = takeLine store (lineOf line) in
-    line-none (isFine (t .how)) (t .how) n (linesFrom (t .store) (n + 1) ls) (lines-none ls (t .store) (n + 1))
-
-pub not-fine-is-none : (text : List ℕ) → isFine (sheet text .how) ≡ false → sheet text .store ≡ noStore
-unfolding sheet
-not-fine-is-none text = line-none (leb (length text) longest) Condition.TooLong 0 (linesFrom noStore 1 (linesIn text)) (lines-none (linesIn text) noStore 1)

@@ -4,7 +4,7 @@ use Prim.Native.Nat.{ℕ, _+_, _*_, _/_, _%_, _<_}
 use mathlib.Core.Path.{_≡_, sym, ap, ap₂, subst, _∙_}
 use mathlib.Core.List.{List, [], _∷_}
 use native.Mathlib.Omega.{arith}
-use lib.ListN.{length, getD, length-append, List·getD-append}
+use lib.ListN.{length, getD, List·getD-append}
 use lib.Seq.{getD-at}
 use Rattle.settings.specs.declared.Version.{Version}
 use Rattle.settings.specs.declared.Store.{Store}
@@ -24,11 +24,6 @@ low-8 n m e small = rw e (omega arith)
 module _ (versions : List Version) (count : ℕ) (bytes : List ℕ) where
   figures-length : length (each 128 (λ (j : ℕ). versionFigure (getD versions (j / 4) noVersion) (j % 4))) ≡ 128
   figures-length = each-length (λ (j : ℕ). versionFigure (getD versions (j / 4) noVersion) (j % 4)) 128
-
-  pub store-figures : length (figuresOf versions count) ≡ 129
-  unfolding figuresOf
-  store-figures =
-      length-append (each 128 (λ (j : ℕ). versionFigure (getD versions (j / 4) noVersion) (j % 4))) (count ∷ []) ∙ ap (λ (n : ℕ). n + 1) figures-length
 
   figure-is : (j : ℕ) → j < 128 → getD (figuresOf versions count) j 0 ≡ versionFigure (getD versions (j / 4) noVersion) (j % 4)
   unfolding figuresOf

@@ -47,10 +47,6 @@ behind {b} {x} {y} {at} {m} {r} {t} u s h p =
       fits = h;
     }
 
--- The same text in other words.
-pub reads-as : {b x : List ℕ} {at m : ℕ} {t w : List ℕ} → Stands b x at m t → t ≡ w → PutAt b x at m w
-reads-as {b} {x} {at} {m} s e = subst (PutAt b x at m) e (s .put)
-
 -- ---- what putting a text comes to
 
 -- Without room everything stays.

@@ -2,18 +2,15 @@
 -- Assumes nothing.
 use mathlib.Core.Path.{_≡_, refl, sym, ap, _∙_}
 use mathlib.Core.Bool.{Bool, true, false}
-use Prim.Native.Nat.{ℕ, _%_, _^_, _≤_, _<_}
+use Prim.Native.Nat.{ℕ, _^_, _≤_, _<_}
 use native.Mathlib.Omega.{arith}
 use lib.Dec.{leb}
-use lib.Bits.{bitXor}
 use borrow.Author.Tests.{le-leb, leb-true}
 use Rattle.words.specs.Answer.{Outcome, gives, refuses, pick}
 use Rattle.words.specs.Plain.{isCheck, carriers}
-use Rattle.words.specs.Why.{notCodeWord}
 use Rattle.words.specs.Code.{readWord, writeWord, sent, readShort, writeShort, readLong, writeLong}
 use Rattle.words.proofs.Widths.{Width, short, long}
-use Rattle.words.proofs.Laws.{heard, noise, even-number, four-ones, three-flips, reads-back, writes-back, figure-small}
-use Rattle.words.proofs.HowMany.{onesOf}
+use Rattle.words.proofs.Laws.{reads-back, writes-back, figure-small}
 use Rattle.words.proofs.Never.{cannot-be}
 
 -- The largest figure that each code carries.
@@ -56,33 +53,9 @@ short-written-read = written-read short
 pub short-read-written : (w x : ℕ) → w < 256 → readShort w ≡ gives x → writeShort x ≡ gives w
 short-read-written = read-written short
 
-pub short-noise : (c f x : ℕ) → readShort c ≡ gives x → readShort (bitXor c f) ≡ heard x (readShort f)
-short-noise = noise short
-
-pub short-three-flips : (c f x : ℕ) → readShort c ≡ gives x → f < 256 → 1 ≤ onesOf f 8 → onesOf f 8 ≤ 3 → readShort (bitXor c f) ≡ refuses (notCodeWord 8 f)
-short-three-flips = three-flips short
-
-pub short-four-ones : (w x : ℕ) → w < 256 → readShort w ≡ gives x → (w ≡ 0 → ⊥) → 4 ≤ onesOf w 8
-short-four-ones = four-ones short
-
-pub short-even-number : (w x : ℕ) → readShort w ≡ gives x → onesOf w 8 % 2 ≡ 0
-short-even-number = even-number short
-
 -- The long code.
 pub long-written-read : (x w : ℕ) → writeLong x ≡ gives w → readLong w ≡ gives x
 long-written-read = written-read long
 
 pub long-read-written : (w x : ℕ) → w < 65536 → readLong w ≡ gives x → writeLong x ≡ gives w
 long-read-written = read-written long
-
-pub long-noise : (c f x : ℕ) → readLong c ≡ gives x → readLong (bitXor c f) ≡ heard x (readLong f)
-long-noise = noise long
-
-pub long-three-flips : (c f x : ℕ) → readLong c ≡ gives x → f < 65536 → 1 ≤ onesOf f 16 → onesOf f 16 ≤ 3 → readLong (bitXor c f) ≡ refuses (notCodeWord 16 f)
-long-three-flips = three-flips long
-
-pub long-four-ones : (w x : ℕ) → w < 65536 → readLong w ≡ gives x → (w ≡ 0 → ⊥) → 4 ≤ onesOf w 16
-long-four-ones = four-ones long
-
-pub long-even-number : (w x : ℕ) → readLong w ≡ gives x → onesOf w 16 % 2 ≡ 0
-long-even-number = even-number long

@@ -14,38 +14,6 @@ use borrow.Author.Needs.{needs}
 use Rattle.refusals.proofs.later.put_later.Statement.{statement}
 use Rattle.refusals.proofs.later.put_later.Tie as tie
 
-returns : tie.Need-returns
-unfolding refused worded table decimal digits
-returns c = by-case refused _ _ (c .before .before .before .before .before .match .keys1) (c .before .before .put .ensures)
-
-returns-2 : tie.Need-returns-2
-unfolding refused worded table decimal digits
-returns-2 c = by-case refused _ _ (c .before .before .before .before .before .match .keys2) (c .before .before .put2 .ensures)
-
-returns-3 : tie.Need-returns-3
-unfolding refused worded table decimal digits
-returns-3 c = by-case refused _ _ (c .before .before .before .before .before .match .keys3) (c .before .before .put3 .ensures)
-
-returns-4 : tie.Need-returns-4
-unfolding refused worded table decimal digits
-returns-4 c = by-case refused _ _ (c .before .before .before .before .before .match .keys4) (c .before .before .put4 .ensures)
-
-returns-5 : tie.Need-returns-5
-unfolding refused worded table decimal digits
-returns-5 c = by-case refused _ _ (c .before .before .before .before .before .match .keys5) (c .before .before .put5 .ensures)
-
-returns-6 : tie.Need-returns-6
-unfolding refused worded table decimal digits
-returns-6 c = by-case refused _ _ (c .before .before .before .before .before .match .keys6) (c .before .before .put6 .ensures)
-
-returns-7 : tie.Need-returns-7
-unfolding refused worded table decimal digits
-returns-7 c = by-case refused _ _ (c .before .before .before .before .before .match .keys7) (c .before .before .put7 .ensures)
-
-returns-8 : tie.Need-returns-8
-unfolding refused worded table decimal digits
-returns-8 c = by-case refused _ _ (c .before .before .before .before .before .match .keys8) (c .before .before .put8 .ensures)
-
 no-row : (c : tie.At-match-rest) → worded table (c .before .before .args .number) ≡ []
 unfolding worded table
 no-row c =
@@ -74,14 +42,15 @@ no-row c =
       ne-eqb n 28 (m .rest .1),
     )
 
-returns-9 : tie.Need-returns-9
-returns-9 c =
+returns : tie.Need-returns-9
+returns c =
     let p = c .before .before in
     let k = p .before .before in
     let a = k .before .before .args in
     p .put-number-alone .ensures ∙ ap (λ (t : List ℕ). put t (a .buf .now) (a .at)) (bare (a .number) (no-row k))
 
 pub put-later-spec : {M : Type 1} → statement M
+unfolding refused worded table decimal digits
 put-later-spec =
     tie.close
     (tie.spec
@@ -94,12 +63,12 @@ put-later-spec =
     (λ c. search needs) (λ c κs. search needs)
     (λ c. search needs) (λ c κs. search needs)
     (λ c κs. search needs)
-    (λ c. search needs) returns
-    (λ c. search needs) returns-2
-    (λ c. search needs) returns-3
-    (λ c. search needs) returns-4
-    (λ c. search needs) returns-5
-    (λ c. search needs) returns-6
-    (λ c. search needs) returns-7
-    (λ c. search needs) returns-8
-    (λ c. search needs) returns-9)
+    (λ c. search needs) (λ c. by-case refused _ _ (c .before .before .before .before .before .match .keys1) (c .before .before .put .ensures))
+    (λ c. search needs) (λ c. by-case refused _ _ (c .before .before .before .before .before .match .keys2) (c .before .before .put2 .ensures))
+    (λ c. search needs) (λ c. by-case refused _ _ (c .before .before .before .before .before .match .keys3) (c .before .before .put3 .ensures))
+    (λ c. search needs) (λ c. by-case refused _ _ (c .before .before .before .before .before .match .keys4) (c .before .before .put4 .ensures))
+    (λ c. search needs) (λ c. by-case refused _ _ (c .before .before .before .before .before .match .keys5) (c .before .before .put5 .ensures))
+    (λ c. search needs) (λ c. by-case refused _ _ (c .before .before .before .before .before .match .keys6) (c .before .before .put6 .ensures))
+    (λ c. search needs) (λ c. by-case refused _ _ (c .before .before .before .before .before .match .keys7) (c .before .before .put7 .ensures))
+    (λ c. search needs) (λ c. by-case refused _ _ (c .before .before .before .before .before .match .keys8) (c .before .before .put8 .ensures))
+    (λ c. search needs) returns)

@@ -2,7 +2,6 @@
 use mathlib.Core.Path.{_≡_, sym, ap, _∙_}
 use mathlib.Core.Bool.{Bool}
 use Prim.Native.Nat.{ℕ, _+_, _*_, _/_, _<_, _≤_}
-use native.Mathlib.Omega.{arith}
 use mathlib.Core.List.{List, []}
 use lib.Dec.{eqb}
 use lib.ListN.{length}
@@ -62,9 +61,6 @@ returns-4 c =
     p .put3 .ensures
     ∙ ap (λ (x : List ℕ). put x (a .buf .now) (a .at))
     (ap (saidBeside (eqb (a .i) (a .number)) (a .i + 1)) (sym (k .enum-told2 .given .1) ∙ t .thing-at .ensures) ∙ one-there (a .trace .now) (a .i) (a .number) (i .if1 .left))
-
-add-number : tie.Need-add-put-marked
-add-number c = omega (arith, c .before .before .before .before .if1 .left)
 
 pub put-beside-spec : {M : Type 1} → statement M
 put-beside-spec =
