@@ -18,8 +18,8 @@ h1{font-size:22px;margin:8px 0}h2{font-size:16px;margin:16px 0 0;break-after:avo
 .p{fill:#fff;stroke:#000;stroke-width:2}.b{fill:#000}.n{fill:none;stroke:#000;stroke-width:2}
 .f{stroke:#c00;stroke-width:3;fill:none}.x{fill:#c00;font-weight:bold}.v{stroke:#c00;stroke-width:2;fill:none}.h{fill:none;pointer-events:all}.o{fill:none;stroke:#b50;stroke-width:3;stroke-dasharray:5 3}
 .d{fill:#2a5;fill-opacity:.2;stroke:#2a5}.c{stroke:#163;stroke-width:2;stroke-dasharray:2 3;fill:none}
-.m path{stroke:#03a;stroke-width:3}.t path{stroke:#03a;stroke-width:2;stroke-dasharray:8 5}.m text,.t text{fill:#03a}.t text{transform:translate(0,17px)}
-@media print{body{max-width:none}.s svg{min-width:0}.s text{font-size:19px}}
+.m path{stroke:#03a;stroke-width:3}.t path{stroke:#a50;stroke-width:2;stroke-dasharray:8 5}.m text{fill:#03a}.t text{fill:#a50}.m text,.t text{paint-order:stroke;stroke:#fff;stroke-width:3px}.u text{transform:translate(12px,17px)}
+.w{display:none}@media print{body{max-width:none}.s svg{min-width:0}.s text{font-size:19px}.w{display:block;margin-top:48px;break-inside:avoid}}
 </style></head><body>\n",
     )
 }
@@ -68,7 +68,7 @@ fn put_legend() -> bool {
     write(
         b"<p><span class='i'><svg class='j' viewBox='-12 124 24 36'><use href='#s2'/></svg>signal, first</span> <span class='i'><svg class='j' viewBox='-12 124 24 36'><use href='#s3'/></svg>early</span> <span class='i'><svg class='j' viewBox='-12 124 24 36'><use href='#s4'/></svg>good</span> <span class='i'><svg class='j' viewBox='-12 124 24 36'><use href='#s5'/></svg>late</span>
 <span class='i'><svg class='j' viewBox='-12 124 24 36'><use href='#s6'/></svg>warning</span> <span class='i'><svg class='j' viewBox='-12 124 24 36'><use href='#s7'/></svg>annulled</span> <span class='i'><svg class='j' viewBox='-12 124 24 36'><use href='#s8'/></svg>line</span> <span class='i'><svg class='j' viewBox='-12 124 24 36'><use href='#s9'/></svg>route</span>
-<span class='i'><svg class='j' viewBox='-12 152 24 36'><use href='#s11'/></svg><svg class='j' viewBox='-12 152 24 36'><use href='#s16'/></svg><svg class='j' viewBox='-12 152 24 36'><use href='#s17'/></svg><svg class='j' viewBox='-12 152 24 36'><use href='#s18'/></svg>opposite</span>
+<span class='i'><svg class='j' viewBox='-12 152 24 36'><use href='#s11'/></svg>opposite signal</span> <span class='i'><svg class='j' viewBox='-12 152 24 36'><use href='#s16'/></svg>opposite warning</span> <span class='i'><svg class='j' viewBox='-12 152 24 36'><use href='#s17'/></svg>opposite annulled</span> <span class='i'><svg class='j' viewBox='-12 152 24 36'><use href='#s18'/></svg>opposite line</span>
 <span class='i'><svg class='j' viewBox='-12 138 24 36'><use href='#s20'/></svg>fault</span> <span class='i'><svg class='j' viewBox='-12 138 24 36'><use href='#s21'/></svg>missed</span> <span class='i'><svg class='j' viewBox='-12 195 24 36'><use href='#s22'/></svg>record refused</span>
 <span class='i'><svg class='j' viewBox='0 0 48 36'><rect class='d' x='2' y='4' width='44' height='28'/><path class='c' d='M24 4v28'/></svg> next signal due</span> <span class='i'><svg class='j' viewBox='0 0 48 36'><g class='m'><path d='M2 18h44'/></g></svg> main speed, km/h</span> <span class='i'><svg class='j' viewBox='0 0 48 36'><g class='t'><path d='M2 18h44'/></g></svg> target</span></p>
 ",
@@ -124,7 +124,9 @@ pub fn put_lines_end() -> bool {
     write(b"</pre>\n")
 }
 
-// The end of the page.
+// The end of the page: in print there is a line to sign.
 pub fn put_foot() {
-    write(b"</pre></body></html>\n");
+    write(
+        b"</pre><p class='w'>Date: ______________________ Signed: ______________________________</p></body></html>\n",
+    );
 }

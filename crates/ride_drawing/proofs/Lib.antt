@@ -19,4 +19,5 @@ pub mod Entered
 pub mod SafeTexts
 pub mod Safe
 pub mod Titled
+pub mod Examples
 pub mod Determined

@@ -17,7 +17,7 @@ use Rattle.ride_drawing.specs.declared.Pen.{Pen}
 use Rattle.text.specs.Pieces.{whole}
 use Rattle.ride_drawing.specs.Metres.{metres}
 use Rattle.ride_drawing.specs.Strip.{onStrip, lesser, greater, isFurther, figure, figures, heading, closing, between}
-use Rattle.ride_drawing.specs.Span.{height, speedLine, speedOf, level, due, middle, band, span}
+use Rattle.ride_drawing.specs.Span.{height, speedLine, speedOf, level, due, middle, band, isRising, mainWords, targetWords, span}
 use Rattle.ride_drawing.specs.Way.{leaving, way}
 use Rattle.ride_drawing.proofs.Turns.{whole-append}
 
@@ -90,7 +90,7 @@ due-size l r = either (ltb l r) _ [] 160 drawn (nothing 160)
 
 middle-size : (edge from to at : ℕ) → size (middle edge from to at) ≤ 100
 unfolding middle
-middle-size edge from to at = either (leb from at && (ltb at to && ltb (onStrip edge at) 11000)) _ [] 100 drawn (nothing 100)
+middle-size edge from to at = either (ltb from at && (leb at to && leb (at - edge) 10000)) _ [] 100 drawn (nothing 100)
   where
     drawn : size (metres (codes "<path class='c' d='M") (onStrip edge at) ++ codes " 124v64'/>\n" ∷ []) ≤ 100
     drawn =
@@ -105,20 +105,30 @@ band-size (Linking.Set distance a) edge from to =
     let r : ℕ = onStrip edge (lesser to (a + 6 * distance / 5)) in
     omega (arith, size-append (due l r) (middle edge from to (a + distance)), due-size l r, middle-size edge from to (a + distance))
 
+-- What a speed's line begins with is short.
+main-short : (rising : Bool) → length (mainWords rising) ≤ 40
+main-short true = omega arith
+main-short false = omega arith
+
+target-short : (rising : Bool) → length (targetWords rising) ≤ 40
+target-short true = omega arith
+target-short false = omega arith
+
 pub span-size : (edge from to : ℕ) (k : Known) → size (span edge from to k) ≤ 700
 unfolding span
 span-size edge from to k =
     let l : ℕ = onStrip edge from in
     let r : ℕ = onStrip edge to in
-    let main : List (List ℕ) = level (codes "<g class='m' transform='translate(") (k .main) l r in
-    let target : List (List ℕ) = level (codes "<g class='t' transform='translate(") (k .target) l r in
+    let rising : Bool = isRising (k .main) (k .target) in
+    let main : List (List ℕ) = level (mainWords rising) (k .main) l r in
+    let target : List (List ℕ) = level (targetWords rising) (k .target) l r in
     let last : List (List ℕ) = band (k .linking) edge from to in
     omega (
       arith,
       size-append main (target ++ last),
       size-append target last,
-      level-size (codes "<g class='m' transform='translate(") (omega arith) (k .main) l r,
-      level-size (codes "<g class='t' transform='translate(") (omega arith) (k .target) l r,
+      level-size (mainWords rising) (main-short rising) (k .main) l r,
+      level-size (targetWords rising) (target-short rising) (k .target) l r,
       band-size (k .linking) edge from to,
     )
 

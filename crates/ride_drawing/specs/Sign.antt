@@ -54,7 +54,7 @@ title closed line = take (length (lineText withReasons closed line) - 1) (lineTe
 
 -- How far down a number stands beside its sign.
 abbrev pub beside : Direction → ℕ
-beside Direction.Present = 127
+beside Direction.Present = 146
 beside Direction.Opposite = 198
 
 -- How far down the number of a fault at x stands: at one of three heights, by turns each 4 m, so that
@@ -66,7 +66,7 @@ besideFault x = 146 - x / 40 % 3 * 14
 abbrev pub numberBeside : Direction → Number → ℕ → List (List ℕ)
 numberBeside direction Number.None x = []
 numberBeside direction (Number.Figure m) x =
-    metres (codes "<text dx='9' x='") x ++ (codes "' y='" ++ decimal (beside direction)) ∷ (codes "'>" ++ decimal m) ∷ codes "</text>" ∷ []
+    metres (codes "<text dx='12' x='") x ++ (codes "' y='" ++ decimal (beside direction)) ∷ (codes "'>" ++ decimal m) ∷ codes "</text>" ∷ []
 
 -- The place of a fault that began further back than the margin.
 abbrev pub placeBeside : ℕ → ℕ → List (List ℕ)

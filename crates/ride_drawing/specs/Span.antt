@@ -3,7 +3,7 @@
 -- next signal is due.
 -- Assumes nothing.
 use Prim.Native.Nat.{ℕ, _+_, _-_, _*_, _/_}
-use mathlib.Core.Bool.{Bool, _&&_}
+use mathlib.Core.Bool.{Bool, false, _&&_}
 use mathlib.Core.List.{List, [], _∷_, _++_}
 use lib.Dec.{leb, ltb}
 use Rattle.words.specs.Answer.{pick}
@@ -42,10 +42,11 @@ due l r =
     (metres (codes "<rect class='d' y='124' height='64' x='") l ++ metres (codes "' width='") (r - l) ++ codes "'/>\n" ∷ [])
     []
 
--- The middle of the band, where it lies between two places and on the strip.
+-- The middle of the band, where it lies after one place, at most at the other, and on the strip: a
+-- signal that comes just there ends the band at its middle.
 unfoldable pub middle : ℕ → ℕ → ℕ → ℕ → List (List ℕ)
 middle edge from to at =
-    pick (leb from at && (ltb at to && ltb (onStrip edge at) 11000))
+    pick (ltb from at && (leb at to && leb (at - edge) 10000))
     (metres (codes "<path class='c' d='M") (onStrip edge at) ++ codes " 124v64'/>\n" ∷ [])
     []
 
@@ -57,8 +58,23 @@ band (Linking.Set distance a) edge from to =
     due (onStrip edge (greater from (a + 4 * distance / 5))) (onStrip edge (lesser to (a + 6 * distance / 5)))
     ++ middle edge from to (a + distance)
 
+-- Whether the target lies above the main speed.
+abbrev pub isRising : Told → Told → Bool
+isRising Told.Unknown target = false
+isRising (Told.Kmh main) Told.Unknown = false
+isRising (Told.Kmh main) (Told.Kmh target) = ltb main target
+
+-- The beginning of the main speed's line and of the target's: the figure of the greater stands over
+-- its line, that of the lesser under it (class u).
+abbrev pub mainWords : Bool → List ℕ
+mainWords rising = pick rising (codes "<g class='m u' transform='translate(") (codes "<g class='m' transform='translate(")
+
+abbrev pub targetWords : Bool → List ℕ
+targetWords rising = pick rising (codes "<g class='t' transform='translate(") (codes "<g class='t u' transform='translate(")
+
 -- What is known from one place to another, on the strip with this edge.
 unfoldable pub span : ℕ → ℕ → ℕ → Known → List (List ℕ)
 span edge from to known =
-    level (codes "<g class='m' transform='translate(") (known .main) (onStrip edge from) (onStrip edge to)
-    ++ (level (codes "<g class='t' transform='translate(") (known .target) (onStrip edge from) (onStrip edge to) ++ band (known .linking) edge from to)
+    let rising : Bool = isRising (known .main) (known .target) in
+    level (mainWords rising) (known .main) (onStrip edge from) (onStrip edge to)
+    ++ (level (targetWords rising) (known .target) (onStrip edge from) (onStrip edge to) ++ band (known .linking) edge from to)

@@ -2,6 +2,7 @@
 -- those before any accepted record in a row at the head.
 -- Assumes nothing.
 use Prim.Native.Nat.{ℕ, _+_, _*_}
+use mathlib.Core.Bool.{_&&_}
 use mathlib.Core.List.{List, [], _∷_, _++_}
 use lib.Dec.{eqb, ltb}
 use Rattle.words.specs.Answer.{pick}
@@ -36,6 +37,7 @@ ticked n pen = record { edge = pen .edge; from = pen .from; is_open = pen .is_op
 abbrev pub oneTick : ℕ → ℕ
 oneTick n = pick (ltb n 5) (n + 1) 0
 
--- The ticks that lie at the odometer after an accepted record: those that lay there before it.
+-- The ticks that lie at the odometer after an accepted record: those that lay there before it. The
+-- ticks of the row at the head lie on no strip.
 abbrev pub ticksAt : Pen → ℕ → ℕ → ℕ
-ticksAt pen before after = pick (eqb before after) (pen .ticks) 0
+ticksAt pen before after = pick (pen .is_open && eqb before after) (pen .ticks) 0

@@ -93,7 +93,7 @@ fn beside(direction: Direction) -> u64
     ensures { λ r. ⌜ r ≡ beside direction ⌝ }
 {
     match direction {
-        Direction::Present => 127,
+        Direction::Present => 146,
         Direction::Opposite => 198,
     }
 }
@@ -105,7 +105,7 @@ fn put_beside(direction: Direction, number: Number, x: u64, buf: &mut [u8], at: 
     match number {
         Number::None => at,
         Number::Figure(m) => {
-            let a = put_metres(b"<text dx='9' x='", x, buf, at);
+            let a = put_metres(b"<text dx='12' x='", x, buf, at);
             let b = put_number(b"' y='", beside(direction), buf, a);
             let c = put_number(b"'>", m as u64, buf, b);
             put(b"</text>", buf, c)

@@ -1,11 +1,11 @@
 // What is known between two places: speeds as lines, and where the next signal is due.
 ghost use mathlib.Core.Path.{_≡_};
-ghost use Prim.Native.Nat.{_≤_};
+ghost use Prim.Native.Nat.{_-_, _≤_};
 ghost use Rattle.text.specs.Put.{came};
 ghost use Rattle.ride.specs.declared.Linking.{Linking};
 ghost use Rattle.text.specs.Pieces.{puts};
 ghost use Rattle.ride_drawing.specs.Metres.{metres};
-ghost use Rattle.ride_drawing.specs.Span.{height, speedLine, level, due, middle, band, span};
+ghost use Rattle.ride_drawing.specs.Span.{height, speedLine, level, due, middle, band, isRising, mainWords, targetWords, span};
 use crate::places::greater;
 use crate::places::lesser;
 use crate::places::on_strip;
@@ -68,13 +68,19 @@ fn put_due(l: u64, r: u64, buf: &mut [u8], at: usize) -> usize
     put(b"'/>\n", buf, b)
 }
 
+// How far a place lies beyond an edge.
+fn beyond(edge: u64, place: u64) -> u64
+    ensures { λ r. ⌜ r ≡ place - edge ⌝ }
+{
+    if place > edge { place - edge } else { 0 }
+}
+
 // The middle of the band.
 fn put_middle(edge: u64, from: u64, to: u64, place: u64, buf: &mut [u8], at: usize) -> usize
     ensures { λ n. ⌜ came n (now (buf .exit)) ≡ puts (middle edge from to place) (now (buf .entry)) at ⌝ }
 {
-    let x = on_strip(edge, place);
-    if (from <= place) & ((place < to) & (x < 11000)) {
-        let a = put_metres(b"<path class='c' d='M", x, buf, at);
+    if (from < place) & ((place <= to) & (beyond(edge, place) <= 10000)) {
+        let a = put_metres(b"<path class='c' d='M", on_strip(edge, place), buf, at);
         return put(b" 124v64'/>\n", buf, a);
     }
     at
@@ -110,6 +116,46 @@ pub fn put_band(linking: Linking, edge: u64, from: u64, to: u64, buf: &mut [u8],
     }
 }
 
+// Whether the target lies above the main speed.
+fn is_rising(main: Told, target: Told) -> bool
+    ensures { λ r. ⌜ r ≡ isRising main target ⌝ }
+{
+    match main {
+        Told::Unknown => false,
+        Told::Kmh(m) => match target {
+            Told::Unknown => false,
+            Told::Kmh(t) => m < t,
+        },
+    }
+}
+
+// The main speed.
+fn put_main(rising: bool, main: Told, l: u64, r: u64, buf: &mut [u8], at: usize) -> usize
+    ensures { λ n. ⌜ came n (now (buf .exit)) ≡ puts (level (mainWords rising) main l r) (now (buf .entry)) at ⌝ }
+{
+    if rising {
+        return put_level(b"<g class='m u' transform='translate(", main, l, r, buf, at);
+    }
+    put_level(b"<g class='m' transform='translate(", main, l, r, buf, at)
+}
+
+// The target.
+fn put_target(rising: bool, target: Told, l: u64, r: u64, buf: &mut [u8], at: usize) -> usize
+    ensures { λ n. ⌜ came n (now (buf .exit)) ≡ puts (level (targetWords rising) target l r) (now (buf .entry)) at ⌝ }
+{
+    if rising {
+        return put_level(b"<g class='t' transform='translate(", target, l, r, buf, at);
+    }
+    put_level(
+        b"<g class='t u' transform='translate(",
+        target,
+        l,
+        r,
+        buf,
+        at,
+    )
+}
+
 // What is known from one place to another.
 pub fn put_span(edge: u64, from: u64, to: u64, known: Known, buf: &mut [u8], at: usize) -> usize
     ensures { λ n. ⌜ came n (now (buf .exit)) ≡ puts (span edge from to known) (now (buf .entry)) at ⌝ }
@@ -119,7 +165,8 @@ pub fn put_span(edge: u64, from: u64, to: u64, known: Known, buf: &mut [u8], at:
     let linking = known.linking;
     let l = on_strip(edge, from);
     let r = on_strip(edge, to);
-    let a = put_level(b"<g class='m' transform='translate(", main, l, r, buf, at);
-    let b = put_level(b"<g class='t' transform='translate(", target, l, r, buf, a);
+    let rising = is_rising(main, target);
+    let a = put_main(rising, main, l, r, buf, at);
+    let b = put_target(rising, target, l, r, buf, a);
     put_band(linking, edge, from, to, buf, b)
 }

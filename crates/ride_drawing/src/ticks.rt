@@ -65,5 +65,9 @@ pub fn one_tick(n: u8) -> u8
 pub fn ticks_at(pen: Pen, before: u32, after: u32) -> u8
     ensures { λ r. ⌜ r ≡ ticksAt pen before after ⌝ }
 {
-    if before == after { pen.ticks } else { 0 }
+    if pen.is_open & (before == after) {
+        pen.ticks
+    } else {
+        0
+    }
 }
