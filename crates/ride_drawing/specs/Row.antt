@@ -8,7 +8,6 @@ use lib.Dec.{eqb, leb}
 use lib.ListN.{length, take}
 use Rattle.words.specs.Answer.{pick}
 use Rattle.text.specs.Text.{codes, decimal}
-use Rattle.group_rows.specs.declared.Kind.{Kind}
 use Rattle.ride.specs.declared.Seen.{Seen}
 use Rattle.acceptance.specs.declared.Met.{Met}
 use Rattle.acceptance.specs.declared.Entry.{Entry}
