@@ -44,8 +44,8 @@ pub struct Listed {
     pub done: Done,
 }
 
-// The word for a kind, after its space, into buf from `at` on, all other bytes as they were, and the
-// place after it; without room nothing is written, and the answer is `at`.
+// The word for a kind, after its space, into buf from `at` on, all other bytes as they were, and
+// the place after it; without room nothing is written, and the answer is `at`.
 pub fn put_kind(kind: Kind, buf: &mut [u8], at: usize) -> usize
     ensures { λ r. ⌜ came r (now (buf .exit)) ≡ put (kindWord kind) (now (buf .entry)) at ⌝ }
 {
