@@ -6,15 +6,15 @@ use Rattle.group_rows.specs.declared.Kind.{Kind}
 use Rattle.acceptance.specs.declared.Met.{Met}
 use Rattle.acceptance.specs.declared.Role.{Role}
 use Rattle.refusals.specs.Words.{table, worded, refused}
-use Rattle.acceptance_text.specs.Lines.{kindWord, partWords, groupLine, metWords, entryLine, sumLine, isPassed, troubleLine, verdict, lastLines, refusedLine}
+use Rattle.acceptance_text.specs.Lines.{partWords, groupLine, metWords, entryLine, sumLine, isPassed, troubleLine, verdict, lastLines, refusedLine}
 
 pub groups : (groupLine 1003 Kind.Signal (Role.Wanted 0) ≡ codes "1003 signal wanted 1\n") × (groupLine 2000 Kind.Warning Role.Extra ≡ codes "2000 warning extra\n")
-unfolding groupLine kindWord partWords decimal digits
+unfolding groupLine partWords decimal digits
 groups = (refl, refl)
 
 pub entries : (entryLine 0 (record { place = 1000; kind = Kind.Signal; met = Met.At 1003 }) ≡ codes "entry 1 at 1000 signal met at 1003\n")
     × (entryLine 1 (record { place = 5000; kind = Kind.Line; met = Met.Absent }) ≡ codes "entry 2 at 5000 line absent\n")
-unfolding entryLine kindWord metWords decimal digits
+unfolding entryLine metWords decimal digits
 entries = (refl, refl)
 
 pub the-sum : sumLine (record { entries = 2; met = 1; absent = 1; present = 2; extra = 1 })

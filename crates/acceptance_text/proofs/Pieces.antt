@@ -18,9 +18,11 @@ use Rattle.acceptance.specs.declared.Entry.{Entry}
 use Rattle.acceptance.specs.declared.Role.{Role}
 use Rattle.acceptance.specs.declared.Sums.{Sums}
 use Rattle.acceptance.specs.Taking.{oneMore}
+use Rattle.ride_text.specs.Text.{kindWord}
+use Rattle.ride_text.proofs.Longest.{kind-length}
 use Rattle.refusals.specs.Words.{refused}
 use Rattle.refusals.proofs.Lengths.{refused-length as words-length}
-use Rattle.acceptance_text.specs.Lines.{kindWord, partWords, groupLine, metWords, entryLine, sumLine, troubleLine, verdict, refusedLine}
+use Rattle.acceptance_text.specs.Lines.{partWords, groupLine, metWords, entryLine, sumLine, troubleLine, verdict, refusedLine}
 
 pub wanted-is : (i : ℕ) → numbered " wanted " (oneMore i) ++ codes "\n" ≡ partWords (Role.Wanted i)
 unfolding partWords
@@ -65,14 +67,6 @@ trouble-some faults records h = simp (lt-ltb _ _ h)
 pub trouble-none : (faults records : ℕ) → faults + records ≤ 0 → codes "" ≡ troubleLine faults records
 unfolding troubleLine
 trouble-none faults records h = simp (le-ltb _ _ h)
-
-kind-length : (k : Kind) → length (kindWord k) ≤ 9
-unfolding kindWord
-kind-length Kind.Signal = omega arith
-kind-length Kind.Warning = omega arith
-kind-length Kind.Annulled = omega arith
-kind-length Kind.Line = omega arith
-kind-length Kind.Route = omega arith
 
 part-length : (p : Role) → length (partWords p) ≤ 29
 unfolding partWords

@@ -13,20 +13,13 @@ use lib.Dec.{eqb, ltb}
 use Rattle.words.specs.Answer.{pick}
 use Rattle.text.specs.Text.{codes, decimal}
 use Rattle.group_rows.specs.declared.Kind.{Kind}
+use Rattle.ride_text.specs.Text.{kindWord}
 use Rattle.acceptance.specs.declared.Met.{Met}
 use Rattle.acceptance.specs.declared.Entry.{Entry}
 use Rattle.acceptance.specs.declared.Role.{Role}
 use Rattle.acceptance.specs.declared.Sums.{Sums}
 use Rattle.acceptance.specs.Taking.{oneMore}
 use Rattle.refusals.specs.Words.{refused}
-
--- The word for a kind, after its space.
-unfoldable pub kindWord : Kind → List ℕ
-kindWord Kind.Signal = codes " signal"
-kindWord Kind.Warning = codes " warning"
-kindWord Kind.Annulled = codes " annulled"
-kindWord Kind.Line = codes " line"
-kindWord Kind.Route = codes " route"
 
 -- A group's part: wanted with the number of its entry, or extra. A group that takes no part is said
 -- to.

@@ -6,7 +6,7 @@ ghost use lib.ListN.{length};
 ghost use Rattle.text.specs.Text.{codes, decimal};
 ghost use Rattle.text.specs.Put.{put, came};
 ghost use Rattle.acceptance.specs.Taking.{oneMore};
-ghost use Rattle.acceptance_text.specs.Lines.{kindWord, partWords, groupLine, metWords, entryLine, sumLine, troubleLine, verdict, refusedLine};
+ghost use Rattle.acceptance_text.specs.Lines.{partWords, groupLine, metWords, entryLine, sumLine, troubleLine, verdict, refusedLine};
 use acceptance::Entry;
 use acceptance::Met;
 use acceptance::Role;
@@ -14,22 +14,9 @@ use acceptance::Sums;
 use acceptance::one_more;
 use group_rows::Kind;
 use refusals::put_refused;
+use ride_text::put_kind;
 use text::put;
 use text::put_number;
-
-// The word for a kind.
-fn spell_kind(kind: Kind, buf: &mut [u8], at: usize) -> usize
-    requires { ⌜ at + length (kindWord kind) ≤ length (now buf) ⌝ }
-    ensures { λ r. ⌜ came r (now (buf .exit)) ≡ put (kindWord kind) (now (buf .entry)) at ⌝ }
-{
-    match kind {
-        Kind::Signal => put(b" signal", buf, at),
-        Kind::Warning => put(b" warning", buf, at),
-        Kind::Annulled => put(b" annulled", buf, at),
-        Kind::Line => put(b" line", buf, at),
-        Kind::Route => put(b" route", buf, at),
-    }
-}
 
 // A group's part.
 fn spell_part(part: Role, buf: &mut [u8], at: usize) -> usize
@@ -52,7 +39,7 @@ pub fn spell_group(place: u64, kind: Kind, part: Role, buf: &mut [u8], at: usize
     ensures { λ r. ⌜ came r (now (buf .exit)) ≡ put (groupLine place kind part) (now (buf .entry)) at ⌝ }
 {
     let a = put_number(b"", place, buf, at);
-    let b = spell_kind(kind, buf, a);
+    let b = put_kind(kind, buf, a);
     spell_part(part, buf, b)
 }
 
@@ -79,7 +66,7 @@ pub fn spell_entry(i: usize, entry: Entry, buf: &mut [u8], at: usize) -> usize
     let met = entry.met;
     let a = put_number(b"entry ", one_more(i as u64), buf, at);
     let b = put_number(b" at ", entry.place as u64, buf, a);
-    let c = spell_kind(kind, buf, b);
+    let c = put_kind(kind, buf, b);
     spell_met(met, buf, c)
 }
 

@@ -2,19 +2,19 @@
 -- where none of them opens or closes, the detector stays where it stands.
 -- Assumes nothing.
 use Prim.Native.Nat.{ℕ, zero, suc, _+_, _-_, _*_, _/_, _%_, _^_, _≤_, _<_}
-use mathlib.Core.Path.{_≡_, refl, sym, ap, ap₂, _∙_}
+use mathlib.Core.Path.{_≡_, sym, ap, ap₂, subst, _∙_}
 use mathlib.Core.List.{List}
 use native.Mathlib.Nat.{mul-assoc, pow-suc, add-mul}
+use native.Mathlib.Numerals.{add-one}
 use native.Mathlib.Omega.{arith}
 use lib.Count.{ones}
 use lib.Pow.{high, pow-add}
 use Rattle.words.specs.Bits.{bit}
-use Rattle.telegram.specs.Stretch.{bitsAt}
+use Rattle.telegram.specs.Stretch.{bitAt, bitsAt}
 use Rattle.telegram.proofs.Window.{bits-lt, cut}
 use Rattle.contact.specs.History.{after, zeroesOf, zeroes}
-use Rattle.contact.specs.Contacts.{outside, since, contacts}
+use Rattle.contact.specs.Contacts.{Mode, contacts}
 use Rattle.contact.proofs.Counts.{zeroes-and-ones}
-use Rattle.contact.proofs.Steps.{stays-out, stays-in}
 use Rattle.contact.proofs.Stays.{on, behind}
 
 -- Only the sixteen lowest bits count.
@@ -59,25 +59,38 @@ module _ (b : List ℕ) (h i : ℕ) (small : h < 65536) where
         ap (λ (x : ℕ). zeroesOf x 16) (sym (latest-is (suc j) (omega arith)))
         ∙ low-zeroes (w / 2 ^ (48 - suc j)) ∙ ap (λ (n : ℕ). zeroesOf (w / 2 ^ n) 16) down
 
-    -- The marks of a word: where bit 47 - j of m is not set, bit j of the 48 does not open, or does
-    -- not close.
-    pub few-before : (m n : ℕ) → ((k : ℕ) → k + 16 ≤ 64 → bit m k ≡ 0 → zeroesOf (w / 2 ^ k) 16 < 8)
-        → n ≤ 48 → ((j : ℕ) → j < n → bit m (47 - j) ≡ 0) → (j : ℕ) → j < n → zeroes (on b h i (suc j)) < 8
-    few-before m n marks low none j less = omega (arith, zeroes-at j (omega arith), marks (47 - j) (omega arith) (none j less))
+-- A turn of the walk in a mode: w holds the history h and the 48 bits from bit i on, of which the
+-- first n leave the detector in its mode.
+pub record Turn (b : List ℕ) (mode : Mode) (end h i w n : ℕ) : Type 0 where
+  small : h < 65536
+  word : w ≡ h * 2 ^ 48 + bitsAt b i 48
+  low : n ≤ 48
+  stays : (k : ℕ) → k < n → i + k < end → contacts b mode (on b h i k) (i + k) (end - (i + k)) ≡ contacts b mode (on b h i (suc k)) (i + k + 1) (end - (i + k + 1))
 
-    pub many-before : (m n : ℕ) → ((k : ℕ) → k + 16 ≤ 64 → bit m k ≡ 0 → 4 < zeroesOf (w / 2 ^ k) 16)
-        → n ≤ 48 → ((j : ℕ) → j < n → bit m (47 - j) ≡ 0) → (j : ℕ) → j < n → 4 < zeroes (on b h i (suc j))
-    many-before m n marks low none j less = omega (arith, zeroes-at j (omega arith), marks (47 - j) (omega arith) (none j less))
+-- The marks of a word make one: where bit 47 - j of m is not set, the zeroes after bit j of the 48
+-- are such that the detector stays.
+module _ (b : List ℕ) (mode : Mode) (end : ℕ) (Such : ℕ → Type 0)
+    (still : (h i : ℕ) → i < end → Such (zeroes (after h (bitAt b i))) → contacts b mode h i (end - i) ≡ contacts b mode (after h (bitAt b i)) (i + 1) (end - (i + 1))) where
+  pub by-marks : (h i w m n : ℕ) → h < 65536 → w ≡ h * 2 ^ 48 + bitsAt b i 48
+      → ((k : ℕ) → k + 16 ≤ 64 → bit m k ≡ 0 → Such (zeroesOf (w / 2 ^ k) 16)) → n ≤ 48 → ((j : ℕ) → j < n → bit m (47 - j) ≡ 0) → Turn b mode end h i w n
+  by-marks h i w m n small word marks low none = record {
+    small = small;
+    word = word;
+    low = low;
+    stays = λ k less below. still (on b h i k) (i + k) below
+        (subst Such (sym (zeroes-at b h i small w word k (omega arith))) (marks (47 - k) (omega arith) (none k less)));
+  }
 
-  module _ (end n : ℕ) (room : i + n ≤ end) where
-    pub none-opens : ((j : ℕ) → j < n → zeroes (on b h i (suc j)) < 8)
-        → contacts b outside h i (end - i) ≡ contacts b outside (on b h i n) (i + n) (end - (i + n))
-    none-opens few =
-        behind b h i outside end n room
-        (λ k less. stays-out b (on b h i k) (i + k) end (on b h i (suc k)) (zeroes (on b h i (suc k))) (omega arith) refl refl (few k less))
+module _ {b : List ℕ} {mode : Mode} {end h i w n : ℕ} (t : Turn b mode end h i w n) where
+  -- Each of those first bits can be passed over,
+  pub passed : (k : ℕ) → k ≤ n → i + k ≤ end → contacts b mode h i (end - i) ≡ contacts b mode (on b h i k) (i + k) (end - (i + k))
+  passed k few room = behind b h i mode end k room (λ j less. t .stays j (omega arith) (omega arith))
 
-    pub none-closes : (s : ℕ) → ((j : ℕ) → j < n → 4 < zeroes (on b h i (suc j)))
-        → contacts b (since s) h i (end - i) ≡ contacts b (since s) (on b h i n) (i + n) (end - (i + n))
-    none-closes s many =
-        behind b h i (since s) end n room
-        (λ k less. stays-in b (on b h i k) (i + k) end (on b h i (suc k)) (zeroes (on b h i (suc k))) (omega arith) refl refl s (many k less))
+  -- and where they are all 48, r is the history after them.
+  pub all-passed : (r : ℕ) → r ≡ w / 2 ^ (48 - 48) % 65536 → 48 ≤ n → i + 48 ≤ end → contacts b mode h i (end - i) ≡ contacts b mode r (i + 48) (end - (i + 48))
+  all-passed r is all room =
+      passed 48 all room ∙ ap (λ (x : ℕ). contacts b mode x (i + 48) (end - (i + 48))) (sym (is ∙ latest-is b h i (t .small) w (t .word) 48 (omega arith)))
+
+  -- The history after the bit behind them.
+  pub then-is : (r : ℕ) → r ≡ w / 2 ^ (48 - (n + 1)) % 65536 → n < 48 → r ≡ on b h i (suc n)
+  then-is r is less = is ∙ latest-is b h i (t .small) w (t .word) (n + 1) (omega arith) ∙ ap (on b h i) (add-one n)

@@ -9,19 +9,15 @@ use native.Mathlib.Omega.{arith}
 use lib.Dec.{ltb}
 use lib.ListN.{length, getD, length-append, List·getD-append}
 use lib.Seq.{getD-append-add}
-use borrow.Author.Tests.{lt-ltb}
 use Rattle.words.specs.Answer.{Outcome, gives, refuses, pick}
 use Rattle.words.specs.Limits.{largest64}
+use Rattle.antenna.proofs.Ends.{one-more}
 use Rattle.recording.specs.Frame.{odometerOf, acceptedAfter}
 use Rattle.recording.specs.Recording.{framesOf}
 use Rattle.recording.specs.Contacts.{before}
 use Rattle.recording_text.specs.declared.Frames.{Frames}
 use Rattle.recording_text.specs.Counts.{more, judgeFrame, noFrames, withFrame, overFrames, countFrames}
 use Rattle.recording_text.specs.Laws.{standing, AsRecorded, AnyPieces, AllFrames}
-
-pub one-more : (n : ℕ) → n < largest64 → more n ≡ n + 1
-unfolding more
-one-more n h = simp (lt-ltb _ _ h)
 
 -- ---- which frames are refused
 

@@ -12,6 +12,7 @@ use borrow.Author.Tests.{leb-true, le-ltb, ltb-true, ltb-false, eqb-true, eqb-fa
 use Rattle.words.specs.Answer.{Outcome, gives, refuses, pick}
 use Rattle.words.specs.Limits.{largest64}
 use Rattle.words.proofs.Never.{cannot-be}
+use Rattle.antenna.proofs.Ends.{one-more}
 use Rattle.ride.specs.Record.{odometerOf, kindOf, passedOf, blank, inOrder, Entry, checkRecord}
 use Rattle.recording.specs.Recording.{recorded}
 use Rattle.recording.specs.Rising.{AllAccepted}
@@ -20,7 +21,6 @@ use Rattle.recording.proofs.Rising.{none-refused}
 use Rattle.recording_text.specs.declared.Records.{Records}
 use Rattle.recording_text.specs.Counts.{more, noRecords, countRecord, countRecords}
 use Rattle.recording_text.specs.Laws.{AllRecords}
-use Rattle.recording_text.proofs.FrameLaws.{one-more}
 
 -- Every kind is one of document 01's.
 abbrev AllKinds : List (List ℕ) → Type 0

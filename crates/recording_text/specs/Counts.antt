@@ -5,17 +5,13 @@ use Prim.Native.Nat.{ℕ, zero, suc, _+_}
 use mathlib.Core.List.{List, [], _∷_}
 use lib.Dec.{eqb, ltb}
 use Rattle.words.specs.Answer.{Outcome, gives, refuses, pick}
-use Rattle.words.specs.Limits.{largest64}
 use Rattle.ride.specs.Record.{kindOf}
+unfoldable pub use Rattle.antenna.specs.Places.{more}
 use Rattle.recording.specs.Frame.{odometerOf}
 use Rattle.recording.specs.Recording.{framesOf}
 use Rattle.recording_text.specs.declared.First.{First}
 use Rattle.recording_text.specs.declared.Frames.{Frames}
 use Rattle.recording_text.specs.declared.Records.{Records}
-
--- One more; no count goes above 2^64 - 1.
-unfoldable pub more : ℕ → ℕ
-more n = pick (ltb n largest64) (n + 1) n
 
 -- ---- frames
 

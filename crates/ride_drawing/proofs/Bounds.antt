@@ -9,18 +9,17 @@ use lib.Seq.{length-take-le}
 use Rattle.text.specs.Text.{codes, decimal}
 use Rattle.text.proofs.Decimal.{decimal-length}
 use Rattle.group_rows.specs.declared.Direction.{Direction}
-use Rattle.group_rows.specs.declared.Kind.{Kind}
 use Rattle.group.specs.declared.Number.{Number}
 use Rattle.group.specs.declared.Group.{Group}
 use Rattle.ride.specs.declared.Line.{Line}
 use Rattle.ride.specs.declared.Seen.{Seen}
 use Rattle.acceptance.specs.declared.Entry.{Entry}
 use Rattle.acceptance.specs.Taking.{oneMore}
-use Rattle.acceptance_text.specs.Lines.{kindWord, entryLine}
+use Rattle.acceptance_text.specs.Lines.{entryLine}
 use Rattle.acceptance_text.proofs.Pieces.{entry-length}
 use Rattle.ride_text.specs.Style.{withReasons}
-use Rattle.ride_text.specs.Text.{lineText}
-use Rattle.ride_text.proofs.Longest.{line-within}
+use Rattle.ride_text.specs.Text.{kindWord, lineText}
+use Rattle.ride_text.proofs.Longest.{kind-length, line-within}
 use Rattle.ride_drawing.specs.Metres.{metres}
 use Rattle.ride_drawing.specs.Strip.{onStrip}
 use Rattle.ride_drawing.specs.Sign.{title, shape, beside, besideFault, numberBeside, placeBeside, label, sign}
@@ -128,14 +127,6 @@ entry-size i e edge =
       row-size x (oneMore i),
     )
 
-kind-size : (k : Kind) → length (kindWord k) ≤ 10
-unfolding kindWord
-kind-size Kind.Signal = omega arith
-kind-size Kind.Warning = omega arith
-kind-size Kind.Annulled = omega arith
-kind-size Kind.Line = omega arith
-kind-size Kind.Route = omega arith
-
 pub extra-size : (s : Seen) (edge : ℕ) → size (extraSign s edge) ≤ 200
 unfolding extraSign
 extra-size s edge =
@@ -153,6 +144,6 @@ extra-size s edge =
       size-one (codes "'/></g>\n") [],
       size-none,
       worded (codes "<g class='e'><title>") (s .place),
-      kind-size (s .kind),
+      kind-length (s .kind),
       metres-size (codes "' x='") x,
     )

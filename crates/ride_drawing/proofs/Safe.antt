@@ -18,7 +18,7 @@ use Rattle.ride.specs.declared.Mark.{Mark}
 use Rattle.ride.specs.declared.Seen.{Seen}
 use Rattle.ride.specs.declared.Line.{Line}
 use Rattle.ride_text.specs.Style.{withReasons}
-use Rattle.ride_text.specs.Text.{between, kind, mark, number, seen, textWith, whyText, lineText}
+use Rattle.ride_text.specs.Text.{directionWord, kindWord, mark, number, seen, textWith, whyText, lineText}
 use Rattle.words.specs.Why.{Why, why, are, unsaid}
 use Rattle.telegram.specs.Telegram.{badWord}
 use Rattle.group_reason.specs.Reason.{Amiss, unreadable, word, balises, bad, opens, figure, Explained, noReason, because}
@@ -27,7 +27,7 @@ use Rattle.group_reason.specs.Text.{letter, refusedAs, badly, baliseAt, soMany,
 use Rattle.acceptance.specs.declared.Met.{Met}
 use Rattle.acceptance.specs.declared.Entry.{Entry}
 use Rattle.acceptance.specs.Taking.{oneMore}
-use Rattle.acceptance_text.specs.Lines.{kindWord, metWords, entryLine}
+use Rattle.acceptance_text.specs.Lines.{metWords, entryLine}
 use Rattle.ride_drawing.specs.Sign.{title}
 use Rattle.ride_drawing.specs.Row.{entryTitle, extraTitle}
 use Rattle.ride_drawing.specs.Titles.{areSafe, NoEscape}
@@ -35,12 +35,12 @@ use Rattle.ride_drawing.proofs.SafeTexts.{Safe, join, words, cut, digit
 
 -- ---- groups
 
-between-safe : (d : Direction) → Safe (between d)
+direction-safe : (d : Direction) → Safe (directionWord d)
 unfolding areSafe
-between-safe Direction.Present = record { is = refl }
-between-safe Direction.Opposite = record { is = refl }
+direction-safe Direction.Present = record { is = refl }
+direction-safe Direction.Opposite = record { is = refl }
 
-kind-safe : (k : Kind) → Safe (kind k)
+kind-safe : (k : Kind) → Safe (kindWord k)
 unfolding areSafe
 kind-safe Kind.Signal = record { is = refl }
 kind-safe Kind.Warning = record { is = refl }
@@ -64,7 +64,7 @@ number-safe (Number.Figure m) = join (words " n" refl) (digits-safe 5 m)
 seen-safe : (s : Seen) → Safe (seen s)
 unfolding seen areSafe
 seen-safe s =
-    join (join (join (join (join (number-of (s .place)) (between-safe (s .direction))) (kind-safe (s .kind))) (mark-safe (s .mark))) (number-safe (s .number))) (words "\n" refl)
+    join (join (join (join (join (number-of (s .place)) (direction-safe (s .direction))) (kind-safe (s .kind))) (mark-safe (s .mark))) (number-safe (s .number))) (words "\n" refl)
 
 -- ---- reasons
 
@@ -132,14 +132,6 @@ title-safe g l = cut (length (lineText withReasons g l) - 1) (lineText withReaso
 
 -- ---- the row
 
-word-safe : (k : Kind) → Safe (kindWord k)
-unfolding kindWord areSafe
-word-safe Kind.Signal = record { is = refl }
-word-safe Kind.Warning = record { is = refl }
-word-safe Kind.Annulled = record { is = refl }
-word-safe Kind.Line = record { is = refl }
-word-safe Kind.Route = record { is = refl }
-
 met-safe : (m : Met) → Safe (metWords m)
 unfolding metWords areSafe
 met-safe Met.Absent = words " absent\n" refl
@@ -148,7 +140,7 @@ met-safe (Met.At place) = join (join (words " met at " refl) (number-of place)) 
 entry-line-safe : (i : ℕ) (e : Entry) → Safe (entryLine i e)
 unfolding entryLine areSafe
 entry-line-safe i e =
-    join (join (join (join (join (words "entry " refl) (number-of (oneMore i))) (words " at " refl)) (number-of (e .place))) (word-safe (e .kind))) (met-safe (e .met))
+    join (join (join (join (join (words "entry " refl) (number-of (oneMore i))) (words " at " refl)) (number-of (e .place))) (kind-safe (e .kind))) (met-safe (e .met))
 
 entry-safe : (i : ℕ) (e : Entry) → areSafe (entryTitle i e) ≡ true
 unfolding entryTitle
@@ -156,7 +148,7 @@ entry-safe i e = cut (length (entryLine i e) - 1) (entryLine i e) (entry-line-sa
 
 extra-safe : (s : Seen) → areSafe (extraTitle s) ≡ true
 unfolding areSafe
-extra-safe s = join (join (number-of (s .place)) (word-safe (s .kind))) (words " extra" refl) .is
+extra-safe s = join (join (number-of (s .place)) (kind-safe (s .kind))) (words " extra" refl) .is
 
 pub no-escape : NoEscape
 no-escape = record { titles = title-safe; entries = entry-safe; extras = extra-safe }

@@ -12,12 +12,12 @@ use Rattle.group.specs.declared.Group.{Group}
 use Rattle.ride.specs.declared.Line.{Line}
 use Rattle.ride.specs.declared.Seen.{Seen}
 use Rattle.ride_text.specs.Style.{withReasons}
-use Rattle.ride_text.specs.Text.{between, kind, mark, number, seen, textWith, whyText, lineText}
+use Rattle.ride_text.specs.Text.{directionWord, kindWord, mark, number, seen, textWith, whyText, lineText}
 use Rattle.acceptance.specs.declared.Met.{Met}
 use Rattle.acceptance.specs.declared.Entry.{Entry}
 use Rattle.acceptance.specs.declared.Role.{Role}
 use Rattle.acceptance.specs.Taking.{oneMore}
-use Rattle.acceptance_text.specs.Lines.{kindWord, partWords, groupLine, metWords, entryLine}
+use Rattle.acceptance_text.specs.Lines.{partWords, groupLine, metWords, entryLine}
 use Rattle.ride_drawing.specs.Metres.{metres}
 use Rattle.ride_drawing.specs.Strip.{onStrip}
 use Rattle.ride_drawing.specs.Sign.{shape, title, label, sign}
@@ -38,7 +38,7 @@ before t e =
 
 line-ends : (reason : List ℕ) (l : Line) → Ends (textWith reason l)
 unfolding textWith seen
-line-ends reason (Line.Group s) = (decimal (s .place) ++ between (s .direction) ++ kind (s .kind) ++ mark (s .mark) ++ number (s .number), refl)
+line-ends reason (Line.Group s) = (decimal (s .place) ++ directionWord (s .direction) ++ kindWord (s .kind) ++ mark (s .mark) ++ number (s .number), refl)
 line-ends reason (Line.Fault place n) = (decimal place ++ codes " fault " ++ decimal n ++ reason, refl)
 line-ends reason (Line.Missed place) = (decimal place ++ codes " missed", sym (append-assoc (decimal place) (codes " missed") (codes "\n")))
 line-ends reason (Line.Record number n) = (codes "record " ++ decimal number ++ codes " refused " ++ decimal n, refl)
@@ -57,11 +57,11 @@ group : (closed : Group) (s : Seen) → BeginsWith (s .place) (lineText withReas
 unfolding textWith seen
 group closed s =
     let p : ℕ = s .place in
-    let a : List ℕ = decimal p ++ between (s .direction) in
-    let b : List ℕ = a ++ kind (s .kind) in
+    let a : List ℕ = decimal p ++ directionWord (s .direction) in
+    let b : List ℕ = a ++ kindWord (s .kind) in
     let c : List ℕ = b ++ mark (s .mark) in
     let d : List ℕ = c ++ number (s .number) in
-    more p d (codes "\n") (more p c (number (s .number)) (more p b (mark (s .mark)) (more p a (kind (s .kind)) (between (s .direction), refl))))
+    more p d (codes "\n") (more p c (number (s .number)) (more p b (mark (s .mark)) (more p a (kindWord (s .kind)) (directionWord (s .direction), refl))))
 
 fault : (closed : Group) (place n : ℕ) → BeginsWith place (lineText withReasons closed (Line.Fault place n))
 unfolding textWith

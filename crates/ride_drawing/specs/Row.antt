@@ -8,12 +8,12 @@ use lib.Dec.{eqb, leb}
 use lib.ListN.{length, take}
 use Rattle.words.specs.Answer.{pick}
 use Rattle.text.specs.Text.{codes, decimal}
-use Rattle.group_rows.specs.declared.Kind.{Kind}
 use Rattle.ride.specs.declared.Seen.{Seen}
 use Rattle.acceptance.specs.declared.Met.{Met}
 use Rattle.acceptance.specs.declared.Entry.{Entry}
 use Rattle.acceptance.specs.Taking.{planned, isPresent, oneMore}
-use Rattle.acceptance_text.specs.Lines.{kindWord, entryLine}
+use Rattle.ride_text.specs.Text.{kindWord}
+use Rattle.acceptance_text.specs.Lines.{entryLine}
 use Rattle.ride_drawing.specs.declared.Pen.{Pen}
 use Rattle.ride_drawing.specs.declared.Plan.{Plan}
 use Rattle.ride_drawing.specs.Metres.{metres}

@@ -1,7 +1,6 @@
 // The row over the strips: entries of a plan, and extra groups.
 ghost use mathlib.Core.Path.{_≡_};
 ghost use Rattle.text.specs.Put.{put, came};
-ghost use Rattle.acceptance_text.specs.Lines.{kindWord};
 ghost use Rattle.acceptance.specs.Taking.{isPresent};
 ghost use Rattle.ride.specs.declared.Line.{Line};
 ghost use Rattle.text.specs.Pieces.{puts};
@@ -16,9 +15,9 @@ use acceptance::Entry;
 use acceptance::Met;
 use acceptance::Reported;
 use group_rows::Direction;
-use group_rows::Kind;
 use ride::Line;
 use ride::Seen;
+use ride_text::put_kind;
 use text::put;
 use text::put_number;
 
@@ -115,19 +114,6 @@ fn is_extra(plan: Plan, seen: Seen) -> bool
         return false;
     }
     !has_met(plan, seen.place)
-}
-
-// The word for a kind, after its space.
-fn put_kind(kind: Kind, buf: &mut [u8], at: usize) -> usize
-    ensures { λ r. ⌜ came r (now (buf .exit)) ≡ put (kindWord kind) (now (buf .entry)) at ⌝ }
-{
-    match kind {
-        Kind::Signal => put(b" signal", buf, at),
-        Kind::Warning => put(b" warning", buf, at),
-        Kind::Annulled => put(b" annulled", buf, at),
-        Kind::Line => put(b" line", buf, at),
-        Kind::Route => put(b" route", buf, at),
-    }
 }
 
 // The sign of an extra group.

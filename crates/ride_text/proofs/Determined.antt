@@ -14,6 +14,8 @@ use Rattle.ride_text.specs.declared.Done.{Done}
 use Rattle.ride_text.specs.declared.Listed.{Listed}
 use Rattle.ride_text.specs.List.{Taken, Listing}
 use Rattle.ride_text.specs.Says.{saysDone, saysListed}
+use Rattle.ride_text.proofs.put_kind.Kinds as put-kind-kinds
+use Rattle.ride_text.proofs.put_kind.Reads as put-kind-reads
 use Rattle.ride_text.proofs.put_line.Kinds as put-line-kinds
 use Rattle.ride_text.proofs.put_line.Reads as put-line-reads
 use Rattle.ride_text.proofs.put_styled.Kinds as put-styled-kinds
@@ -47,6 +49,9 @@ listed-back r out = ap (λ (d : Done). record { ride = r .ride; number = r .numb
 -- what two puts of one text have alike
 same-put : (n n′ : ℕ) (b b′ : List ℕ) → came n b ≡ came n′ b′ → (n ≡ n′) × (b ≡ b′)
 same-put n n′ b b′ e = (ap (λ (p : Put). p .next) e, ap (λ (p : Put). p .buffer) e)
+
+pub put-kind-determined : FixedWith 1 put-kind-kinds.ps put-kind-kinds.r put-kind-reads.Post (λ κs x. now (x .1 .0))
+put-kind-determined κs a r r′ x x′ p q = same-put r r′ (now (x .1 .0)) (now (x′ .1 .0)) (p ∙ sym q)
 
 pub put-line-determined : FixedWith 1 put-line-kinds.ps put-line-kinds.r put-line-reads.Post (λ κs x. now (x .1 .0))
 put-line-determined κs a r r′ x x′ p q = same-put r r′ (now (x .1 .0)) (now (x′ .1 .0)) (p ∙ sym q)

@@ -16,15 +16,15 @@ use Rattle.group.specs.declared.Group.{Group}
 use Rattle.group_reason.specs.Explain.{explain}
 use Rattle.group_reason.proofs.Pieces.{reason-length}
 use Rattle.ride_text.specs.Style.{Style, withReasons}
-use Rattle.ride_text.specs.Text.{direction, kind, mark, number, seen, textWith, text, whyText, lineText}
+use Rattle.ride_text.specs.Text.{directionWord, kindWord, mark, number, seen, textWith, text, whyText, lineText}
 use Rattle.ride_text.specs.List.{roomFor}
 use Rattle.text.proofs.Decimal.{at-most, decimal-length}
 
-direction-length : (d : Direction) → length (direction d) ≤ 8
+direction-length : (d : Direction) → length (directionWord d) ≤ 9
 direction-length Direction.Present = omega arith
 direction-length Direction.Opposite = omega arith
 
-kind-length : (k : Kind) → length (kind k) ≤ 8
+pub kind-length : (k : Kind) → length (kindWord k) ≤ 9
 kind-length Kind.Signal = omega arith
 kind-length Kind.Warning = omega arith
 kind-length Kind.Annulled = omega arith

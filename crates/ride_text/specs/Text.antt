@@ -18,22 +18,18 @@ use Rattle.group_reason.specs.Explain.{explain}
 use Rattle.group_reason.specs.Text.{reasonText}
 use Rattle.ride_text.specs.Style.{Style}
 
--- The word for a direction.
-abbrev pub direction : Direction → List ℕ
-direction Direction.Present = codes "present"
-direction Direction.Opposite = codes "opposite"
+-- The word for a direction, after its space.
+abbrev pub directionWord : Direction → List ℕ
+directionWord Direction.Present = codes " present"
+directionWord Direction.Opposite = codes " opposite"
 
--- It stands between spaces.
-abbrev pub between : Direction → List ℕ
-between d = codes " " ++ direction d ++ codes " "
-
--- The word for a kind.
-abbrev pub kind : Kind → List ℕ
-kind Kind.Signal = codes "signal"
-kind Kind.Warning = codes "warning"
-kind Kind.Annulled = codes "annulled"
-kind Kind.Line = codes "line"
-kind Kind.Route = codes "route"
+-- The word for a kind, after its space.
+abbrev pub kindWord : Kind → List ℕ
+kindWord Kind.Signal = codes " signal"
+kindWord Kind.Warning = codes " warning"
+kindWord Kind.Annulled = codes " annulled"
+kindWord Kind.Line = codes " line"
+kindWord Kind.Route = codes " route"
 
 -- A mark after its space; a group without one ends before it.
 abbrev pub mark : Mark → List ℕ
@@ -51,7 +47,7 @@ number (Number.Figure m) = codes " n" ++ digits 5 m
 
 -- The text of an accepted group: `1000 present signal first`, `1000 opposite signal n1612`.
 unfoldable pub seen : Seen → List ℕ
-seen s = decimal (s .place) ++ between (s .direction) ++ kind (s .kind) ++ mark (s .mark) ++ number (s .number) ++ codes "\n"
+seen s = decimal (s .place) ++ directionWord (s .direction) ++ kindWord (s .kind) ++ mark (s .mark) ++ number (s .number) ++ codes "\n"
 
 -- The text of a line, with so much behind the number of a fault: an accepted group;
 -- `1000 fault 13`; `5800 missed`; `record 3 refused 17`; `trace refused 16`.

@@ -7,7 +7,7 @@
 // is `text`'s specs/Put.antt.
 ghost use mathlib.Core.Path.{_≡_};
 ghost use Rattle.text.specs.Put.{put, came};
-ghost use Rattle.ride_text.specs.Text.{text, lineText};
+ghost use Rattle.ride_text.specs.Text.{kindWord, text, lineText};
 ghost use Rattle.ride_text.specs.Told.{endText};
 ghost use Rattle.ride_text.specs.List.{list};
 ghost use Rattle.ride_text.specs.Says.{saysListed};
@@ -16,6 +16,7 @@ mod lines;
 mod records;
 
 use group::Group;
+use group_rows::Kind;
 use ride::Line;
 use ride::Ride;
 use settings::Asked;
@@ -41,6 +42,20 @@ pub struct Listed {
     pub ride: Ride,
     pub number: u64,
     pub done: Done,
+}
+
+// The word for a kind, after its space, into buf from `at` on, all other bytes as they were, and
+// the place after it; without room nothing is written, and the answer is `at`.
+pub fn put_kind(kind: Kind, buf: &mut [u8], at: usize) -> usize
+    ensures { λ r. ⌜ came r (now (buf .exit)) ≡ put (kindWord kind) (now (buf .entry)) at ⌝ }
+{
+    match kind {
+        Kind::Signal => text::put(b" signal", buf, at),
+        Kind::Warning => text::put(b" warning", buf, at),
+        Kind::Annulled => text::put(b" annulled", buf, at),
+        Kind::Line => text::put(b" line", buf, at),
+        Kind::Route => text::put(b" route", buf, at),
+    }
 }
 
 // The line's text, to the letter, and a newline into buf from `at` on, all other bytes as they

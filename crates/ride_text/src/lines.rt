@@ -6,37 +6,24 @@ ghost use lib.ListN.{length};
 ghost use Rattle.text.specs.Text.{codes, decimal};
 ghost use Rattle.text.specs.Put.{put, came};
 ghost use Rattle.ride.specs.declared.Line.{Line};
-ghost use Rattle.ride_text.specs.Text.{between, kind, mark, number, seen, text, behind, lineText};
+ghost use Rattle.ride_text.specs.Text.{directionWord, mark, number, seen, text, behind, lineText};
+use crate::put_kind;
 use group::Group;
 use group::Number;
 use group_rows::Direction;
-use group_rows::Kind;
 use ride::Line;
 use ride::Mark;
 use ride::Seen;
 use text::put;
 use text::put_number;
 
-// The word for a direction, between its spaces.
+// The word for a direction, after its space.
 fn put_direction(way: Direction, buf: &mut [u8], at: usize) -> usize
-    ensures { λ r. ⌜ came r (now (buf .exit)) ≡ put (between way) (now (buf .entry)) at ⌝ }
+    ensures { λ r. ⌜ came r (now (buf .exit)) ≡ put (directionWord way) (now (buf .entry)) at ⌝ }
 {
     match way {
-        Direction::Present => put(b" present ", buf, at),
-        Direction::Opposite => put(b" opposite ", buf, at),
-    }
-}
-
-// The word for a kind.
-fn put_kind(of: Kind, buf: &mut [u8], at: usize) -> usize
-    ensures { λ r. ⌜ came r (now (buf .exit)) ≡ put (kind of) (now (buf .entry)) at ⌝ }
-{
-    match of {
-        Kind::Signal => put(b"signal", buf, at),
-        Kind::Warning => put(b"warning", buf, at),
-        Kind::Annulled => put(b"annulled", buf, at),
-        Kind::Line => put(b"line", buf, at),
-        Kind::Route => put(b"route", buf, at),
+        Direction::Present => put(b" present", buf, at),
+        Direction::Opposite => put(b" opposite", buf, at),
     }
 }
 

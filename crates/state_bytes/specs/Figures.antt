@@ -13,7 +13,7 @@ each (suc n) f = each n f ++ (f n ∷ [])
 
 -- Byte k of a figure's eight.
 unfoldable pub byteOf : ℕ → ℕ → ℕ
-byteOf figure k = figure / 256 ^ (7 - k) % 256
+byteOf figure k = figure / 2 ^ (8 * (7 - k)) % 256
 
 -- Byte j of some figures in a row: byte j % 8 of figure j / 8; 0 beyond the last.
 abbrev pub byteAmong : List ℕ → ℕ → ℕ

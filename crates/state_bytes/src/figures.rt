@@ -9,16 +9,7 @@ fn byte_of(figure: u64, k: usize) -> u8
     requires { ⌜ k < 8 ⌝ }
     ensures { λ r. ⌜ r ≡ byteOf figure k ⌝ }
 {
-    match k {
-        0 => (figure / 72057594037927936 % 256) as u8,
-        1 => (figure / 281474976710656 % 256) as u8,
-        2 => (figure / 1099511627776 % 256) as u8,
-        3 => (figure / 4294967296 % 256) as u8,
-        4 => (figure / 16777216 % 256) as u8,
-        5 => (figure / 65536 % 256) as u8,
-        6 => (figure / 256 % 256) as u8,
-        _ => (figure % 256) as u8,
-    }
+    ((figure >> (8 * (7 - k))) % 256) as u8
 }
 
 // Figure i of some; 0 beyond the last.

@@ -8,23 +8,16 @@ use mathlib.Core.List.{List, [], _∷_, _++_}
 use Rattle.words.specs.Answer.{Outcome, gives, refuses, pick}
 use Rattle.text.specs.Text.{codes, decimal}
 use Rattle.group_rows.specs.declared.Direction.{Direction}
-use Rattle.group_rows.specs.declared.Kind.{Kind}
+use Rattle.ride_text.specs.Text.{kindWord}
 use Rattle.group.specs.declared.Told.{Told}
 use Rattle.group.specs.declared.Number.{Number}
 use Rattle.group.specs.declared.Content.{Content}
 use Rattle.group.specs.declared.Message.{Message}
 
--- The words for a direction and a kind.
+-- The word for a direction, with which a line begins.
 abbrev pub directionWord : Direction → List ℕ
-directionWord Direction.Present = codes "present "
-directionWord Direction.Opposite = codes "opposite "
-
-abbrev pub kindWord : Kind → List ℕ
-kindWord Kind.Signal = codes "signal"
-kindWord Kind.Warning = codes "warning"
-kindWord Kind.Annulled = codes "annulled"
-kindWord Kind.Line = codes "line"
-kindWord Kind.Route = codes "route"
+directionWord Direction.Present = codes "present"
+directionWord Direction.Opposite = codes "opposite"
 
 -- A speed after its words, or a dash where nothing is told.
 abbrev pub toldPieces : List ℕ → Told → List (List ℕ)

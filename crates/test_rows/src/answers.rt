@@ -5,33 +5,20 @@ ghost use Rattle.words.specs.Answer.{refuses};
 ghost use Rattle.text.specs.Put.{put, came};
 ghost use Rattle.text.specs.Pieces.{puts};
 ghost use Rattle.group.specs.Says.{saysGroupJudged};
-ghost use Rattle.test_rows.specs.Answers.{directionWord, kindWord, toldPieces, distancePieces, contentPieces, balisePieces, numberPieces, messagePieces, answerPieces};
+ghost use Rattle.test_rows.specs.Answers.{directionWord, toldPieces, distancePieces, contentPieces, balisePieces, numberPieces, messagePieces, answerPieces};
 use group::Content;
 use group::GroupJudged;
 use group::Message;
 use group::Number;
 use group::Told;
 use group_rows::Direction;
-use group_rows::Kind;
 
 fn direction(d: Direction, out: &mut [u8], at: usize) -> usize
     ensures { λ r. ⌜ came r (now (out .exit)) ≡ put (directionWord d) (now (out .entry)) at ⌝ }
 {
     match d {
-        Direction::Present => text::put(b"present ", out, at),
-        Direction::Opposite => text::put(b"opposite ", out, at),
-    }
-}
-
-fn kind(k: Kind, out: &mut [u8], at: usize) -> usize
-    ensures { λ r. ⌜ came r (now (out .exit)) ≡ put (kindWord k) (now (out .entry)) at ⌝ }
-{
-    match k {
-        Kind::Signal => text::put(b"signal", out, at),
-        Kind::Warning => text::put(b"warning", out, at),
-        Kind::Annulled => text::put(b"annulled", out, at),
-        Kind::Line => text::put(b"line", out, at),
-        Kind::Route => text::put(b"route", out, at),
+        Direction::Present => text::put(b"present", out, at),
+        Direction::Opposite => text::put(b"opposite", out, at),
     }
 }
 
@@ -106,7 +93,7 @@ fn message(m: Message, out: &mut [u8], at: usize) -> usize
     let n = m.number;
     let c = m.content;
     let after_direction = direction(d, out, at);
-    let after_kind = kind(k, out, after_direction);
+    let after_kind = ride_text::put_kind(k, out, after_direction);
     let after_balise = balise(m.place, m.ay, m.az, out, after_kind);
     let after_number = number(n, out, after_balise);
     content(c, out, after_number)

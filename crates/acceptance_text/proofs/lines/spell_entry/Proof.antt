@@ -7,7 +7,8 @@ use lib.ListN.{length}
 use Rattle.text.specs.Put.{put}
 use Rattle.text.proofs.Standing.{less, join, room-after, join-3, join-4, numbered, room-as}
 use Rattle.acceptance.specs.Taking.{oneMore}
-use Rattle.acceptance_text.specs.Lines.{kindWord, metWords}
+use Rattle.ride_text.specs.Text.{kindWord}
+use Rattle.acceptance_text.specs.Lines.{metWords}
 use Rattle.acceptance_text.proofs.Pieces.{entry-is}
 use borrow.Author.Needs.{needs}
 use Rattle.acceptance_text.proofs.lines.spell_entry.Statement.{statement}
@@ -29,17 +30,6 @@ with-place s =
     let a = s .args in
     less (a .buf .now) (a .at) (numbered "entry " (oneMore (a .i)) ++ numbered " at " (a .entry .place)) (kindWord (a .entry .kind)) (with-kind s)
 
-spell-kind-requires : tie.Need-spell-kind-requires
-spell-kind-requires c κs =
-    let p2 = c .before .before .before in
-    let p1 = p2 .before .before .before .before .before .before in
-    let n = p1 .before .before in
-    let s = n .before .before .before in
-    let a = s .args in
-    let first = p1 .put-number .ensures ∙ ap (λ (m : ℕ). put (numbered "entry " m) (a .buf .now) (a .at)) (n .one-more .ensures) in
-    room-after (a .buf .now) (a .at) (numbered "entry " (oneMore (a .i)) ++ numbered " at " (a .entry .place)) (kindWord (a .entry .kind)) (with-kind s)
-    (join (a .buf .now) (a .at) (numbered "entry " (oneMore (a .i))) (numbered " at " (a .entry .place)) (with-place s) first (p2 .put-number2 .ensures))
-
 spell-met-requires : tie.Need-spell-met-requires
 spell-met-requires c κs =
     let p3 = c .before .before .before in
@@ -51,7 +41,7 @@ spell-met-requires c κs =
     let first = p1 .put-number .ensures ∙ ap (λ (m : ℕ). put (numbered "entry " m) (a .buf .now) (a .at)) (n .one-more .ensures) in
     room-after (a .buf .now) (a .at) (numbered "entry " (oneMore (a .i)) ++ numbered " at " (a .entry .place) ++ kindWord (a .entry .kind)) (metWords (a .entry .met)) (whole s)
     (join-3 (a .buf .now) (a .at) (numbered "entry " (oneMore (a .i))) (numbered " at " (a .entry .place)) (kindWord (a .entry .kind)) (with-kind s) first (p2 .put-number2 .ensures)
-    (p3 .spell-kind .ensures))
+    (p3 .put-kind .ensures))
 
 returns : tie.Need-returns
 returns c =
@@ -64,13 +54,13 @@ returns c =
     let a = s .args in
     let first = p1 .put-number .ensures ∙ ap (λ (m : ℕ). put (numbered "entry " m) (a .buf .now) (a .at)) (n .one-more .ensures) in
     join-4 (a .buf .now) (a .at) (numbered "entry " (oneMore (a .i))) (numbered " at " (a .entry .place)) (kindWord (a .entry .kind)) (metWords (a .entry .met)) (whole s) first
-    (p2 .put-number2 .ensures) (p3 .spell-kind .ensures) (p4 .spell-met .ensures)
+    (p2 .put-number2 .ensures) (p3 .put-kind .ensures) (p4 .spell-met .ensures)
     ∙ ap (λ (t : List ℕ). put t (a .buf .now) (a .at)) (entry-is (a .i) (a .entry))
 
 pub spell-entry-spec : {M : Type 1} → statement M
 spell-entry-spec =
     tie.close
     (tie.spec
-    (λ c. search needs) (λ c κs. search needs) (λ c κs. search needs) (λ c. search needs) (λ c. search needs) (λ c κs. search needs) spell-kind-requires
+    (λ c. search needs) (λ c κs. search needs) (λ c κs. search needs) (λ c. search needs) (λ c. search needs) (λ c κs. search needs) (λ c κs. search needs)
     spell-met-requires
     (λ c. search needs) returns)

@@ -1,16 +1,14 @@
 -- What the contacts are from the opening bit on, they still are from each later bit on that the
 -- walk comes to, until a bit closes.
 -- Assumes nothing.
-use Prim.Native.Nat.{ℕ, suc, _+_, _-_, _≤_, _<_}
+use Prim.Native.Nat.{ℕ, _+_, _-_, _≤_, _<_}
 use mathlib.Core.Path.{_≡_, refl, sym, ap, _∙_}
-use native.Mathlib.Numerals.{add-one}
 use native.Mathlib.Omega.{arith}
 use borrow.Author.Needs.{needs}
-use Rattle.contact.specs.History.{zeroes}
 use Rattle.contact.specs.Contacts.{since, contacts, first}
 use Rattle.contact.proofs.Steps.{ends-inside, goes-out, stays-in}
 use Rattle.contact.proofs.Stays.{on}
-use Rattle.contact.proofs.Block.{latest-is, many-before, none-closes}
+use Rattle.contact.proofs.Block.{Turn, by-marks, passed, all-passed, then-is}
 use Rattle.contact.proofs.detector.within.Statement.{statement}
 use Rattle.contact.proofs.detector.within.Tie as tie
 
@@ -27,16 +25,17 @@ abbrev μ-loop : tie.MeasureT-loop
 loop-holds : tie.Need-loop-holds Inv-loop μ-loop
 loop-holds c = (omega arith, omega arith, omega arith, refl)
 
--- the bits before the first that is marked
-before : (c : tie.After-before-first Inv-loop μ-loop) (j : ℕ) → j < c .before-first .result
-    → 4 < zeroes (on (c .before .before .before .before .before .before .args .buf .now) (c .before .before .before .before .loop .h) (c .before .before .before .before .loop .i) (suc j))
-before c =
+-- a turn: what is not marked does not close
+turn : (c : tie.After-before-first Inv-loop μ-loop) → let a = c .before .before .before .before .before .before .args in
+    let l = c .before .before .before .before .loop in
+    Turn (a .buf .now) (since (a .opened)) (a .end) (l .h) (l .i) (c .before .before .line .result) (c .before-first .result)
+turn c =
     let a = c .before .before .before .before .before .before .args in
     let l = c .before .before .before .before .loop in
-    let w = c .before .before .line in
     let m = c .before .closing in
     let n = c .before-first in
-    many-before (a .buf .now) (l .h) (l .i) (l .inv .2) (w .result) (w .ensures) (m .result) (n .result) (m .ensures) (n .ensures .0) (n .ensures .1)
+    by-marks (a .buf .now) (since (a .opened)) (a .end) (λ (z : ℕ). 4 < z) (λ h i below many. stays-in (a .buf .now) h i (a .end) _ _ below refl refl (a .opened) many)
+    (l .h) (l .i) (c .before .before .line .result) (m .result) (n .result) (l .inv .2) (c .before .before .line .ensures) (m .ensures) (n .ensures .0) (n .ensures .1)
 
 returns : tie.Need-returns Inv-loop μ-loop
 returns c =
@@ -45,26 +44,13 @@ returns c =
     let b = a .buf .now in
     let l = u .before .before .before .before .loop in
     let n = a .end - l .i in
-    let none = none-closes b (l .h) (l .i) (l .inv .2) (a .end) n (omega arith) (a .opened) (λ j less. before u j (omega arith)) in
-    sym (ap first (l .inv .3 ∙ none ∙ ends-inside b (on b (l .h) (l .i) n) (l .i + n) (a .end) (omega arith) (a .opened)))
+    sym (ap first (l .inv .3 ∙ passed (turn u) n (omega arith) (omega arith) ∙ ends-inside b (on b (l .h) (l .i) n) (l .i + n) (a .end) (omega arith) (a .opened)))
 
 zeroes-requires : tie.Need-zeroes-requires Inv-loop μ-loop
 zeroes-requires c κs = omega (arith, c .latest .ensures)
 
 cast-t18 : tie.Need-cast-t18 Inv-loop μ-loop
 cast-t18 c = omega (arith, c .before .before .latest .ensures)
-
--- the history after the bit that is marked
-now-is : (c : tie.After-latest Inv-loop μ-loop) → let u = c .before .before .before in
-    c .latest .result
-    ≡ on (u .before .before .before .before .before .before .args .buf .now) (u .before .before .before .before .loop .h) (u .before .before .before .before .loop .i) (suc (u .before-first .result))
-now-is c =
-    let u = c .before .before .before in
-    let b = u .before .before .before .before .before .before .args .buf .now in
-    let l = u .before .before .before .before .loop in
-    let w = u .before .before .line in
-    let k = u .before-first .result in
-    c .latest .ensures ∙ latest-is b (l .h) (l .i) (l .inv .2) (w .result) (w .ensures) (k + 1) (omega arith) ∙ ap (on b (l .h) (l .i)) (add-one k)
 
 returns-2 : tie.Need-returns-2 Inv-loop μ-loop
 returns-2 c =
@@ -74,8 +60,8 @@ returns-2 c =
     let b = a .buf .now in
     let l = u .before .before .before .before .loop in
     let k = u .before-first .result in
-    let none = none-closes b (l .h) (l .i) (l .inv .2) (a .end) k (omega arith) (a .opened) (before u) in
-    let out = goes-out b (on b (l .h) (l .i) k) (l .i + k) (a .end) (z .before .latest .result) (z .zeroes .result) (omega arith) (now-is (z .before)) (z .zeroes .ensures) (a .opened) (c .if3 .taken) in
+    let none = passed (turn u) k (omega arith) (omega arith) in
+    let out = goes-out b (on b (l .h) (l .i) k) (l .i + k) (a .end) (z .before .latest .result) (z .zeroes .result) (omega arith) (then-is (turn u) (z .before .latest .result) (z .before .latest .ensures) (omega arith)) (z .zeroes .ensures) (a .opened) (c .if3 .taken) in
     sym (ap first (l .inv .3 ∙ none ∙ out))
 
 loop-again : tie.Need-loop-again Inv-loop μ-loop
@@ -86,27 +72,16 @@ loop-again c =
     let b = a .buf .now in
     let l = u .before .before .before .before .loop in
     let k = u .before-first .result in
-    let none = none-closes b (l .h) (l .i) (l .inv .2) (a .end) k (omega arith) (a .opened) (before u) in
-    let stays = stays-in b (on b (l .h) (l .i) k) (l .i + k) (a .end) (z .before .latest .result) (z .zeroes .result) (omega arith) (now-is (z .before)) (z .zeroes .ensures) (a .opened) (c .if3 .left) in
+    let none = passed (turn u) k (omega arith) (omega arith) in
+    let stays = stays-in b (on b (l .h) (l .i) k) (l .i + k) (a .end) (z .before .latest .result) (z .zeroes .result) (omega arith) (then-is (turn u) (z .before .latest .result) (z .before .latest .ensures) (omega arith)) (z .zeroes .ensures) (a .opened) (c .if3 .left) in
     (omega arith, omega arith, omega (arith, z .before .latest .ensures), l .inv .3 ∙ none ∙ stays)
 
 loop-again-2 : tie.Need-loop-again-2 Inv-loop μ-loop
 loop-again-2 c =
     let u = c .before .before .before in
-    let a = u .before .before .before .before .before .before .args in
-    let b = a .buf .now in
     let l = u .before .before .before .before .loop in
-    let w = u .before .before .line in
-    let n = u .before-first in
     let all = c .before .if2 .left in
-    let then-is : c .latest2 .result ≡ on b (l .h) (l .i) 48 =
-    c .latest2 .ensures ∙ latest-is b (l .h) (l .i) (l .inv .2) (w .result) (w .ensures) 48 (omega arith) in
-    let none = none-closes b (l .h) (l .i) (l .inv .2) (a .end) 48 (omega arith) (a .opened) (λ j less. before u j (omega arith)) in (
-      omega arith,
-      omega arith,
-      omega (arith, c .latest2 .ensures),
-      l .inv .3 ∙ none ∙ ap (λ (h : ℕ). contacts b (since (a .opened)) h (l .i + 48) (a .end - (l .i + 48))) (sym then-is),
-    )
+    (omega arith, omega arith, omega (arith, c .latest2 .ensures), l .inv .3 ∙ all-passed (turn u) (c .latest2 .result) (c .latest2 .ensures) (omega arith) (omega arith))
 
 returns-3 : tie.Need-returns-3 Inv-loop μ-loop
 returns-3 c =

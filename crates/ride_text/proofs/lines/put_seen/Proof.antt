@@ -3,7 +3,7 @@
 use mathlib.Core.List.{_++_}
 use Rattle.text.specs.Text.{codes, decimal}
 use Rattle.text.proofs.Standing.{less, join, join-4}
-use Rattle.ride_text.specs.Text.{between, kind, mark, number, seen}
+use Rattle.ride_text.specs.Text.{directionWord, kindWord, mark, number, seen}
 use borrow.Author.Needs.{needs}
 use Rattle.ride_text.proofs.lines.put_seen.Statement.{statement}
 use Rattle.ride_text.proofs.lines.put_seen.Tie as tie
@@ -21,12 +21,12 @@ returns c =
     let b = s .args .buf .now in
     let at = s .args .at in
     let of = s .args .of in
-    let four = decimal (of .place) ++ between (of .direction) ++ kind (of .kind) ++ mark (of .mark) in
+    let four = decimal (of .place) ++ directionWord (of .direction) ++ kindWord (of .kind) ++ mark (of .mark) in
     let h5 = less b at (four ++ number (of .number)) (codes "\n") (s .pre) in
     let h4 = less b at four (number (of .number)) h5 in
     join b at (four ++ number (of .number)) (codes "\n") (s .pre)
     (join b at four (number (of .number)) h5
-    (join-4 b at (decimal (of .place)) (between (of .direction)) (kind (of .kind)) (mark (of .mark)) h4
+    (join-4 b at (decimal (of .place)) (directionWord (of .direction)) (kindWord (of .kind)) (mark (of .mark)) h4
     (p1 .put-number .ensures) (p2 .put-direction .ensures) (p3 .put-kind .ensures) (p4 .put-mark .ensures))
     (p5 .put-figure .ensures))
     (p6 .put .ensures)

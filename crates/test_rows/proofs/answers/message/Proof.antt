@@ -12,7 +12,7 @@ returns c =
     let p3 = p4 .before .before .before .before in
     let p2 = p3 .before .before .before .before in
     let p1 = p2 .before .before .before .before in
-    after _ _ _ _ (after _ _ _ _ (after _ _ _ _ (then _ _ _ _ (p1 .direction .ensures) (alone _ _ _ (p2 .kind .ensures))) (p3 .balise .ensures)) (p4 .number .ensures)) (p5 .content .ensures)
+    after _ _ _ _ (after _ _ _ _ (after _ _ _ _ (then _ _ _ _ (p1 .direction .ensures) (alone _ _ _ (p2 .put-kind .ensures))) (p3 .balise .ensures)) (p4 .number .ensures)) (p5 .content .ensures)
 
 pub message-spec : {M : Type 1} → statement M
 message-spec =

@@ -1,14 +1,12 @@
 -- By the kind.
--- Assumes nothing.
 use Rattle.text.proofs.Standing.{by-case}
-use Rattle.acceptance_text.specs.Lines.{kindWord}
+use Rattle.ride_text.specs.Text.{kindWord}
 use borrow.Author.Needs.{needs}
-use Rattle.acceptance_text.proofs.lines.spell_kind.Statement.{statement}
-use Rattle.acceptance_text.proofs.lines.spell_kind.Tie as tie
+use Rattle.ride_text.proofs.put_kind.Statement.{statement}
+use Rattle.ride_text.proofs.put_kind.Tie as tie
 
-pub spell-kind-spec : {M : Type 1} → statement M
-unfolding kindWord
-spell-kind-spec =
+pub put-kind-spec : {M : Type 1} → statement M
+put-kind-spec =
     tie.close
     (tie.spec
     (λ c. search needs) (λ c. search needs) (λ c κs. search needs)
