@@ -19,10 +19,10 @@ use Rattle.recording.specs.Recording.{Taped, withOdometer, positioned, isDue, h
 use Rattle.recording.specs.Asking.{InBits, recordedAt, heardOut, firstIn, Going, gave, usedUp, orNext, firstOf, goOn}
 use Rattle.recording.specs.Laws.{thenTaped}
 use Rattle.recording.proofs.Asking.{asked-on}
+use Rattle.recording.proofs.Pieces.{Same, in-first, in-rest, same-frames}
 use Rattle.ear_bytes.specs.Hearing.{joined, Stood, afterGoing, someOf, roomFor, hear}
 use Rattle.ear_bytes.specs.Laws.{toCome, AnyRoom}
 use Rattle.ear_bytes.proofs.Within.{Within, goes-to, stands-at}
-use Rattle.ear_bytes.proofs.SameFrames.{Same, in-first, in-rest, same-frames}
 
 -- Some records, and then what comes.
 abbrev behind : List (List ℕ) → Taped → Taped
