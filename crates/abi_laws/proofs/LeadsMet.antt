@@ -25,7 +25,7 @@ use Rattle.state_bytes.specs.Figures.{each, byteOf, spread, eightAt, figureAt}
 use Rattle.state_bytes.specs.Stores.{storeIn}
 use Rattle.ear_bytes.specs.declared.Hearing.{Hearing}
 use Rattle.ear_bytes.specs.Ears.{figuresOf, earBytes, earIn}
-use Rattle.ear_bytes.specs.Hearing.{fresh, someOf, someOfEnd, Written, hear, end}
+use Rattle.ear_bytes.specs.Hearing.{fresh, someOf, Written, hear, end}
 use Rattle.abi.specs.Face.{returned}
 use Rattle.abi.specs.Stores.{keptNumber}
 use Rattle.abi.specs.Leads as leads
@@ -134,7 +134,7 @@ hears-met =
     call {piece = frame} {room = room} {records = position} {later = []} {used = 16} {bytes = 8} [] (record-met (earBytes fresh) settings frame room wrote settings-good is then-back) (no-frame {lead = []} (omega arith))
 
 none-more : record { wrote = record { hearing = then; frames = 0; bytes = 0 }; buffer = room } ≡ end then room
-unfolding end someOfEnd finish placed
+unfolding end someOf finish placed
 none-more = refl
 
 pub ends-met : Ended (earBytes then) []

@@ -7,11 +7,12 @@ use mathlib.Core.List.{List, [], _∷_, _++_}
 use lib.Dec.{eqb, ltb}
 use Rattle.words.specs.Answer.{Outcome, gives, refuses, pick}
 use Rattle.words.specs.Limits.{largest64}
+use Rattle.refusals.specs.Words.{refused}
 use Rattle.contact.specs.declared.Judged.{Judged}
 use Rattle.contact.specs.Says.{saysJudged}
 use Rattle.contact.specs.Judge.{Contact, read, marker}
 use Rattle.antenna.specs.Line.{Told, told, placed}
-use Rattle.contact_text.specs.Lines.{heard, refusal}
+use Rattle.contact_text.specs.Lines.{heard}
 
 -- A number of a line as it is shown: none is above 2^64 - 1. No line has as many bits.
 unfoldable pub shown : ℕ → ℕ
@@ -43,5 +44,5 @@ toldLines (contact ∷ rest) = toldLine contact ++ toldLines rest
 
 -- What is said at the end of the line: "A contact still open where the record ends is refusal 9."
 unfoldable pub endLine : Bool → List ℕ
-endLine true = refusal 9
+endLine true = refused 9
 endLine false = []

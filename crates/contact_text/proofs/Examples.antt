@@ -2,10 +2,10 @@
 -- Assumes nothing.
 use mathlib.Core.Path.{_≡_, refl}
 use Rattle.text.specs.Text.{codes, digits, decimal}
-use Rattle.refusals.specs.Words.{table, worded, refused}
+use Rattle.refusals.specs.Words.{table, worded}
 use Rattle.telegram.specs.declared.Telegram.{Telegram}
 use Rattle.contact.specs.declared.Judged.{Judged}
-use Rattle.contact_text.specs.Lines.{figures, what, heard, refusal}
+use Rattle.contact_text.specs.Lines.{figures, what, heard}
 
 pub three-figures : heard 120 352 (Judged.Read (Telegram.Figures 1 8 5) 136 9) ≡ codes "120 352 telegram 1 8 5 places 9 from 136\n"
 unfolding heard what figures decimal digits
@@ -22,7 +22,3 @@ a-marker = refl
 pub refusals : (heard 7000 60 Judged.Neither ≡ codes "7000 60 refused 8: contact neither telegram nor marker\n") × (heard 7000 60 Judged.Differ ≡ codes "7000 60 refused 7: places differ\n")
 unfolding heard what worded table decimal digits
 refusals = (refl, refl)
-
-pub alone : refusal 9 ≡ codes "refused 9: contact cut by the end of the record\n"
-unfolding refused worded table decimal digits
-alone = refl

@@ -1,13 +1,12 @@
 -- What was heard on a recorded line, as text: a line for each contact, with its start bit, its
 -- length in bits and what it is (`120 352 telegram 1 8 5 places 9 from 136`,
 -- `3000 90 telegram 12 1612 places 2 from 3010`, `5000 80 marker`,
--- `7000 60 refused 8: contact neither telegram nor marker`); and a refusal that stands by itself
--- (`refused 9: contact cut by the end of the record`).
+-- `7000 60 refused 8: contact neither telegram nor marker`).
 -- Assumes nothing.
 use Prim.Native.Nat.{ℕ}
 use mathlib.Core.List.{List, _++_}
 use Rattle.text.specs.Text.{codes, decimal}
-use Rattle.refusals.specs.Words.{table, worded, refused}
+use Rattle.refusals.specs.Words.{table, worded}
 use Rattle.telegram.specs.declared.Telegram.{Telegram}
 use Rattle.contact.specs.declared.Judged.{Judged}
 
@@ -29,7 +28,3 @@ what Judged.Neither = codes " refused 8" ++ worded table 8
 -- The line of a contact.
 unfoldable pub heard : ℕ → ℕ → Judged → List ℕ
 heard start length judged = decimal start ++ codes " " ++ decimal length ++ what judged ++ codes "\n"
-
--- The line of a refusal by itself.
-abbrev pub refusal : ℕ → List ℕ
-refusal n = refused n

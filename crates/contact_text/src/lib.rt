@@ -3,7 +3,7 @@
 // Specification: specs/Lines.antt (the words); a text in a buffer is `text`'s specs/Put.antt.
 ghost use mathlib.Core.Path.{_≡_};
 ghost use Rattle.text.specs.Put.{put, came};
-ghost use Rattle.contact_text.specs.Lines.{heard, refusal};
+ghost use Rattle.contact_text.specs.Lines.{heard};
 
 mod lines;
 
@@ -17,11 +17,4 @@ pub fn put_contact(start: usize, bits: usize, judged: Judged, buf: &mut [u8], at
     let mut space = [0u8; 192];
     let n = lines::put_heard(start, bits, judged, &mut space, 0);
     text::put(&space[..n], buf, at)
-}
-
-// The line of a refusal that stands by itself, likewise.
-pub fn put_refusal(number: u8, buf: &mut [u8], at: usize) -> usize
-    ensures { λ r. ⌜ came r (now (buf .exit)) ≡ put (refusal number) (now (buf .entry)) at ⌝ }
-{
-    refusals::put_refused(number, buf, at)
 }

@@ -2,6 +2,7 @@
 -- Assumes nothing.
 use Prim.Native.Nat.{ℕ, suc, _+_, _-_, _/_, _≤_, _<_}
 use mathlib.Core.Path.{_≡_, sym, ap, ap₂, _∙_}
+use mathlib.Core.Bool.{Bool, true, false}
 use mathlib.Core.List.{List, _++_}
 use native.Mathlib.Omega.{arith}
 use native.Mathlib.Nat.{add-zero, zero-add, sub-zero}
@@ -13,11 +14,10 @@ use Rattle.settings.specs.declared.Store.{Store}
 use Rattle.recording.specs.declared.Tape.{Tape}
 use Rattle.recording.specs.declared.Came.{Came}
 use Rattle.recording.specs.declared.Taken.{Taken}
-use Rattle.recording.specs.declared.Ended.{Ended}
-use Rattle.recording.specs.Asking.{Going, gave, usedUp, goOn, Ending, one, none, finish}
-use Rattle.recording.specs.Says.{Went, went, saysCame, saysTaken, Closing, closing, endCame, saysEnded}
+use Rattle.recording.specs.Asking.{Going, gave, usedUp, goOn}
+use Rattle.recording.specs.Says.{Went, went, saysCame, saysTaken}
 use Rattle.ear_bytes.specs.declared.Hearing.{Hearing}
-use Rattle.ear_bytes.specs.Hearing.{joined, Stood, stands, first, afterGoing, someOf, afterEnding, someOfEnd, Written, written, roomFor, hear, end}
+use Rattle.ear_bytes.specs.Hearing.{joined, Stood, stands, first, atEnd, coming, afterGoing, someOf, Written, written, roomFor, hear, end, either}
 
 -- What is written of what came, after `at` bytes.
 abbrev parts : Tape → ℕ → ℕ → ℕ → List ℕ → Written
@@ -64,92 +64,56 @@ module _ (bytes buffer buffer′ : List ℕ) (at at′ : ℕ) (long : length byt
       ap₂ (placed u) (there .put .1) (there .put .0) ∙ placed-join bytes buffer at (there .fits) u in
       ap₂ (λ (n : ℕ) (l : List ℕ). parts (s .tape) (s .frame) (s .bit) n l) sum text
 
--- ---- frames
+-- ---- one after the other
 
-module _ (store : Store) (lead : List ℕ) where
-  abbrev pub fromFrames : Tape → ℕ → ℕ → ℕ → List ℕ → Written
-  fromFrames tape k i at buffer = onward (someOf store lead (places buffer at) tape k i) at buffer
+module _ (next : Tape → ℕ → ℕ → Going) where
+  -- What is written from here on, after `at` bytes.
+  abbrev pub from : Tape → ℕ → ℕ → ℕ → List ℕ → Written
+  from tape k i at buffer = onward (someOf next (places buffer at) tape k i) at buffer
 
-  pub whole-lead : (hearing : Hearing) (buffer : List ℕ) → fromFrames (hearing .tape) 0 (hearing .bit) 0 buffer ≡ hear hearing store lead buffer
-  unfolding hear
-  whole-lead hearing buffer =
-      ap (λ (n : ℕ). onward (someOf store lead (n / 8) (hearing .tape) 0 (hearing .bit)) 0 buffer) (sub-zero (length buffer))
-      ∙ from-first (someOf store lead (roomFor buffer) (hearing .tape) 0 (hearing .bit)) buffer
+  all-of : (hearing : Hearing) (buffer : List ℕ) → from (hearing .tape) 0 (hearing .bit) 0 buffer ≡ written (someOf next (roomFor buffer) (hearing .tape) 0 (hearing .bit)) buffer
+  all-of hearing buffer =
+      ap (λ (n : ℕ). onward (someOf next (n / 8) (hearing .tape) 0 (hearing .bit)) 0 buffer) (sub-zero (length buffer))
+      ∙ from-first (someOf next (roomFor buffer) (hearing .tape) 0 (hearing .bit)) buffer
 
-  no-room : (tape : Tape) (k i n : ℕ) → n ≡ 0 → stands tape k i ≡ someOf store lead n tape k i
+  no-room : (tape : Tape) (k i n : ℕ) → n ≡ 0 → stands tape k i ≡ someOf next n tape k i
   unfolding someOf
-  no-room tape k i n e = sym (ap (λ (m : ℕ). someOf store lead m tape k i) e)
+  no-room tape k i n e = sym (ap (λ (m : ℕ). someOf next m tape k i) e)
 
-  by-one : (tape : Tape) (k i n : ℕ) (g : Going) → goOn store lead tape k i ≡ g → someOf store lead (suc n) tape k i ≡ afterGoing g (someOf store lead n)
+  by-one : (tape : Tape) (k i n : ℕ) (g : Going) → next tape k i ≡ g → someOf next (suc n) tape k i ≡ afterGoing g (someOf next n)
   unfolding someOf
-  by-one tape k i n g e = ap (λ (x : Going). afterGoing x (someOf store lead n)) e
+  by-one tape k i n g e = ap (λ (x : Going). afterGoing x (someOf next n)) e
 
   -- Without room for one more.
-  pub frames-full : (tape : Tape) (k i at : ℕ) (buffer : List ℕ) → length buffer - at < 8 → parts tape k i at buffer ≡ fromFrames tape k i at buffer
-  frames-full tape k i at buffer full =
+  pub full : (tape : Tape) (k i at : ℕ) (buffer : List ℕ) → length buffer - at < 8 → parts tape k i at buffer ≡ from tape k i at buffer
+  full tape k i at buffer few =
       from-last tape k i at buffer ∙ ap (λ (s : Stood). onward s at buffer) (no-room tape k i (places buffer at) (omega arith))
 
-  module _ (tape : Tape) (k i at : ℕ) (buffer : List ℕ) (w : Taken) (told : saysTaken w ≡ went (goOn store lead tape k i)) (room : 8 ≤ length buffer - at) where
-    is : (c : Came) → w .came ≡ c → goOn store lead tape k i ≡ saysCame c (w .tape) (w .frame) (w .bit) (w .bytes)
+  module _ (tape : Tape) (k i at : ℕ) (buffer : List ℕ) (w : Taken) (told : saysTaken w ≡ went (next tape k i)) (room : 8 ≤ length buffer - at) where
+    is : (c : Came) → w .came ≡ c → next tape k i ≡ saysCame c (w .tape) (w .frame) (w .bit) (w .bytes)
     is c e = sym (ap (λ (x : Went). x .going) told) ∙ ap (λ (x : Came). saysCame x (w .tape) (w .frame) (w .bit) (w .bytes)) e
 
-    -- The frames are used.
-    pub frames-over : w .came ≡ Came.Nothing → parts (w .tape) (w .frame) (w .bit) at buffer ≡ fromFrames tape k i at buffer
-    frames-over e =
+    -- Nothing came.
+    pub over : w .came ≡ Came.Nothing → parts (w .tape) (w .frame) (w .bit) at buffer ≡ from tape k i at buffer
+    over e =
         let more : places buffer at ≡ suc (places buffer at - 1) = omega arith in
         from-last (w .tape) (w .frame) (w .bit) at buffer
         ∙ ap (λ (s : Stood). onward s at buffer)
-        (sym (by-one tape k i (places buffer at - 1) (usedUp (w .tape) (w .frame) (w .bit)) (is Came.Nothing e)) ∙ ap (λ (n : ℕ). someOf store lead n tape k i) (sym more))
+        (sym (by-one tape k i (places buffer at - 1) (usedUp (w .tape) (w .frame) (w .bit)) (is Came.Nothing e)) ∙ ap (λ (n : ℕ). someOf next n tape k i) (sym more))
 
     -- A record came, and is put.
-    pub frames-on : w .came ≡ Came.Record → length (w .bytes) ≡ 8 → (at′ : ℕ) (buffer′ : List ℕ) → came at′ buffer′ ≡ put (w .bytes) buffer at
-        → fromFrames (w .tape) (w .frame) (w .bit) at′ buffer′ ≡ fromFrames tape k i at buffer
-    frames-on e long at′ buffer′ puts =
+    pub on : w .came ≡ Came.Record → length (w .bytes) ≡ 8 → (at′ : ℕ) (buffer′ : List ℕ) → came at′ buffer′ ≡ put (w .bytes) buffer at
+        → from (w .tape) (w .frame) (w .bit) at′ buffer′ ≡ from tape k i at buffer
+    on e long at′ buffer′ puts =
         let n : ℕ = places buffer′ at′ in
-        from-next (w .bytes) buffer buffer′ at at′ long room puts (someOf store lead n (w .tape) (w .frame) (w .bit))
+        from-next (w .bytes) buffer buffer′ at at′ long room puts (someOf next n (w .tape) (w .frame) (w .bit))
         ∙ ap (λ (s : Stood). onward s at buffer)
         (sym (by-one tape k i n (gave (w .tape) (w .frame) (w .bit) (w .bytes)) (is Came.Record e))
-        ∙ ap (λ (m : ℕ). someOf store lead m tape k i) (sym (one-less (w .bytes) buffer buffer′ at at′ long room puts)))
+        ∙ ap (λ (m : ℕ). someOf next m tape k i) (sym (one-less (w .bytes) buffer buffer′ at at′ long room puts)))
 
--- ---- the end
-
-module _ (bit : ℕ) where
-  abbrev pub fromEnd : Tape → ℕ → List ℕ → Written
-  fromEnd tape at buffer = onward (someOfEnd (places buffer at) 0 bit tape) at buffer
-
-  pub whole-end : (tape : Tape) (buffer : List ℕ) → fromEnd tape 0 buffer ≡ end (record { tape = tape; bit = bit }) buffer
-  unfolding end
-  whole-end tape buffer =
-      ap (λ (n : ℕ). onward (someOfEnd (n / 8) 0 bit tape) 0 buffer) (sub-zero (length buffer)) ∙ from-first (someOfEnd (roomFor buffer) 0 bit tape) buffer
-
-  no-room-end : (tape : Tape) (n : ℕ) → n ≡ 0 → stands tape 0 bit ≡ someOfEnd n 0 bit tape
-  unfolding someOfEnd
-  no-room-end tape n e = sym (ap (λ (m : ℕ). someOfEnd m 0 bit tape) e)
-
-  by-end : (tape : Tape) (n : ℕ) (g : Ending) → finish tape ≡ g → someOfEnd (suc n) 0 bit tape ≡ afterEnding 0 bit g (someOfEnd n 0 bit)
-  unfolding someOfEnd
-  by-end tape n g e = ap (λ (x : Ending). afterEnding 0 bit x (someOfEnd n 0 bit)) e
-
-  pub end-full : (tape : Tape) (at : ℕ) (buffer : List ℕ) → length buffer - at < 8 → parts tape 0 bit at buffer ≡ fromEnd tape at buffer
-  end-full tape at buffer full =
-      from-last tape 0 bit at buffer ∙ ap (λ (s : Stood). onward s at buffer) (no-room-end tape (places buffer at) (omega arith))
-
-  module _ (tape : Tape) (at : ℕ) (buffer : List ℕ) (w : Ended) (told : saysEnded w ≡ closing (finish tape)) (room : 8 ≤ length buffer - at) where
-    ends : (c : Came) → w .came ≡ c → finish tape ≡ endCame c (w .tape) (w .bytes)
-    ends c e = sym (ap (λ (x : Closing). x .ending) told) ∙ ap (λ (x : Came). endCame x (w .tape) (w .bytes)) e
-
-    pub end-over : w .came ≡ Came.Nothing → parts (w .tape) 0 bit at buffer ≡ fromEnd tape at buffer
-    end-over e =
-        let more : places buffer at ≡ suc (places buffer at - 1) = omega arith in
-        from-last (w .tape) 0 bit at buffer
-        ∙ ap (λ (s : Stood). onward s at buffer)
-        (sym (by-end tape (places buffer at - 1) (none (w .tape)) (ends Came.Nothing e)) ∙ ap (λ (n : ℕ). someOfEnd n 0 bit tape) (sym more))
-
-    pub end-on : w .came ≡ Came.Record → length (w .bytes) ≡ 8 → (at′ : ℕ) (buffer′ : List ℕ) → came at′ buffer′ ≡ put (w .bytes) buffer at
-        → fromEnd (w .tape) at′ buffer′ ≡ fromEnd tape at buffer
-    end-on e long at′ buffer′ puts =
-        let n : ℕ = places buffer′ at′ in
-        from-next (w .bytes) buffer buffer′ at at′ long room puts (someOfEnd n 0 bit (w .tape))
-        ∙ ap (λ (s : Stood). onward s at buffer)
-        (sym (by-end tape n (one (w .tape) (w .bytes)) (ends Came.Record e))
-        ∙ ap (λ (m : ℕ). someOfEnd m 0 bit tape) (sym (one-less (w .bytes) buffer buffer′ at at′ long room puts)))
+-- All that is written, at the lead's end or of a piece.
+pub whole : (ends : Bool) (hearing : Hearing) (store : Store) (lead buffer : List ℕ)
+    → from (coming ends store lead) (hearing .tape) 0 (hearing .bit) 0 buffer ≡ either ends hearing store lead buffer
+unfolding hear end
+whole true hearing store lead buffer = all-of atEnd hearing buffer
+whole false hearing store lead buffer = all-of (goOn store lead) hearing buffer

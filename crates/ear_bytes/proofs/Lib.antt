@@ -3,7 +3,6 @@ pub mod Read
 pub mod EarBack
 pub mod Filled
 pub mod Within
-pub mod SameFrames
 pub mod Pieces
 pub mod Ends
 pub mod Forward

@@ -19,10 +19,10 @@ use Rattle.recording.specs.Recording.{Taped, withOdometer, positioned, isDue, h
 use Rattle.recording.specs.Asking.{InBits, recordedAt, heardOut, firstIn, Going, gave, usedUp, orNext, firstOf, goOn}
 use Rattle.recording.specs.Laws.{thenTaped}
 use Rattle.recording.proofs.Asking.{asked-on}
+use Rattle.recording.proofs.Pieces.{Same, in-first, in-rest, same-frames}
 use Rattle.ear_bytes.specs.Hearing.{joined, Stood, afterGoing, someOf, roomFor, hear}
 use Rattle.ear_bytes.specs.Laws.{toCome, AnyRoom}
 use Rattle.ear_bytes.proofs.Within.{Within, goes-to, stands-at}
-use Rattle.ear_bytes.proofs.SameFrames.{Same, in-first, in-rest, same-frames}
 
 -- Some records, and then what comes.
 abbrev behind : List (List ℕ) → Taped → Taped
@@ -89,17 +89,17 @@ module _ (store : Store) (piece rest : List ℕ) where
   goes tape k i = refl
 
   by-first : (m : ℕ) (tape : Tape) (k i : ℕ) (g : Going) → Within n g → goOn store lead tape k i ≡ on-from (all - n) g
-      → ((t : Tape) (k i : ℕ) → k ≤ n → coming t k i ≡ behind (someOf store piece m t k i .records) (coming (someOf store piece m t k i .tape) (someOf store piece m t k i .frame) (someOf store piece m t k i .bit)))
-      → coming tape k i ≡ behind (afterGoing g (someOf store piece m) .records) (coming (afterGoing g (someOf store piece m) .tape) (afterGoing g (someOf store piece m) .frame) (afterGoing g (someOf store piece m) .bit))
+      → ((t : Tape) (k i : ℕ) → k ≤ n → coming t k i ≡ behind (someOf (goOn store piece) m t k i .records) (coming (someOf (goOn store piece) m t k i .tape) (someOf (goOn store piece) m t k i .frame) (someOf (goOn store piece) m t k i .bit)))
+      → coming tape k i ≡ behind (afterGoing g (someOf (goOn store piece) m) .records) (coming (afterGoing g (someOf (goOn store piece) m) .tape) (afterGoing g (someOf (goOn store piece) m) .frame) (afterGoing g (someOf (goOn store piece) m) .bit))
   by-first m tape k i (gave t j p bytes) low e on =
       asked-on store lead tape k i ∙ ap (thenTaped store lead) e
-      ∙ ap (λ (x : Taped). record { tape = x .tape; records = bytes ∷ x .records }) (on t j p low)
+      ∙ ap (λ (x : Taped). record { tape = x .tape; records = bytes ∷ x .records }) (on t j p (low .0))
   by-first m tape k i (usedUp t j p) last e on =
       let same : all - n ≡ all - j = omega arith in
       asked-on store lead tape k i ∙ ap (thenTaped store lead) (e ∙ ap (λ (z : ℕ). firstOf store lead t j p z) same ∙ sym (goes t j p)) ∙ sym (asked-on store lead t j p)
 
   pub some-then : (m : ℕ) (tape : Tape) (k i : ℕ) → k ≤ n
-      → coming tape k i ≡ behind (someOf store piece m tape k i .records) (coming (someOf store piece m tape k i .tape) (someOf store piece m tape k i .frame) (someOf store piece m tape k i .bit))
+      → coming tape k i ≡ behind (someOf (goOn store piece) m tape k i .records) (coming (someOf (goOn store piece) m tape k i .tape) (someOf (goOn store piece) m tape k i .frame) (someOf (goOn store piece) m tape k i .bit))
   unfolding someOf
   some-then zero tape k i low = refl
   some-then (suc m) tape k i low =
@@ -125,7 +125,7 @@ wrote-so t buffer = ap (λ (z : ℕ). take z (placed t buffer 0)) (sym (zero-add
 pub any-room : AnyRoom
 unfolding hear
 any-room hearing store piece rest buffer =
-    let s : Stood = someOf store piece (roomFor buffer) (hearing .tape) 0 (hearing .bit) in
+    let s : Stood = someOf (goOn store piece) (roomFor buffer) (hearing .tape) 0 (hearing .bit) in
     let low : s .frame ≤ framesOf piece = stands-at store piece (roomFor buffer) (hearing .tape) 0 (hearing .bit) (omega arith) in
     let within : s .frame ≤ framesOf (piece ++ rest) = omega (arith, length-append piece rest) in
     let whole : toCome hearing store (piece ++ rest) ≡ behind (s .records) (toCome (record { tape = s .tape; bit = s .bit }) store (drop (16 * s .frame) (piece ++ rest))) =

@@ -3,13 +3,15 @@
 -- record more.
 -- Assumes nothing.
 use Prim.Native.Nat.{ℕ, zero, suc, _*_, _/_}
+use mathlib.Core.Bool.{Bool, true, false}
 use mathlib.Core.List.{List, [], _∷_, _++_}
 use lib.ListN.{length}
+use Rattle.words.specs.Answer.{pick}
 use Rattle.text.specs.Put.{placed}
 use Rattle.settings.specs.declared.Store.{Store}
 use Rattle.recording.specs.declared.Tape.{Tape}
 use Rattle.recording.specs.Recording as recording
-use Rattle.recording.specs.Asking.{Going, gave, usedUp, goOn, Ending, one, none, finish}
+use Rattle.recording.specs.Asking.{Going, gave, usedUp, goOn, finish, ofEnding}
 use Rattle.ear_bytes.specs.declared.Hearing.{Hearing}
 use Rattle.ear_bytes.specs.declared.Wrote.{Wrote}
 
@@ -36,27 +38,24 @@ stands tape k i = record { tape = tape; frame = k; bit = i; records = [] }
 abbrev pub first : List ℕ → Stood → Stood
 first bytes s = record { tape = s .tape; frame = s .frame; bit = s .bit; records = bytes ∷ s .records }
 
--- ---- frames
+-- ---- record after record
+
+-- What comes next at the lead's end; and there or of a piece.
+abbrev pub atEnd : Tape → ℕ → ℕ → Going
+atEnd tape k i = ofEnding k i (finish tape)
+
+abbrev pub coming : Bool → Store → List ℕ → Tape → ℕ → ℕ → Going
+coming true store lead = atEnd
+coming false store lead = goOn store lead
 
 abbrev pub afterGoing : Going → (Tape → ℕ → ℕ → Stood) → Stood
 afterGoing (gave tape k i bytes) on = first bytes (on tape k i)
 afterGoing (usedUp tape k i) on = stands tape k i
 
--- At most n records of a lead, from bit i of frame k on.
-unfoldable pub someOf : Store → List ℕ → ℕ → Tape → ℕ → ℕ → Stood
-someOf store lead zero tape k i = stands tape k i
-someOf store lead (suc n) tape k i = afterGoing (goOn store lead tape k i) (someOf store lead n)
-
--- ---- the end
-
-abbrev pub afterEnding : ℕ → ℕ → Ending → (Tape → Stood) → Stood
-afterEnding k i (one tape bytes) on = first bytes (on tape)
-afterEnding k i (none tape) on = stands tape k i
-
--- At most n records of the lead's end.
-unfoldable pub someOfEnd : ℕ → ℕ → ℕ → Tape → Stood
-someOfEnd zero k i tape = stands tape k i
-someOfEnd (suc n) k i tape = afterEnding k i (finish tape) (someOfEnd n k i)
+-- At most n records, by what comes next, from bit i of frame k on.
+unfoldable pub someOf : (Tape → ℕ → ℕ → Going) → ℕ → Tape → ℕ → ℕ → Stood
+someOf next zero tape k i = stands tape k i
+someOf next (suc n) tape k i = afterGoing (next tape k i) (someOf next n)
 
 -- ---- into a lent buffer
 
@@ -78,9 +77,12 @@ written s buffer =
 abbrev pub roomFor : List ℕ → ℕ
 roomFor buffer = length buffer / 8
 
--- A piece of the lead heard, and the lead's end.
+-- A piece of the lead heard, and the lead's end; and the one or the other.
 unfoldable pub hear : Hearing → Store → List ℕ → List ℕ → Written
-hear hearing store lead buffer = written (someOf store lead (roomFor buffer) (hearing .tape) 0 (hearing .bit)) buffer
+hear hearing store lead buffer = written (someOf (goOn store lead) (roomFor buffer) (hearing .tape) 0 (hearing .bit)) buffer
 
 unfoldable pub end : Hearing → List ℕ → Written
-end hearing buffer = written (someOfEnd (roomFor buffer) 0 (hearing .bit) (hearing .tape)) buffer
+end hearing buffer = written (someOf atEnd (roomFor buffer) (hearing .tape) 0 (hearing .bit)) buffer
+
+abbrev pub either : Bool → Hearing → Store → List ℕ → List ℕ → Written
+either ends hearing store lead buffer = pick ends (end hearing buffer) (hear hearing store lead buffer)

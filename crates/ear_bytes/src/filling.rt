@@ -2,11 +2,13 @@
 ghost use mathlib.Core.Path.{_≡_};
 ghost use lib.ListN.{length};
 ghost use Rattle.text.specs.Put.{put, came};
-ghost use Rattle.ear_bytes.specs.Hearing.{hear, end};
+ghost use Rattle.recording.specs.Says.{went, saysTaken};
+ghost use Rattle.ear_bytes.specs.Hearing.{coming, either};
 ghost use Rattle.ear_bytes.specs.Says.{says};
 use crate::Hearing;
 use crate::Wrote;
 use recording::Came;
+use recording::Taken;
 use recording::Tape;
 use settings::Store;
 
@@ -29,16 +31,36 @@ fn put_one(bytes: [u8; 8], buffer: &mut [u8], at: usize) -> usize
     text::put(&bytes, buffer, at)
 }
 
-// Those of a piece of the lead.
-pub fn of_frames(hearing: Hearing, store: Store, lead: &[u8], buffer: &mut [u8]) -> Wrote
-    ensures { λ r. ⌜ says r (now (buffer .exit)) ≡ hear hearing store (now (lead .entry)) (now (buffer .entry)) ⌝ }
+// What comes next: at the lead's end, or of a piece.
+fn next_record(ends: bool, tape: Tape, store: Store, lead: &[u8], frame: usize, bit: usize) -> Taken
+    ensures { λ r. ⌜ saysTaken r ≡ went (coming ends store (now (lead .entry)) tape frame bit) ⌝ }
+{
+    if ends {
+        let ended = recording::end(tape);
+        let then = ended.tape;
+        let came = ended.came;
+        let bytes = ended.bytes;
+        return Taken {
+            tape: then,
+            frame,
+            bit,
+            came,
+            bytes,
+        };
+    }
+    recording::go_on(tape, store, lead, frame, bit)
+}
+
+// Record after record, at the lead's end or of a piece.
+pub fn fill(ends: bool, hearing: Hearing, store: Store, lead: &[u8], buffer: &mut [u8]) -> Wrote
+    ensures { λ r. ⌜ says r (now (buffer .exit)) ≡ either ends hearing store (now (lead .entry)) (now (buffer .entry)) ⌝ }
 {
     let mut tape = hearing.tape;
     let mut frame: usize = 0;
     let mut bit = hearing.bit;
     let mut at: usize = 0;
     while buffer.len() - at >= 8 {
-        let taken = recording::go_on(tape, store, lead, frame, bit);
+        let taken = next_record(ends, tape, store, lead, frame, bit);
         let next = taken.tape;
         tape = next;
         frame = taken.frame;
@@ -51,25 +73,4 @@ pub fn of_frames(hearing: Hearing, store: Store, lead: &[u8], buffer: &mut [u8])
         at = put_one(bytes, buffer, at);
     }
     wrote(tape, frame, bit, at)
-}
-
-// Those of the lead's end.
-pub fn of_end(hearing: Hearing, buffer: &mut [u8]) -> Wrote
-    ensures { λ r. ⌜ says r (now (buffer .exit)) ≡ end hearing (now (buffer .entry)) ⌝ }
-{
-    let bit = hearing.bit;
-    let mut tape = hearing.tape;
-    let mut at: usize = 0;
-    while buffer.len() - at >= 8 {
-        let ended = recording::end(tape);
-        let next = ended.tape;
-        tape = next;
-        let came = ended.came;
-        let bytes = ended.bytes;
-        let Came::Record = came else {
-            return wrote(tape, 0, bit, at);
-        };
-        at = put_one(bytes, buffer, at);
-    }
-    wrote(tape, 0, bit, at)
 }

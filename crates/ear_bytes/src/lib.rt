@@ -64,12 +64,15 @@ pub fn fresh() -> Hearing
 pub fn hear(hearing: Hearing, store: Store, lead: &[u8], buffer: &mut [u8]) -> Wrote
     ensures { λ r. ⌜ says r (now (buffer .exit)) ≡ hear hearing store (now (lead .entry)) (now (buffer .entry)) ⌝ }
 {
-    filling::of_frames(hearing, store, lead, buffer)
+    filling::fill(false, hearing, store, lead, buffer)
 }
 
 // The records of the lead's end likewise: at most two, and none where there is no further one.
 pub fn end(hearing: Hearing, buffer: &mut [u8]) -> Wrote
     ensures { λ r. ⌜ says r (now (buffer .exit)) ≡ end hearing (now (buffer .entry)) ⌝ }
 {
-    filling::of_end(hearing, buffer)
+    // Settings play no part at the end: a store that is refused stands for them.
+    let begun = settings::begin(0, 0, 0);
+    let store = begun.store;
+    filling::fill(true, hearing, store, b"", buffer)
 }

@@ -18,7 +18,7 @@ use Rattle.recording.specs.declared.Tape.{Tape}
 use Rattle.recording.specs.declared.Came.{Came}
 use Rattle.recording.specs.declared.Taken.{Taken}
 use Rattle.recording.specs.Recording.{Taped, theEnd}
-use Rattle.recording.specs.Asking.{Going, gave, usedUp, goOn, Ending, one, none, finish}
+use Rattle.recording.specs.Asking.{Going, gave, usedUp, goOn, Ending, one, none, finish, ofEnding}
 use Rattle.recording.specs.Says.{Went, went, saysCame, saysTaken}
 use Rattle.recording.specs.Laws.{thenTaped, thenEnded}
 use Rattle.recording.proofs.Asking.{asked-on, end-asked}
@@ -28,7 +28,7 @@ use Rattle.lead_text.specs.declared.Underway.{Underway}
 use Rattle.lead_text.specs.declared.record_lines.One.{One}
 use Rattle.lead_text.specs.Places.{Place, nextPlace, nextTape, toCome, after, afterEnds}
 use Rattle.lead_text.specs.List.{placeOf, standing, Telling, listOf}
-use Rattle.lead_text.specs.Inside.{ofPiece, ofEnding, coming, takenTo, ofEither, saysOne, listOne}
+use Rattle.lead_text.specs.Inside.{ofPiece, coming, takenTo, ofEither, saysOne, listOne}
 use Rattle.lead_text.proofs.OneMore.{has-room}
 use Rattle.lead_text.proofs.Adding.{added, left}
 use Rattle.lead_text.proofs.Turns.{listing, fromHere, from-last, from-full, from-next}

@@ -1,18 +1,16 @@
 -- The next record, of a piece or at the lead's end, from what the calls of `go_on` and `end` say.
 -- Assumes nothing.
 use Prim.Native.Nat.{ℕ}
-use mathlib.Core.Path.{_≡_, refl, ap, ap₂, sym, _∙_}
+use mathlib.Core.Path.{_≡_, ap, ap₂, sym, _∙_}
 use mathlib.Core.Bool.{Bool, true, false}
 use mathlib.Core.List.{List}
 use Rattle.settings.specs.declared.Store.{Store}
-use Rattle.recording.specs.declared.Tape.{Tape}
 use Rattle.recording.specs.declared.Came.{Came}
 use Rattle.recording.specs.declared.Taken.{Taken}
-use Rattle.recording.specs.declared.Ended.{Ended}
-use Rattle.recording.specs.Asking.{Going, usedUp, goOn, Ending, one, none, finish}
-use Rattle.recording.specs.Says.{Went, bytesIn, went, saysCame, saysTaken, Closing, bytesAt, closing, endCame, saysEnded}
+use Rattle.recording.specs.Asking.{Going, usedUp, goOn, finish, ofEnding}
+use Rattle.recording.specs.Says.{Went, bytesIn, went, saysCame, saysTaken}
 use Rattle.lead_text.specs.Places.{Place}
-use Rattle.lead_text.specs.Inside.{ofPiece, ofEnding, coming}
+use Rattle.lead_text.specs.Inside.{ofPiece, coming}
 
 abbrev both : Going → List ℕ → Went
 both going bytes = record { going = going; bytes = bytes }
@@ -36,22 +34,6 @@ module _ (w : Taken) (g : Going) (says : saysTaken w ≡ went g) where
       let used : usedUp (w .tape) 0 0 ≡ ofPiece g = sym (ap ofPiece is) in
       let zeroes : w .bytes ≡ bytesIn (usedUp (w .tape) 0 0) = ap (λ (x : Went). x .bytes) says ∙ ap bytesIn is in
       ap₂ both (ap (λ (k : Came). saysCame k (w .tape) 0 0 (w .bytes)) e ∙ used) (zeroes ∙ ap bytesIn used)
-
--- ---- at the lead's end
-
-came-ended : (c : Came) (frame bit : ℕ) (tape : Tape) (bytes : List ℕ) → saysCame c tape frame bit bytes ≡ ofEnding frame bit (endCame c tape bytes)
-came-ended Came.Record frame bit tape bytes = refl
-came-ended Came.Nothing frame bit tape bytes = refl
-
-bytes-ended : (e : Ending) (frame bit : ℕ) → bytesAt e ≡ bytesIn (ofEnding frame bit e)
-bytes-ended (one tape bytes) frame bit = refl
-bytes-ended (none tape) frame bit = refl
-
-pub ended-is : (frame bit : ℕ) (w : Ended) (e : Ending) → saysEnded w ≡ closing e
-    → saysTaken (record { tape = w .tape; frame = frame; bit = bit; came = w .came; bytes = w .bytes }) ≡ went (ofEnding frame bit e)
-ended-is frame bit w e says =
-    ap₂ both (came-ended (w .came) frame bit (w .tape) (w .bytes) ∙ ap (λ (x : Closing). ofEnding frame bit (x .ending)) says)
-    (ap (λ (x : Closing). x .bytes) says ∙ bytes-ended e frame bit)
 
 -- ---- either
 

@@ -14,7 +14,7 @@ use Rattle.ride_text.specs.Told.{stepText}
 use Rattle.ride_text.specs.List.{isTaken}
 use Rattle.settings.specs.declared.Store.{Store}
 use Rattle.recording.specs.declared.Taken.{Taken}
-use Rattle.recording.specs.Asking.{Going, gave, usedUp, goOn, Ending, one, none, finish}
+use Rattle.recording.specs.Asking.{Going, gave, usedUp, goOn, finish, ofEnding}
 use Rattle.lead_text.specs.declared.Underway.{Underway}
 use Rattle.lead_text.specs.declared.record_lines.One.{One}
 use Rattle.lead_text.specs.Places.{Place}
@@ -27,12 +27,7 @@ abbrev pub ofPiece : Going → Going
 ofPiece (gave tape frame bit bytes) = gave tape frame bit bytes
 ofPiece (usedUp tape frame bit) = usedUp tape 0 0
 
--- At the lead's end, where the place in the piece stays.
-abbrev pub ofEnding : ℕ → ℕ → Ending → Going
-ofEnding frame bit (one tape bytes) = gave tape frame bit bytes
-ofEnding frame bit (none tape) = usedUp tape frame bit
-
--- At the lead's end, or of a piece.
+-- At the lead's end, where the place in the piece stays; or of a piece.
 unfoldable pub coming : Bool → Store → List ℕ → Place → Going
 coming ends store frames p =
     pick ends (ofEnding (p .frame) (p .bit) (finish (p .tape)))

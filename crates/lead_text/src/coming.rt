@@ -1,9 +1,9 @@
 // The next record of a lead: of a lent piece, or at the lead's end.
 ghost use mathlib.Core.Path.{_≡_};
-ghost use Rattle.recording.specs.Asking.{goOn, finish};
+ghost use Rattle.recording.specs.Asking.{goOn, finish, ofEnding};
 ghost use Rattle.recording.specs.Says.{went, saysTaken};
 ghost use Rattle.lead_text.specs.List.{placeOf};
-ghost use Rattle.lead_text.specs.Inside.{ofPiece, ofEnding, coming};
+ghost use Rattle.lead_text.specs.Inside.{ofPiece, coming};
 use crate::Underway;
 use recording::Came;
 use recording::Taken;

@@ -2,7 +2,7 @@
 // for each as soon as it has closed, which `listen` and `scope` write, or its strips, which `scope`
 // draws.
 // Promises: it is safe and it ends; contacts are those of the crate antenna, lines those of
-// antenna_text and contact_text, strips those of contact_drawing.
+// antenna_text and refusals, strips those of contact_drawing.
 // Specification: none of its own; what the pieces come to is crates/antenna_text_laws, that strips
 // have room is crates/contact_drawing/specs/Laws.antt, what cannot be said of a program's reads and
 // writes stands in docs/EXCEPTIONS.md.

@@ -78,6 +78,6 @@ pub fn flush(out: Out, buf: &[u8]) -> bool {
 // The line of a refusal that stands by itself; whether it was written.
 pub fn refuse(number: u8) -> bool {
     let mut line = [0u8; 128];
-    let count = contact_text::put_refusal(number, &mut line, 0);
+    let count = refusals::put_refused(number, &mut line, 0);
     console::write(STDOUT_FILENO, &line, count)
 }

@@ -3,16 +3,15 @@
 -- Assumes nothing.
 use Prim.Native.Nat.{ℕ, _≤_, _<_}
 use mathlib.Core.Path.{_≡_, refl, sym, _∙_, subst⁻¹}
-use mathlib.Core.Bool.{Bool, true, false, _||_}
+use mathlib.Core.Bool.{Bool, true, false}
 use native.Mathlib.Omega.{arith}
 use lib.Dec.{leb, ltb}
-use borrow.Author.Tests.{leb-false, ltb-false}
 use Rattle.words.specs.Answer.{Outcome, gives, refuses, pick}
-use Rattle.words.proofs.Never.{cannot-be}
 use Rattle.settings.specs.declared.Store.{Store}
 use Rattle.settings.specs.declared.Held.{Held}
 use Rattle.settings.specs.At.{asked, leaves, heldOr, hold}
 use Rattle.settings.proofs.Laws.{settings}
+use Rattle.settings.proofs.Holding.{within}
 use Rattle.recording.specs.Recording.{noneHeld, heldAt}
 
 pub record InForce (store : Store) (held : Held) : Type 0 where
@@ -30,12 +29,6 @@ by-asking store place (refuses n) e = record { there = λ other low high. absurd
 asked-holds : (store : Store) (place : ℕ) → InForce store (heldAt store place)
 unfolding heldAt hold
 asked-holds store place = by-asking store place (asked store place) refl
-
-within : (b c : Bool) (held : Held) (place : ℕ) → ltb place (held .from) ≡ b → leb (held .until) place ≡ c → (b || c) ≡ false
-    → (held .from ≤ place) × (place < held .until)
-within true c held place eb ec h = cannot-be cc
-within false true held place eb ec h = cannot-be cc
-within false false held place eb ec h = (ltb-false place (held .from) eb, leb-false (held .until) place ec)
 
 by-leaving : (store : Store) (held : Held) (place : ℕ) (b : Bool) → leaves held place ≡ b → InForce store held
     → (pick b (heldAt store place) held ≡ heldAt store place) × InForce store (pick b (heldAt store place) held)

@@ -5,7 +5,7 @@ use mathlib.Core.Path.{_≡_, refl, sym, ap, _∙_, subst}
 use mathlib.Core.List.{List, _++_, append-assoc}
 use native.Mathlib.Omega.{arith}
 use lib.ListN.{length, take, drop, getD, length-append, length-drop, List·getD-append}
-use lib.Seq.{take-append-le, drop-append-le, drop-append-add, getD-append-add}
+use lib.Seq.{take-append-le, drop-append-le, drop-append-add, drop-drop, getD-drop}
 use Rattle.settings.specs.declared.Store.{Store}
 use Rattle.recording.specs.declared.Tape.{Tape}
 use Rattle.recording.specs.Frame.{lineOf, odometerOf, acceptedAfter}
@@ -20,19 +20,19 @@ then-then x f g =
     (append-assoc (x .records) (f (x .tape) .records) (g (f (x .tape) .tape) .records))
 
 module _ (store : Store) (lead : List ℕ) where
-  -- What comes of a frame, and then of another thing.
-  abbrev one-frame : ℕ → Tape → (Tape → Taped) → Taped
-  one-frame k tape on = andThen (itsBits store lead k 0 tape) λ next. andThen (afterFrame next) on
+  -- What comes of a frame from bit i on, and then of another thing.
+  abbrev one-frame : ℕ → ℕ → Tape → (Tape → Taped) → Taped
+  one-frame k i tape on = andThen (itsBits store lead k i tape) λ next. andThen (afterFrame next) on
 
-  after-frame : (k : ℕ) (tape : Tape) (f g : Tape → Taped) → andThen (one-frame k tape f) g ≡ one-frame k tape (λ t. andThen (f t) g)
-  after-frame k tape f g =
-      let x = itsBits store lead k 0 tape in
+  after-frame : (k i : ℕ) (tape : Tape) (f g : Tape → Taped) → andThen (one-frame k i tape f) g ≡ one-frame k i tape (λ t. andThen (f t) g)
+  after-frame k i tape f g =
+      let x = itsBits store lead k i tape in
       then-then x (λ next. andThen (afterFrame next) f) g
       ∙ ap (λ (y : Taped). record { tape = y .tape; records = x .records ++ y .records }) (then-then (afterFrame (x .tape)) f g)
 
-  same-after : (k : ℕ) (tape : Tape) (f g : Tape → Taped) → ((t : Tape) → f t ≡ g t) → one-frame k tape f ≡ one-frame k tape g
-  same-after k tape f g e =
-      let x = itsBits store lead k 0 tape in
+  same-after : (k i : ℕ) (tape : Tape) (f g : Tape → Taped) → ((t : Tape) → f t ≡ g t) → one-frame k i tape f ≡ one-frame k i tape g
+  same-after k i tape f g e =
+      let x = itsBits store lead k i tape in
       let y = afterFrame (x .tape) in
       ap (λ (z : Taped). record { tape = z .tape; records = x .records ++ (y .records ++ z .records) }) (e (y .tape))
 
@@ -47,16 +47,17 @@ module _ (store : Store) (lead : List ℕ) where
       let e : suc m + n ≡ suc (m + n) = omega arith in
       let f : k + 1 + m ≡ k + suc m = omega arith in
       ap (λ (z : ℕ). overFrames store lead tape k 0 z) e
-      ∙ same-after k tape (λ t. overFrames store lead t (k + 1) 0 (m + n)) (λ t. andThen (overFrames store lead t (k + 1) 0 m) (λ next. overFrames store lead next (k + 1 + m) 0 n))
+      ∙ same-after k 0 tape (λ t. overFrames store lead t (k + 1) 0 (m + n)) (λ t. andThen (overFrames store lead t (k + 1) 0 m) (λ next. overFrames store lead next (k + 1 + m) 0 n))
       (λ t. split m t (k + 1) n)
-      ∙ sym (after-frame k tape (λ t. overFrames store lead t (k + 1) 0 m) (λ next. overFrames store lead next (k + 1 + m) 0 n))
+      ∙ sym (after-frame k 0 tape (λ t. overFrames store lead t (k + 1) 0 m) (λ next. overFrames store lead next (k + 1 + m) 0 n))
       ∙ ap (λ (z : ℕ). andThen (overFrames store lead tape k 0 (suc m)) (λ next. overFrames store lead next z 0 n)) f
 
 -- ---- the same frames in another lead
 
-record Same (a b : List ℕ) (k m : ℕ) : Type 0 where
-  line : lineOf a k ≡ lineOf b m
-  odometer : odometerOf a k ≡ odometerOf b m
+-- Frame k of one is frame m of the other.
+pub record Same (a b : List ℕ) (k m : ℕ) : Type 0 where
+  pub line : lineOf a k ≡ lineOf b m
+  pub odometer : odometerOf a k ≡ odometerOf b m
 
 module _ (store : Store) (a b : List ℕ) where
   same-bits : (k m i : ℕ) (tape : Tape) → Same a b k m → itsBits store a k i tape ≡ itsBits store b m i tape
@@ -70,13 +71,13 @@ module _ (store : Store) (a b : List ℕ) where
           let held = heldAt store (here .odometer) in
           overBits line (held .s) (held .t) here i (96 - i)
 
-  same-frames : (n : ℕ) (k m : ℕ) (tape : Tape) → ((j : ℕ) → j < n → Same a b (k + j) (m + j)) → overFrames store a tape k 0 n ≡ overFrames store b tape m 0 n
+  pub same-frames : (n k m i : ℕ) (tape : Tape) → ((j : ℕ) → j < n → Same a b (k + j) (m + j)) → overFrames store a tape k i n ≡ overFrames store b tape m i n
   unfolding overFrames
-  same-frames zero k m tape h = refl
-  same-frames (suc n) k m tape h =
-      let first = same-bits k m 0 tape (here-of (h 0 (omega arith))) in
+  same-frames zero k m i tape h = refl
+  same-frames (suc n) k m i tape h =
+      let first = same-bits k m i tape (here-of (h 0 (omega arith))) in
       ap (λ (x : Taped). andThen x λ next. andThen (afterFrame next) λ then. overFrames store a then (k + 1) 0 n) first
-      ∙ same-after store b m tape (λ t. overFrames store a t (k + 1) 0 n) (λ t. overFrames store b t (m + 1) 0 n) (λ t. same-frames n (k + 1) (m + 1) t (λ j low. next-of j (h (j + 1) (omega arith))))
+      ∙ same-after store b m i tape (λ t. overFrames store a t (k + 1) 0 n) (λ t. overFrames store b t (m + 1) 0 n) (λ t. same-frames n (k + 1) (m + 1) 0 t (λ j low. next-of j (h (j + 1) (omega arith))))
     where
       here-of : Same a b (k + 0) (m + 0) → Same a b k m
       here-of s = let x : k + 0 ≡ k = omega arith in let y : m + 0 ≡ m = omega arith in subst (λ (z : ℕ). Same a b z m) x (subst (λ (z : ℕ). Same a b (k + 0) z) y s)
@@ -86,10 +87,27 @@ module _ (store : Store) (a b : List ℕ) where
           let x : k + (j + 1) ≡ k + 1 + j = omega arith in let y : m + (j + 1) ≡ m + 1 + j = omega arith in
           subst (λ (z : ℕ). Same a b z (m + 1 + j)) x (subst (λ (z : ℕ). Same a b (k + (j + 1)) z) y s)
 
+-- The frames of a lead from frame d on are those of its rest.
+pub in-rest : (l : List ℕ) (d k : ℕ) → Same l (drop (16 * d) l) (d + k) k
+unfolding lineOf odometerOf
+in-rest l d k =
+    let at : (j : ℕ) → getD l (16 * (d + k) + j) 0 ≡ getD (drop (16 * d) l) (16 * k + j) 0 = λ j.
+    let e : 16 * (d + k) + j ≡ 16 * d + (16 * k + j) = omega arith in
+    ap (λ (z : ℕ). getD l z 0) e ∙ sym (getD-drop (16 * d) l (16 * k + j) 0) in
+    let first : getD l (16 * (d + k)) 0 ≡ getD (drop (16 * d) l) (16 * k) 0 =
+    let e : 16 * (d + k) ≡ 16 * d + 16 * k = omega arith in
+    ap (λ (z : ℕ). getD l z 0) e ∙ sym (getD-drop (16 * d) l (16 * k) 0) in
+    let sum : 16 * (d + k) + 4 ≡ 16 * d + (16 * k + 4) = omega arith in
+    record {
+      line = ap (λ (z : ℕ). take 12 (drop z l)) sum ∙ sym (ap (take 12) (drop-drop (16 * k + 4) (16 * d) l));
+      odometer = rw (first, at 1, at 2, at 3);
+    }
+
 -- ---- two pieces as one
 
 module _ (a b : List ℕ) where
-  in-first : (k : ℕ) → 16 * k + 16 ≤ length a → Same (a ++ b) a k k
+  -- Those of the first,
+  pub in-first : (k : ℕ) → 16 * k + 16 ≤ length a → Same (a ++ b) a k k
   unfolding lineOf odometerOf
   in-first k fits =
       let d : 16 * k + 4 ≤ length a = omega arith in
@@ -99,22 +117,11 @@ module _ (a b : List ℕ) where
         odometer = rw (List·getD-append a b 0 (16 * k) (omega arith), List·getD-append a b 0 (16 * k + 1) (omega arith), List·getD-append a b 0 (16 * k + 2) (omega arith), List·getD-append a b 0 (16 * k + 3) (omega arith));
       }
 
-  in-second : (m k : ℕ) → length a ≡ 16 * m → Same (a ++ b) b (m + k) k
-  unfolding lineOf odometerOf
+  -- and of the second.
+  pub in-second : (m k : ℕ) → length a ≡ 16 * m → Same (a ++ b) b (m + k) k
   in-second m k e =
-      let l : 16 * (m + k) + 4 ≡ length a + (16 * k + 4) = omega arith in
-      let l0 : 16 * (m + k) ≡ length a + 16 * k = omega arith in
-      let l1 : 16 * (m + k) + 1 ≡ length a + (16 * k + 1) = omega arith in
-      let l2 : 16 * (m + k) + 2 ≡ length a + (16 * k + 2) = omega arith in
-      let l3 : 16 * (m + k) + 3 ≡ length a + (16 * k + 3) = omega arith in
-      let g0 = ap (λ (z : ℕ). getD (a ++ b) z 0) l0 ∙ getD-append-add a b (16 * k) 0 in
-      let g1 = ap (λ (z : ℕ). getD (a ++ b) z 0) l1 ∙ getD-append-add a b (16 * k + 1) 0 in
-      let g2 = ap (λ (z : ℕ). getD (a ++ b) z 0) l2 ∙ getD-append-add a b (16 * k + 2) 0 in
-      let g3 = ap (λ (z : ℕ). getD (a ++ b) z 0) l3 ∙ getD-append-add a b (16 * k + 3) 0 in
-      record {
-        line = ap (λ (z : ℕ). take 12 (drop z (a ++ b))) l ∙ ap (take 12) (drop-append-add a b (16 * k + 4));
-        odometer = rw (g0, g1, g2, g3);
-      }
+      let long : 16 * m ≡ length a + 0 = omega arith in
+      subst (λ (l : List ℕ). Same (a ++ b) l (m + k) k) (ap (λ (z : ℕ). drop z (a ++ b)) long ∙ drop-append-add a b 0) (in-rest (a ++ b) m k)
 
 pub any-pieces : AnyPieces
 any-pieces store a b m tape e =
@@ -124,7 +131,7 @@ any-pieces store a b m tape e =
     ap (λ (z : ℕ). overFrames store (a ++ b) tape 0 0 z) n
     ∙ split store (a ++ b) m tape 0 (framesOf b)
     ∙ ap (λ (x : Taped). andThen x λ next. overFrames store (a ++ b) next (0 + m) 0 (framesOf b))
-    (same-frames store (a ++ b) a m 0 0 tape (λ j low. in-first a b (0 + j) (omega arith)))
+    (same-frames store (a ++ b) a m 0 0 0 tape (λ j low. in-first a b (0 + j) (omega arith)))
     ∙ second
     ∙ ap (λ (z : ℕ). andThen (overFrames store a tape 0 0 z) λ next. overLead store b next) own
   where
@@ -137,4 +144,4 @@ any-pieces store a b m tape e =
     second =
         let x = overFrames store a tape 0 0 m in
         ap (λ (y : Taped). record { tape = y .tape; records = x .records ++ y .records })
-        (same-frames store (a ++ b) b (framesOf b) (0 + m) 0 (x .tape) (λ j low. zero-plus j (in-second a b m j e)))
+        (same-frames store (a ++ b) b (framesOf b) (0 + m) 0 0 (x .tape) (λ j low. zero-plus j (in-second a b m j e)))

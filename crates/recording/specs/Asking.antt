@@ -59,3 +59,8 @@ finishIn Stand.Outside tape = pick (isAbove (tape .last) (tape .odometer)) (one 
 
 unfoldable pub finish : Tape → Ending
 finish tape = finishIn (tape .ear .stand) tape
+
+-- The end asked as frames are: the frame and the bit to go on from stay.
+abbrev pub ofEnding : ℕ → ℕ → Ending → Going
+ofEnding k i (one tape bytes) = gave tape k i bytes
+ofEnding k i (none tape) = usedUp tape k i

@@ -101,16 +101,17 @@ module _ (b : List ℕ) (start len s t odometer : ℕ) (high : odometer ≤ 4000
 
 -- ---- all of them
 
+-- Outside a contact nothing is cut.
+pub nothing-cut : (lead : List ℕ) (n : ℕ) (stand : Stand) → isInside stand ≡ false → cutAt lead n stand ≡ []
+nothing-cut lead n Stand.Outside e = refl
+nothing-cut lead n (Stand.Inside sound) e = cannot-be cc
+
 module _ (store : Store) (lead b : List ℕ) (n : ℕ) where
   at-the-end : (stand : Stand) → isInside stand ≡ true → OneForEach store lead b (refused 9) (cutAt lead n stand)
   at-the-end Stand.Outside e = cannot-be cc
   at-the-end (Stand.Inside sound) e =
       let odometer = inForce lead ((n - sound .length) / 96) in
       (odometer, bytesOf odometer (blank 2), refl, unreadable odometer (never-high lead _))
-
-  nothing-more : (stand : Stand) → isInside stand ≡ false → cutAt lead n stand ≡ []
-  nothing-more Stand.Outside e = refl
-  nothing-more (Stand.Inside sound) e = cannot-be cc
 
   each-says : (w : Contacts) (stand : Stand) → isInside stand ≡ cut w → OneForEach store lead b w (recordsFor lead (judgedAll b (sIn store lead) (tIn store lead) w) ++ cutAt lead n stand)
   unfolding recordsFor judgedAll
@@ -122,7 +123,7 @@ module _ (store : Store) (lead b : List ℕ) (n : ℕ) where
         says-it b start len s t (inForce lead (start / 96)) (never-high lead _) j (recordFor lead (told start len (judge b start len s t))) call (ap (recordAt (inForce lead (start / 96))) is),
     each-says rest stand e,
   )
-  each-says quiet stand e = nothing-more stand e
+  each-says quiet stand e = nothing-cut lead n stand e
   each-says (refused m) stand e = at-the-end stand e
 
 -- The records that are no positions, by the contacts that the calls hand out.

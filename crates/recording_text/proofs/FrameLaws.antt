@@ -1,20 +1,20 @@
 -- Why the laws of the frames hold: a frame adds one whatever its odometer, the odometer kept is the
 -- recording's, and frames of a piece are those of the whole.
 -- Assumes nothing.
-use Prim.Native.Nat.{ℕ, zero, suc, _+_, _*_, _≤_, _<_}
+use Prim.Native.Nat.{ℕ, zero, suc, _+_, _≤_, _<_}
 use mathlib.Core.Path.{_≡_, refl, sym, ap, _∙_}
 use mathlib.Core.Bool.{Bool, true, false}
 use mathlib.Core.List.{List, _++_}
 use native.Mathlib.Omega.{arith}
 use lib.Dec.{ltb}
-use lib.ListN.{length, getD, length-append, List·getD-append}
-use lib.Seq.{getD-append-add}
+use lib.ListN.{length-append}
 use Rattle.words.specs.Answer.{Outcome, gives, refuses, pick}
 use Rattle.words.specs.Limits.{largest64}
 use Rattle.antenna.proofs.Ends.{one-more}
 use Rattle.recording.specs.Frame.{odometerOf, acceptedAfter}
 use Rattle.recording.specs.Recording.{framesOf}
 use Rattle.recording.specs.Contacts.{before}
+use Rattle.recording.proofs.Pieces.{in-first, in-second}
 use Rattle.recording_text.specs.declared.Frames.{Frames}
 use Rattle.recording_text.specs.Counts.{more, judgeFrame, noFrames, withFrame, overFrames, countFrames}
 use Rattle.recording_text.specs.Laws.{standing, AsRecorded, AnyPieces, AllFrames}
@@ -103,25 +103,6 @@ split lead (suc m) f k n =
     ap (overFrames lead f k) e ∙ split lead m (next lead f k) (k + 1) n
     ∙ ap (λ (z : ℕ). overFrames lead (overFrames lead (next lead f k) (k + 1) m) z n) g
 
-module _ (a b : List ℕ) where
-  in-first : (k : ℕ) → 16 * k + 16 ≤ length a → odometerOf (a ++ b) k ≡ odometerOf a k
-  unfolding odometerOf
-  in-first k fits =
-      rw (List·getD-append a b 0 (16 * k) (omega arith), List·getD-append a b 0 (16 * k + 1) (omega arith), List·getD-append a b 0 (16 * k + 2) (omega arith), List·getD-append a b 0 (16 * k + 3) (omega arith))
-
-  in-second : (m k : ℕ) → length a ≡ 16 * m → odometerOf (a ++ b) (m + k) ≡ odometerOf b k
-  unfolding odometerOf
-  in-second m k e =
-      let l0 : 16 * (m + k) ≡ length a + 16 * k = omega arith in
-      let l1 : 16 * (m + k) + 1 ≡ length a + (16 * k + 1) = omega arith in
-      let l2 : 16 * (m + k) + 2 ≡ length a + (16 * k + 2) = omega arith in
-      let l3 : 16 * (m + k) + 3 ≡ length a + (16 * k + 3) = omega arith in
-      let g0 = ap (λ (z : ℕ). getD (a ++ b) z 0) l0 ∙ getD-append-add a b (16 * k) 0 in
-      let g1 = ap (λ (z : ℕ). getD (a ++ b) z 0) l1 ∙ getD-append-add a b (16 * k + 1) 0 in
-      let g2 = ap (λ (z : ℕ). getD (a ++ b) z 0) l2 ∙ getD-append-add a b (16 * k + 2) 0 in
-      let g3 = ap (λ (z : ℕ). getD (a ++ b) z 0) l3 ∙ getD-append-add a b (16 * k + 3) 0 in
-      rw (g0, g1, g2, g3)
-
 pub any-pieces : AnyPieces
 unfolding countFrames
 any-pieces f a b m e =
@@ -129,7 +110,7 @@ any-pieces f a b m e =
     let own : m ≡ framesOf a = omega arith in
     ap (overFrames (a ++ b) f 0) n
     ∙ split (a ++ b) m f 0 (framesOf b)
-    ∙ ap (λ (g : Frames). overFrames (a ++ b) g (0 + m) (framesOf b)) (same (a ++ b) a m f 0 0 (λ j low. in-first a b (0 + j) (omega arith)))
+    ∙ ap (λ (g : Frames). overFrames (a ++ b) g (0 + m) (framesOf b)) (same (a ++ b) a m f 0 0 (λ j low. in-first a b (0 + j) (omega arith) .odometer))
     ∙ same (a ++ b) b (framesOf b) (overFrames a f 0 m) (0 + m) 0 (λ j low. second j)
     ∙ ap (λ (z : ℕ). overFrames b (overFrames a f 0 z) 0 (framesOf b)) own
   where
@@ -137,4 +118,4 @@ any-pieces f a b m e =
     second j =
         let x : 0 + m + j ≡ m + j = omega arith in
         let y : j ≡ 0 + j = omega arith in
-        ap (odometerOf (a ++ b)) x ∙ in-second a b m j e ∙ ap (odometerOf b) y
+        ap (odometerOf (a ++ b)) x ∙ in-second a b m j e .odometer ∙ ap (odometerOf b) y

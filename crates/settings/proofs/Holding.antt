@@ -126,7 +126,8 @@ pub keeps : (store : Store) (held : Held) (place : ℕ) → judged store ≡ giv
 unfolding heldFor
 keeps store held place h hold = keeps-by (leaves held place) store held place h hold
 
-within : (b c : Bool) (held : Held) (place : ℕ) → ltb place (held .from) ≡ b → leb (held .until) place ≡ c → (b || c) ≡ false
+-- A place at which a version is not left lies within its own.
+pub within : (b c : Bool) (held : Held) (place : ℕ) → ltb place (held .from) ≡ b → leb (held .until) place ≡ c → (b || c) ≡ false
     → (held .from ≤ place) × (place < held .until)
 within true c held place eb ec h = cannot-be cc
 within false true held place eb ec h = cannot-be cc

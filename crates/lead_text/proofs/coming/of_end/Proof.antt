@@ -1,6 +1,6 @@
 -- `of_end` asks for the next record at the end, and stays where it is in the piece.
 -- Assumes nothing.
-use Rattle.lead_text.proofs.Next.{ended-is}
+use Rattle.recording.proofs.Endings.{ended-is}
 use borrow.Author.Needs.{needs}
 use Rattle.lead_text.proofs.coming.of_end.Statement.{statement}
 use Rattle.lead_text.proofs.coming.of_end.Tie as tie

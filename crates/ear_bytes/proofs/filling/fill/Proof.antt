@@ -6,29 +6,29 @@ use native.Mathlib.Omega.{arith}
 use lib.ListN.{length}
 use borrow.Author.Needs.{needs}
 use Rattle.ear_bytes.specs.declared.Wrote.{Wrote}
-use Rattle.ear_bytes.specs.Hearing.{hear}
+use Rattle.ear_bytes.specs.Hearing.{coming, either}
 use Rattle.ear_bytes.specs.Says.{says}
-use Rattle.ear_bytes.proofs.Filled.{fromFrames, whole-lead, frames-full, frames-over, frames-on, next-place, keeps-length, room-less}
-use Rattle.ear_bytes.proofs.filling.of_frames.Statement.{statement}
-use Rattle.ear_bytes.proofs.filling.of_frames.Tie as tie
+use Rattle.ear_bytes.proofs.Filled.{from, whole, full, over, on, next-place, keeps-length, room-less}
+use Rattle.ear_bytes.proofs.filling.fill.Statement.{statement}
+use Rattle.ear_bytes.proofs.filling.fill.Tie as tie
 
 abbrev Inv-loop : tie.InvT-loop
-Inv-loop store lead buffer₀ tape₀ frame₀ bit₀ at₀ buffer tape frame bit at =
-    (at ≤ length buffer) × (length buffer ≡ length buffer₀) × (fromFrames store lead tape frame bit at buffer ≡ fromFrames store lead tape₀ 0 bit₀ 0 buffer₀)
+Inv-loop ends store lead buffer₀ tape₀ frame₀ bit₀ at₀ buffer tape frame bit at =
+    (at ≤ length buffer) × (length buffer ≡ length buffer₀) × (from (coming ends store lead) tape frame bit at buffer ≡ from (coming ends store lead) tape₀ 0 bit₀ 0 buffer₀)
 
 abbrev μ-loop : tie.MeasureT-loop
-μ-loop store lead buffer₀ tape₀ frame₀ bit₀ at₀ buffer tape frame bit at = length buffer - at
+μ-loop ends store lead buffer₀ tape₀ frame₀ bit₀ at₀ buffer tape frame bit at = length buffer - at
 
 loop-holds : tie.Need-loop-holds Inv-loop μ-loop
 loop-holds c = (omega arith, refl, refl)
 
 -- What the whole comes to.
-whole : (l : tie.At-loop Inv-loop μ-loop) →
+comes-to : (l : tie.At-loop Inv-loop μ-loop) →
     let a = l .before .before .before .before .args in
-    fromFrames (a .store) (a .lead .now) (l .loop .tape) (l .loop .frame) (l .loop .bit) (l .loop .at) (l .loop .buffer) ≡ hear (a .hearing) (a .store) (a .lead .now) (a .buffer .now)
-whole l =
+    from (coming (a .ends) (a .store) (a .lead .now)) (l .loop .tape) (l .loop .frame) (l .loop .bit) (l .loop .at) (l .loop .buffer) ≡ either (a .ends) (a .hearing) (a .store) (a .lead .now) (a .buffer .now)
+comes-to l =
     let a = l .before .before .before .before .args in
-    l .loop .inv .2 ∙ whole-lead (a .store) (a .lead .now) (a .hearing) (a .buffer .now)
+    l .loop .inv .2 ∙ whole (a .ends) (a .hearing) (a .store) (a .lead .now) (a .buffer .now)
 
 same-length : tie.Need-same-length Inv-loop μ-loop
 same-length c = c .before .before .before .before .before .before .before .loop .inv .1
@@ -40,16 +40,16 @@ returns c =
     let l = g .before .before in
     let a = l .before .before .before .before .args in
     ap (λ (w : Wrote). says w (l .loop .buffer)) (c .wrote .ensures)
-    ∙ frames-over (a .store) (a .lead .now) (l .loop .tape) (l .loop .frame) (l .loop .bit) (l .loop .at) (l .loop .buffer) (g .go-on .result) (g .go-on .ensures) (g .before .loop-test .taken)
+    ∙ over (coming (a .ends) (a .store) (a .lead .now)) (l .loop .tape) (l .loop .frame) (l .loop .bit) (l .loop .at) (l .loop .buffer) (g .next-record .result) (g .next-record .ensures) (g .before .loop-test .taken)
     (e .enum-told2 .given .1)
-    ∙ whole l
+    ∙ comes-to l
 
 loop-less : tie.Need-loop-less Inv-loop μ-loop
 loop-less c =
     let o = c .before .before in
     let g = o .before .before .before .before .before .before in
     let l = g .before .before in
-    room-less (g .go-on .result .bytes) (l .loop .buffer) (o .put-one .last .1 .0) (l .loop .at) (o .put-one .result) (o .put-one .ensures .1) (g .before .loop-test .taken) (o .put-one .ensures .0)
+    room-less (g .next-record .result .bytes) (l .loop .buffer) (o .put-one .last .1 .0) (l .loop .at) (o .put-one .result) (o .put-one .ensures .1) (g .before .loop-test .taken) (o .put-one .ensures .0)
 
 loop-again : tie.Need-loop-again Inv-loop μ-loop
 loop-again c =
@@ -62,9 +62,9 @@ loop-again c =
     let then = o .put-one .last .1 .0 in
     let puts = o .put-one .ensures .0 in
     let long = o .put-one .ensures .1 in (
-      next-place (g .go-on .result .bytes) (l .loop .buffer) then (l .loop .at) (o .put-one .result) long room puts,
-      keeps-length (g .go-on .result .bytes) (l .loop .buffer) then (l .loop .at) (o .put-one .result) long room puts ∙ l .loop .inv .1,
-      frames-on (a .store) (a .lead .now) (l .loop .tape) (l .loop .frame) (l .loop .bit) (l .loop .at) (l .loop .buffer) (g .go-on .result) (g .go-on .ensures) room
+      next-place (g .next-record .result .bytes) (l .loop .buffer) then (l .loop .at) (o .put-one .result) long room puts,
+      keeps-length (g .next-record .result .bytes) (l .loop .buffer) then (l .loop .at) (o .put-one .result) long room puts ∙ l .loop .inv .1,
+      on (coming (a .ends) (a .store) (a .lead .now)) (l .loop .tape) (l .loop .frame) (l .loop .bit) (l .loop .at) (l .loop .buffer) (g .next-record .result) (g .next-record .ensures) room
           (e .enum-told .given .1) long (o .put-one .result) then puts
           ∙ l .loop .inv .2,
     )
@@ -77,11 +77,11 @@ returns-2 c =
     let l = c .before .before in
     let a = l .before .before .before .before .args in
     ap (λ (w : Wrote). says w (l .loop .buffer)) (c .wrote2 .ensures)
-    ∙ frames-full (a .store) (a .lead .now) (l .loop .tape) (l .loop .frame) (l .loop .bit) (l .loop .at) (l .loop .buffer) (c .before .loop-test .left)
-    ∙ whole l
+    ∙ full (coming (a .ends) (a .store) (a .lead .now)) (l .loop .tape) (l .loop .frame) (l .loop .bit) (l .loop .at) (l .loop .buffer) (c .before .loop-test .left)
+    ∙ comes-to l
 
-pub of-frames-spec : {M : Type 1} → statement M
-of-frames-spec =
+pub fill-spec : {M : Type 1} → statement M
+fill-spec =
     tie.close
     (tie.spec
     Inv-loop
