@@ -1,6 +1,6 @@
-/* plain_checker FILE: the lines of a trace, the program `checker` in plain C. It goes over the file twice, once for the
-   length and once for the records, and reads and writes in blocks of 64 KiB. If the file can't be opened it writes
-   nothing. */
+/* plain_checker FILE: the lines of a trace, the program `checker` in plain C. It goes over the
+   file twice, once for the length and once for the records, and reads and writes in blocks of 64
+   KiB. If the file can't be opened it writes nothing. */
 #include "atc2_plain.h"
 
 #include <fcntl.h>

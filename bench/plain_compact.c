@@ -1,6 +1,6 @@
-/* plain_compact FILE: the compacted trace to standard output, and how many records it had and kept on standard error: the
-   program `compact` in plain C. It goes over the file twice, once for the length and once for the records, and reads and
-   writes in blocks of 64 KiB. */
+/* plain_compact FILE: the compacted trace to standard output, and how many records it had and
+   kept on standard error: the program `compact` in plain C. It goes over the file twice, once
+   for the length and once for the records, and reads and writes in blocks of 64 KiB. */
 #include "atc2_plain.h"
 
 #include <fcntl.h>

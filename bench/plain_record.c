@@ -1,5 +1,6 @@
-/* plain_record S S* [LEAD]: the trace of a lead, the program `record` in plain C with one sync pair, written from the rules of docs/LEAD.md and
-   document 01. It takes one bit of the line after the other, in constant memory, and reads and writes in blocks of 64 KiB. */
+/* plain_record S S* [LEAD]: the trace of a lead, the program `record` in plain C with one sync
+   pair, written from the rules of docs/LEAD.md and document 01. It takes one bit of the line
+   after the other, in constant memory, and reads and writes in blocks of 64 KiB. */
 #include "atc2_plain.h"
 
 #include <fcntl.h>
@@ -17,7 +18,8 @@ static uint8_t sync_s, sync_t;
 /* The line: the latest sixteen bits, the zeroes among them, and the open contact. */
 static uint32_t history = 0xFFFF, zeroes;
 static bool is_inside;
-static uint64_t bits, ones, places; /* of the contact: how many, how many ones it ends with, places so far */
+/* Of the contact: how many, how many ones it ends with, places so far. */
+static uint64_t bits, ones, places;
 static uint64_t latest; /* its latest 64 bits */
 static bool is_plain, differs; /* zeroes and then ones so far; two places differ */
 static uint32_t words; /* X, Y and Z of the first place */

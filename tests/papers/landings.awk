@@ -1,7 +1,8 @@
 # Holds the names of docs/landings/ against the tree: first the list of declared.awk ('CRATE NAME'),
 # then docs/landings/README.md with its table, then the notes. A name between backquotes (`NAME`,
-# `CRATE::NAME`) is declared in a crate that its note names, or stands at the left of the table. What
-# stands there is in a note, and what stands at its right is declared. OK and BAD lines come out.
+# `CRATE::NAME`) is declared in a crate that its note names, or stands at the left of the table.
+# What stands there is in a note, and what stands at its right is declared. OK and BAD lines come
+# out.
 function held(of, name) { print "OK " of " " name }
 function bad(of, name) { print "BAD docs/landings/" of " names " name ", which is not there today: put it into the table of docs/landings/README.md" }
 function is_name(text) { return text ~ /^[A-Za-z][A-Za-z0-9_-]*$/ }
