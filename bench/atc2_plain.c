@@ -1,10 +1,11 @@
-/* The checker's jobs in plain C, from a bit to a line of text. atc2_plain.h says what each answers. */
+/* The checker's jobs in plain C, from a bit to a line of text; atc2_plain.h says what each is. */
 #include "atc2_plain.h"
 
 #include <string.h>
 
 /* ---- The two codes ----
-   Bits 8, 4, 2, 1, 0 of the plain word are checks. A short word is a long one whose high byte is 0, in every respect. */
+   Bits 8, 4, 2, 1, 0 of the plain word are checks. A short word is a long one whose high byte is
+   0, in every respect. */
 
 static bool is_odd(uint32_t bits)
 {
@@ -18,8 +19,8 @@ static uint32_t exchanged(uint32_t word)
     return word ^ unlike ^ unlike << 1;
 }
 
-/* "Check 2^k makes the count of ones even over the positions whose number has 2^k in it": these positions, as a mask that the
-   compiler makes of this sentence. */
+/* "Check 2^k makes the count of ones even over the positions whose number has 2^k in it": these
+   positions, as a mask that the compiler makes of this sentence. */
 #define AT(k, p) ((uint32_t)(((p) & (k)) != 0) << (p))
 #define FOUR(k, p) (AT(k, p) | AT(k, p + 1) | AT(k, p + 2) | AT(k, p + 3))
 #define OVER(k) (FOUR(k, 0) | FOUR(k, 4) | FOUR(k, 8) | FOUR(k, 12))
@@ -115,7 +116,7 @@ static uint64_t first_window(const uint8_t *buf, size_t start)
     return window;
 }
 
-/* The telegram that the lowest 40 bits of the window are, or a negative number where they are none. */
+/* The telegram that the lowest 40 bits of the window are, or a negative number if they are none. */
 static inline int32_t telegram_in(uint64_t window, uint8_t s, uint8_t t)
 {
     uint64_t outer = window & 0xFF000000FF;
@@ -259,8 +260,8 @@ struct reading {
     uint8_t x, y, z;
 };
 
-/* A group that a row fits. a is the number of its A balise, number the figure of its number balise, distance that of a
-   present signal or warning board. */
+/* A group that a row fits. a is the number of its A balise, number the figure of its number
+   balise, distance that of a present signal or warning board. */
 struct seen {
     enum kind kind;
     bool opposite;
@@ -377,8 +378,8 @@ static enum kind kind_of(uint8_t category)
     }
 }
 
-/* The distance of a present signal or warning board: A, then the 9, then perhaps a 14. A preset point, which only a signal can be, is
- * refused with a target of 0 or 40 km/h. */
+/* The distance of a present signal or warning board: A, then the 9, then perhaps a 14. A preset
+ * point, which only a signal can be, is refused with a target of 0 or 40 km/h. */
 static int32_t judged_distance(const struct reading *b, int n, int a)
 {
     const struct reading *A = &b[a], *B = &b[a + 1];

@@ -25,14 +25,16 @@ static inline uint64_t bits_at(const uint8_t *buf, size_t n, size_t at, int many
 
 /* ---- Places ---- */
 
-/* What bit j of a byte is to be flipped by so that it is set where the byte is the exclusive or of the sync pair; highest first. */
+/* What bit j of a byte is to be flipped by so that it is set where the byte is the exclusive or
+   of the sync pair; highest first. */
 static void flips(uint8_t s, uint8_t t, uint64_t flip[8])
 {
     for (int j = 0; j < 8; j++)
         flip[j] = (uint64_t)((s ^ t) >> (7 - j) & 1) - 1;
 }
 
-/* A bit for each of the 64 offsets from byte i on, the first highest: set where two bytes 32 bits apart differ as the pair does. */
+/* A bit for each of the 64 offsets from byte i on, the first highest: set where two bytes 32
+   bits apart differ as the pair does. */
 static inline uint64_t marks(const uint8_t *buf, size_t n, size_t i, const uint64_t flip[8])
 {
     uint64_t differ = word_at(buf, n, i) ^ word_at(buf, n, i + 4);
@@ -52,7 +54,8 @@ static inline int32_t telegram_at(const uint8_t *buf, size_t n, size_t at, uint8
     return plain_read_telegram((uint8_t)(window >> 24), (uint8_t)(window >> 16), (uint8_t)(window >> 8));
 }
 
-/* Goes over the places of a good stretch: where *at stands on one word's marks, on to the next place; its telegram, or -1 past the last. */
+/* Goes over the places of a good stretch: where *at stands on one word's marks, on to the next
+   place; its telegram, or -1 past the last. */
 struct walk {
     size_t i, stop; /* the byte of the marks, the offset after the last */
     uint64_t marked, flip[8];
@@ -138,7 +141,8 @@ int32_t wide_judge(const uint8_t *buf, size_t n, size_t start, size_t len, uint8
 
 /* ---- Contacts ---- */
 
-/* The zeroes among sixteen bits, counted from each bit of a word upwards: bit k of each digit belongs to the bits from k on. */
+/* The zeroes among sixteen bits, counted from each bit of a word upwards: bit k of each digit
+   belongs to the bits from k on. */
 struct digits {
     uint64_t a, b, c, d, e;
 };
@@ -159,7 +163,8 @@ static inline struct digits zeroes(uint64_t word)
     return (struct digits){a8 ^ x, q ^ p, u ^ r, f ^ g, (d8 & v) | (f & g)};
 }
 
-/* The first of the next 48 bits after which at least eight, or at most four, of the latest sixteen are zeroes; 48 if there is none. */
+/* The first of the next 48 bits after which at least eight, or at most four, of the latest
+   sixteen are zeroes; 48 if there is none. */
 static inline unsigned opens(uint64_t word)
 {
     struct digits n = zeroes(word);

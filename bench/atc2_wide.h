@@ -1,5 +1,6 @@
-/* The searches once more in C, by words of 64 bits: the mark that the proved ones are held to beside plain C. find and judge test 64
-   offsets at once, next_contact takes 48 bits at once. Each answers as the function of atc2_plain.h that has the same name. */
+/* The searches once more in C, by words of 64 bits: the mark that the proved ones are held to
+   beside plain C. find and judge test 64 offsets at once, next_contact takes 48 bits at once.
+   Each answers as the function of atc2_plain.h that has the same name. */
 #ifndef ATC2_WIDE_H
 #define ATC2_WIDE_H
 

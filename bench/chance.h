@@ -1,5 +1,5 @@
-/* Chance for the bench's inputs: the same seed gives the same draws everywhere.
-   Each draw is a statement of its own, or the only one in it: C leaves the order of arguments open. */
+/* Chance for the bench's inputs: the same seed gives the same draws everywhere. Each draw is a
+   statement of its own, or the only one in it: C leaves the order of arguments open. */
 #ifndef BENCH_CHANCE_H
 #define BENCH_CHANCE_H
 

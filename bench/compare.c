@@ -1,6 +1,7 @@
-/* compare CASES SEED: the sides on inputs by chance, good and damaged. Every short and every long word is read and written,
-   every distance looked up; then so many cases of a buffer, a stretch and a pair for the searches. Every answer is compared,
-   with every array that was lent. Writes the first difference and ends with status 1, or how many answers were alike. */
+/* compare CASES SEED: the sides on inputs by chance, good and damaged. Every short and every
+   long word is read and written, every distance looked up; then so many cases of a buffer, a
+   stretch and a pair for the searches. Every answer is compared, with every array that was lent.
+   Writes the first difference and ends with status 1, or how many answers were alike. */
 #include "chance.h"
 #include "pair.h"
 #include "sides.h"
@@ -22,7 +23,8 @@ static void same(bool holds, const char *what, uint64_t where)
     alike++;
 }
 
-/* How often each search gave each answer, -9 to 2: a comparison that never met one says little of it. */
+/* How often each search gave each answer, -9 to 2: a comparison that never met one says little
+   of it. */
 enum { FIND, JUDGE, BEGIN, NEXT, SEARCHES };
 static const char *const names[SEARCHES] = {"find", "judge", "begin", "next_contact"};
 static uint64_t met[SEARCHES][12];

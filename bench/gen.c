@@ -1,15 +1,20 @@
-/* gen KIND SEED [RECORDS]: inputs for the bench, to standard output; the same seed gives the same bytes.
+/* gen KIND SEED [RECORDS]: inputs for the bench, to standard output; the same seed gives the same
+   bytes.
 
-   trace      a ride of so many records (a million where none are named): groups of every row, most of them good, with
-              marks of every kind, positions, unreadable balises, broken groups, refused records
-   damaged    such a ride with some of its bytes changed, and one in ten cut within a record
-   positions  so many position records, one each metre
-   none       16,777,216 bits in which no contact opens and neither sync word stands: single zeroes among ones
-   telegrams  16,777,216 bits of one balise, telegram after telegram
-   noise      16,777,216 bits by chance
-   line       16,777,216 bits as a vehicle hears them: ones, balises with some flipped bits, markers, bursts of noise
+   trace          a ride of so many records (a million where none are named): groups of every row,
+                  most of them good, with marks of every kind, positions, unreadable balises, broken
+                  groups, refused records
+   damaged        such a ride with some of its bytes changed, and one in ten cut within a record
+   positions      so many position records, one each metre
+   none           16,777,216 bits in which no contact opens and neither sync word stands: single
+                  zeroes among ones
+   telegrams      16,777,216 bits of one balise, telegram after telegram
+   noise          16,777,216 bits by chance
+   line           16,777,216 bits as a vehicle hears them: ones, balises with some flipped bits,
+                  markers, bursts of noise
    quiet-lead     so many frames of a lead on which nothing is heard, a decimetre each
-   ridden-lead    so many frames of a lead as a vehicle hears it: such balises, markers and noise, with more quiet line between; some odometers wild
+   ridden-lead    so many frames of a lead as a vehicle hears it: such balises, markers and noise,
+                  with more quiet line between; some odometers wild
    standing-lead  so many frames of a vehicle that stands over a balise */
 #include "atc2_plain.h"
 #include "chance.h"
@@ -157,7 +162,8 @@ static void put_short(uint8_t x, uint8_t y, uint8_t z)
     put_record(odometer, 0, (uint8_t)plain_write_short(x), (uint8_t)plain_write_short(y), (uint8_t)plain_write_short(z));
 }
 
-/* A balise of the category with figures that mostly fit its row. is_marked: the row has a marker; has_14: it has a 14. */
+/* A balise of the category with figures that mostly fit its row. is_marked: the row has a
+   marker; has_14: it has a 14. */
 static void put_balise(uint8_t category, bool is_marked, bool has_14)
 {
     uint8_t y = (uint8_t)below(15), z = (uint8_t)below(15);
@@ -239,7 +245,8 @@ static void put_group(void)
     }
 }
 
-/* A record that is refused: its kind, a byte that must be zero, or its odometer too high or too low. */
+/* A record that is refused: its kind, a byte that must be zero, or its odometer too high or too
+   low. */
 static void put_refused(void)
 {
     uint32_t chance = below(1 << 24);
@@ -294,7 +301,8 @@ static bool is_lead(const char *kind)
     return strcmp(kind, "quiet-lead") == 0 || strcmp(kind, "ridden-lead") == 0 || strcmp(kind, "standing-lead") == 0;
 }
 
-/* The line of a lead is the stretch, again and again. As a vehicle hears it, of ten thousand frames one has a wild odometer, too high or too low. */
+/* The line of a lead is the stretch, again and again. As a vehicle hears it, of ten thousand
+   frames one has a wild odometer, too high or too low. */
 static void make_lead(const char *kind, uint64_t count)
 {
     bool is_ridden = strcmp(kind, "ridden-lead") == 0, is_standing = strcmp(kind, "standing-lead") == 0;

@@ -1,46 +1,10 @@
-/* plain_checker FILE: the lines of a trace, the program `checker` in plain C. It goes over the file twice, once for the
-   length and once for the records, and reads and writes in blocks of 64 KiB. If the file can't be opened it writes
-   nothing. */
+/* plain_checker FILE: the lines of a trace, the program `checker` in plain C. It goes over the
+   file twice, once for the length and once for the records, and reads and writes in blocks of 64
+   KiB. If the file can't be opened it writes nothing. */
 #include "atc2_plain.h"
+#include "blocks.h"
 
 #include <fcntl.h>
-#include <unistd.h>
-
-#define BLOCK 65536
-#define GAP 40
-
-/* Fills the block as far as the file goes. */
-static size_t read_block(int file, uint8_t *block)
-{
-    size_t have = 0;
-    while (have < BLOCK) {
-        ssize_t got = read(file, block + have, BLOCK - have);
-        if (got <= 0)
-            break;
-        have += (size_t)got;
-    }
-    return have;
-}
-
-static void write_all(const char *text, size_t n)
-{
-    while (n > 0) {
-        ssize_t put = write(STDOUT_FILENO, text, n);
-        if (put <= 0)
-            return;
-        text += put;
-        n -= (size_t)put;
-    }
-}
-
-static uint64_t length_of(int file, uint8_t *block)
-{
-    uint64_t length = 0;
-    size_t have;
-    while ((have = read_block(file, block)) > 0)
-        length += have;
-    return length;
-}
 
 /* Lists so many records of the file, or as many as it still has. */
 static void list_records(int file, uint64_t records, uint8_t *block, char *out)

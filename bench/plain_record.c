@@ -1,13 +1,13 @@
-/* plain_record S S* [LEAD]: the trace of a lead, the program `record` in plain C with one sync pair, written from the rules of docs/LEAD.md and
-   document 01. It takes one bit of the line after the other, in constant memory, and reads and writes in blocks of 64 KiB. */
+/* plain_record S S* [LEAD]: the trace of a lead, the program `record` in plain C with one sync
+   pair, written from the rules of docs/LEAD.md and document 01. It takes one bit of the line
+   after the other, in constant memory, and reads and writes in blocks of 64 KiB. */
 #include "atc2_plain.h"
+#include "blocks.h"
 
 #include <fcntl.h>
 #include <stdio.h>
 #include <stdlib.h>
-#include <unistd.h>
 
-#define BLOCK 65536
 #define FRAME 16
 #define MOST_DM 4000000000
 #define MOST_BITS 16777216
@@ -17,7 +17,8 @@ static uint8_t sync_s, sync_t;
 /* The line: the latest sixteen bits, the zeroes among them, and the open contact. */
 static uint32_t history = 0xFFFF, zeroes;
 static bool is_inside;
-static uint64_t bits, ones, places; /* of the contact: how many, how many ones it ends with, places so far */
+/* Of the contact: how many, how many ones it ends with, places so far. */
+static uint64_t bits, ones, places;
 static uint64_t latest; /* its latest 64 bits */
 static bool is_plain, differs; /* zeroes and then ones so far; two places differ */
 static uint32_t words; /* X, Y and Z of the first place */
@@ -30,14 +31,9 @@ static uint64_t frames, refused, contacts, read_ones, markers, unreadable, recor
 static uint8_t out[BLOCK];
 static size_t used;
 
-static void write_all(void)
+static void flush(void)
 {
-    for (size_t done = 0; done < used;) {
-        ssize_t put = write(STDOUT_FILENO, out + done, used - done);
-        if (put <= 0)
-            break;
-        done += (size_t)put;
-    }
+    write_all(out, used);
     used = 0;
 }
 
@@ -45,7 +41,7 @@ static void put_record(uint32_t dm, uint8_t kind, uint32_t three)
 {
     uint8_t record[8] = {(uint8_t)(dm >> 24), (uint8_t)(dm >> 16), (uint8_t)(dm >> 8), (uint8_t)dm, kind, (uint8_t)(three >> 16), (uint8_t)(three >> 8), (uint8_t)three};
     if (used == BLOCK)
-        write_all();
+        flush();
     for (int i = 0; i < 8; i++)
         out[used + (size_t)i] = record[i];
     used += 8;
@@ -156,7 +152,7 @@ int main(int argc, char **argv)
         kept = have - done;
         for (size_t i = 0; i < kept; i++)
             block[i] = block[done + i];
-        write_all();
+        flush();
     }
     if (is_inside) {
         is_inside = false;
@@ -164,7 +160,7 @@ int main(int argc, char **argv)
     }
     if (is_recorded && odometer > last)
         put_record(odometer, 3, 0);
-    write_all();
+    flush();
     say_end(kept);
     close(file);
     return 0;

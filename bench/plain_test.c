@@ -1,4 +1,5 @@
-/* Tests of atc2_plain.c: the examples and the edges of document 01. Writes each check that fails, and a count. */
+/* Tests of atc2_plain.c: the examples and the edges of document 01. Writes each check that
+   fails, and a count. */
 #include "atc2_plain.h"
 
 #include <inttypes.h>
@@ -124,7 +125,8 @@ static void byte(struct bits *b, uint8_t value)
         run(b, 1, value >> i & 1);
 }
 
-/* So many telegrams of one balise, each sharing a sync word with the next; the last sync word is not among the bits. */
+/* So many telegrams of one balise, each sharing a sync word with the next; the last sync word is
+   not among the bits. */
 static void telegrams(struct bits *b, int count, uint8_t x, uint8_t y, uint8_t z)
 {
     for (int i = 0; i < count; i++) {
@@ -212,7 +214,8 @@ static void test_detector(void)
     CHECK(search[0] == 40 && search[1] == b->n - 40 && search[2] == 0x0FFF);
     CHECK(plain_next_contact(b->buf, n, search, out) == 0 && search[0] == 40 && search[2] == 0x0FFF);
 
-    plain_begin(b->buf, n, 0, 39, search); /* the same with the closing bit cut off, and with it the last */
+    /* the same with the closing bit cut off, and with it the last */
+    plain_begin(b->buf, n, 0, 39, search);
     CHECK(plain_next_contact(b->buf, n, search, out) == -9 && search[0] == 0 && search[1] == 39 && search[2] == 65535);
     plain_begin(b->buf, n, 0, 40, search);
     CHECK(plain_next_contact(b->buf, n, search, out) == 1 && search[0] == 40 && search[1] == 0);
@@ -226,8 +229,10 @@ static void test_detector(void)
     run(b, 16, 1), run(b, 8, 0), run(b, 12, 1), run(b, 4, 0), run(b, 30, 1);
     plain_begin(b->buf, n, 0, b->n, search);
     CHECK(plain_next_contact(b->buf, n, search, out) == 1 && out[0] == 23 && out[1] == 12 && search[0] == 36);
-    CHECK(plain_next_contact(b->buf, n, search, out) == 0); /* each new zero pushes an old one out */
-    search[0] = 36, search[1] = b->n - 36, search[2] = 0xFFF0; /* here none is pushed out before eight */
+    /* each new zero pushes an old one out */
+    CHECK(plain_next_contact(b->buf, n, search, out) == 0);
+    /* here none is pushed out before eight */
+    search[0] = 36, search[1] = b->n - 36, search[2] = 0xFFF0;
     CHECK(plain_next_contact(b->buf, n, search, out) == 1 && out[0] == 39);
     search[0] = 36, search[1] = b->n - 36, search[2] = 0xABCDFFF0;
     CHECK(plain_next_contact(b->buf, n, search, out) == 1 && out[0] == 39 && search[2] < 65536);
@@ -263,7 +268,8 @@ static void test_judge(void)
     CHECK(plain_judge(b->buf, n, 1, b->n - 1, S, T, out) == 1);
     CHECK(out[0] == 65536 + 8 * 256 + 5 && out[1] == 6 && out[2] == 3);
     CHECK(plain_judge(b->buf, n, 7, b->n - 7, S, T, out) == 1 && out[1] == 38 && out[2] == 2);
-    CHECK(plain_judge(b->buf, n, 39, b->n - 39, S, T, out) == -8); /* one place alone is no reading */
+    /* one place alone is no reading */
+    CHECK(plain_judge(b->buf, n, 39, b->n - 39, S, T, out) == -8);
     CHECK(plain_judge(b->buf, n, 71, b->n - 71, S, T, out) == -8);
     CHECK(plain_judge(b->buf, n, 0, b->n, S, S, out) == -4 && plain_judge(b->buf, n, 8 * n, 1, S, T, out) == -5);
 
@@ -314,8 +320,9 @@ static void test_distance(void)
 }
 
 /* ---- Rides ----
-   A trace is written as a text of records, `1000:1,8,5` with a balise's figures, `1000:12,1152` with its number,
-   `1000:M` a marker, `1000:U` unreadable, `1000:-` position only, `1000:#00178E5A` with bytes 4 to 7 as they are. */
+   A trace is written as a text of records, `1000:1,8,5` with a balise's figures, `1000:12,1152`
+   with its number, `1000:M` a marker, `1000:U` unreadable, `1000:-` position only,
+   `1000:#00178E5A` with bytes 4 to 7 as they are. */
 
 static size_t words_of(const char *text, uint8_t *record)
 {
@@ -425,11 +432,13 @@ static void test_group_sizes(void)
     CHECK(lists_at(1, "5:1,8,5 6:9,2,4", "5 present signal first\n"));
     CHECK(lists_at(200, "5:1,8,5 205:9,2,4", "5 present signal first\n"));
     CHECK(lists_at(200, "5:1,8,5 206:9,2,4", "5 fault 10\n206 fault 10\n"));
-    CHECK(lists("0:12,7 1:8,1,1 2:1,8,5 3:9,2,0 4:14,1,0", "2 present signal first n7\n")); /* five */
+    /* five */
+    CHECK(lists("0:12,7 1:8,1,1 2:1,8,5 3:9,2,0 4:14,1,0", "2 present signal first n7\n"));
     CHECK(lists("0:12,7 1:8,1,1 2:1,8,5 3:9,2,0 4:14,1,0 5:12,7", "0 fault 11\n")); /* six */
     CHECK(lists("900:U 910:U 920:U 930:U 940:U 950:U 960:U", "900 fault 11\n")); /* 11 before 12 */
     CHECK(lists("900:U 910:U 920:U 930:U 940:U 980:M 1020:M 1061:M", "900 fault 11\n1061 fault 10\n"));
-    CHECK(lists("0:1,8,5 20:- 40:- 60:- 60:9,2,4", "0 fault 10\n60 fault 10\n")); /* a position is no balise */
+    /* a position is no balise */
+    CHECK(lists("0:1,8,5 20:- 40:- 60:- 60:9,2,4", "0 fault 10\n60 fault 10\n"));
     CHECK(lists("0:1,8,5 20:- 40:- 40:9,2,4 80:14,0,0", "0 fault 15\n"));
     CHECK(lists("0:1,8,5 0:9,2,4", "0 present signal first\n"));
     /* what the end of a record's group leaves, and the next group */
@@ -475,7 +484,8 @@ static void test_present_rows(void)
     CHECK(group_gives("2,0,0 9,0,1", "0 present warning\n") && group_gives("8,0,0 2,0,13 9,13,0 14,1,0 12,5", "10 present warning\n"));
     CHECK(group_gives("2,0,14 9,0,1", "0 fault 13\n") && group_gives("2,0,0 9,14,1", "0 fault 13\n"));
     CHECK(group_gives("2,0,0 9,14,0", "0 fault 13\n")); /* the row's limit, before the distance */
-    CHECK(group_gives("12,5 2,0,0 9,0,1", "0 fault 13\n")); /* a warning board has no number before it */
+    /* a warning board has no number before it */
+    CHECK(group_gives("12,5 2,0,0 9,0,1", "0 fault 13\n"));
     CHECK(group_gives("10,0,0 9,0,0", "0 present annulled\n") && group_gives("12,5 8,0,0 10,0,0 9,0,0 14,0,0", "20 present annulled\n"));
     CHECK(group_gives("3,0,0 5,0,0", "0 present line\n") && group_gives("3,8,13 5,0,0", "0 present line\n"));
     CHECK(group_gives("3,9,0 5,0,0", "0 fault 13\n") && group_gives("3,8,14 5,0,0", "0 fault 13\n"));
@@ -591,10 +601,14 @@ static void test_numbers(void)
 {
     CHECK(keeps("", PLAIN_UNKNOWN) && keeps("0:1,8,5 9:9,2,4 99:-", PLAIN_UNKNOWN));
     CHECK(keeps("0:12,17 9:1,8,5 18:9,2,4 99:-", 17) && keeps("0:4,8,5 9:9,2,4 18:12,0 99:-", 0));
-    CHECK(keeps("0:12,17 9:1,8,5 18:9,2,4 99:1,8,5 108:9,2,4 199:-", PLAIN_UNKNOWN)); /* a present signal without a 12 */
-    CHECK(keeps("0:12,17 9:1,8,5 18:9,2,4 99:12,5 108:9,2,4 117:1,8,5 199:-", 17)); /* an opposite one */
-    CHECK(keeps("0:12,17 9:1,8,5 18:9,2,4 99:2,1,1 108:9,2,4 117:12,5 199:-", 17)); /* a warning board */
-    CHECK(keeps("0:12,17 9:1,8,5 18:9,2,4 99:12,5 108:10,1,1 117:9,2,4 199:-", 17)); /* an annulled one */
+    /* a present signal without a 12 */
+    CHECK(keeps("0:12,17 9:1,8,5 18:9,2,4 99:1,8,5 108:9,2,4 199:-", PLAIN_UNKNOWN));
+    /* an opposite one */
+    CHECK(keeps("0:12,17 9:1,8,5 18:9,2,4 99:12,5 108:9,2,4 117:1,8,5 199:-", 17));
+    /* a warning board */
+    CHECK(keeps("0:12,17 9:1,8,5 18:9,2,4 99:2,1,1 108:9,2,4 117:12,5 199:-", 17));
+    /* an annulled one */
+    CHECK(keeps("0:12,17 9:1,8,5 18:9,2,4 99:12,5 108:10,1,1 117:9,2,4 199:-", 17));
     CHECK(keeps("0:12,17 9:1,8,5 18:9,2,4 99:M 199:-", PLAIN_UNKNOWN)); /* a fault */
     CHECK(keeps("0:12,17 9:1,8,5 18:9,2,4 9000:-", 17)); /* missed */
     CHECK(lists("0:12,17 9:1,8,5 18:9,2,4 99:1,8,5 108:9,2,4", "9 present signal first n17\n99 present signal early\n"));

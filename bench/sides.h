@@ -1,5 +1,6 @@
-/* The sides of the bench under one type: the proved functions of include/atc2.h, the plain ones, and the searches by words. With EARLIER
-   defined the second is the proved functions of an earlier library, whose names `bench/run since` begins with earlier_. */
+/* The sides of the bench under one type: the proved functions of include/atc2.h, the plain ones,
+   and the searches by words. With EARLIER defined the second is the proved functions of an
+   earlier library, whose names `bench/run since` begins with earlier_. */
 #ifndef BENCH_SIDES_H
 #define BENCH_SIDES_H
 

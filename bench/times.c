@@ -1,7 +1,9 @@
-/* times NAME FILE..: the sides read all words of the two codes again and again, then do the same jobs over each stretch of
-   16,777,216 bits. Their answers are compared first, and a difference ends the run with status 1; then each side does the job
-   five times, in turn, and a line says the least time of each in processor seconds and the ratio of proved to it. NAME is
-   what the line calls the stretch; that named `line` is gone over as a vehicle hears it, contact after contact, each judged.
+/* times NAME FILE..: the sides read all words of the two codes again and again, then do the same
+   jobs over each stretch of 16,777,216 bits. Their answers are compared first, and a difference
+   ends the run with status 1; then each side does the job five times, in turn, and a line says
+   the least time of each in processor seconds and the ratio of proved to it. NAME is what the
+   line calls the stretch; that named `line` is gone over as a vehicle hears it, contact after
+   contact, each judged.
    times grows NAME FILE..: the proved side's time over 1, 2, 4, 8 and 16 Mbit of each stretch. */
 #include "pair.h"
 #include "sides.h"
@@ -17,7 +19,7 @@
 static uint8_t stretch[BYTES];
 static size_t bytes = BYTES; /* how many of them a job goes over */
 
-/* ---- What a job answered, as one number: every value of every answer counts, and their order ---- */
+/* ---- What a job answered, as one number: every value of every answer counts, in its order ---- */
 
 static uint64_t digest, answers;
 
@@ -35,8 +37,8 @@ static void note_answer(int32_t answer)
 
 /* ---- The jobs ---- */
 
-/* All words of a code, again and again. What one round answered is one sum, in which each word's answer counts by its place,
-   so that noting it takes no time beside a read. */
+/* All words of a code, again and again. What one round answered is one sum, in which each word's
+   answer counts by its place, so that noting it takes no time beside a read. */
 #define WORDS_READ 16777216
 
 static void note_round(uint64_t sum, uint32_t words)
@@ -203,7 +205,8 @@ static bool run_jobs(enum input over, const char *name)
     return true;
 }
 
-/* How cost grows: each job over a sixteenth of the stretch, an eighth, and so on, so often that the bits are as many each time. */
+/* How cost grows: each job over a sixteenth of the stretch, an eighth, and so on, so often that
+   the bits are as many each time. */
 static void grow(const char *name)
 {
     for (size_t i = 0; i < sizeof jobs / sizeof jobs[0]; i++) {

@@ -1,4 +1,5 @@
-# Makes the man page: the lines of programs.txt take the place of the line @PROGRAMS@ of docs/atc2.1.
+# Makes the man page: the lines of programs.txt take the place of the line @PROGRAMS@ of
+# docs/atc2.1.
 #   awk -f docs/man.awk programs.txt docs/atc2.1
 function roff(text) { gsub(/\\/, "\\e", text); gsub(/-/, "\\-", text); gsub(/'/, "\\(aq", text); return text }
 FNR == 1 { file++ }

@@ -1,4 +1,5 @@
-// Runs programs: in a worker, so that the page answers while they work and a run can be stopped; where a browser allows no worker, in the page itself.
+// Runs programs: in a worker, so that the page answers while they work and a run can be stopped;
+// where a browser allows no worker, in the page itself.
 'use strict';
 const $ = (id) => document.getElementById(id);
 const bytesOf = (b64) => Uint8Array.from(atob(b64), (c) => c.charCodeAt(0));
@@ -42,7 +43,8 @@ const Bench = {
     this.waiting.clear();
   },
 
-  // NAME ARGS.. over files (a Map from names to { id, bytes }) and standard input. What is answered has stdout, stderr with the launcher's line, status, trap and the time in ms.
+  // NAME ARGS.. over files (a Map from names to { id, bytes }) and standard input. What is answered
+  // has stdout, stderr with the launcher's line, status, trap and the time in ms.
   async run(name, args, files, stdin) {
     const began = performance.now(), mine = turn, r = await this.inWorker(name, args, files || new Map(), stdin || new Uint8Array(0));
     if (mine !== turn) throw new Stopped('stopped');

@@ -1,4 +1,5 @@
-// What the page was given: cards in their order, leads, settings, a plan, a cable; and how files get their names on a command line.
+// What the page was given: cards in their order, leads, settings, a plan, a cable; and how files
+// get their names on a command line.
 'use strict';
 const given = { cards: [], leads: [], settings: null, plan: null, planText: '', tolerance: '20', pair: ['72', '0D'], steps: [], telegram: '1 8 5', count: '9', quiet: '3', cable: null, withPlan: false, typed: '' };
 
@@ -9,7 +10,8 @@ async function taken(file) { return fileOf(file.name, new Uint8Array(await file.
 const sampleOf = (name) => fileOf(name, bytesOf(SAMPLES[name]));
 const has = (...names) => names.every((n) => n in PROGRAMS);
 
-// The files of one call under names that a program can tell apart: no two alike, and none that is an option or means standard input.
+// The files of one call under names that a program can tell apart: no two alike, and none that is
+// an option or means standard input.
 class Call {
   constructor() { this.files = new Map(); }
   name(f) {
@@ -28,7 +30,8 @@ class Call {
 const quote = (w) => (/^[A-Za-z0-9_.\/:=+,@%*-]+$/.test(w) && !w.includes('*') ? w : "'" + w.replace(/'/g, "'\\''") + "'");
 const lineOf = (name, args, into) => './run ' + [name, ...args].map(quote).join(' ') + (into ? ' >' + quote(into) : '');
 
-// A text that a program makes bytes of: trace, plan. Answers with the run, and with the file where there is one.
+// A text that a program makes bytes of: trace, plan. Answers with the run, and with the file where
+// there is one.
 async function made(name, file, into) {
   const call = new Call(), args = [call.name(file)], r = await Bench.run(name, args, call.files);
   const good = !r.trap && r.status === 0;
@@ -36,7 +39,8 @@ async function made(name, file, into) {
 }
 const without = (name) => name.replace(/\.[A-Za-z]+$/, '');
 
-// Takes dropped or chosen files by their names: .settings, .plan and .lead are what they say, a .txt is made a trace (a plan, while Accept is shown), all else is a card.
+// Takes dropped or chosen files by their names: .settings, .plan and .lead are what they say, a
+// .txt is made a trace (a plan, while Accept is shown), all else is a card.
 async function take(list, as) {
   const said = [];
   for (const one of list) {
@@ -52,7 +56,8 @@ async function take(list, as) {
   }
   return said.filter((r) => r !== null);
 }
-// A trace typed in as text becomes a card; a plan typed in becomes the plan. What is refused is answered.
+// A trace typed in as text becomes a card; a plan typed in becomes the plan. What is refused is
+// answered.
 async function takeText(f) {
   const m = await made('trace', f, without(f.name) + '.trace');
   if (m.file) given.cards.push(m.file);

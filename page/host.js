@@ -1,14 +1,18 @@
-// Runs a program of the repository that was compiled to WebAssembly. It has no dependency and is the same file for a page, its worker and node.
+// Runs a program of the repository that was compiled to WebAssembly. It has no dependency and is
+// the same file for a page, its worker and node.
 //
 //   const program = await Host.load(bytes);              once: the .wasm as a Uint8Array
-//   const r = await Host.run(program, asked);            as often as wanted; each run has fresh memory
+//   const r = await Host.run(program, asked);            as often as wanted; its memory is fresh
 //
-// asked.args: the words after the program's name. asked.file(name): the Uint8Array of a file, or undefined where there is none. asked.stdin: Uint8Array.
-// asked.going(bytes): called now and then with how much was read so far. r.stdout and r.stderr are Uint8Array, r.told is what the program told its launcher on descriptor 9,
-// r.trap is '' or the words of a trap (out of stack, out of bounds): then nothing of r is to be believed.
+// asked.args: the words after the program's name. asked.file(name): the Uint8Array of a file, or
+// undefined where there is none. asked.stdin: Uint8Array. asked.going(bytes): called now and then
+// with how much was read so far. r.stdout and r.stderr are Uint8Array, r.told is what the program
+// told its launcher on descriptor 9, r.trap is '' or the words of a trap (out of stack, out of
+// bounds): then nothing of r is to be believed.
 //
-// It stands where the C library stands for the native program, and is as little proved as that is: each function keeps the contract of the kit's libraries libc and os, and answers with
-// the same errno as Linux does for plain files. Nothing is a terminal.
+// It stands where the C library stands for the native program, and is as little proved as that is:
+// each function keeps the contract of the kit's libraries libc and os, and answers with the same
+// errno as Linux does for plain files. Nothing is a terminal.
 (function (root) {
   'use strict';
   const ENOENT = 2, EBADF = 9, EFAULT = 14, EINVAL = 22, EMFILE = 24, ENOTTY = 25, ESPIPE = 29, EISDIR = 21;
@@ -31,7 +35,8 @@
     bytes() { return this.room.slice(0, this.length); }
   }
 
-  // What a program may call. `world` has memory (once it is there), words, file, sinks and open descriptors.
+  // What a program may call. `world` has memory (once it is there), words, file, sinks and open
+  // descriptors.
   function calls(world) {
     const fail = (e) => { world.errno = e; return -1; };
     // The bytes that a program lends; outside its memory is an error, not a wrap.
@@ -45,7 +50,8 @@
         if (!f || !f.data) return BigInt(fail(EBADF));
         if (!buf) return BigInt(fail(EFAULT));
         if (f.data.folder) return BigInt(fail(EISDIR));
-        // Where it comes piece by piece (node, a pipe), the next one is asked for when it is needed.
+        // Where it comes piece by piece (node, a pipe), the next one is asked for when it is
+        // needed.
         if (f.data.more && f.at >= f.data.length) { f.data = f.data.more(); f.at = 0; }
         const got = f.data.subarray(f.at, f.at + buf.length);
         buf.set(got);
@@ -105,7 +111,8 @@
     };
   }
 
-  // Compiles a program. The stack must lie first in its memory: what needs more than there is traps then, and never runs into its data.
+  // Compiles a program. The stack must lie first in its memory: what needs more than there is traps
+  // then, and never runs into its data.
   function load(bytes) { return WebAssembly.compile(bytes); }
 
   async function run(program, asked) {
@@ -129,8 +136,9 @@
     return { stdout: asked.out ? null : out.bytes(), stderr: asked.err ? null : err.bytes(), told: new TextDecoder().decode(told.bytes()), trap };
   }
 
-  // What the launcher makes of what a program told it: the exit status, and its own line where the program wrote none. `launcher.words` are its words, by digit; `launcher.usage` is how
-  // each program is called.
+  // What the launcher makes of what a program told it: the exit status, and its own line where the
+  // program wrote none. `launcher.words` are its words, by digit; `launcher.usage` is how each
+  // program is called.
   function ended(name, told, launcher) {
     const digit = told.replace(/\n+$/, '').slice(-1);
     if (digit === '') return { status: 0, line: '' };

@@ -1,4 +1,5 @@
-// The two tabs that begin before a card: a lead that is recorded, and a test balise that is written and heard again.
+// The two tabs that begin before a card: a lead that is recorded, and a test balise that is written
+// and heard again.
 'use strict';
 TABS.Lead = {
   needs: ['record'], asks: false,

@@ -59,7 +59,8 @@ async function refresh(keep) {
   document.body.dataset.done = String(mine);
 }
 
-// After what was given has changed. What was refused on the way stands under the cards until the next change.
+// After what was given has changed. What was refused on the way stands under the cards until the
+// next change.
 function changed(said) {
   given.steps = [];
   $('refused').replaceChildren(...(said || []).flatMap((r) => [...told(r), ...(r.stdout.length ? [make('div', { className: 'said' }, textOf(r.stdout).trimEnd())] : [])]));

@@ -1,4 +1,5 @@
-// Shows what a run wrote: the program's lines, what it said on standard error, the call, and buttons to save and to print. Of a long result the beginning is shown.
+// Shows what a run wrote: the program's lines, what it said on standard error, the call, and
+// buttons to save and to print. Of a long result the beginning is shown.
 'use strict';
 const SHOWN = 4000, MOST = 2000000;
 const make = (tag, props, ...kids) => { const e = Object.assign(document.createElement(tag), props || {}); e.append(...kids); return e; };
@@ -39,7 +40,8 @@ function callOf(r, into) {
   return make('p', { className: 'soft call' }, 'The same on the command line: ', make('code', {}, lineOf(r.name, r.args, into)), ' (status ' + r.status + ': ' + STATUS[r.status] + ')');
 }
 
-// One run. how.title: a heading. how.save: the name under which it is saved. how.into: the file of the call, for programs that write bytes. how.body: elements in place of its lines.
+// One run. how.title: a heading. how.save: the name under which it is saved. how.into: the file of
+// the call, for programs that write bytes. how.body: elements in place of its lines.
 // how.buttons: further buttons. how.short: a long list that is scrolled in its own box.
 function block(r, how) {
   const part = make('section', { className: 'block' });
@@ -61,7 +63,8 @@ function block(r, how) {
 const hint = (words) => make('p', { className: 'hint' }, words);
 function show(...parts) { $('results').replaceChildren(...parts); }
 
-// A page that a program wrote. It has no scripts and may load nothing; its height is that of what it has.
+// A page that a program wrote. It has no scripts and may load nothing; its height is that of what
+// it has.
 function framed(bytes) {
   const frame = make('iframe', { title: 'Picture of the ride' });
   frame.setAttribute('sandbox', 'allow-same-origin allow-modals');

@@ -1,4 +1,6 @@
-// What can be seen, each by one program or a few. A tab has needs: its programs, which must be in the page; asks: whether it is over cards; controls: what stands above its results; run: its results.
+// What can be seen, each by one program or a few. A tab has needs: its programs, which must be in
+// the page; asks: whether it is over cards; controls: what stands above its results; run: its
+// results.
 'use strict';
 const field = (id, label, value, size, change) => make('label', {}, label + ' ', make('input', { type: 'text', id, size, value, autocomplete: 'off', spellcheck: false, onchange: (e) => { change(e.target.value.trim()); refresh(); } }));
 const row = (...kids) => make('div', { className: 'row' }, ...kids);
@@ -39,7 +41,8 @@ const TABS = {
     },
     async run() {
       const call = new Call(), args = call.ride(), typed = (n) => utf8(given.steps.slice(0, n).map((s) => s + '\n').join('')), n = given.steps.length;
-      // The program keeps nothing between two runs, so it is given all commands so far; what the last one adds is what it answered.
+      // The program keeps nothing between two runs, so it is given all commands so far; what the
+      // last one adds is what it answered.
       const r = await Bench.run('view', args, call.files, typed(n)), before = n ? await Bench.run('view', args, call.files, typed(n - 1)) : null;
       const begun = before && before.stdout.length <= r.stdout.length && before.stdout.every((b, i) => b === r.stdout[i]);
       const part = block(r, { text: begun ? r.stdout.subarray(before.stdout.length) : r.stdout, save: 'steps.txt', saveWords: 'Save all steps' });
@@ -97,7 +100,8 @@ const TABS = {
   },
 };
 
-// Whether the checker says the same of the smaller trace. A refused record that is kept stands earlier there, so the numbers of such lines are left out.
+// Whether the checker says the same of the smaller trace. A refused record that is kept stands
+// earlier there, so the numbers of such lines are left out.
 async function sameListing(call, args, bytes) {
   const small = fileOf('small.trace', bytes), other = new Call(), settings = other.settings();
   const one = await Bench.run('checker', args, call.files), two = await Bench.run('checker', [...settings, other.name(small)], other.files);

@@ -1,4 +1,5 @@
-// The worker's half: programs and files are put there once, runs name them. What it is told is what bench.js sends; host.js stands above it.
+// The worker's half: programs and files are put there once, runs name them. What it is told is what
+// bench.js sends; host.js stands above it.
 const programs = new Map(), files = new Map();
 async function work(asked) {
   let shown = performance.now();

@@ -1,8 +1,11 @@
-# What page/build and port/build share: the kit's tools, the module of a program or of the C library, and the guards. Read by `.` in the repository's root.
+# What page/build and port/build share: the kit's tools, the module of a program or of the C
+# library, and the guards. Read by `.` in the repository's root.
 #
-# A module is what the kit's compiler lowers a proved crate to, as LLVM's text, in target/module/NAME.ll. The kit makes code of it for x86-64 alone, but by the clang of a
-# toolchain folder that is named to it. The folder named here has a clang of a few lines, which keeps the module. The kit's own clang must make of the module kept, to the byte,
-# what `rt` built and proved: so it is that program's, and nothing has to be proved again for it.
+# A module is what the kit's compiler lowers a proved crate to, as LLVM's text, in
+# target/module/NAME.ll. The kit makes code of it for x86-64 alone, but by the clang of a toolchain
+# folder that is named to it. The folder named here has a clang of a few lines, which keeps the
+# module. The kit's own clang must make of the module kept, to the byte, what `rt` built and proved:
+# so it is that program's, and nothing has to be proved again for it.
 
 die() { printf '%s: %s\n' "$me" "$*" >&2; exit 1; }
 command -v rt >/dev/null || die 'rt is not found: put the bin folder of the Rattle kit on the PATH'
@@ -17,7 +20,8 @@ key_of() { # NATIVE SCRIPT..
     cat "$@" port/modules.sh port/portable.awk port/intrinsics.txt "$kit/KIT-ID" | sha256sum | cut -d' ' -f1
 }
 
-# A toolchain folder whose clang keeps the module that it is given, and then ends, or goes on as the kit's.
+# A toolchain folder whose clang keeps the module that it is given, and then ends, or goes on as the
+# kit's.
 stand_in() { # ROOM ends|goes-on
     rm -rf "$1"
     mkdir -p "$1/bin"
@@ -42,7 +46,8 @@ with_crate() { # COMMAND NAME FILE ..
     "$command" "$@" --crate-name "$name" "$file" --extern "std=$own/rlib/std.rlib" -L dependency=target/rlib -L "dependency=$own/rlib"
 }
 
-# The module of a program, target/module/NAME.ll, from its crate and the libraries that `rt check` proved.
+# The module of a program, target/module/NAME.ll, from its crate and the libraries that `rt check`
+# proved.
 program_module() { # NAME
     [ -f "target/obj/$1.o" ] || die "$1 is not built: ./run --build $1"
     key=$(key_of "target/obj/$1.o")
@@ -54,7 +59,8 @@ program_module() { # NAME
     with_crate cases "$1" "crates/$1/src/main.rt" >"$room/log" 2>&1 || true
     [ -s "$room/module.bc" ] || { tail -n 5 "$room/log" >&2; die "$1: the kit gave no module"; }
     text_of "$room/module.bc" "$room/module.raw"
-    # The one line in which it differs from the module of the build names who lowered it; there it is the logic in which the program is proved.
+    # The one line in which it differs from the module of the build names who lowered it; there it
+    # is the logic in which the program is proved.
     logic=$(LC_ALL=C tr -c '[:print:]' '\n' <"target/obj/$1.o" | sed -n '/^rattle logic=[0-9a-f]*$/p')
     [ -n "$logic" ] && [ "$(grep -c '^!0 = !{!"rattle-cases"}$' "$room/module.raw")" = 1 ] || die "$1: the module or target/obj/$1.o does not say what it was made by"
     sed "s/^!0 = !{!\"rattle-cases\"}\$/!0 = !{!\"$logic\"}/" "$room/module.raw" >"$room/module.ll"
@@ -63,7 +69,8 @@ program_module() { # NAME
     keep_module "$1" "$key"
 }
 
-# The module of the C library, target/module/abi.ll. It is proved once more for it, and the archive that is made beside it must be target/staticlib/libabi.a.
+# The module of the C library, target/module/abi.ll. It is proved once more for it, and the archive
+# that is made beside it must be target/staticlib/libabi.a.
 library_module() {
     archive=target/staticlib/libabi.a
     [ -f "$archive" ] && [ -z "$(find crates crates.txt -type f -newer "$archive" | head -n 1)" ] || {
@@ -101,12 +108,14 @@ keep_module() { # NAME KEY
     rm -rf "$room"
 }
 
-# Whether a module means the same on every processor: portable.awk says what must not be in it, intrinsics.txt what LLVM's own functions it may call, and imports.txt the C functions.
+# Whether a module means the same on every processor: portable.awk says what must not be in it,
+# intrinsics.txt what LLVM's own functions it may call, and imports.txt the C functions.
 portable() { # TEXT
     awk -v listed="port/intrinsics.txt page/imports.txt" -f port/portable.awk "$1" >&2
 }
 
-# A module's code for another processor. The lines that name x86-64 are left out, so that clang puts the target's own in; whatever it says then stops the build.
+# A module's code for another processor. The lines that name x86-64 are left out, so that clang puts
+# the target's own in; whatever it says then stops the build.
 compile_for() { # TEXT OBJECT SAID -c|-S WORDS..
     text=$1 object=$2 said=$3
     shift 3

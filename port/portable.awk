@@ -1,6 +1,8 @@
-# awk -v listed="FILE.." -f portable.awk MODULE.ll: what in a module could mean something else where a pointer has 32 bits, or on another processor. It names each such
-# line, and ends with 1 if there is one. In a module without them a pointer is only lent, loaded, stored and stepped by bytes, numbers are of a width that is written
-# with them, and every function that is called by name is defined in the module or listed. usize stays 64 bits.
+# awk -v listed="FILE.." -f portable.awk MODULE.ll: what in a module could mean something else where
+# a pointer has 32 bits, or on another processor. It names each such line, and ends with 1 if there
+# is one. In a module without them a pointer is only lent, loaded, stored and stepped by bytes,
+# numbers are of a width that is written with them, and every function that is called by name is
+# defined in the module or listed. usize stays 64 bits.
 BEGIN {
     n = split(listed, file, " ")
     for (i = 1; i <= n; i++) while ((getline line <file[i]) > 0) known[line] = 1
@@ -39,7 +41,8 @@ text ~ /(^| )call [^@]*%[A-Za-z0-9._]+\(/ { wrong("a call through a pointer") }
 text ~ /[{[<][^]}>(]*ptr[^]}>(]*[]}>]/ { wrong("a pointer in a larger type") }
 text ~ /getelementptr / && text !~ /getelementptr (inbounds |nuw |nusw )*i8, ptr / { wrong("a step that is not of bytes") }
 
-# A place for a pointer is as large as the processor's pointers: only pointers may go in and out, and nobody is told where it lies.
+# A place for a pointer is as large as the processor's pointers: only pointers may go in and out,
+# and nobody is told where it lies.
 / = alloca / && text !~ / = alloca (ptr|i[0-9]+|\[[0-9]+ x i8\]), align [0-9]+$/ { wrong("a place of another kind") }
 / = alloca ptr/ { slot[$1] = 1; next }
 {

@@ -1,5 +1,7 @@
-# awk -v needs="NAME.." -v usage=FILE.su -v map=FILE.map -f sizes.awk FILE.s: for each function that C can call, the bytes of its code with all that it reaches, and the most bytes of stack below the
-# call. It ends with 1, and says why, where the code calls what is not listed in `needs`, or through a pointer, or itself again. What the listed functions take is not counted.
+# awk -v needs="NAME.." -v usage=FILE.su -v map=FILE.map -f sizes.awk FILE.s: for each function that
+# C can call, the bytes of its code with all that it reaches, and the most bytes of stack below the
+# call. It ends with 1, and says why, where the code calls what is not listed in `needs`, or through
+# a pointer, or itself again. What the listed functions take is not counted.
 BEGIN {
     FS = "[ \t]+"
     n = split(needs, word, " ")

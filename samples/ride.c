@@ -1,5 +1,6 @@
-/* Lists a card with the gap of 40 dm, each fault with its reason: ride FILE. It reads 65,536 bytes at a time: of a
-   longer card whose length is refused, lines come before `trace refused 16`; `explain` writes none. */
+/* Lists a card with the gap of 40 dm, each fault with its reason: ride FILE. It reads 65,536
+   bytes at a time: of a longer card whose length is refused, lines come before `trace refused
+   16`; `explain` writes none. */
 #include "atc2.h"
 #include <stdio.h>
 

@@ -1,4 +1,5 @@
-/* What the C of bench/ and tests/ uses of stdint.h, from the compiler's own types: the kit brings no headers. */
+/* What the C of bench/ and tests/ uses of stdint.h, from the compiler's own types: the kit
+   brings no headers. */
 #ifndef KIT_STDINT_H
 #define KIT_STDINT_H
 typedef __INT8_TYPE__ int8_t;

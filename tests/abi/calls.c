@@ -1,6 +1,7 @@
-/* Calls every function of include/atc2.h: readings, every refusal, and what is left in lent arrays. What is wanted is worked out from
-   document 01 by hand. It is also a sample of how the library is used from C; tests/abi/run builds and runs it.
-   Its last line is 'N passed, M failed'. */
+/* Calls every function of include/atc2.h: readings, every refusal, and what is left in lent
+   arrays. What is wanted is worked out from document 01 by hand. It is also a sample of how the
+   library is used from C; tests/abi/run builds and runs it. Its last line is 'N passed, M
+   failed'. */
 #include "atc2.h"
 #include <stdio.h>
 
@@ -69,7 +70,8 @@ static void telegrams(void)
     same("why_telegram YZ even", atc2_why_telegram(0xC3, 0x89, 0x07), why(1, ATC2_LETTER_YZ, ATC2_PARITY_EVEN));
 }
 
-/* ---- Places. The pair 1E/E0 differs in seven bits. Two telegrams 1 8 5 that share a sync word, from bit 4 on. */
+/* ---- Places. The pair 1E/E0 differs in seven bits. Two telegrams 1 8 5 that share a sync word,
+   from bit 4 on. */
 
 enum { S = 0x1E, T = 0xE0 };
 
@@ -113,8 +115,9 @@ static void judging(void)
     same("judge number of places", (int64_t)out[2], 2);
 }
 
-/* ---- Contacts. Ones, then twelve zeroes from bit 24 on, then ones: the eighth zero, bit 31, brings the zeroes to 8; with bits 24 to 35
-   zero, the bit that brings them to 4 is the twelfth one after the eighth last zero: bit 47. */
+/* ---- Contacts. Ones, then twelve zeroes from bit 24 on, then ones: the eighth zero, bit 31,
+   brings the zeroes to 8; with bits 24 to 35 zero, the bit that brings them to 4 is the twelfth
+   one after the eighth last zero: bit 47. */
 
 static void contacts(void)
 {
@@ -174,7 +177,8 @@ static void balises(void)
     for (int i = 0; i < 9; i++) same("its bytes as they were", buf[i], number[i]);
 }
 
-/* Whether a test balise of four telegrams, between three bytes of quiet line, is read by the detector, and as the telegram sent; 2: as another. */
+/* Whether a test balise of four telegrams, between three bytes of quiet line, is read by the
+   detector, and as the telegram sent; 2: as another. */
 static int heard(uint8_t x, uint16_t y, uint8_t z, uint8_t s, uint8_t t, uint64_t telegram)
 {
     uint8_t cable[23];
@@ -202,7 +206,8 @@ static int heard_with_some_pair(uint16_t number)
     return 0;
 }
 
-/* Every number and every telegram of three figures, written with the sync words 72 and 0D and listened to. */
+/* Every number and every telegram of three figures, written with the sync words 72 and 0D and
+   listened to. */
 static void all_balises(void)
 {
     int count[3] = {0, 0, 0}, never = 0, first = -1;

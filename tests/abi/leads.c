@@ -1,5 +1,6 @@
-/* Hears leads through C in every kind of piece and room: leads LEAD TRACE S S*. What is wanted is TRACE, as the program record writes it of LEAD. `leads make` writes
-   a lead of its own instead, with contacts of all lengths, many in a frame, and frames whose odometer is refused.
+/* Hears leads through C in every kind of piece and room: leads LEAD TRACE S S*. What is wanted
+   is TRACE, as the program record writes it of LEAD. `leads make` writes a lead of its own
+   instead, with contacts of all lengths, many in a frame, and frames whose odometer is refused.
    Its last line is 'N passed, M failed'. */
 #include "atc2.h"
 #include <stdio.h>
@@ -32,7 +33,8 @@ static uint64_t read_file(const char *name, uint8_t *to, size_t most)
     return count;
 }
 
-/* The lead in pieces of so many bytes into rooms of so many, from this ear on; how many bytes of records came. */
+/* The lead in pieces of so many bytes into rooms of so many, from this ear on; how many bytes of
+   records came. */
 static uint64_t session(uint8_t *ear, uint64_t piece, uint64_t room)
 {
     uint64_t from = 0, to = 0, count = 0, out[2];
@@ -60,7 +62,8 @@ static void whole(const char *what, uint64_t piece, uint64_t room)
     same("its bytes", piece * 10000 + room, memcmp(got, trace, (size_t)wanted), 0);
 }
 
-/* One call over the whole lead with each room from 0 up: as many records as have room, and no byte after them. */
+/* One call over the whole lead with each room from 0 up: as many records as have room, and no
+   byte after them. */
 static void rooms(void)
 {
     for (uint64_t room = 0; room <= wanted + 24; room++) {
@@ -78,7 +81,8 @@ static void rooms(void)
     }
 }
 
-/* The lead's end with each room from 0 up: as many of its records as have room, and no byte after them; without room for one the ear stays. */
+/* The lead's end with each room from 0 up: as many of its records as have room, and no byte
+   after them; without room for one the ear stays. */
 static void end_rooms(void)
 {
     uint8_t heard[ATC2_EAR];
@@ -100,7 +104,8 @@ static void end_rooms(void)
     }
 }
 
-/* Lent garbage as an ear: every call answers, and pieces and rooms make no difference from there on either. */
+/* Lent garbage as an ear: every call answers, and pieces and rooms make no difference from there
+   on either. */
 static void garbage(void)
 {
     static uint8_t once[131072];

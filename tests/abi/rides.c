@@ -1,5 +1,7 @@
-/* Rides from C over a trace: rides FILE compares pieces of every length and every room with the listing of the whole, and lends garbage; rides FILE STYLE SETTINGS writes
-   that listing in pieces of 3 records. tests/abi/run builds it, and compares the listing with what checker and explain write. Its last line is 'N passed, M failed'. */
+/* Rides from C over a trace: rides FILE compares pieces of every length and every room with the
+   listing of the whole, and lends garbage; rides FILE STYLE SETTINGS writes that listing in
+   pieces of 3 records. tests/abi/run builds it, and compares the listing with what checker and
+   explain write. Its last line is 'N passed, M failed'. */
 #include "atc2.h"
 #include <stdio.h>
 #include <string.h>
@@ -34,7 +36,8 @@ static uint64_t load(const char *name, uint8_t *into, uint64_t most)
     return n;
 }
 
-/* Lists the trace from a fresh ride in pieces of so many records with so much room, and ends it: the bytes of text in `into`, or -1 if a call took nothing that it should have. */
+/* Lists the trace from a fresh ride in pieces of so many records with so much room, and ends it:
+   the bytes of text in `into`, or -1 if a call took nothing that it should have. */
 static int64_t list(uint8_t style, uint64_t records, uint64_t room, uint8_t *ride, uint8_t *into)
 {
     uint64_t number = 1, at = 0, n = 0, out[2];
@@ -106,7 +109,8 @@ static void refusals(void)
     }
 }
 
-/* Any bytes are some ride: it is listed, ended and known, and what the library made of it stays the same ride. */
+/* Any bytes are some ride: it is listed, ended and known, and what the library made of it stays
+   the same ride. */
 static void any_ride(void)
 {
     uint8_t ride[ATC2_RIDE], again[ATC2_RIDE];

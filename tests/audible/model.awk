@@ -1,7 +1,10 @@
-# What can never be heard with the sync words s and t (decimal), worked out from document 01's sentences: a line for each telegram whose line has sixteen bits in a row with four zeroes or fewer.
+# What can never be heard with the sync words s and t (decimal), worked out from document 01's
+# sentences: a line for each telegram whose line has sixteen bits in a row with four zeroes or
+# fewer.
 function bit(w, i) { return int(w / 2 ^ i) % 2 }
 function flip(w, i) { return bit(w, i) ? w - 2 ^ i : w + 2 ^ i }
-# The plain word of n bits that carries x: figure bits in the positions that are no checks, then each check made even, the whole last; then the exchanged bits.
+# The plain word of n bits that carries x: figure bits in the positions that are no checks, then
+# each check made even, the whole last; then the exchanged bits.
 function sent(n, x,    h, i, k, c, p, a) {
     h = 0; k = 0
     for (i = 0; i < n; i++) if (i != 0 && i != 1 && i != 2 && i != 4 && i != 8) { if (bit(x, k)) h += 2 ^ i; k++ }

@@ -1,10 +1,13 @@
-# Test balises, and what the detector of document 01 makes of them on one cable, worked out from document 01's sentences.
-# Input: a line for each balise, `IDLE N X Y Z` or `IDLE N 12 NUMBER`, in the order in which they are sent. -v s=72 -v t=0D: the sync words.
-# -v what=bytes prints the bytes in hex, a line for each balise; -v what=heard the lines of the contacts.
+# Test balises, and what the detector of document 01 makes of them on one cable, worked out from
+# document 01's sentences.
+# Input: a line for each balise, `IDLE N X Y Z` or `IDLE N 12 NUMBER`, in the order in which they
+# are sent. -v s=72 -v t=0D: the sync words. -v what=bytes prints the bytes in hex, a line for each
+# balise; -v what=heard the lines of the contacts.
 
-# "Bits 8, 4, 2, 1, 0 are checks, the rest carry the figure, highest first. Check 2^k makes the count of ones even over the positions
-# whose number has 2^k in it; check 0 makes the whole word even. The sent code M is H with bits 3 and 4 exchanged, and in the long one
-# also 11 and 12." As bits, the highest first.
+# "Bits 8, 4, 2, 1, 0 are checks, the rest carry the figure, highest first. Check 2^k makes the
+# count of ones even over the positions whose number has 2^k in it; check 0 makes the whole word
+# even. The sent code M is H with bits 3 and 4 exchanged, and in the long one also 11 and 12." As
+# bits, the highest first.
 function word(bits, x,    i, k, c, ones, at, text, h) {
     k = x
     for (i = 0; i < bits; i++) {
@@ -46,8 +49,8 @@ function at_place(p,    a, b, x, y, z, m) {
     if (!(y in figure) || figure[y] == 15 || !(z in figure) || figure[z] == 15) return ""
     return figure[x] " " figure[y] " " figure[z]
 }
-# "(a) two or more places, all with the same X, Y and Z; (b) two places that differ: 7; (c) at least 64 bits long and made of zeroes
-# followed by at most 11 ones: marker; (d) otherwise 8."
+# "(a) two or more places, all with the same X, Y and Z; (b) two places that differ: 7; (c) at least
+# 64 bits long and made of zeroes followed by at most 11 ones: marker; (d) otherwise 8."
 function judged(    p, here, count, from, read, differ, zeroes) {
     count = 0; differ = 0
     for (p = 1; p + 39 <= length(heard); p++) {
@@ -62,8 +65,8 @@ function judged(    p, here, count, from, read, differ, zeroes) {
     if (length(heard) >= 64 && substr(heard, zeroes + 1) !~ /0/ && length(heard) - zeroes <= 11) return "marker"
     return "refused 8: contact neither telegram nor marker"
 }
-# "The bit that brings the zeroes among the latest sixteen to 8 or more opens one and is its first bit. Inside, the bit that brings
-# them to 4 or fewer closes it and is not part of it."
+# "The bit that brings the zeroes among the latest sixteen to 8 or more opens one and is its first
+# bit. Inside, the bit that brings them to 4 or fewer closes it and is not part of it."
 function bit(b) {
     zeroes_now += (b == 0) - (latest[line % 16] == 0)
     latest[line % 16] = b

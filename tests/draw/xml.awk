@@ -1,5 +1,7 @@
-# Checks a page as XML: every tag is well formed, its values quoted, all tags balanced; no bare `&` or `>`; no value of `id` stands twice, and every `href` names one.
-# Nothing is loaded: no script, link, img, iframe, object, and no `url(`, `src` or `@import`. Writes what is wrong, a line each, and nothing where all is well.
+# Checks a page as XML: every tag is well formed, its values quoted, all tags balanced; no bare `&`
+# or `>`; no value of `id` stands twice, and every `href` names one. Nothing is loaded: no script,
+# link, img, iframe, object, and no `url(`, `src` or `@import`. Writes what is wrong, a line each,
+# and nothing where all is well.
 BEGIN { RS = "<"; depth = 0 }
 function wrong(what) { printf "tag %d: %s: %s\n", NR - 1, what, substr($0, 1, 60) }
 NR == 1 { if ($0 != "") wrong("text before the page"); next }

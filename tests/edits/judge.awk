@@ -1,6 +1,8 @@
-# Judges the parts of one group by the log of its check. Variables: crate (its name), folder (the crate's), group (the .edit file), label (the group's name), told (the log).
-# A line for each part: '+ ..' if the function that answers for it is refused because a fact fails, else '- ..' with what is wrong;
-# then one for the group: whether the functions that answer for its parts are all different, and none is one in which another part stands.
+# Judges the parts of one group by the log of its check. Variables: crate (its name), folder (the
+# crate's), group (the .edit file), label (the group's name), told (the log). A line for each part:
+# '+ ..' if the function that answers for it is refused because a fact fails, else '- ..' with what
+# is wrong; then one for the group: whether the functions that answer for its parts are all
+# different, and none is one in which another part stands.
 
 # The text of a file, or nothing.
 function whole(file,    text, line, k) {
@@ -10,7 +12,8 @@ function whole(file,    text, line, k) {
     return text
 }
 
-# The function of a source in which the text stands, as the folder of its proof; '' if it stands in none (a constant), '?' if it is not there.
+# The function of a source in which the text stands, as the folder of its proof; '' if it stands in
+# none (a constant), '?' if it is not there.
 function stands_in(file, old,    text, at, lines, n, i, end, line, name, module) {
     if (!(file in sources)) sources[file] = whole(folder "/" file)
     text = sources[file]
@@ -66,7 +69,8 @@ function verdict(answer,    path, i, line, own, fact, form) {
     return "is not in the log"
 }
 
-# Whether an error says that a fact fails: what is found is not what is claimed, a goal stays open, or an inequality does not follow.
+# Whether an error says that a fact fails: what is found is not what is claimed, a goal stays open,
+# or an inequality does not follow.
 function is_fact(said) {
     return said ~ /the two (types|sides)|expected type|no proof of|give a proof of that as the last argument|does not follow from what it read/
 }

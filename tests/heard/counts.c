@@ -1,5 +1,6 @@
-/* What is sure to be heard, counted by plain C from document 01's sentences: every telegram with every ordered good pair.
-   Prints a line for each count, and at last what came of passes that were run bit by bit. Nothing of the library is used. */
+/* What is sure to be heard, counted by plain C from document 01's sentences: every telegram with
+   every ordered good pair. Prints a line for each count, and at last what came of passes that
+   were run bit by bit. Nothing of the library is used. */
 #include <stdint.h>
 #include <stdio.h>
 
@@ -41,7 +42,8 @@ static int is_broken(uint64_t line) {
     return 0;
 }
 
-/* False places: those that end in 1 to 11 ones after the line's bits, however these end, and begin where no telegram does. */
+/* False places: those that end in 1 to 11 ones after the line's bits, however these end, and
+   begin where no telegram does. */
 static int false_places(uint64_t line, unsigned s, unsigned t) {
     int n = 0;
     for (int end = 0; end < 64; end++) {
@@ -57,7 +59,8 @@ static int false_places(uint64_t line, unsigned s, unsigned t) {
     return n;
 }
 
-/* The detector: the latest sixteen bits (at first ones), whether a contact is open, and its first bit. */
+/* The detector: the latest sixteen bits (at first ones), whether a contact is open, and its
+   first bit. */
 struct detector { unsigned history; int zeroes, open, start; };
 
 /* Bit i comes. Whether it closes a contact. */
@@ -72,8 +75,9 @@ static int closes(struct detector *d, unsigned bit, int i) {
 /* What came of the passes over one pair's balises. */
 struct heard { int lines; long passes, contacts, longest, with_place, with_false, differ, read; };
 
-/* The contact from bit `start` up to bit `end` is judged: two or more places with one telegram are a reading, places that differ a refusal.
-   A place is false if it begins where no telegram does; bit 0 is the line's bit `phase`. */
+/* The contact from bit `start` up to bit `end` is judged: two or more places with one telegram
+   are a reading, places that differ a refusal. A place is false if it begins where no telegram
+   does; bit 0 is the line's bit `phase`. */
 static void judge(struct heard *h, const uint8_t *bits, int phase, int start, int end, unsigned s, unsigned t) {
     uint64_t w = 0;
     unsigned first = 0;
@@ -94,8 +98,9 @@ static void judge(struct heard *h, const uint8_t *bits, int phase, int start, in
     h->read += places > 1 && !differ;
 }
 
-/* The line is heard from each of its 64 bits on, for each length from `least` to `most` bits (256 or fewer), and then ones come: they open no contact, and
-   the twelfth at the latest closes one that is open. */
+/* The line is heard from each of its 64 bits on, for each length from `least` to `most` bits
+   (256 or fewer), and then ones come: they open no contact, and the twelfth at the latest closes
+   one that is open. */
 static void pass(struct heard *h, uint64_t line, unsigned s, unsigned t, int least, int most) {
     uint8_t bits[256 + 12];
     h->lines++;
@@ -170,11 +175,13 @@ int main(void) {
     printf("broken with 49 96: %d, with 72 0D: %d, with 35 DA: %d, with 00 7F: %d\n", broken_by[0x49][0x96], broken_by[0x72][0x0D], broken_by[0x35][0xDA], broken_by[0x00][0x7F]);
     printf("pairs that break no three figures %d\n", none);
     printf("pairs with a word that ends in four ones %d, with false places %d\n", tried, with_false);
-    /* The pair with false places. Some sixteen bits of a broken line, which end with one of its first 79, leave no contact open; so after 79 bits the detector stands as it does 64 bits later,
-       and passes of more than 143 bits bring nothing new. */
+    /* The pair with false places. Some sixteen bits of a broken line, which end with one of its
+       first 79, leave no contact open; so after 79 bits the detector stands as it does 64 bits
+       later, and passes of more than 143 bits bring nothing new. */
     pass_all(1, 0x00, 0x7F, 1, 143);
     pass_all(1, 0x7F, 0x00, 1, 143);
-    /* What the same detector and judge find otherwise: audible balises of that pair, of which some are refused with 7; and of another pair, where 167 bits always do and 166 do not. */
+    /* What the same detector and judge find otherwise: audible balises of that pair, of which
+       some are refused with 7; and of another pair, where 167 bits always do and 166 do not. */
     pass_all(0, 0x00, 0x7F, 192, 192);
     pass_all(0, 0x17, 0xEA, 167, 167);
     pass_all(0, 0x17, 0xEA, 166, 166);

@@ -1,5 +1,7 @@
-# A lead worked out from a seed, as hex, a frame each line: groups of balises and markers passed at random places, some of them noisy, between quiet frames; odometers
-# that stand still, jump, fall or are too high. -v seed=1 -v s=72 -v t=0D: the sync words; -v place=P -v s2=.. -v t2=.. those sent from odometer P on. mawk and gawk alike.
+# A lead worked out from a seed, as hex, a frame each line: groups of balises and markers passed at
+# random places, some of them noisy, between quiet frames; odometers that stand still, jump, fall or
+# are too high. -v seed=1 -v s=72 -v t=0D: the sync words; -v place=P -v s2=.. -v t2=.. those sent
+# from odometer P on. mawk and gawk alike.
 function random(n) { seed = (seed * 16807) % 2147483647; return seed % n }
 function bits_of(hex,    i, v, k, text) {
     text = ""
@@ -11,7 +13,8 @@ function bits_of(hex,    i, v, k, text) {
 }
 function ones(n,    text) { text = ""; while (n-- > 0) text = text "1"; return text }
 function zeroes(n,    text) { text = ""; while (n-- > 0) text = text "0"; return text }
-# The bits of a balise: its telegrams between the sync words, then quiet line. `M` is a marker, `U` a contact that is neither.
+# The bits of a balise: its telegrams between the sync words, then quiet line. `M` is a marker, `U`
+# a contact that is neither.
 function balise(what,    a, b, words, n, text, i) {
     if (what == "M") return zeroes(64 + random(60)) ones(24 + random(9))
     if (what == "U") return zeroes(20 + random(30)) ones(24 + random(9))

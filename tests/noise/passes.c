@@ -1,5 +1,7 @@
-/* Passes with noise, heard by the library: for each equal bit 100,000 random passes of one balise, with as many flips in forty bits as the pair's equal bit allows. Prints for each a line
-   of counts; a contact that is read as another telegram than the one sent is printed too, with its line. The numbers are drawn by a fixed rule, so every run has the same passes. */
+/* Passes with noise, heard by the library: for each equal bit 100,000 random passes of one
+   balise, with as many flips in forty bits as the pair's equal bit allows. Prints for each a
+   line of counts; a contact that is read as another telegram than the one sent is printed too,
+   with its line. The numbers are drawn by a fixed rule, so every run has the same passes. */
 #include <stdint.h>
 #include <stdio.h>
 #include <string.h>
@@ -53,7 +55,8 @@ int main(void) {
                 bits[i] = i < before || i >= before + len ? 1 : line[j / 8] >> (7 - j % 8) & 1;
             }
             memset(flips, 0, sizeof flips);
-            /* Noise all over the pass, half of it near the balise's end; or in one or two bursts. */
+            /* Noise all over the pass, half of it near the balise's end;
+               or in one or two bursts. */
             for (int burst = pass % 2 ? 1 : 1 + (int)draw(2); burst > 0; burst--) {
                 int near = draw(2) ? (int)draw((unsigned)n) : before + len - 40 + (int)draw(40);
                 for (int tries = 0; tries < (pass % 2 ? n : 40); tries++) {

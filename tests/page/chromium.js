@@ -1,5 +1,7 @@
-// Drives a headless Chromium over its DevTools protocol, through the pipe of descriptors 3 and 4; node alone, no package.
-//   const c = await Chromium.start(path, profile); await c.open(url); await c.evaluate('1 + 1'); await c.stop();
+// Drives a headless Chromium over its DevTools protocol, through the pipe of descriptors 3 and 4;
+// node alone, no package.
+//   const c = await Chromium.start(path, profile); await c.open(url); await c.evaluate('1 + 1');
+//     await c.stop();
 'use strict';
 const { spawn } = require('child_process');
 

@@ -1,5 +1,7 @@
-// node drive.js CHROMIUM ROOT ROOM: drives target/page/page.html in a headless Chromium, as a person does: drops, files, keys, buttons. What it shows and saves is compared with what the native programs write.
-// Its last line is 'N passed, M failed'. With SHOTS=FOLDER it leaves pictures of every tab there, at 400 and at 1,200 pixels.
+// node drive.js CHROMIUM ROOT ROOM: drives target/page/page.html in a headless Chromium, as a
+// person does: drops, files, keys, buttons. What it shows and saves is compared with what the
+// native programs write. Its last line is 'N passed, M failed'. With SHOTS=FOLDER it leaves
+// pictures of every tab there, at 400 and at 1,200 pixels.
 'use strict';
 const fs = require('fs'), http = require('http'), path = require('path'), { spawnSync } = require('child_process');
 const Chromium = require('./chromium.js');
@@ -124,7 +126,8 @@ const lines = (name, ...args) => native(name, args).stdout.replace(/\n$/, '');
     await value('telegram', '16 8 5');
     report('a figure that is refused', (await said()) === native('balise', ['16', '8', '5', '72', '0D', '9', '3']).stderr.trimEnd(), await said());
 
-    // ---- a million records: the beginning is shown, all is saved, and it is seen that work goes on
+    // ---- a million records: the beginning is shown, all is saved, and it is seen that work goes
+    // on
     const many = Buffer.alloc(8e6);
     for (let i = 0; i < 1e6; i++) { many.writeUInt32BE(i, 8 * i); many[8 * i + 4] = 4; }
     const million = file('million.trace', many);

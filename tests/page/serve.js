@@ -1,12 +1,16 @@
-// node serve.js ROOM WASM DATA: stands for ./run with the programs as WebAssembly, for as many callers at a time as there are. ROOM/requests is a pipe; a caller (tests/page/stand-in) writes its process
-// number there, after it has left its closed descriptors, its folder and its words in ROOM/call.PID, and waits for the status on the pipe ROOM/reply.PID. Its files, descriptors and folder are reached
-// through /proc/PID. Each call is a thread's, which may wait for a pipe. DATA is the page's own data.js: the launcher's words.
+// node serve.js ROOM WASM DATA: stands for ./run with the programs as WebAssembly, for as many
+// callers at a time as there are. ROOM/requests is a pipe; a caller (tests/page/stand-in) writes
+// its process number there, after it has left its closed descriptors, its folder and its words in
+// ROOM/call.PID, and waits for the status on the pipe ROOM/reply.PID. Its files, descriptors and
+// folder are reached through /proc/PID. Each call is a thread's, which may wait for a pipe. DATA is
+// the page's own data.js: the launcher's words.
 'use strict';
 const { Worker, isMainThread, parentPort, workerData } = require('worker_threads'), fs = require('fs'), path = require('path'), vm = require('vm');
 const Host = require('../../page/host.js');
 
-// A descriptor of the caller that is written to: at once, and what goes wrong is an errno. What goes to a plain file is left in ROOM/out.PID or err.PID, and the caller writes it, since only
-// it knows where in the file it stands.
+// A descriptor of the caller that is written to: at once, and what goes wrong is an errno. What
+// goes to a plain file is left in ROOM/out.PID or err.PID, and the caller writes it, since only it
+// knows where in the file it stands.
 function sinkOf(pid, fd) {
   const name = '/proc/' + pid + '/fd/' + fd, s = fs.statSync(name);
   if (s.isFile()) {

@@ -1,5 +1,7 @@
-/* What tests/abi/calls.c uses of a C library, for processors of which the kit brings none: printf, the memory and string functions, 64-bit division for processors that lack it, and how a program
-   begins, writes and ends: by Linux' calls under an emulator, or by the two functions that tests/port/wasm.js gives it. */
+/* What tests/abi/calls.c uses of a C library, for processors of which the kit brings none:
+   printf, the memory and string functions, 64-bit division for processors that lack it, and how
+   a program begins, writes and ends: by Linux' calls under an emulator, or by the two functions
+   that tests/port/wasm.js gives it. */
 #include "stdarg.h"
 #include <stddef.h>
 #include <stdint.h>

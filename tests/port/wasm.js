@@ -1,4 +1,5 @@
-// node wasm.js PROGRAM.wasm: runs a C program that was linked with alone.c for wasm32. What it writes goes to standard output; its status is what main returns.
+// node wasm.js PROGRAM.wasm: runs a C program that was linked with alone.c for wasm32. What it
+// writes goes to standard output; its status is what main returns.
 'use strict';
 const fs = require('fs');
 (async () => {

@@ -1,10 +1,16 @@
-/* A second opinion on `record` and `listen`, written from document 01 and docs/LEAD.md sentence by sentence: it holds the whole line, lists its contacts, and
-   judges each over all of its offsets.
+/* A second opinion on `record` and `listen`, written from document 01 and docs/LEAD.md sentence
+   by sentence: it holds the whole line, lists its contacts, and judges each over all of its
+   offsets.
 
-     model record PLACE S S* [PLACE S S* ..]    the trace of the lead on standard input, and what `record` says on standard error; pairs by their places
+     model record PLACE S S* [PLACE S S* ..]    the trace of the lead on standard input, and what
+                                                `record` says on standard error; pairs by their
+                                                places
      model listen S S*                          the lines of the line on standard input
-     model repeat COUNT DM HEX                  so many frames at this odometer, each with these twelve bytes of line
-     model make SEED FRAMES S S*                a lead by chance: balises with some flipped bits, markers, noise, odometers that fall, jump and stand still */
+     model repeat COUNT DM HEX                  so many frames at this odometer, each with these
+                                                twelve bytes of line
+     model make SEED FRAMES S S*                a lead by chance: balises with some flipped bits,
+                                                markers, noise, odometers that fall, jump and stand
+                                                still */
 #include <stdint.h>
 #include <stdio.h>
 #include <stdlib.h>
@@ -41,15 +47,17 @@ static void read_input(void)
     }
 }
 
-/* ---- The codes: "Bits 8, 4, 2, 1, 0 are checks, the rest carry the figure, highest first." ---- */
+/* ---- The codes ----
+   "Bits 8, 4, 2, 1, 0 are checks, the rest carry the figure, highest first." */
 
 static int is_check(int i)
 {
     return i == 0 || i == 1 || i == 2 || i == 4 || i == 8;
 }
 
-/* "Check 2^k makes the count of ones even over the positions whose number has 2^k in it; check 0 makes the whole word even. The sent code M is H with bits 3
-   and 4 exchanged, and in the long one also 11 and 12." */
+/* "Check 2^k makes the count of ones even over the positions whose number has 2^k in it; check 0
+   makes the whole word even. The sent code M is H with bits 3 and 4 exchanged, and in the long
+   one also 11 and 12." */
 static unsigned word_of(int size, unsigned figure)
 {
     int h[16] = {0}, i, c, sum;
@@ -160,8 +168,10 @@ static unsigned byte_at(uint64_t p)
     return v;
 }
 
-/* "(a) two or more places, all with the same X, Y and Z: read; (b) two places that differ: 7; (c) at least 64 bits long and made of zeroes followed by at most 11
-   ones: marker; (d) otherwise 8." 0 read, 1 marker, else the number; the words and the figures of the first place, and how many there are. */
+/* "(a) two or more places, all with the same X, Y and Z: read; (b) two places that differ: 7;
+   (c) at least 64 bits long and made of zeroes followed by at most 11 ones: marker; (d)
+   otherwise 8." 0 read, 1 marker, else the number; the words and the figures of the first place,
+   and how many there are. */
 static int judge(struct contact c, unsigned s, unsigned t, unsigned words[3], char *text, uint64_t *first, uint64_t *count)
 {
     int differ = 0;

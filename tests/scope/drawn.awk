@@ -1,4 +1,5 @@
-# What a page of scope shows, in the words of model.awk: each heading's start and length, the bits of the waveform under it, and each telegram's boxes.
+# What a page of scope shows, in the words of model.awk: each heading's start and length, the bits
+# of the waveform under it, and each telegram's boxes.
 /^<h2>/ { sub(/^<h2>/, ""); print $1, $2 }
 /^<svg class='h'>.*<path class='w' d='M0 28V/ {
     sub(/.*class='w' d='M0 28/, ""); sub(/'.*/, "")

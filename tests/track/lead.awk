@@ -1,8 +1,10 @@
-# The lead of a track by the house's sentences: the text on standard input, s and t as numbers, n frames to a decimetre. One frame a line, in hex.
-# With what=records it writes the records that the text is, kinds 0 to 2, in hex; with what=words the words of its balises.
+# The lead of a track by the house's sentences: the text on standard input, s and t as numbers, n
+# frames to a decimetre. One frame a line, in hex. With what=records it writes the records that the
+# text is, kinds 0 to 2, in hex; with what=words the words of its balises.
 function ones(w,    c) { c = 0; while (w > 0) { c += w % 2; w = int(w / 2) } return c }
 function bit(w, i) { return int(w / 2 ^ i) % 2 }
-# The plain code: data bits highest first at the places that are no power of two; check 2^k over the places with 2^k in their number; check 0 over all.
+# The plain code: data bits highest first at the places that are no power of two; check 2^k over the
+# places with 2^k in their number; check 0 over all.
 function plain(figure, bits,    h, i, k, p, c, data) {
     data = bits == 8 ? 4 : 11
     h = 0

@@ -1,4 +1,5 @@
-# A lead with noise by the house's sentences: frames in hex on standard input, one a line (the last may be shorter); x begins as the seed.
+# A lead with noise by the house's sentences: frames in hex on standard input, one a line (the last
+# may be shorter); x begins as the seed.
 function value(c) { return index("0123456789abcdef", c) - 1 }
 BEGIN { x = seed }
 length($0) == 32 {

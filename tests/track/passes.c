@@ -1,5 +1,7 @@
-/* Every audible balise with every good pair but 00 and 7F hex, sent over three frames as `track` sends it, heard by the library: the one contact must be read as the telegram sent. For the pairs of
-   which a word ends in four ones this stands in for the proof (crates/track_laws). Prints a line of counts; a pass that is heard otherwise is printed too. */
+/* Every audible balise with every good pair but 00 and 7F hex, sent over three frames as `track`
+   sends it, heard by the library: the one contact must be read as the telegram sent. For the
+   pairs of which a word ends in four ones this stands in for the proof (crates/track_laws).
+   Prints a line of counts; a pass that is heard otherwise is printed too. */
 #include <stdint.h>
 #include <stdio.h>
 #include <string.h>

@@ -1,4 +1,5 @@
-# Commands in an order that the seed fixes, a line each. Variables: seed, count; records and place, how many records there are and the last place.
+# Commands in an order that the seed fixes, a line each. Variables: seed, count; records and place,
+# how many records there are and the last place.
 function any(n) { s = (s * 16807) % 2147483647; return s % n }
 BEGIN {
     s = seed

@@ -1,5 +1,6 @@
-# The records of a ride from 22,200 dm on, as hex, a record a line: groups of every row, every fault, positions, and records of each refusal, in an order that the
-# seed fixes. Variables: seed, count.
+# The records of a ride from 22,200 dm on, as hex, a record a line: groups of every row, every
+# fault, positions, and records of each refusal, in an order that the seed fixes. Variables: seed,
+# count.
 function any(n) { s = (s * 16807) % 2147483647; return s % n }
 function raw(text) { if (n < count) print text; n++ }
 function record(rest) { raw(sprintf("%08X %s", at, rest)) }

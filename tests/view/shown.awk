@@ -1,5 +1,8 @@
-# What view writes for commands, made from what it writes going straight ahead, a record at a time. First file: that. Second: the odometers, a line each. Third:
-# the commands f, b, g and p. (Of a record of the second file: its odometer, and whether no ride refuses it for its form or height.) Number, kept count, lines, 22 and 23 are those of document 02's M-108; only the state at each number is taken as it was shown.
+# What view writes for commands, made from what it writes going straight ahead, a record at a time.
+# First file: that. Second: the odometers, a line each. Third: the commands f, b, g and p. (Of a
+# record of the second file: its odometer, and whether no ride refuses it for its form or height.)
+# Number, kept count, lines, 22 and 23 are those of document 02's M-108; only the state at each
+# number is taken as it was shown.
 function ahead() { if (number == count) return 23; number++; printf "%s", lines[number]; if (kept < 256) kept++; return 0 }
 function back() { if (kept == 0) return 22; number--; kept--; return 0 }
 # To a number: back as far as the history goes, further back afresh from the first record.

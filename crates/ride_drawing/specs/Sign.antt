@@ -57,8 +57,8 @@ abbrev pub beside : Direction → ℕ
 beside Direction.Present = 146
 beside Direction.Opposite = 198
 
--- How far down the number of a fault at x stands: at one of three heights, by turns each 4 m, so that
--- it is read beside a neighbour's.
+-- How far down the number of a fault at x stands: at one of three heights, by turns each 4 m, so
+-- that it is read beside a neighbour's.
 abbrev pub besideFault : ℕ → ℕ
 besideFault x = 146 - x / 40 % 3 * 14
 

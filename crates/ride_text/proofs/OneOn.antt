@@ -33,7 +33,8 @@ module _ (style : Style) (gaps : ℕ → ℕ) (ride : Ride) (number i at : ℕ) 
   abbrev left : ℕ → List (List ℕ)
   left k = leftOf trace (length trace / 8) k
 
-  -- Its step, by which some group closed, leaves this ride; its lines end at m in the buffer `out′`.
+  -- Its step, by which some group closed, leaves this ride; its lines end at m in the buffer
+  -- `out′`.
   pub one-on : (given : Given) (closed : Group) (ride′ : Ride) (m : ℕ) (out′ : List ℕ) → i < length trace / 8
       → _≡_ {A = Step} (record { lines = saysGiven given; closed = closed; ride = ride′ }) (treat ride (gaps (odometerOf r)) r)
       → isTaken style number (length out - at) ≡ true

@@ -2,8 +2,8 @@
 // document 01, in three files named to it.
 // Promises: it is safe and it ends; it writes each answer, a line for each difference, and counts,
 // compared with the file stdout beside it.
-// Specification: specs/Spelling.antt (the numbers that fields spell), Balises.antt (the balises of a
-// row), Answers.antt (what is written of an answer), Counting.antt; the tables as the scan shows
+// Specification: specs/Spelling.antt (the numbers that fields spell), Balises.antt (the balises of
+// a row), Answers.antt (what is written of an answer), Counting.antt; the tables as the scan shows
 // them, and the groups worked out by hand.
 ghost use Rattle.io.specs.Counts.{Counts};
 
