@@ -21,11 +21,11 @@ use Rattle.lead_text.proofs.list_end.Kinds as end-kinds
 use Rattle.lead_text.proofs.list_end.Reads as end-reads
 
 -- From what an answer says, the answer.
-abbrev howOf : Outcome Wrote → HowFar
+abbrev pub howOf : Outcome Wrote → HowFar
 howOf (gives w) = pick (w .all) (HowFar.Over (w .bytes)) (HowFar.Full (w .bytes))
 howOf (refuses n) = HowFar.Settings (badOf n)
 
-how-back : (h : HowFar) → howOf (saysHowFar h) ≡ h
+pub how-back : (h : HowFar) → howOf (saysHowFar h) ≡ h
 how-back (HowFar.Over bytes) = refl
 how-back (HowFar.Full bytes) = refl
 how-back (HowFar.Settings Bad.Pair) = refl

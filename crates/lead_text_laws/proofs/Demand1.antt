@@ -5,22 +5,20 @@ use Prim.Native.Nat.{ℕ}
 use mathlib.Core.Path.{_≡_, refl, sym, ap, subst, _∙_}
 use mathlib.Core.List.{List, []}
 use lib.ListN.{length, take, drop}
-use Rattle.words.specs.Answer.{Outcome, gives, refuses, then, pick}
+use Rattle.words.specs.Answer.{Outcome, gives, refuses, then}
 use Rattle.words.proofs.Told.{told as once}
 use Rattle.words.proofs.Never.{cannot-be}
 use Rattle.settings.specs.declared.Store.{Store}
-use Rattle.settings.specs.declared.Bad.{Bad}
 use Rattle.settings.specs.Versions.{Kept}
 use Rattle.settings.specs.Store.{judged}
-use Rattle.settings.proofs.Determined.{badOf}
 use Rattle.ride_text.specs.Style.{withReasons}
 use Rattle.ride_text.specs.Told.{tellOver}
 use Rattle.ride_text.specs.List.{taken}
-use Rattle.lead_text.specs.declared.HowFar.{HowFar}
 use Rattle.lead_text.specs.declared.Underway.{Underway}
 use Rattle.lead_text.specs.Places.{Place}
 use Rattle.lead_text.specs.List.{Wrote, Telling, noneLeft, listOf, ofFrames, ofEnd, judgedFirst, listFrames, listEnd}
 use Rattle.lead_text.specs.Says.{saysHowFar}
+use Rattle.lead_text.proofs.Determined.{howOf, how-back}
 use Rattle.demands.specs.Rules.{Decided, Given}
 use Rattle.demands.specs.Stores.{storeRules}
 use Rattle.demands.proofs.Demand1.StoreRules.{store-so}
@@ -62,20 +60,6 @@ unfolding listEnd
 end-so u store out =
     let g = list-given _ u _ _ _ out in
     (judged-so u out (ofEnd store u out) g store, judged-left u out (ofEnd store u out) g (judged store))
-
--- From what an answer says, the answer.
-abbrev howOf : Outcome Wrote → HowFar
-howOf (gives w) = pick (w .all) (HowFar.Over (w .bytes)) (HowFar.Full (w .bytes))
-howOf (refuses n) = HowFar.Settings (badOf n)
-
-how-back : (h : HowFar) → howOf (saysHowFar h) ≡ h
-how-back (HowFar.Over bytes) = refl
-how-back (HowFar.Full bytes) = refl
-how-back (HowFar.Settings Bad.Pair) = refl
-how-back (HowFar.Settings Bad.Gap) = refl
-how-back (HowFar.Settings Bad.TooHigh) = refl
-how-back (HowFar.Settings Bad.NotAbove) = refl
-how-back (HowFar.Settings Bad.Full) = refl
 
 pub lines-decided : LinesDecided
 lines-decided = record {
