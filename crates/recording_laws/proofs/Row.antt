@@ -2,13 +2,12 @@
 -- sends.
 -- Assumes nothing.
 use Prim.Native.Nat.{ℕ, _+_, _-_, _/_, _≤_, _<_}
-use mathlib.Core.Path.{_≡_, refl, sym, ap, subst, _∙_}
+use mathlib.Core.Path.{_≡_, sym, ap, subst, _∙_}
 use mathlib.Core.Bool.{true, false}
 use mathlib.Core.List.{List, [], _∷_, _++_}
 use native.Mathlib.Omega.{arith}
 use borrow.Author.Tests.{le-ltb}
 use Rattle.words.specs.Answer.{then}
-use Rattle.words.proofs.Never.{cannot-be}
 use Rattle.telegram.specs.Sync.{isGood}
 use Rattle.balise_line.specs.Line.{OneBalise, Proper}
 use Rattle.settings.specs.declared.Store.{Store}
@@ -32,7 +31,7 @@ use Rattle.recording.proofs.Document.{never-high}
 use Rattle.recording_laws.specs.Hearing.{Judges, each}
 use Rattle.recording_laws.specs.Row.{PairsInForce, TheirRecords, RowRecorded}
 use Rattle.recording_laws.proofs.Hearing.{is-taken}
-use Rattle.recording_laws.proofs.Says.{by-contacts}
+use Rattle.recording_laws.proofs.Says.{none-left, by-contacts}
 
 -- The record of a telegram that was read has the words that were sent.
 words-kept : (o : OneBalise) → Proper o → (odometer first count : ℕ) → odometer ≤ 4000000000
@@ -76,10 +75,6 @@ module _ (store : Store) (lead b : List ℕ) (n : ℕ) where
       ∙ ap (λ (a : Judged). recordAt (inForce lead (start / 96)) (saysJudged a)) (r .2)
       ∙ words-kept o (long .proper) (inForce lead (start / 96)) (r .0) (r .1) (never-high lead _)
 
-  none-left : (stand : Stand) → isInside stand ≡ false → cutAt lead n stand ≡ []
-  none-left Stand.Outside e = refl
-  none-left (Stand.Inside sound) e = cannot-be cc
-
   -- A balise's contact, and those after it.
   then-balise : (o : OneBalise) → Long b o → ((i : ℕ) → o .start ≤ i → i < o .start + o .len → (sIn store lead i ≡ o .s) × (tIn store lead i ≡ o .t))
       → (w : Contacts) (c : OverIt o w) → IsRead o w c → (xs : List Thing) (stand : Stand) (l : List Told)
@@ -101,7 +96,7 @@ module _ (store : Store) (lead b : List ℕ) (n : ℕ) where
 
   nothing-more : (stand : Stand) → isInside stand ≡ false → Done [] quiet stand
   unfolding recordsFor judgedAll
-  nothing-more stand e = none-left stand e
+  nothing-more stand e = none-left store lead b n stand e
 
   passed : (i to : ℕ) (xs : List Thing) → Row between b i to xs → PairsInForce store lead xs → (w : Contacts) → AsPassed b xs w → (l : List Told)
       → Judges b (sIn store lead) (tIn store lead) w l → (stand : Stand) → isInside stand ≡ cut w → Done xs w stand

@@ -108,9 +108,9 @@ module _ (store : Store) (lead b : List ℕ) (n : ℕ) where
       let odometer = inForce lead ((n - sound .length) / 96) in
       (odometer, bytesOf odometer (blank 2), refl, unreadable odometer (never-high lead _))
 
-  nothing-more : (stand : Stand) → isInside stand ≡ false → cutAt lead n stand ≡ []
-  nothing-more Stand.Outside e = refl
-  nothing-more (Stand.Inside sound) e = cannot-be cc
+  pub none-left : (stand : Stand) → isInside stand ≡ false → cutAt lead n stand ≡ []
+  none-left Stand.Outside e = refl
+  none-left (Stand.Inside sound) e = cannot-be cc
 
   each-says : (w : Contacts) (stand : Stand) → isInside stand ≡ cut w → OneForEach store lead b w (recordsFor lead (judgedAll b (sIn store lead) (tIn store lead) w) ++ cutAt lead n stand)
   unfolding recordsFor judgedAll
@@ -122,7 +122,7 @@ module _ (store : Store) (lead b : List ℕ) (n : ℕ) where
         says-it b start len s t (inForce lead (start / 96)) (never-high lead _) j (recordFor lead (told start len (judge b start len s t))) call (ap (recordAt (inForce lead (start / 96))) is),
     each-says rest stand e,
   )
-  each-says quiet stand e = nothing-more stand e
+  each-says quiet stand e = none-left stand e
   each-says (refused m) stand e = at-the-end stand e
 
 -- The records that are no positions, by the contacts that the calls hand out.
