@@ -122,29 +122,29 @@ pub fine-is-good : (text : List ℕ) → sheet text .how ≡ Condition.Fine → 
 unfolding sheet
 fine-is-good text f = long-by (leb (length text) longest) (linesFrom noStore 1 (linesIn text)) (lines-good (linesIn text) noStore 1 none-yet) f
 
--- Of a text that is not fine there is no store.
-abbrev None : Sheet → Type 0
-None s = isFine (s .how) ≡ false → s .store ≡ noStore
+-- A text that is not fine has no store: it is nothing but what is wrong with it.
+abbrev pub Bad : Sheet → Type 0
+Bad s = isFine (s .how) ≡ false → s ≡ bad (s .line) (s .how)
 
-bad-none : (n : ℕ) (how : Condition) → None (bad n how)
+bad-is : (n : ℕ) (how : Condition) → Bad (bad n how)
 unfolding bad
-bad-none n how e = refl
+bad-is n how e = refl
 
-ended-none : (b : Bool) (store : Store) → None (pick b (bad 0 (Condition.Refused 19)) (record { store = store; line = 0; how = Condition.Fine }))
-ended-none true store = bad-none 0 (Condition.Refused 19)
-ended-none false store = λ e. cannot-be cc
+line-bad : (b : Bool) (how : Condition) (n : ℕ) (rest : Sheet) → Bad rest → Bad (pick b rest (bad n how))
+line-bad true how n rest next = next
+line-bad false how n rest next = bad-is n how
 
-line-none : (b : Bool) (how : Condition) (n : ℕ) (rest : Sheet) → None rest → None (pick b rest (bad n how))
-line-none true how n rest next = next
-line-none false how n rest next = bad-none n how
+end-bad : (b : Bool) (store : Store) → Bad (pick b (bad 0 (Condition.Refused 19)) (record { store = store; line = 0; how = Condition.Fine }))
+end-bad true store = bad-is 0 (Condition.Refused 19)
+end-bad false store = λ e. cannot-be cc
 
-lines-none : (ls : List (List ℕ)) (store : Store) (n : ℕ) → None (linesFrom store n ls)
+lines-bad : (ls : List (List ℕ)) (store : Store) (n : ℕ) → Bad (linesFrom store n ls)
 unfolding linesFrom ended
-lines-none [] store n = ended-none (eqb (store .count) 0) store
-lines-none (line ∷ ls) store n =
+lines-bad [] store n = end-bad (eqb (store .count) 0) store
+lines-bad (line ∷ ls) store n =
     let t : Taken = takeLine store (lineOf line) in
-    line-none (isFine (t .how)) (t .how) n (linesFrom (t .store) (n + 1) ls) (lines-none ls (t .store) (n + 1))
+    line-bad (isFine (t .how)) (t .how) n (linesFrom (t .store) (n + 1) ls) (lines-bad ls (t .store) (n + 1))
 
-pub not-fine-is-none : (text : List ℕ) → isFine (sheet text .how) ≡ false → sheet text .store ≡ noStore
+pub sheet-bad : (text : List ℕ) → Bad (sheet text)
 unfolding sheet
-not-fine-is-none text = line-none (leb (length text) longest) Condition.TooLong 0 (linesFrom noStore 1 (linesIn text)) (lines-none (linesIn text) noStore 1)
+sheet-bad text = line-bad (leb (length text) longest) Condition.TooLong 0 (linesFrom noStore 1 (linesIn text)) (lines-bad (linesIn text) noStore 1)
