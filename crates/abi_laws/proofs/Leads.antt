@@ -9,7 +9,7 @@ use native.Mathlib.Omega.{arith}
 use lib.ListN.{take, drop, getD}
 use lib.IntN.{ℤ}
 use denote.Ref.{now}
-use Rattle.words.specs.Answer.{Outcome, gives, refuses, then}
+use Rattle.words.specs.Answer.{Outcome, gives, then}
 use Rattle.settings.specs.declared.Store.{Store}
 use Rattle.settings.specs.Versions.{Kept, kept}
 use Rattle.settings.specs.Store.{judged}
@@ -30,6 +30,7 @@ use Rattle.abi.proofs.Heard.{AsHeard}
 use Rattle.demands.specs.Rules.{Is, Decided}
 use Rattle.demands.specs.Stores.{storeRules}
 use Rattle.demands.proofs.Demand1.StoreRules.{store-so}
+use Rattle.demands.proofs.Demand1.Stores.{no-more as no-further}
 use Rattle.abi_laws.specs.LeadsCalls.{Record, RecordEnd}
 use Rattle.abi_laws.specs.Leads.{LeadsDecided, LeadsUntouched, EarReadsBack, Heard, no-frame, call, Ended, no-more, call as call-end, LeadAsAWhole, GoesForward}
 use Rattle.abi_laws.proofs.Demand1.{decided-of, kept-there}
@@ -70,10 +71,6 @@ closes ear room out r next records told c =
     }
 
 -- ---- demand 1, and what is left
-
-no-further : (o : Outcome Kept) → then o (λ k. gives kept) ≡ o
-no-further (gives kept) = refl
-no-further (refuses n) = refl
 
 store-decided : (store : Store) → Decided (Is kept) (storeRules store []) (judged store)
 store-decided store =

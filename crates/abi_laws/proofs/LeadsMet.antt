@@ -7,7 +7,6 @@ use mathlib.Core.List.{List, [], _∷_}
 use native.Mathlib.Omega.{arith}
 use lib.IntN.{pos}
 use lib.ListN.{length}
-use denote.Ref.{RefT, now}
 use Rattle.words.specs.Answer.{Outcome, gives}
 use Rattle.telegram.specs.Sync.{differing, isGood, goodPair}
 use Rattle.text.specs.Put.{placed}
@@ -30,13 +29,10 @@ use Rattle.abi.specs.Face.{returned}
 use Rattle.abi.specs.Stores.{keptNumber}
 use Rattle.abi.specs.Leads as leads
 use Rattle.abi.specs.Leads.{earLeft, recordsLeft, usedLeft, earAfter}
+use Rattle.demands.proofs.Witness.CallsMet.{lent}
 use Rattle.abi_laws.specs.LeadsCalls.{RecordBegin, Record, RecordEnd}
 use Rattle.abi_laws.specs.Leads.{Heard, no-frame, call, Ended, no-more}
 use Rattle.abi_laws.proofs.SettingsMet.{settings, settings-good}
-
--- A lent buffer with these bytes.
-abbrev lent : List ℕ → RefT (List ℕ)
-lent bytes = record { ptr = (0, 0); name = 0; now = bytes }
 
 -- ---- calls that the contracts allow
 

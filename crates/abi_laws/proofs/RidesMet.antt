@@ -11,7 +11,6 @@ use lib.IntN.{pos}
 use lib.ListN.{length, take, drop, replicate, length-replicate}
 use lib.Seq.{take-length, drop-length}
 use borrow.Author.Tests.{eq-eqb, le-leb}
-use denote.Ref.{RefT, now}
 use Rattle.words.specs.Answer.{Outcome, gives, refuses, pick}
 use Rattle.words.specs.Limits.{largest64}
 use Rattle.text.specs.Put.{placed, Put, put}
@@ -37,12 +36,9 @@ use Rattle.ride_bytes.specs.Rides.{knownFigures, groupFigures, rideBytes, rideO
 use Rattle.abi.specs.Face.{returned, left, itself}
 use Rattle.abi.specs.Rides.{styleOf, listed, listedNumber, listedPut, rideLeft, ending}
 use Rattle.demands.specs.Stores.{Good}
+use Rattle.demands.proofs.Witness.CallsMet.{lent}
 use Rattle.abi_laws.specs.RideCalls.{RideBegin, RideList, RideEnd, InPieces, none, more}
 use Rattle.abi_laws.proofs.SettingsMet.{settings, settings-good}
-
--- A lent buffer with these bytes.
-abbrev lent : List ℕ → RefT (List ℕ)
-lent bytes = record { ptr = (0, 0); name = 0; now = bytes }
 
 pub fresh-back : rideIn (rideBytes freshRide) ≡ freshRide
 unfolding rideBytes rideOf knownFigures groupFigures spread each byteOf eightAt figureAt toldOf numberOf linkingOf heardOf freshRide noGroup nothingKnown

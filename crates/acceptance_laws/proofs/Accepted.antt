@@ -9,6 +9,7 @@ use lib.Dec.{ltb}
 use lib.ListN.{length, take, getD}
 use borrow.Author.Tests.{ltb-true, ltb-false, le-leb}
 use Rattle.words.specs.Answer.{pick}
+use Rattle.words.proofs.Never.{cannot-be}
 use Rattle.words.specs.Limits.{largest64}
 use Rattle.ride.specs.declared.Line.{Line}
 use Rattle.ride.specs.Over.{records}
@@ -31,7 +32,7 @@ use Rattle.acceptance_laws.proofs.Near.{and-right, only-one}
 use Rattle.acceptance_laws.proofs.Meeting.{with}
 use Rattle.acceptance_laws.proofs.Over.{runOver, answersTo, metAll, wanted-over, extra-over, groups-over}
 use Rattle.acceptance_laws.proofs.Parts.{answer-at, absent-first, plan-length, entry-after, first-wanted, wanted-first, other-extra, extra-other, others-none}
-use Rattle.acceptance_laws.proofs.Plan.{no, good-plan, plan-entries, plan-tolerance, plan-extra, unmet, met-within, none-met}
+use Rattle.acceptance_laws.proofs.Plan.{good-plan, plan-entries, plan-tolerance, plan-extra, unmet, met-within, none-met}
 use Rattle.acceptance_laws.proofs.Reports.{taken-are, some-at, reported, not-reported, sums-are}
 
 module _ (r : Run) where
@@ -168,7 +169,7 @@ module _ (r : Run) where
       let late = wanted-is-first m i j q in
       let found : someFor (r .tolerance) (entry r i) (take m (r .lines)) ≡ true = some-at (r .tolerance) (entry r i) (r .lines) k m before h (early .1) in
       let z : true ≡ false = sym found ∙ late .2 in
-      no (cc)
+      cannot-be cc
 
   one-group : (k m i : ℕ) → k < length (r .lines) → m < length (r .lines) → part r k ≡ Role.Wanted i → part r m ≡ Role.Wanted i → k ≡ m
   one-group k m i h j p q = by-order (ltb k m) (ltb m k) refl refl

@@ -28,9 +28,6 @@ with e m = record { place = e .place; kind = e .kind; met = m }
 abbrev pub meet : ℕ → ℕ → Kind → Entry → Entry
 meet tolerance place kind e = with e (metOnce (isFor tolerance place kind e) place (e .met))
 
-never : {A : Type 0} → false ≡ true → A
-never e = cannot-be cc
-
 -- What does not wait stays as it is, and what waits is met.
 met-stays : (b : Bool) (place : ℕ) (m : Met) → (isAbsent m && b) ≡ false → metOnce b place m ≡ m
 met-stays b place Met.Absent h = ap (λ (c : Bool). pick c (Met.At place) Met.Absent) h
@@ -38,7 +35,7 @@ met-stays b place (Met.At q) h = refl
 
 met-now : (b : Bool) (place : ℕ) (m : Met) → (isAbsent m && b) ≡ true → metOnce b place m ≡ Met.At place
 met-now b place Met.Absent h = ap (λ (c : Bool). pick c (Met.At place) Met.Absent) h
-met-now b place (Met.At q) h = never h
+met-now b place (Met.At q) h = cannot-be cc
 
 module _ (tolerance place : ℕ) (kind : Kind) where
   stays : (e : Entry) → waits tolerance place kind e ≡ false → meet tolerance place kind e ≡ e
@@ -140,7 +137,7 @@ module _ (tolerance place : ℕ) (kind : Kind) where
 
   not-later-by : (e : Entry) (es : List Entry) → NotLater es → (b : Bool) → waits tolerance place kind e ≡ b → NotLater (e ∷ es)
   not-later-by e es ih true t i h w = omega (arith, waiting-here e es t)
-  not-later-by e es ih false t zero h w = never (sym t ∙ w)
+  not-later-by e es ih false t zero h w = cannot-be cc
   not-later-by e es ih false t (suc i) h w = omega (arith, waiting-on e es t, ih i (omega arith) w)
 
   pub not-later : (es : List Entry) → NotLater es

@@ -6,7 +6,9 @@ use mathlib.Core.Path.{_≡_, refl, sym, ap, ap₂, _∙_}
 use mathlib.Core.Bool.{Bool, true, false, not, _&&_, _||_}
 use mathlib.Core.List.{List, [], _∷_, map}
 use lib.ListN.{length, take, getD, length-map}
+use borrow.Author.Tests.{not-true}
 use Rattle.words.specs.Answer.{pick}
+use Rattle.words.proofs.Never.{cannot-be}
 use Rattle.group_rows.specs.declared.Kind.{Kind}
 use Rattle.ride.specs.declared.Line.{Line}
 use Rattle.acceptance.specs.declared.Met.{Met}
@@ -51,13 +53,6 @@ both : (a b : Bool) → a ≡ true → b ≡ true → (a && b) ≡ true
 both true b p q = q
 both false b p q = p
 
-no : {A : Type 0} → _≡_ {A = ℕ} 0 1 → A
-no z = absurd (omega arith)
-
-flip : (b : Bool) → not b ≡ true → b ≡ false
-flip true e = sym e
-flip false e = refl
-
 module _ (s : Acceptance) (ls : List Line) (a : apart (s .tolerance) (planned s) ≡ true) where
   pub plan-length : length (planned (runOver s ls)) ≡ length (planned s)
   plan-length = ap length (plan-over s ls a) ∙ length-map (planned s) (afterLines (s .tolerance) ls)
@@ -101,7 +96,7 @@ module _ (s : Acceptance) (ls : List Line) (a : apart (s .tolerance) (planned s)
     by-case : Case now l → takeLine now l .answer ≡ Role.Wanted i
     by-case (none g is) =
         let t : isGroup l ≡ true = and-left (isGroup l) (isFor (s .tolerance) (placeIn l) (kindIn l) e) (sym (group-for (s .tolerance) e l) ∙ for) in
-        no (cc)
+        cannot-be cc
     by-case (wanted g w is) =
         let there = waits-there (now .tolerance) (placeIn l) (kindIn l) (planned now) (waitsFor now l) refl w in
         let same : waitsFor now l ≡ i =
@@ -120,7 +115,7 @@ module _ (s : Acceptance) (ls : List Line) (a : apart (s .tolerance) (planned s)
         → (i < length (planned s)) × (isGroupFor (s .tolerance) e l ≡ true) × (someFor (s .tolerance) e ls ≡ false)
     by-answer (none g is) p =
         let q : Role.NoPart ≡ Role.Wanted i = sym (ap (λ (t : Took). t .answer) is) ∙ p in
-        no (cc)
+        cannot-be cc
     by-answer (wanted g w is) p =
         let q : Role.Wanted (waitsFor now l) ≡ Role.Wanted i = sym (ap (λ (t : Took). t .answer) is) ∙ p in
         let same : waitsFor now l ≡ i = cc in
@@ -131,11 +126,11 @@ module _ (s : Acceptance) (ls : List Line) (a : apart (s .tolerance) (planned s)
           h,
           group-for (s .tolerance) e l
               ∙ both (isGroup l) (isFor (s .tolerance) (placeIn l) (kindIn l) e) g (and-right (not (someFor (s .tolerance) e ls)) (isFor (s .tolerance) (placeIn l) (kindIn l) e) both-hold),
-          flip (someFor (s .tolerance) e ls) (and-left (not (someFor (s .tolerance) e ls)) (isFor (s .tolerance) (placeIn l) (kindIn l) e) both-hold),
+          not-true (someFor (s .tolerance) e ls) (and-left (not (someFor (s .tolerance) e ls)) (isFor (s .tolerance) (placeIn l) (kindIn l) e) both-hold),
         )
     by-answer (extra g w is) p =
         let q : Role.Extra ≡ Role.Wanted i = sym (ap (λ (t : Took). t .answer) is) ∙ p in
-        no (cc)
+        cannot-be cc
 
     pub wanted-first : takeLine now l .answer ≡ Role.Wanted i
         → (i < length (planned s)) × (isGroupFor (s .tolerance) e l ≡ true) × (someFor (s .tolerance) e ls ≡ false)
@@ -150,7 +145,7 @@ module _ (s : Acceptance) (ls : List Line) (a : apart (s .tolerance) (planned s)
       → someFor (s .tolerance) (getD (planned s) i noEntry) ls ≡ false → ⊥
 
   other-by : isGroup l ≡ true → MetNone → Case (runOver s ls) l → takeLine (runOver s ls) l .answer ≡ Role.Extra
-  other-by t n (none g is) = no (cc)
+  other-by t n (none g is) = cannot-be cc
   other-by t n (wanted g w is) =
       let i : ℕ = waitsFor (runOver s ls) l in
       let all = wanted-first s ls a l i fresh (ap (λ (x : Took). x .answer) is) in
@@ -163,14 +158,14 @@ module _ (s : Acceptance) (ls : List Line) (a : apart (s .tolerance) (planned s)
   group-by : takeLine (runOver s ls) l .answer ≡ Role.Extra → Case (runOver s ls) l → isGroup l ≡ true
   group-by p (none g is) =
       let z : Role.NoPart ≡ Role.Extra = sym (ap (λ (x : Took). x .answer) is) ∙ p in
-      no (cc)
+      cannot-be cc
   group-by p (wanted g w is) = g
   group-by p (extra g w is) = g
 
   met-none : takeLine (runOver s ls) l .answer ≡ Role.Extra → MetNone
   met-none p i h f n =
       let z : Role.Wanted i ≡ Role.Extra = sym (first-wanted s ls a l i h (fresh i) f n) ∙ p in
-      no (cc)
+      cannot-be cc
 
   pub extra-other : takeLine (runOver s ls) l .answer ≡ Role.Extra → (isGroup l ≡ true) × MetNone
   extra-other p = (group-by p (case (runOver s ls) l), met-none p)
@@ -178,8 +173,8 @@ module _ (s : Acceptance) (ls : List Line) (a : apart (s .tolerance) (planned s)
 -- A line that is no present group takes no part.
 by-kind : (s : Acceptance) (l : Line) → isGroup l ≡ false → Case s l → takeLine s l .answer ≡ Role.NoPart
 by-kind s l n (none g is) = ap (λ (t : Took). t .answer) is
-by-kind s l n (wanted g w is) = no (cc)
-by-kind s l n (extra g w is) = no (cc)
+by-kind s l n (wanted g w is) = cannot-be cc
+by-kind s l n (extra g w is) = cannot-be cc
 
 pub others-none : (s : Acceptance) (l : Line) → isGroup l ≡ false → takeLine s l .answer ≡ Role.NoPart
 others-none s l n = by-kind s l n (case s l)

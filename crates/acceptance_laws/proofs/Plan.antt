@@ -9,6 +9,7 @@ use lib.Dec.{leb}
 use lib.ListN.{length, getD, replicate}
 use lib.Seq.{take-at}
 use Rattle.words.specs.Answer.{Outcome, gives, refuses, pick}
+use Rattle.words.proofs.Never.{cannot-be}
 use Rattle.acceptance.specs.declared.Met.{Met}
 use Rattle.acceptance.specs.declared.Entry.{Entry}
 use Rattle.acceptance.specs.declared.Acceptance.{Acceptance}
@@ -19,9 +20,6 @@ use Rattle.acceptance.specs.Taking.{planned, isAbsent}
 use Rattle.acceptance.specs.Report.{metIn}
 use Rattle.acceptance.specs.Says.{saysPlanJudged, saysPlanned}
 
-pub no : {A : Type 0} → _≡_ {A = ℕ} 0 1 → A
-no z = absurd (omega arith)
-
 good-by : (x y z : Bool) (p : Planned) (whole : Acceptance)
     → saysPlanned p
     ≡ pick x (pick y (pick z (record { answer = gives good; plan = whole }) (record { answer = refuses 27; plan = emptyPlan })) (record { answer = refuses 26; plan = emptyPlan }))
@@ -30,13 +28,13 @@ good-by : (x y z : Bool) (p : Planned) (whole : Acceptance)
 good-by true true true p whole e g = (refl, ap (λ (q : Planning). q .plan) e)
 good-by true true false p whole e g =
     let q : _≡_ {A = Outcome Good} (gives good) (refuses 27) = sym (ap saysPlanJudged g) ∙ ap (λ (q : Planning). q .answer) e in
-    no (cc)
+    cannot-be cc
 good-by true false z p whole e g =
     let q : _≡_ {A = Outcome Good} (gives good) (refuses 26) = sym (ap saysPlanJudged g) ∙ ap (λ (q : Planning). q .answer) e in
-    no (cc)
+    cannot-be cc
 good-by false y z p whole e g =
     let q : _≡_ {A = Outcome Good} (gives good) (refuses 28) = sym (ap saysPlanJudged g) ∙ ap (λ (q : Planning). q .answer) e in
-    no (cc)
+    cannot-be cc
 
 pub good-plan : (b : List ℕ) (tolerance : ℕ) (p : Planned) → saysPlanned p ≡ plan b tolerance → p .judged ≡ PlanJudged.Good
     → (apart tolerance (entriesOf b) ≡ true) × (p .plan ≡ planWith tolerance (entriesOf b))

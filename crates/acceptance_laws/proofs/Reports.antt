@@ -3,7 +3,7 @@
 use Prim.Native.Nat.{ℕ, zero, suc, _+_, _-_, _≤_, _<_}
 use native.Mathlib.Omega.{arith}
 use mathlib.Core.Path.{_≡_, refl, ap, ap₂, _∙_}
-use mathlib.Core.Bool.{Bool, true, false, _||_}
+use mathlib.Core.Bool.{Bool, true, _||_}
 use mathlib.Core.List.{List, [], _∷_}
 use lib.ListN.{length, take, getD}
 use borrow.Author.Tests.{lt-ltb, le-ltb}
@@ -17,6 +17,7 @@ use Rattle.acceptance.specs.declared.Sums.{Sums}
 use Rattle.acceptance.specs.Plan.{noEntry}
 use Rattle.acceptance.specs.Taking.{planned, takeLine}
 use Rattle.acceptance.specs.Report.{report, metIn, upToMost, sumUp}
+use Rattle.demands.proofs.Demand1.Answers.{or-true}
 use Rattle.acceptance_laws.specs.Lines.{isGroupFor, someFor}
 use Rattle.acceptance_laws.specs.Accepted.{Taken, after, entries}
 use Rattle.acceptance_laws.proofs.Over.{runOver, answersTo}
@@ -44,10 +45,6 @@ some-at tolerance e (l ∷ ls) k zero h j g = absurd (omega arith)
 some-at tolerance e (l ∷ ls) zero (suc m) h j g = ap (λ (b : Bool). b || someFor tolerance e (take m ls)) g
 some-at tolerance e (l ∷ ls) (suc k) (suc m) h j g =
     ap (λ (b : Bool). isGroupFor tolerance e l || b) (some-at tolerance e ls k m (omega arith) (omega arith) g) ∙ or-true (isGroupFor tolerance e l)
-  where
-    or-true : (b : Bool) → (b || true) ≡ true
-    or-true true = refl
-    or-true false = refl
 
 -- ---- the report
 

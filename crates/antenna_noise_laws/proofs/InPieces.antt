@@ -1,14 +1,13 @@
 -- No false reading in pieces: what the calls hand out are the contacts of the whole line in one
 -- buffer, each judged there, and of those none is read falsely.
 -- Assumes nothing.
-use Prim.Native.Nat.{ℕ, _+_, _-_, _<_, _^_}
+use Prim.Native.Nat.{ℕ, _+_, _-_}
 use mathlib.Core.Path.{_≡_, refl, sym, ap, subst, _∙_}
-use mathlib.Core.Bool.{true}
 use mathlib.Core.List.{List, []}
 use native.Mathlib.Omega.{arith}
 use denote.Ref.{RefT}
 use Rattle.words.specs.Answer.{gives}
-use Rattle.telegram.specs.Stretch.{bitAt, inside}
+use Rattle.telegram.specs.Stretch.{bitAt}
 use Rattle.telegram.specs.declared.Telegram.{Telegram}
 use Rattle.telegram.proofs.Taken.{taken}
 use Rattle.balise_line.specs.Line.{OneBalise}
@@ -24,6 +23,7 @@ use Rattle.antenna.proofs.Law.{hears-all}
 use Rattle.noise_laws.specs.Reading.{ReadsTheSent}
 use Rattle.noise_laws.proofs.Reading.{reads-the-contacts}
 use Rattle.recording_laws.specs.Hearing.{bitsIn}
+use Rattle.recording_laws.proofs.Hearing.{small-enough}
 use Rattle.recording_laws.proofs.Through.{all}
 use Rattle.antenna_noise_laws.specs.InPieces.{AllTheSent, NoFalseReadingInPieces}
 
@@ -43,9 +43,6 @@ all-judged o (contact start len then rest) reads = (
 )
 all-judged o quiet reads = tt
 all-judged o (refused n) reads = tt
-
-small-enough : (b : List ℕ) (n : ℕ) → inside b 0 (n - 0) ≡ true → n < 2 ^ 64
-small-enough b n e = omega (arith, taken b 0 (n - 0) e)
 
 pub no-false-reading-in-pieces : NoFalseReadingInPieces
 no-false-reading-in-pieces o proper k equal ps in-one pair pass fresh last l begins calls =

@@ -29,14 +29,14 @@ use Rattle.antenna.specs.declared.Ear.{Ear}
 use Rattle.antenna.specs.declared.Until.{Until}
 use Rattle.antenna.specs.Places.{more, placesAfter}
 use Rattle.antenna.specs.Sound.{begun, withBit, markerOr, judged}
-use Rattle.antenna.specs.Hearing as hearing
 use Rattle.antenna.specs.Hearing.{hear}
 use Rattle.antenna.specs.Line.{Told, told}
 use Rattle.antenna.specs.Piece.{first, hearPiece}
 use Rattle.noise_laws.specs.Lines.{noisyLine}
 use Rattle.noise_laws.proofs.Lines.{noisy-proper, noisy-pass}
-use Rattle.recording_laws.specs.Calls.{FreshEar, HearPiece}
+use Rattle.recording_laws.specs.Calls.{HearPiece}
 use Rattle.recording_laws.specs.Hearing.{Piece, standing, opens as opened, closes as closed, ends, Heard, none, piece, InOne}
+use Rattle.recording_laws.proofs.HearingMet.{outside-it, begins}
 use Rattle.antenna_noise_laws.specs.InPieces.{WithItsPair, AllTheSent}
 use Rattle.antenna_noise_laws.proofs.InPieces.{no-false-reading-in-pieces}
 
@@ -79,10 +79,7 @@ in-one-met =
 pair-met : WithItsPair noisyLine (former ∷ latter ∷ [])
 pair-met k low = (stands (λ p j. p .s) (λ j. 0x49) (λ j. refl) (λ j. refl) k low, stands (λ p j. p .t) (λ j. 0x96) (λ j. refl) (λ j. refl) k low)
 
--- The ear outside a contact, at its first bit, and 91 bits into it, with one place behind it.
-abbrev outside-it : ℕ → Ear
-outside-it latest = record { history = latest; stand = Stand.Outside }
-
+-- The ear at the first bit of a contact, and 91 bits into it, with one place behind it.
 abbrev at-first : Ear
 at-first =
     record {
@@ -96,10 +93,6 @@ between-them =
       history = 21186;
       stand = Stand.Inside (record { s = 0x49; t = 0x96; length = 91; forty = 150085522114; ones = 0; plain = false; places = Places.Alike (Telegram.Figures 1 8 5) 0x17 0x8e 0x5a 46 1 });
     }
-
-begins : FreshEar (outside-it 65535)
-unfolding hearing.fresh
-begins = (tt, refl)
 
 opening : HearPiece (outside-it 65535) b 0 120 0x49 0x96 (Until.Opened at-first 29)
 unfolding hearPiece inside first hear history.after zeroesOf zeroes opens closes begun withBit more placesAfter areSyncs

@@ -18,12 +18,12 @@ use Rattle.words.proofs.Told.{Fixed, FixedWith}
 use Rattle.text.proofs.Putting.{same-put}
 
 -- From what an answer says, the answer.
-abbrev soundFrom : Outcome Heard → Sound
+abbrev pub soundFrom : Outcome Heard → Sound
 soundFrom (gives audible) = Sound.Audible
 soundFrom (gives broken) = Sound.Broken
 soundFrom (refuses n) = pick (eqb n 2) Sound.TooLarge (pick (eqb n 3) Sound.Fifteen Sound.NotSeven)
 
-sound-back : (r : Sound) → soundFrom (saysSound r) ≡ r
+pub sound-back : (r : Sound) → soundFrom (saysSound r) ≡ r
 sound-back Sound.Audible = refl
 sound-back Sound.Broken = refl
 sound-back Sound.TooLarge = refl

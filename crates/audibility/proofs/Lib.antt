@@ -1,5 +1,5 @@
 mod Some
 mod Pieces
 mod Ten
-mod Determined
+pub mod Determined
 mod Means

@@ -1,8 +1,9 @@
--- What it is for bit p to have the words sent, at their true place; and that a telegram is read
--- there as it was sent.
+-- What it is for bit p to have the words sent, at their true place; that a telegram is read there
+-- as it was sent, and that such places are alike.
 -- Assumes nothing.
-use mathlib.Core.Path.{_≡_, ap₂, _∙_}
+use mathlib.Core.Path.{_≡_, refl, sym, ap₂, _∙_}
 use mathlib.Core.Bool.{true, _&&_}
+use mathlib.Core.List.{List, [], _∷_}
 use Prim.Native.Nat.{ℕ, _+_, _%_, _≤_}
 use lib.Dec.{eqb, leb}
 use borrow.Author.Tests.{le-leb, leb-true, eqb-true, eq-eqb}
@@ -11,8 +12,9 @@ use Rattle.words.specs.Plain.{among}
 use Rattle.telegram.specs.Stretch.{bitsAt}
 use Rattle.telegram.specs.Telegram.{Received, telegram}
 use Rattle.telegram.specs.Place.{wordsAt}
+use Rattle.telegram.specs.Survey.{sameWords, allAs}
 use Rattle.balise_line.specs.Line.{OneBalise, Proper, lineBit, sentAt, placesOf}
-use Rattle.balise_line.proofs.Places.{and-parts, and-true}
+use Rattle.balise_line.proofs.Places.{and-parts, and-true, or-left, or-right}
 
 -- What it says that a telegram was sent at bit p.
 pub sent-parts : (o : OneBalise) (p : ℕ) → sentAt o p ≡ true → (o .start ≤ p) × (p + 40 ≤ o .start + o .len) × (lineBit o p % 32 ≡ 0)
@@ -45,3 +47,17 @@ same-words o p x-is y-is z-is = ap₂ (λ (f : ℕ → Received) (k : ℕ). f k)
 
 pub read-as-sent : (o : OneBalise) → Proper o → (p : ℕ) → Sent o p → wordsAt (o .buffer) p ≡ gives (o .telegram)
 read-as-sent o proper p there = same-words o p (there .x-is) (there .y-is) (there .z-is) ∙ proper .valid
+
+-- Places that have the words sent are alike.
+pub all-alike : (o : OneBalise) (p : ℕ) → Sent o p → (ps : List ℕ) → ((q : ℕ) → among q ps ≡ true → Sent o q) → allAs (o .buffer) p ps ≡ true
+unfolding allAs sameWords
+all-alike o p here [] all = refl
+all-alike o p here (q ∷ ps) all =
+    let there = all q (or-left (among q ps) (eq-eqb q q refl)) in
+    let b = o .buffer in
+    and-true
+    (and-true
+    (and-true (eq-eqb (bitsAt b (p + 8) 8) (bitsAt b (q + 8) 8) (here .x-is ∙ sym (there .x-is)))
+    (eq-eqb (bitsAt b (p + 16) 8) (bitsAt b (q + 16) 8) (here .y-is ∙ sym (there .y-is))))
+    (eq-eqb (bitsAt b (p + 24) 8) (bitsAt b (q + 24) 8) (here .z-is ∙ sym (there .z-is))))
+    (all-alike o p here ps (λ r within. all r (or-right (eqb r q) within)))

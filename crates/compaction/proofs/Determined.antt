@@ -47,7 +47,7 @@ pub block-back : (r : Block) (b : List ℕ) → blockOf (saysBlock r b) ≡ r
 block-back r b = ap (λ (s : Size). record { waiting = r .waiting; size = s }) (size-back (r .size))
 
 -- two compactions that say the same are the same
-same-compaction : (r r′ : Compacted) (b b′ : List ℕ) → saysCompacted r b ≡ saysCompacted r′ b′ → (r ≡ r′) × (b ≡ b′)
+pub same-compaction : (r r′ : Compacted) (b b′ : List ℕ) → saysCompacted r b ≡ saysCompacted r′ b′ → (r ≡ r′) × (b ≡ b′)
 same-compaction r r′ b b′ e = (sym (compacted-back r b) ∙ ap compactedOf e ∙ compacted-back r′ b′, ap (λ (c : Compaction). c .buffer) e)
 
 pub compact-determined : FixedWith 1 compact-kinds.ps compact-kinds.r compact-reads.Post (λ κs x. now (x .1 .1 .0))

@@ -15,6 +15,7 @@ use Rattle.settings.specs.Versions.{Kept, kept}
 use Rattle.settings.specs.Store.{judged}
 use Rattle.settings.specs.At.{gapAt}
 use Rattle.settings.proofs.Holding.{holding-at}
+use Rattle.settings.proofs.Following.{same}
 use Rattle.ride.specs.declared.Ride.{Ride}
 use Rattle.ride.specs.declared.Stepped.{Stepped}
 use Rattle.ride.specs.declared.Line.{Line}
@@ -44,9 +45,6 @@ pub record Was (gaps : ℕ → ℕ) (ride : Ride) (trace : List ℕ) (made : Com
   pub whole : length trace % 8 ≡ 0
   pub is : made ≡ smallerTrace gaps ride trace
 
-same-kept : (k : Kept) → k ≡ kept
-same-kept kept = refl
-
 gap-good : (store : Store) → judged store ≡ gives kept → (o : ℕ) → allowed (gapAt store o) ≡ true
 unfolding gapAt
 gap-good store h o = holding-at store o h .gap
@@ -60,7 +58,7 @@ was-made ride store trace n e = go (judged store) (eqb (length trace % 8) 0) ref
         → judgedFirst ride trace o (pick w (smallerTrace (gapAt store) ride trace) (untouched ride trace 16)) .answer ≡ gives n
         → Was (gapAt store) ride trace (judgedFirst ride trace o (pick w (smallerTrace (gapAt store) ride trace) (untouched ride trace 16))) × (judged store ≡ gives kept)
     go (gives k) true o w h =
-        let j : judged store ≡ gives kept = o ∙ ap gives (same-kept k) in
+        let j : judged store ≡ gives kept = o ∙ ap gives (same k) in
         (record { good = gap-good store j; whole = eqb-true (length trace % 8) 0 w; is = refl }, j)
     go (gives k) false o w h = never h
     go (refuses m) w o w′ h = never h

@@ -89,11 +89,6 @@ same-run gaps ride before n end after made p q first second =
 
 -- ---- once more
 
--- two answers that say the same are the same, and so are their buffers
-same-answer : (c c′ : Compacted) (b b′ : List ℕ) → saysCompacted c b ≡ saysCompacted c′ b′ → (c ≡ c′) × (b ≡ b′)
-same-answer c c′ b b′ e =
-    (sym (compaction-is.compacted-back c b) ∙ ap compaction-is.compactedOf e ∙ compaction-is.compacted-back c′ b′, ap (λ (x : Compaction). x .buffer) e)
-
 -- the compaction of what was made
 again : (gaps : ℕ → ℕ) (ride : Ride) (before : List ℕ) (c : Compacted) (after : List ℕ) (n : ℕ) → c .size ≡ Size.Bytes n → Made gaps ride before n (c .ride) after
     → smallerTrace gaps ride (take n after) ≡ saysCompacted c (take n after)
@@ -126,7 +121,7 @@ smaller-trace = record {
       let x = madeOf c in
       let whole : eqb (length (smallOf c) % 8) 0 ≡ true =
       eq-eqb _ 0 (whole-again (gapAt (c .store)) (c .ride) (c .before) (c .n) (c .answer .ride) (c .after) (x .made)) in
-      same-answer again-answer (c .answer) after (smallOf c)
+      compaction-is.same-compaction again-answer (c .answer) after (smallOf c)
       (compacted-is (c .ride) (c .store) (smallOf c) again-answer after h ∙ sym (compact-whole (c .ride) (c .store) (smallOf c) (x .judged-so) whole)
       ∙ again (gapAt (c .store)) (c .ride) (c .before) (c .answer) (c .after) (c .n) (c .size) (x .made));
 }

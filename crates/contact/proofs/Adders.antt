@@ -2,16 +2,15 @@
 -- Assumes nothing.
 use Prim.Native.Nat.{ℕ, zero, suc, _+_, _-_, _*_, _/_, _%_, _^_, _≤_, _<_}
 use mathlib.Core.Path.{_≡_, refl, sym, ap, ap₂, subst, _∙_}
-use native.Mathlib.Nat.{add-comm, mod-lt, zero-lt-suc, zero-div}
+use native.Mathlib.Nat.{add-comm}
 use native.Mathlib.Omega.{arith}
 use lib.Bits.{bitAnd, bitOr, bitXor, and-shr, and-mod, or-shr, or-mod, or-lt, or-add-and, xor-lt, xor-add-and, and-le-l, and-le-r}
 use lib.Pow.{shr-shr}
 use Rattle.words.specs.Bits.{bit}
+use Rattle.words.proofs.Digits.{bit-lt}
+use Rattle.words.proofs.Zero.{bit-zero}
 use Rattle.telegram.proofs.Digits.{xor-digit, all-set}
 use Rattle.contact.specs.History.{zeroesOf}
-
-pub digit-lt : (w k : ℕ) → bit w k < 2
-digit-lt w k = mod-lt (w / 2 ^ k) (zero-lt-suc 1)
 
 pub and-digits : (a b k : ℕ) → bit (bitAnd a b) k ≡ bitAnd (bit a k) (bit b k)
 and-digits a b k = ap (λ (n : ℕ). n % 2) (and-shr a b k) ∙ and-mod (a / 2 ^ k) (b / 2 ^ k) 1
@@ -20,7 +19,7 @@ pub or-digits : (a b k : ℕ) → bit (bitOr a b) k ≡ bitOr (bit a k) (bit b k
 or-digits a b k = ap (λ (n : ℕ). n % 2) (or-shr a b k) ∙ or-mod (a / 2 ^ k) (b / 2 ^ k) 1
 
 pub not-digit : (w k : ℕ) → k < 64 → bit (bitXor w (2 ^ 64 - 1)) k ≡ 1 - bit w k
-not-digit w k low = xor-digit w (2 ^ 64 - 1) k ∙ ap (bitXor (bit w k)) (all-set k low) ∙ flip (bit w k) (digit-lt w k)
+not-digit w k low = xor-digit w (2 ^ 64 - 1) k ∙ ap (bitXor (bit w k)) (all-set k low) ∙ flip (bit w k) (bit-lt w k)
   where
     flip : (x : ℕ) → x < 2 → bitXor x 1 ≡ 1 - x
     flip zero h = refl
@@ -53,25 +52,22 @@ module _ (x y z k : ℕ) where
   pub sum-digit : bit (bitXor (bitXor x y) z) k ≡ (bit x k + bit y k + bit z k) % 2
   sum-digit =
       xor-digit (bitXor x y) z k ∙ ap (λ (n : ℕ). bitXor n (bit z k)) (xor-digit x y k)
-      ∙ low-digit (bit x k) (bit y k) (bit z k) (digit-lt x k) (digit-lt y k) (digit-lt z k)
+      ∙ low-digit (bit x k) (bit y k) (bit z k) (bit-lt x k) (bit-lt y k) (bit-lt z k)
 
   pub carry-digit : bit (bitOr (bitAnd x y) (bitAnd z (bitXor x y))) k ≡ (bit x k + bit y k + bit z k) / 2
   carry-digit =
       or-digits (bitAnd x y) (bitAnd z (bitXor x y)) k
       ∙ ap₂ bitOr (and-digits x y k) (and-digits z (bitXor x y) k ∙ ap (bitAnd (bit z k)) (xor-digit x y k))
-      ∙ high-digit (bit x k) (bit y k) (bit z k) (digit-lt x k) (digit-lt y k) (digit-lt z k)
+      ∙ high-digit (bit x k) (bit y k) (bit z k) (bit-lt x k) (bit-lt y k) (bit-lt z k)
 
   pub any-digit : bit (bitOr (bitOr x y) z) k ≡ (bit x k + bit y k + bit z k + 2) / 3
   any-digit =
       or-digits (bitOr x y) z k ∙ ap (λ (n : ℕ). bitOr n (bit z k)) (or-digits x y k)
-      ∙ some-digit (bit x k) (bit y k) (bit z k) (digit-lt x k) (digit-lt y k) (digit-lt z k)
+      ∙ some-digit (bit x k) (bit y k) (bit z k) (bit-lt x k) (bit-lt y k) (bit-lt z k)
 
 -- The digit k of a word shifted down by m.
 pub shifted : (w m k : ℕ) → bit (w / 2 ^ m) k ≡ bit w (m + k)
 shifted w m k = ap (λ (n : ℕ). n % 2) (shr-shr w m k)
-
-pub no-digit : (k : ℕ) → bit 0 k ≡ 0
-no-digit k = ap (λ (n : ℕ). n % 2) (zero-div (2 ^ k))
 
 -- One digit of two numbers added, with what came up from below.
 column : (s c x y i : ℕ) → s ≡ (x + y + i) % 2 → c ≡ (x + y + i) / 2 → s + 2 * c ≡ x + y + i
@@ -124,7 +120,7 @@ pub summed : (a b c x y z a₁ b₁ c₁ m : ℕ)
 summed a b c x y z a₁ b₁ c₁ m pa px pb py pc pz k =
     three-columns (bit a k) (bit b k) (bit c k) (bit x k) (bit y k) (bit z k) (bit 0 k) (bit a₁ k) (bit b₁ k) (bit c₁ k)
     (bit (a₁ / 2 ^ m) k) (bit (b₁ / 2 ^ m) k) (bit (c₁ / 2 ^ m) k) (bit a₁ (m + k)) (bit b₁ (m + k)) (bit c₁ (m + k))
-    (no-digit k) (shifted a₁ m k) (shifted b₁ m k) (shifted c₁ m k) (pa k) (px k) (pb k) (py k) (pc k) (pz k)
+    (bit-zero k) (shifted a₁ m k) (shifted b₁ m k) (shifted c₁ m k) (pa k) (px k) (pb k) (py k) (pc k) (pz k)
 
 -- What a count tells of v: its digits are those of v, or v is eight or more.
 abbrev pub Tells : ℕ → ℕ → ℕ → ℕ → ℕ → ℕ → Type 0
@@ -166,7 +162,7 @@ single w k room =
     let same : k + 0 ≡ k = omega arith in
     let here : bit (w / 2 ^ k) 0 ≡ bit w k = shifted w k 0 ∙ ap (bit w) same in
     let flip = not-digit w k low in
-    let none = no-digit k in
+    let none = bit-zero k in
     (λ z. omega arith, λ o. omega arith)
 
 -- What `|` and `&` say of digits, as sums.
@@ -183,7 +179,7 @@ up x y z v p g is hp hz hg some = omega arith
 -- What is counted, by the digits.
 module _ (a b c d k v : ℕ) (tells : Tells a b c d k v) where
   pub eight : bit d k ≡ 0 → v < 8
-  eight z = omega (arith, tells .0 z, digit-lt a k, digit-lt b k, digit-lt c k)
+  eight z = omega (arith, tells .0 z, bit-lt a k, bit-lt b k, bit-lt c k)
 
   pub four : k < 64 → bit (bitXor (bitOr d (bitAnd c (bitOr a b))) (2 ^ 64 - 1)) k ≡ 0 → 4 < v
   four low z =

@@ -42,7 +42,8 @@ abbrev lowest : Mode → ℕ → ℕ
 lowest outside i = i
 lowest (since start) i = start
 
-abbrev Passed : Mode → ℕ → Type 0
+-- A contact that is underway began before bit i.
+abbrev pub Passed : Mode → ℕ → Type 0
 Passed outside i = Unit
 Passed (since start) i = start < i
 

@@ -1,6 +1,6 @@
 -- Where every place has the words sent, two places or more are read as the telegram sent.
 -- Assumes nothing.
-use Prim.Native.Nat.{ℕ, _+_, _≤_, _<_}
+use Prim.Native.Nat.{ℕ, _≤_, _<_}
 use mathlib.Core.Path.{_≡_, refl, sym, ap, ap₂, _∙_, subst}
 use mathlib.Core.Logic.{_⊎_, inl, inr}
 use mathlib.Core.Bool.{Bool, true, false, not}
@@ -11,15 +11,15 @@ use lib.ListN.{length}
 use borrow.Author.Tests.{eqb-true, eq-eqb, le-leb}
 use Rattle.words.specs.Answer.{gives, refuses, pick}
 use Rattle.words.specs.Plain.{among}
-use Rattle.telegram.specs.Stretch.{bitsAt, inside}
+use Rattle.telegram.specs.Stretch.{inside}
 use Rattle.telegram.specs.Sync.{isGood}
 use Rattle.telegram.specs.Telegram.{Received}
 use Rattle.telegram.specs.Place.{wordsAt, places}
-use Rattle.telegram.specs.Survey.{sameWords, allAs}
+use Rattle.telegram.specs.Survey.{allAs}
 use Rattle.telegram.specs.declared.Telegram.{Telegram}
 use Rattle.balise_line.specs.Line.{OneBalise, Proper, placesOf}
 use Rattle.balise_line.proofs.Places.{and-true, or-parts, or-left, or-right}
-use Rattle.balise_line.proofs.Sent.{Sent, AllSent, read-as-sent}
+use Rattle.balise_line.proofs.Sent.{Sent, AllSent, read-as-sent, all-alike}
 use Rattle.contact.specs.Judge.{read, marker, isMarker, judgement, judge}
 use Rattle.contact.specs.declared.Judged.{Judged}
 use Rattle.contact.proofs.Determined.{judgedOf, judged-back}
@@ -28,20 +28,6 @@ use Rattle.contact_laws.specs.Calls.{JudgeContact}
 -- What a call of `judge` answers is what is specified.
 pub judges : (b : List ℕ) (start len s t : ℕ) (a : Judged) → JudgeContact b start len s t a → a ≡ judgedOf (judge b start len s t)
 judges b start len s t a call = sym (judged-back a) ∙ ap judgedOf (call .4 ∙ ap (λ (v : List ℕ). judge v start len s t) (call .3))
-
--- Places that have the words sent are alike.
-all-alike : (o : OneBalise) (p : ℕ) → Sent o p → (ps : List ℕ) → ((q : ℕ) → among q ps ≡ true → Sent o q) → allAs (o .buffer) p ps ≡ true
-unfolding allAs sameWords
-all-alike o p here [] all = refl
-all-alike o p here (q ∷ ps) all =
-    let there = all q (or-left (among q ps) (eq-eqb q q refl)) in
-    let b = o .buffer in
-    and-true
-    (and-true
-    (and-true (eq-eqb (bitsAt b (p + 8) 8) (bitsAt b (q + 8) 8) (here .x-is ∙ sym (there .x-is)))
-    (eq-eqb (bitsAt b (p + 16) 8) (bitsAt b (q + 16) 8) (here .y-is ∙ sym (there .y-is))))
-    (eq-eqb (bitsAt b (p + 24) 8) (bitsAt b (q + 24) 8) (here .z-is ∙ sym (there .z-is))))
-    (all-alike o p here ps (λ r within. all r (or-right (eqb r q) within)))
 
 -- A good pair and a stretch that is taken: the judgement is by the places.
 pub judged-taken : (b : List ℕ) (start len s t : ℕ) → isGood s t ≡ true → inside b start len ≡ true

@@ -35,7 +35,8 @@ late-ones : (e r k : ℕ) → e < 8 → r < 31 → k < 3 → T (onlyLate e (suc 
 unfolding onlyLate agree notAt apart unequal
 late-ones e r k e-low r-low k-low = below (λ k. onlyLate e (suc r) (suc k)) 3 (below (λ r. upto (λ k. onlyLate e (suc r) (suc k)) 3) 31 (below (λ e. upto (λ r. upto (λ k. onlyLate e (suc r) (suc k)) 3) 31) 8 tt e e-low) r r-low) k k-low
 
-all-upto : (test : ℕ → Bool) (n : ℕ) → ((i : ℕ) → i < n → test i ≡ true) → upto test n ≡ true
+-- A test that holds of each number below n.
+pub all-upto : (test : ℕ → Bool) (n : ℕ) → ((i : ℕ) → i < n → test i ≡ true) → upto test n ≡ true
 all-upto test zero all = refl
 all-upto test (suc n) all = ap₂ both (all n (omega arith)) (all-upto test n (λ i l. all i (omega arith)))
 

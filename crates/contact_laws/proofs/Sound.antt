@@ -64,7 +64,7 @@ differ-zeroes s t (suc n) =
     omega (arith, one, differ-zeroes s t n)
 
 -- X has four zeroes or more: it reads, and not 15.
-abbrev isRead : Answer Why ℕ → Bool
+abbrev pub isRead : Answer Why ℕ → Bool
 isRead (gives a) = true
 isRead (refuses n) = false
 

@@ -4,18 +4,15 @@
 use Prim.Native.Nat.{ℕ, zero, suc, _+_, _≤_, _<_}
 use mathlib.Core.Path.{_≡_, refl, sym, ap, _∙_}
 use mathlib.Core.Bool.{Bool, true, false}
-use mathlib.Core.List.{List, _++_, append-assoc}
+use mathlib.Core.List.{List}
 use native.Mathlib.Omega.{arith}
 use lib.Dec.{ltb}
-use lib.ListN.{length, take, drop, take-append-drop}
-use lib.Seq.{take-take}
+use lib.ListN.{length, take}
 use borrow.Author.Tests.{ltb-true, ltb-false}
 use Rattle.words.specs.Answer.{pick}
 use Rattle.group_rows.specs.declared.Placed.{Placed}
-use Rattle.group_rows.specs.Row.{fits}
-use Rattle.group_rows.specs.Rows.{howMany, fitIn}
-use Rattle.group_rows.specs.Fitting.{rowsFor}
-use Rattle.group_rows.specs.Opening.{Opens, Longest}
+use Rattle.group_rows.specs.Rows.{howMany}
+use Rattle.group_rows.specs.Opening.{Longest}
 use Rattle.group_rows.proofs.Bools.{false-true}
 use Rattle.group_reason.specs.Opening.{opensMembers, opensRows, isOpening, longestOf, openingRun}
 use Rattle.group_reason.proofs.Openings.{seen-opening}
@@ -67,33 +64,3 @@ module _ (bs : List Placed) where
         sendable = real-opening (take (openingRun bs) bs) (is-open (length bs)) .1;
         no-more = λ h o. false-true (sym (not-open (length bs) (openingRun bs + 1) (omega arith) (omega arith)) ∙ seen-opening (take (openingRun bs + 1) bs) o);
       }
-
-  -- Balises that open a group do so without the last of them.
-  shorter : (r k : ℕ) → r ≤ k → Opens (take k bs) → Opens (take r bs)
-  shorter r k h o =
-      record {
-        more = drop r (take k bs) ++ o .more;
-        way = o .way;
-        kind = o .kind;
-        a = o .a;
-        fits =
-            ap (fitIn (rowsFor (o .way))) (sym (append-assoc (take r bs) (drop r (take k bs)) (o .more))
-            ∙ ap (λ (l : List Placed). l ++ o .more)
-            (ap (λ (l : List Placed). l ++ drop r (take k bs)) (sym (take-take r k bs h)) ∙ take-append-drop r (take k bs)))
-            ∙ o .fits;
-      }
-
-  not-below : (r r′ : ℕ) → Longest bs r → Longest bs r′ → r < r′ → ⊥
-  not-below r r′ l l′ h =
-      let le : r + 1 ≤ r′ = omega arith in
-      let in-list : r < length bs = omega (arith, l′ .within) in
-      l .no-more in-list (shorter (r + 1) r′ le (l′ .opens))
-
-  -- There is one longest run.
-  pub longest-one : (r r′ : ℕ) → Longest bs r → Longest bs r′ → r ≡ r′
-  longest-one r r′ l l′ = go (ltb r r′) (ltb r′ r) refl refl
-    where
-      go : (s t : Bool) → ltb r r′ ≡ s → ltb r′ r ≡ t → r ≡ r′
-      go true t p q = absurd (not-below r r′ l l′ (ltb-true r r′ p))
-      go false true p q = absurd (not-below r′ r l′ l (ltb-true r′ r q))
-      go false false p q = omega (arith, ltb-false r r′ p, ltb-false r′ r q)

@@ -66,7 +66,8 @@ not-below bs r r′ l l′ h =
     let in-list : r < length bs = omega (arith, l′ .within) in
     l .no-more in-list (shorter bs (r + 1) r′ le (l′ .opens))
 
-longest-one : (bs : List Placed) (r r′ : ℕ) → Longest bs r → Longest bs r′ → r ≡ r′
+-- There is one longest run.
+pub longest-one : (bs : List Placed) (r r′ : ℕ) → Longest bs r → Longest bs r′ → r ≡ r′
 longest-one bs r r′ l l′ = go (ltb r r′) (ltb r′ r) refl refl
   where
     go : (s t : Bool) → ltb r r′ ≡ s → ltb r′ r ≡ t → r ≡ r′

@@ -6,6 +6,7 @@ use mathlib.Core.Bool.{Bool, true, false}
 use native.Mathlib.Omega.{arith}
 use native.Mathlib.Nat.{pow-suc}
 use lib.Dec.{ltb}
+use lib.Pow.{pow-mono}
 use Rattle.words.specs.Bits.{bit, word}
 use Rattle.words.proofs.Digits.{bit-lt, word-ext}
 use Rattle.lead_noise.specs.Generator.{next, drawn, flips}
@@ -29,17 +30,8 @@ unfolding top
 top-low f small zero = omega arith
 top-low f small (suc n) = omega (arith, top-low f small n, small n, pow-suc 2 n)
 
-pub power-low : (n : ℕ) → n ≤ 8 → 2 ^ n ≤ 256
-power-low zero l = omega arith
-power-low (suc zero) l = omega arith
-power-low (suc (suc zero)) l = omega arith
-power-low (suc (suc (suc zero))) l = omega arith
-power-low (suc (suc (suc (suc zero)))) l = omega arith
-power-low (suc (suc (suc (suc (suc zero))))) l = omega arith
-power-low (suc (suc (suc (suc (suc (suc zero)))))) l = omega arith
-power-low (suc (suc (suc (suc (suc (suc (suc zero))))))) l = omega arith
-power-low (suc (suc (suc (suc (suc (suc (suc (suc zero)))))))) l = omega arith
-power-low (suc (suc (suc (suc (suc (suc (suc (suc (suc n))))))))) l = absurd (omega arith)
+power-low : (n : ℕ) → n ≤ 8 → 2 ^ n ≤ 256
+power-low n l = pow-mono l
 
 -- So far it is a byte.
 pub made-low : (x chance b n : ℕ) → n ≤ 8 → top (heardBit x chance b) n < 256

@@ -17,13 +17,10 @@ use Rattle.recording.specs.Frame.{lineOf}
 use Rattle.recording.specs.Recording.{silent, afterStep, overBits, isDue, position, afterFrame, heldAt, inFrame, itsBits, overFrames, framesOf, overLead, cutIn, isAbove, lastPosition, theEnd, fresh, recorded}
 use Rattle.ride.specs.Over.{firstRecords, records}
 use Rattle.ride.proofs.Cutting.{join-records}
+use Rattle.compaction.proofs.Blocks.{Eights}
 use Rattle.recording.proofs.Eights.{record-eight}
 use Rattle.lead_text.proofs.OneMore.{only}
 use Rattle.lead_text_laws.specs.Live.{joined}
-
-abbrev Eights : List (List ℕ) → Type 0
-Eights [] = Unit {0}
-Eights (r ∷ rs) = (length r ≡ 8) × Eights rs
 
 both : (rs qs : List (List ℕ)) → Eights rs → Eights qs → Eights (rs ++ qs)
 both [] qs a b = b

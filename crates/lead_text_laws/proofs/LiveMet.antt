@@ -8,7 +8,6 @@ use mathlib.Core.Bool.{Bool}
 use mathlib.Core.List.{List, [], _∷_, _++_}
 use lib.ListN.{length, take, drop, replicate, length-replicate, length-append}
 use lib.Seq.{take-length, drop-length}
-use denote.Ref.{RefT}
 use borrow.Author.Tests.{le-leb, lt-ltb}
 use Rattle.words.specs.Answer.{gives, pick}
 use Rattle.words.specs.Limits.{largest64}
@@ -36,13 +35,10 @@ use Rattle.lead_text.specs.List as listing
 use Rattle.lead_text.specs.List.{placeOf, standing, Telling, noneLeft, listOf, atTape}
 use Rattle.lead_text.specs.Says.{saysWritten}
 use Rattle.lead_text.proofs.Judged.{frames-listed, end-listed}
+use Rattle.demands.proofs.Witness.CallsMet.{lent}
 use Rattle.lead_text_laws.specs.Calls.{Fresh, ListFrames, ListEnd, PutEnd}
 use Rattle.lead_text_laws.specs.Live.{Good, Heard, none, next, Closed, over, Ended, put}
 use Rattle.lead_text_laws.proofs.Comes.{start, comesAll}
-
--- A lent buffer with these bytes.
-abbrev pub lent : List ℕ → RefT (List ℕ)
-lent bytes = record { ptr = (0, 0); name = 0; now = bytes }
 
 -- ---- one call that takes all
 

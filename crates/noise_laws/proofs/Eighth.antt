@@ -13,11 +13,12 @@ use Rattle.words.specs.Answer.{pick}
 use Rattle.words.proofs.Ranges.{both, both-left, both-right, upto, below}
 use Rattle.balise_line.specs.Line.{unequal, sum}
 use Rattle.balise_line.proofs.Sums.{sum-ext, sum-split, unequal-same, unequal-none, notAt}
+use Rattle.contact_laws.proofs.Fair.{all-upto}
 use Rattle.noise_laws.specs.Reading.{allowed}
 use Rattle.noise_laws.proofs.Every.{every, listOf, of-every, at-list}
 use Rattle.noise_laws.proofs.Rounds.{spelt-alike}
 use Rattle.noise_laws.proofs.Tests.{spelt, isShort, zs, bitsOf}
-use Rattle.noise_laws.proofs.Overlap.{then-so, all-upto}
+use Rattle.noise_laws.proofs.Overlap.{then-so}
 
 -- The one sync word is w, the other differs from it in every bit but e.
 abbrev otherBit : ℕ → (ℕ → ℕ) → ℕ → ℕ

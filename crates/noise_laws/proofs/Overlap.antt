@@ -1,7 +1,7 @@
 -- Two places alike that overlap, d bits apart, up to fourteen: too many of the last d + 1 bits are
 -- zeroes, or all between the outer sync words is zeroes.
 -- Assumes nothing.
-use Prim.Native.Nat.{ℕ, zero, suc, _+_, _-_, _%_, _≤_, _<_}
+use Prim.Native.Nat.{ℕ, suc, _+_, _-_, _%_, _≤_, _<_}
 use mathlib.Core.Path.{_≡_, refl, sym, ap, ap₂, _∙_, subst}
 use mathlib.Core.Bool.{Bool, true, false}
 use mathlib.Core.List.{List}
@@ -10,7 +10,7 @@ use native.Mathlib.Omega.{arith}
 use lib.Dec.{T, eqb, eqb→eq, leb, leb→le, ltb}
 use borrow.Author.Tests.{eq-eqb, ltb-true, ltb-false}
 use Rattle.words.specs.Answer.{pick}
-use Rattle.words.proofs.Ranges.{both, both-left, both-right, upto}
+use Rattle.words.proofs.Ranges.{both, both-left, both-right}
 use Rattle.balise_line.specs.Line.{unequal, sum}
 use Rattle.balise_line.proofs.Sums.{sum-ext, notAt}
 use Rattle.noise_laws.proofs.Every.{every, listOf, of-every, at-list}
@@ -20,10 +20,6 @@ use Rattle.noise_laws.proofs.Tests.{spelt, isShort, round, zs, outer, s
 -- A test under a condition that holds.
 pub then-so : (t x : Bool) → T (pick t x true) → t ≡ true → T x
 then-so t x ok is = subst (λ (t : Bool). T (pick t x true)) is ok
-
-pub all-upto : (test : ℕ → Bool) (n : ℕ) → ((i : ℕ) → i < n → test i ≡ true) → upto test n ≡ true
-all-upto test zero all = refl
-all-upto test (suc n) all = ap₂ both (all n (omega arith)) (all-upto test n (λ i l. all i (omega arith)))
 
 -- The fewest zeroes of a short word that is not that of 15: four.
 fourZeroes : List ℕ → Bool

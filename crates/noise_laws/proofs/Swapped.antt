@@ -14,10 +14,11 @@ use Rattle.words.specs.Answer.{pick}
 use Rattle.words.proofs.Ranges.{upto}
 use Rattle.balise_line.specs.Line.{unequal, sum}
 use Rattle.balise_line.proofs.Sums.{sum-ext, sum-le, sum-both, sum-split, sum-part, sum-none, unequal-same, unequal-none, unequal-lt, notAt}
+use Rattle.contact_laws.proofs.Fair.{all-upto}
 use Rattle.noise_laws.proofs.Every.{every, listOf, of-every, at-list}
 use Rattle.noise_laws.proofs.Rounds.{repeats, spelt-alike}
 use Rattle.noise_laws.proofs.Tests.{spelt, isShort, round, zs, outer, longTest, longAll, bitsOf, joined, long-tested}
-use Rattle.noise_laws.proofs.Overlap.{then-so, all-upto, zs-alike, Comes, many, eighth, nothing}
+use Rattle.noise_laws.proofs.Overlap.{then-so, zs-alike, Comes, many, eighth, nothing}
 use Rattle.noise_laws.proofs.SwappedShort.{swapped-short}
 
 module _ (r : ℕ → ℕ) (bits : (i : ℕ) → r i < 2) (d : ℕ) (pos : 0 < d) (x-short : isShort (spelt r 8 8) ≡ true)

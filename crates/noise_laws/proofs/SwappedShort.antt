@@ -12,10 +12,10 @@ use Rattle.words.specs.Answer.{pick}
 use Rattle.words.proofs.Ranges.{both, upto}
 use Rattle.balise_line.specs.Line.{unequal}
 use Rattle.balise_line.proofs.Sums.{unequal-sym, unequal-none, unequal-lt, notAt}
+use Rattle.contact_laws.proofs.Fair.{all-upto}
 use Rattle.noise_laws.proofs.Every.{listOf, of-every, at-list}
 use Rattle.noise_laws.proofs.Rounds.{repeats}
 use Rattle.noise_laws.proofs.Tests.{round, second, swappedTest, bitsOf, swapped-tested}
-use Rattle.noise_laws.proofs.Overlap.{all-upto}
 
 module _ (r : ℕ → ℕ) (bits : (i : ℕ) → r i < 2) (d : ℕ) (pos : 0 < d) (e : ℕ) (differ : (i : ℕ) → i < 8 → unequal (r i) (r (32 + i)) ≡ notAt e i) where
   -- The bits from bit 8 on repeat, the word d bits on from the first is the second, and the last is

@@ -8,7 +8,7 @@ use mathlib.Core.List.{List}
 use native.Mathlib.Nat.{pow-suc, zero-lt-suc}
 use native.Mathlib.Omega.{arith}
 use lib.Dec.{T, eqb}
-use Rattle.words.specs.Answer.{Answer, gives, refuses, then, pick}
+use Rattle.words.specs.Answer.{Answer, gives, then, pick}
 use Rattle.words.specs.Why.{Why}
 use Rattle.words.specs.Bits.{word}
 use Rattle.words.specs.Plain.{isCode, even, count, covers, figure, onwards, isCheck}
@@ -19,11 +19,8 @@ use Rattle.telegram.specs.Telegram.{Received, named, telegram, shortWord, longW
 use Rattle.telegram.specs.declared.Telegram.{Telegram}
 use Rattle.telegram.specs.declared.Word.{Word}
 use Rattle.balise_line.proofs.Telegrams.{onward}
+use Rattle.contact_laws.proofs.Sound.{isRead}
 use Rattle.noise_laws.proofs.Tests.{spelt, isShort}
-
-abbrev isRead : Answer Why ℕ → Bool
-isRead (gives a) = true
-isRead (refuses n) = false
 
 shortRead : ℕ → Bool
 shortRead x = pick (isRead (shortWord x)) (isShort x) true

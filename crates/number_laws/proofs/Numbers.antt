@@ -5,7 +5,6 @@ use Prim.Native.Nat.{ℕ}
 use mathlib.Core.Path.{_≡_, refl, subst}
 use mathlib.Core.Bool.{Bool, true, false, not}
 use mathlib.Core.List.{[], _∷_}
-use lib.Dec.{eqb}
 use Rattle.words.specs.Answer.{Outcome, gives, refuses, then, pick}
 use Rattle.words.specs.Why.{notCodeWord}
 use Rattle.words.specs.Plain.{figure}
@@ -18,7 +17,7 @@ use Rattle.telegram.specs.Spelling.{asked, tooLarge, hasFifteen, wordsOf, spell
 use Rattle.words_list.proofs.Alike.{printed}
 use Rattle.audibility.specs.Sound.{Heard, audible, broken, isBroken, sending, soundWith, soundOf}
 use Rattle.audibility.specs.Says.{saysSound}
-use Rattle.audibility.specs.declared.Sound.{Sound}
+use Rattle.audibility.proofs.Determined.{soundFrom, sound-back}
 use Rattle.demands.specs.Rules.{rowOf, row, Decided, Given, Is}
 use Rattle.demands.specs.Table.{notCode, notSeven}
 use Rattle.demands.specs.Table02.{someAbove, someFifteen}
@@ -57,19 +56,6 @@ module _ (x y z s t : ℕ) where
       (if-so Given (row 4 (not (isGood s t)) ∷ []) (refuses 3) (tests false false (isGood s t))
       (if-not Given [] (refuses 4) (gives heard) (given heard) (isGood s t))
       (hasFifteen (asked x y z))) (tooLarge (asked x y z)))
-
--- From what an answer says, the answer.
-abbrev soundFrom : Outcome Heard → Sound
-soundFrom (gives audible) = Sound.Audible
-soundFrom (gives broken) = Sound.Broken
-soundFrom (refuses n) = pick (eqb n 2) Sound.TooLarge (pick (eqb n 3) Sound.Fifteen Sound.NotSeven)
-
-sound-back : (r : Sound) → soundFrom (saysSound r) ≡ r
-sound-back Sound.Audible = refl
-sound-back Sound.Broken = refl
-sound-back Sound.TooLarge = refl
-sound-back Sound.Fifteen = refl
-sound-back Sound.NotSeven = refl
 
 pub numbers-decided : NumbersDecided
 numbers-decided = record {

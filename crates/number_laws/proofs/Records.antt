@@ -12,10 +12,8 @@ use Rattle.words.proofs.Told.{told as once}
 use Rattle.words.proofs.Never.{cannot-be}
 use Rattle.telegram.specs.declared.Telegram.{Telegram}
 use Rattle.contact.specs.declared.Judged.{Judged}
-use Rattle.contact.proofs.Determined.{judgedOf, judged-back}
-use Rattle.antenna.specs.declared.Until.{Until}
-use Rattle.antenna.specs.Piece.{First, openedAt, closedAt, usedUp}
 use Rattle.antenna.specs.Says.{saysUntil}
+use Rattle.antenna.proofs.Determined.{untilOf, until-back}
 use Rattle.telegram.specs.Spelling.{asked, tooLarge, hasFifteen, wordsOf, spell}
 use Rattle.recorder.specs.Record.{Content, Made, made, Recording, informed, bytesOf, contentOf, atOdometer, recordOf, recording, eightZeroes}
 use Rattle.recorder.specs.Says.{saysWent}
@@ -110,19 +108,6 @@ record-so odometer Judged.Beyond =
 zeroes : (o : Outcome (List ℕ)) (n : ℕ) → recording o .answer ≡ refuses n → recording o .bytes ≡ eightZeroes
 zeroes (gives bytes) n e = cannot-be cc
 zeroes (refuses m) n e = refl
-
--- From what an answer of `hear_piece` says, the answer.
-abbrev untilOf : Outcome First → Until
-untilOf (gives (openedAt ear at)) = Until.Opened ear at
-untilOf (gives (closedAt ear at length judgement)) = Until.Closed ear at length (judgedOf judgement)
-untilOf (gives (usedUp ear)) = Until.Over ear
-untilOf (refuses n) = Until.Beyond
-
-until-back : (r : Until) → untilOf (saysUntil r) ≡ r
-until-back (Until.Opened ear at) = refl
-until-back (Until.Closed ear at length judged) = ap (Until.Closed ear at length) (judged-back judged)
-until-back (Until.Over ear) = refl
-until-back Until.Beyond = refl
 
 pub records-decided : RecordsDecided
 records-decided = record {

@@ -10,12 +10,12 @@ use Rattle.words.proofs.Never.{cannot-be}
 use Rattle.telegram.specs.Stretch.{bitAt, inside}
 use Rattle.telegram.proofs.Taken.{taken}
 use Rattle.contact.specs.History.{sixteenOnes}
-use Rattle.contact.specs.Contacts.{Contacts, refused, outside, contacts, contactsFrom, fromStart, begin}
+use Rattle.contact.specs.Contacts.{Contacts, outside, contacts, fromStart, begin}
 use Rattle.contact.specs.Judge.{Contact, judge}
 use Rattle.contact.specs.Says.{saysJudged}
 use Rattle.contact.specs.declared.Search.{Search}
 use Rattle.contact_laws.specs.Calls.{Listened}
-use Rattle.contact.proofs.Calls.{called-from-begin}
+use Rattle.contact_laws.proofs.Over.{listened, from-taken}
 use Rattle.antenna.specs.declared.Ear.{Ear}
 use Rattle.antenna.specs.Hearing as hearing
 use Rattle.antenna.specs.Line.{Told, told, heard, after, judgedAll, cut, isInside}
@@ -66,17 +66,13 @@ is-taken b from to w l =
     let same : begin (k .given .0 .now) (k .given .1 .0) (k .given .1 .1 .0) ≡ begin b from (to - from) = simp (k .buffer, k .first, k .bits) in
     taken-then b from (to - from) (l .search) (sym same ∙ sym (k .kept))
 
-from-taken : (b : List ℕ) (start len : ℕ) → inside b start len ≡ true → contactsFrom b (fromStart start len) ≡ contacts b outside sixteenOnes start len
-unfolding contactsFrom fromStart
-from-taken b start len e = ap (λ (x : Bool). pick x (contacts b outside sixteenOnes start len) (refused 5)) e
-
 -- The contacts that the calls hand out of a buffer's first bits are those of document 01.
 pub contacts-are : (b : List ℕ) (n : ℕ) (w : Contacts) → Listened b 0 n w → w ≡ contacts b outside sixteenOnes 0 n
 contacts-are b n w l =
     let whole : n - 0 ≡ n = omega arith in
-    called-from-begin b 0 (n - 0) (l .search) w (l .begins) (l .comes) ∙ from-taken b 0 (n - 0) (is-taken b 0 n w l) ∙ ap (contacts b outside sixteenOnes 0) whole
+    listened b 0 n w l ∙ from-taken b 0 n (is-taken b 0 n w l) ∙ ap (contacts b outside sixteenOnes 0) whole
 
-small-enough : (b : List ℕ) (n : ℕ) → inside b 0 (n - 0) ≡ true → n < 2 ^ 64
+pub small-enough : (b : List ℕ) (n : ℕ) → inside b 0 (n - 0) ≡ true → n < 2 ^ 64
 small-enough b n e = omega (arith, taken b 0 (n - 0) e)
 
 pub as-in-one-buffer : AsInOneBuffer

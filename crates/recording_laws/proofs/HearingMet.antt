@@ -57,10 +57,12 @@ inside-it latest n =
       stand = Stand.Inside (record { s = 0x72; t = 0x0d; length = n; forty = 0; ones = 0; plain = true; places = Places.NoPlace });
     }
 
-abbrev outside-it : ℕ → Ear
+-- The ear outside a contact.
+abbrev pub outside-it : ℕ → Ear
 outside-it latest = record { history = latest; stand = Stand.Outside }
 
-begins : FreshEar (outside-it 65535)
+-- A fresh ear heard ones.
+pub begins : FreshEar (outside-it 65535)
 unfolding hearing.fresh
 begins = (tt, refl)
 

@@ -4,6 +4,6 @@ pub mod Recorded
 pub mod Says
 pub mod Row
 pub mod Demand1
-mod HearingMet
-mod RecordedMet
+pub mod HearingMet
+pub mod RecordedMet
 mod RowMet

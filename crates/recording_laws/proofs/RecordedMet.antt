@@ -5,7 +5,6 @@ use Prim.Native.Nat.{ℕ}
 use mathlib.Core.Path.{refl}
 use mathlib.Core.Bool.{true}
 use mathlib.Core.List.{List, [], _∷_}
-use denote.Ref.{RefT}
 use Rattle.telegram.specs.Sync.{differing, isGood, goodPair}
 use Rattle.telegram.specs.Place.{areSyncs}
 use Rattle.settings.specs.declared.Store.{Store}
@@ -30,27 +29,25 @@ use Rattle.recording.specs.declared.Taken.{Taken}
 use Rattle.recording.specs.Frame.{lineOf, odometerOf, acceptedAfter}
 use Rattle.recording.specs.Recording.{fresh, heldAt}
 use Rattle.recording.specs.Asking.{firstIn, firstOf, goOn, finish}
+use Rattle.demands.proofs.Witness.CallsMet.{lent}
 use Rattle.recording_laws.specs.Calls.{FreshTape, GoOn, EndOf}
 use Rattle.recording_laws.specs.Recorded.{came, used, none, piece, no-more, WholeFrames, Recorded}
+use Rattle.recording_laws.proofs.HearingMet.{outside-it}
 
 -- The settings 40, 72 and 0D hex.
-abbrev store : Store
+abbrev pub store : Store
 store = begin 40 0x72 0x0d .store
 
 -- 96 zeroes at odometer 5, 96 ones at 30.
 abbrev frame : ℕ → ℕ → List ℕ
 frame odometer a = 0 ∷ 0 ∷ 0 ∷ odometer ∷ a ∷ a ∷ a ∷ a ∷ a ∷ a ∷ a ∷ a ∷ a ∷ a ∷ a ∷ a ∷ []
 
-abbrev lent : List ℕ → RefT (List ℕ)
-lent bytes = record { ptr = (0, 0); name = 0; now = bytes }
-
-abbrev tape : Ear → ℕ → ℕ → Last → Tape
+-- A tape with these fields.
+abbrev pub tape : Ear → ℕ → ℕ → Last → Tape
 tape ear odometer opened last = record { ear = ear; odometer = odometer; opened = opened; last = last }
 
-abbrev outside-it : ℕ → Ear
-outside-it latest = record { history = latest; stand = Stand.Outside }
-
-abbrev at-first : Tape
+-- The fresh tape.
+abbrev pub at-first : Tape
 at-first = tape (outside-it 65535) 0 0 Last.Never
 
 -- Inside the contact, which has the bits of the first frame from its eighth on.
@@ -70,13 +67,16 @@ of-marker = 0 ∷ 0 ∷ 0 ∷ 5 ∷ 1 ∷ 0 ∷ 0 ∷ 0 ∷ []
 abbrev of-position : List ℕ
 of-position = 0 ∷ 0 ∷ 0 ∷ 30 ∷ 3 ∷ 0 ∷ 0 ∷ 0 ∷ []
 
-abbrev no-bytes : List ℕ
+-- The bytes where no record comes.
+abbrev pub no-bytes : List ℕ
 no-bytes = 0 ∷ 0 ∷ 0 ∷ 0 ∷ 0 ∷ 0 ∷ 0 ∷ 0 ∷ []
 
-abbrev answer : Tape → ℕ → ℕ → Came → List ℕ → Taken
+-- An answer with these fields.
+abbrev pub answer : Tape → ℕ → ℕ → Came → List ℕ → Taken
 answer next k i how bytes = record { tape = next; frame = k; bit = i; came = how; bytes = bytes }
 
-begins : FreshTape at-first
+-- A recording begins with it.
+pub begins : FreshTape at-first
 unfolding fresh hearing.fresh
 begins = (tt, refl)
 

@@ -18,7 +18,6 @@ use Rattle.telegram.specs.Telegram.{shortWord, longWord, telegram}
 use Rattle.telegram.specs.Place.{areSyncs, wordsAt, isPlace}
 use Rattle.telegram.specs.declared.Telegram.{Telegram}
 use Rattle.balise_line.specs.Line.{OneBalise, sentBit, lineBit}
-use Rattle.settings.specs.declared.Store.{Store}
 use Rattle.settings.specs.declared.Held.{Held}
 use Rattle.settings.specs.Versions.{settingsOf, follows}
 use Rattle.settings.specs.Store as stores
@@ -36,11 +35,9 @@ use Rattle.recording.specs.Contacts.{inForce, sIn, tIn, bitsOf}
 use Rattle.recording.specs.Document.{linesOf, wholeLine}
 use Rattle.recording.proofs.Document.{never-high}
 use Rattle.recording_laws.specs.Row.{PairsInForce}
+use Rattle.recording_laws.proofs.RecordedMet.{store}
 
--- The settings 40, 72 and 0D hex: one version, whose pair is in force everywhere.
-abbrev store : Store
-store = begin 40 0x72 0x0d .store
-
+-- The pair of the one version is in force everywhere.
 pair-there : (odometer : ℕ) → odometer ≤ 4000000000 → (heldAt store odometer .s ≡ 0x72) × (heldAt store odometer .t ≡ 0x0d)
 unfolding heldAt hold asked stores.judged inOrder allFollow versionsOf opened begin noStore settingsOf follows goodPair isGood differing heldFrom at.heldAt
 pair-there odometer high =

@@ -1,4 +1,5 @@
--- The store of a text that is fine is good: every line that is taken leaves a good store, or none.
+-- The store of a text that is fine is good, and of one that is not fine there is none: every line
+-- that is taken leaves a good store, or none.
 -- Assumes nothing.
 use mathlib.Core.Path.{_≡_, refl, _∙_}
 use mathlib.Core.Bool.{Bool, true, false}
@@ -120,3 +121,30 @@ long-by false s next f = not-fine Condition.TooLong refl f
 pub fine-is-good : (text : List ℕ) → sheet text .how ≡ Condition.Fine → judged (sheet text .store) ≡ gives kept
 unfolding sheet
 fine-is-good text f = long-by (leb (length text) longest) (linesFrom noStore 1 (linesIn text)) (lines-good (linesIn text) noStore 1 none-yet) f
+
+-- A text that is not fine has no store: it is nothing but what is wrong with it.
+abbrev pub Bad : Sheet → Type 0
+Bad s = isFine (s .how) ≡ false → s ≡ bad (s .line) (s .how)
+
+bad-is : (n : ℕ) (how : Condition) → Bad (bad n how)
+unfolding bad
+bad-is n how e = refl
+
+line-bad : (b : Bool) (how : Condition) (n : ℕ) (rest : Sheet) → Bad rest → Bad (pick b rest (bad n how))
+line-bad true how n rest next = next
+line-bad false how n rest next = bad-is n how
+
+end-bad : (b : Bool) (store : Store) → Bad (pick b (bad 0 (Condition.Refused 19)) (record { store = store; line = 0; how = Condition.Fine }))
+end-bad true store = bad-is 0 (Condition.Refused 19)
+end-bad false store = λ e. cannot-be cc
+
+lines-bad : (ls : List (List ℕ)) (store : Store) (n : ℕ) → Bad (linesFrom store n ls)
+unfolding linesFrom ended
+lines-bad [] store n = end-bad (eqb (store .count) 0) store
+lines-bad (line ∷ ls) store n =
+    let t : Taken = takeLine store (lineOf line) in
+    line-bad (isFine (t .how)) (t .how) n (linesFrom (t .store) (n + 1) ls) (lines-bad ls (t .store) (n + 1))
+
+pub sheet-bad : (text : List ℕ) → Bad (sheet text)
+unfolding sheet
+sheet-bad text = line-bad (leb (length text) longest) Condition.TooLong 0 (linesFrom noStore 1 (linesIn text)) (lines-bad (linesIn text) noStore 1)

@@ -1,26 +1,22 @@
 -- What is not fine leaves the store as it was, and a text none.
 -- Assumes nothing.
-use Prim.Native.Nat.{ℕ, _+_}
 use mathlib.Core.Path.{_≡_, refl, sym, ap, subst, _∙_}
 use mathlib.Core.Bool.{Bool, true, false}
-use mathlib.Core.List.{List, [], _∷_}
-use lib.Dec.{eqb, leb}
-use lib.ListN.{length}
+use lib.Dec.{eqb}
 use Rattle.words.specs.Answer.{Answer, Outcome, gives, refuses, pick}
 use Rattle.words.proofs.Never.{cannot-be}
 use Rattle.settings.specs.declared.Version.{Version}
 use Rattle.settings.specs.declared.Store.{Store}
 use Rattle.settings.specs.Versions.{Kept}
-use Rattle.settings.specs.Store.{noStore, Change, begin, add}
-use Rattle.lines.specs.Text.{linesIn}
-use Rattle.lines.specs.Words.{lineOf}
+use Rattle.settings.specs.Store.{Change, begin, add}
 use Rattle.settings_text.specs.declared.line.Stated.{Stated}
 use Rattle.settings_text.specs.declared.Condition.{Condition}
 use Rattle.settings_text.specs.declared.Taken.{Taken}
 use Rattle.settings_text.specs.declared.Sheet.{Sheet}
 use Rattle.settings_text.specs.Line.{stated}
 use Rattle.settings_text.specs.Taking.{afterIt, changed, given, statedTo, takeLine}
-use Rattle.settings_text.specs.Sheet.{isFine, bad, ended, linesFrom, longest, sheet}
+use Rattle.settings_text.specs.Sheet.{isFine, bad}
+use Rattle.settings_text.proofs.Good.{Bad, sheet-bad}
 use Rattle.demands.proofs.Common.Rules.{true-not-false}
 use Rattle.settings_text_laws.specs.Demand1.{Fault, fault, Untouched}
 use Rattle.settings_text_laws.proofs.Text.{read-is}
@@ -42,33 +38,6 @@ stated-leaves store Stated.Nothing e = refl
 stated-leaves store (Stated.Version place gap s t) e =
     given-by (eqb (store .count) 0) (eqb place 0) store (begin gap s t) (add store (record { place = place; gap = gap; s = s; t = t })) e
 stated-leaves store Stated.Unreadable e = refl
-
--- A text that is not fine is nothing but what is wrong with it.
-abbrev Bad : Sheet → Type 0
-Bad s = isFine (s .how) ≡ false → s ≡ bad (s .line) (s .how)
-
-bad-is : (n : ℕ) (how : Condition) → Bad (bad n how)
-unfolding bad
-bad-is n how e = refl
-
-line-bad : (b : Bool) (how : Condition) (n : ℕ) (rest : Sheet) → Bad rest → Bad (pick b rest (bad n how))
-line-bad true how n rest next = next
-line-bad false how n rest next = bad-is n how
-
-end-bad : (b : Bool) (store : Store) → Bad (pick b (bad 0 (Condition.Refused 19)) (record { store = store; line = 0; how = Condition.Fine }))
-end-bad true store = bad-is 0 (Condition.Refused 19)
-end-bad false store = λ e. absurd (true-not-false e)
-
-lines-bad : (ls : List (List ℕ)) (store : Store) (n : ℕ) → Bad (linesFrom store n ls)
-unfolding linesFrom ended
-lines-bad [] store n = end-bad (eqb (store .count) 0) store
-lines-bad (line ∷ ls) store n =
-    let t : Taken = takeLine store (lineOf line) in
-    line-bad (isFine (t .how)) (t .how) n (linesFrom (t .store) (n + 1) ls) (lines-bad ls (t .store) (n + 1))
-
-sheet-bad : (text : List ℕ) → Bad (sheet text)
-unfolding sheet
-sheet-bad text = line-bad (leb (length text) longest) Condition.TooLong 0 (linesFrom noStore 1 (linesIn text)) (lines-bad (linesIn text) noStore 1)
 
 refused-by : (b : Bool) (s : Sheet) (f : Fault) → isFine (s .how) ≡ b → Bad s
     → pick {A = Answer Fault Store} b (gives (s .store)) (refuses (fault (s .line) (s .how))) ≡ refuses f → s ≡ bad (f .line) (f .how)

@@ -1,15 +1,14 @@
 -- The figures are judged as the table says, and a line as the way does, test after test.
 -- Assumes nothing.
 use mathlib.Core.Path.{_≡_, refl, sym, ap, subst, _∙_}
-use mathlib.Core.Bool.{Bool, true, false, _&&_, _||_}
+use mathlib.Core.Bool.{Bool, true, false, _&&_}
 use mathlib.Core.List.{List, [], _∷_}
 use Prim.Native.Nat.{ℕ}
-use lib.Dec.{eqb, ltb}
+use lib.Dec.{ltb}
 use Rattle.words.specs.Answer.{Answer, Outcome, gives, refuses, then, pick}
 use Rattle.words.proofs.Told.{told}
 use Rattle.words.proofs.Never.{cannot-be}
-use Rattle.telegram.specs.declared.Telegram.{Telegram}
-use Rattle.telegram.specs.Spelling.{Words, asked, tooLarge, hasFifteen, wordsOf, spell}
+use Rattle.telegram.specs.Spelling.{Words, asked, hasFifteen, wordsOf, spell}
 use Rattle.telegram.specs.Says.{saysSpelt}
 use Rattle.telegram.proofs.Determined.{speltOf, spelt-back}
 use Rattle.trace_text.specs.declared.What.{What}
@@ -17,31 +16,14 @@ use Rattle.trace_text.specs.Record.{Recording, recording, recordOf, bytesOf}
 use Rattle.trace_text.specs.Record as recorded
 use Rattle.track_lead.specs.declared.Thing.{Thing}
 use Rattle.track_lead.specs.declared.Way.{Way}
-use Rattle.track_lead.specs.declared.Taken.{Taken}
 use Rattle.track_lead.specs.Way.{Bad, refused, tooNear, isSent, isNear, after, take}
 use Rattle.track_lead.specs.Says.{saysTaken}
+use Rattle.track_lead.proofs.Determined.{takenOf, taken-back}
 use Rattle.demands.specs.Rules.{rowOf, row, Decided, Given}
-use Rattle.demands.specs.Table.{above}
 use Rattle.demands.specs.Table02.{someAbove, someFifteen, tooHigh}
 use Rattle.demands.proofs.Common.Rules.{if-so}
+use Rattle.demands.proofs.Demand1.Writes.{above-is, fifteen-is}
 use Rattle.track_laws.specs.Demand1.{figureRules, whatRules, takeRules, Demand1, Untouched}
-
--- The conditions are those by which the figures are judged.
-above-is : (x y z : ℕ) → someAbove x y z ≡ tooLarge (asked x y z)
-unfolding someAbove above asked tooLarge
-above-is x y z = go (eqb x 12)
-  where
-    go : (t : Bool) → pick t (ltb 2047 y) (ltb 15 x || ltb 15 y || ltb 15 z) ≡ tooLarge (pick t (Telegram.Number y) (Telegram.Figures x y z))
-    go true = refl
-    go false = refl
-
-fifteen-is : (x y z : ℕ) → someFifteen x y z ≡ hasFifteen (asked x y z)
-unfolding someFifteen asked hasFifteen
-fifteen-is x y z = go (eqb x 12)
-  where
-    go : (t : Bool) → pick t false (eqb x 15 || eqb y 15 || eqb z 15) ≡ hasFifteen (pick t (Telegram.Number y) (Telegram.Figures x y z))
-    go true = refl
-    go false = refl
 
 by-figures : {A : Type 0} (x y z : ℕ) (given : A) → Decided {A = Outcome A} Given (figureRules x y z) (pick (someAbove x y z) (refuses 2) (pick (someFifteen x y z) (refuses 3) (gives given)))
 by-figures x y z given =
@@ -93,20 +75,6 @@ demand1 =
     }
 
 -- ---- a refusal hands out nothing
-
-abbrev takenBad : Bad → Taken
-takenBad (refused n) = pick (eqb n 18) Taken.TooHigh Taken.Lower
-takenBad tooNear = Taken.TooNear
-
-abbrev takenOf : Answer Bad Way → Taken
-takenOf (gives way) = Taken.On way
-takenOf (refuses bad) = takenBad bad
-
-taken-back : (r : Taken) → takenOf (saysTaken r) ≡ r
-taken-back (Taken.On way) = refl
-taken-back Taken.TooHigh = refl
-taken-back Taken.Lower = refl
-taken-back Taken.TooNear = refl
 
 no-bytes : (o : Outcome (List ℕ)) (n : ℕ) → recording o .answer ≡ refuses n → recording o .bytes ≡ recorded.eightZeroes
 no-bytes (gives bytes) n e = cannot-be cc

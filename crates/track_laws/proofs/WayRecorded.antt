@@ -14,51 +14,34 @@ use Rattle.settings.specs.At as at
 use Rattle.settings.specs.At.{heldFrom, asked, hold}
 use Rattle.contact.specs.History as history
 use Rattle.contact.specs.History.{zeroesOf, zeroes, opens, closes}
-use Rattle.antenna.specs.declared.Stand.{Stand}
 use Rattle.antenna.specs.Places.{more, placesAfter}
 use Rattle.antenna.specs.Sound.{begun, withBit, markerOr, judged}
-use Rattle.antenna.specs.Hearing as hearing
 use Rattle.antenna.specs.Hearing.{hear}
 use Rattle.recording.specs.declared.Last.{Last}
 use Rattle.recording.specs.declared.Tape.{Tape}
 use Rattle.recording.specs.declared.Came.{Came}
-use Rattle.recording.specs.declared.Taken.{Taken}
 use Rattle.recording.specs.Frame.{lineOf, odometerOf, acceptedAfter}
 use Rattle.recording.specs.Recording.{fresh, heldAt}
 use Rattle.recording.specs.Asking.{firstIn, firstOf, goOn, finish}
 use Rattle.recording.specs.Contacts.{withoutPositions}
-use Rattle.recording_laws.specs.Calls.{FreshTape, GoOn, EndOf}
+use Rattle.recording_laws.specs.Calls.{GoOn, EndOf}
 use Rattle.recording_laws.specs.Recorded.{came, used, none, piece, no-more, Recorded}
+use Rattle.recording_laws.proofs.HearingMet.{outside-it}
+use Rattle.recording_laws.proofs.RecordedMet.{tape, at-first, no-bytes, answer, begins}
 use Rattle.trace_text_laws.specs.Texts.{made}
 use Rattle.track_laws.proofs.TextMet.{store, pair, throughout}
 use Rattle.trace_text_laws.proofs.OneLine.{lent}
 use Rattle.track_laws.proofs.WayMet.{lead, marker, tracked-met, sure-met, taken-met}
 use Rattle.track_laws.proofs.ByCalls.{the-whole-way}
 
-abbrev tape : ℕ → ℕ → Last → Tape
-tape latest odometer last = record { ear = record { history = latest; stand = Stand.Outside }; odometer = odometer; opened = 0; last = last }
-
-abbrev no-bytes : List ℕ
-no-bytes = 0 ∷ 0 ∷ 0 ∷ 0 ∷ 0 ∷ 0 ∷ 0 ∷ 0 ∷ []
-
 abbrev position : List ℕ
 position = 0 ∷ 0 ∷ 0 ∷ 10 ∷ 3 ∷ 0 ∷ 0 ∷ 0 ∷ []
 
-abbrev at-first : Tape
-at-first = tape 65535 0 Last.Never
-
 abbrev closed : Tape
-closed = tape 4095 1 (Last.At 0)
+closed = tape (outside-it 4095) 1 0 (Last.At 0)
 
 abbrev at-end : Tape
-at-end = tape 65535 10 (Last.At 10)
-
-abbrev answer : Tape → ℕ → ℕ → Came → List ℕ → Taken
-answer next k i how bytes = record { tape = next; frame = k; bit = i; came = how; bytes = bytes }
-
-begins : FreshTape at-first
-unfolding fresh hearing.fresh
-begins = (tt, refl)
+at-end = tape (outside-it 65535) 10 0 (Last.At 10)
 
 marker-comes : GoOn at-first store lead 0 0 (answer closed 1 12 Came.Record marker)
 unfolding goOn firstOf firstIn heldAt hold asked stores.judged inOrder allFollow versionsOf opened begin noStore settingsOf follows goodPair isGood differing heldFrom at.heldAt hear history.after zeroesOf zeroes opens closes lineOf odometerOf acceptedAfter begun withBit more placesAfter markerOr judged areSyncs

@@ -30,15 +30,15 @@ pub fresh-determined : Fixed 0 fresh-kinds.ps fresh-kinds.r fresh-reads.Post
 fresh-determined κs a x y at-x at-y p q = p ∙ sym q
 
 -- From what an answer says, the answer.
-abbrev takenBad : Bad → Taken
+abbrev pub takenBad : Bad → Taken
 takenBad (refused n) = pick (eqb n 18) Taken.TooHigh Taken.Lower
 takenBad tooNear = Taken.TooNear
 
-abbrev takenOf : Answer Bad Way → Taken
+abbrev pub takenOf : Answer Bad Way → Taken
 takenOf (gives way) = Taken.On way
 takenOf (refuses bad) = takenBad bad
 
-taken-back : (r : Taken) → takenOf (saysTaken r) ≡ r
+pub taken-back : (r : Taken) → takenOf (saysTaken r) ≡ r
 taken-back (Taken.On way) = refl
 taken-back Taken.TooHigh = refl
 taken-back Taken.Lower = refl

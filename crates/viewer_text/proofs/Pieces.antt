@@ -3,7 +3,7 @@
 use mathlib.Core.Path.{_≡_, refl, sym, ap, _∙_}
 use mathlib.Core.Bool.{Bool, true, false}
 use mathlib.Core.List.{List, _++_, append-assoc}
-use Prim.Native.Nat.{ℕ, _+_, _≤_}
+use Prim.Native.Nat.{ℕ, _≤_}
 use native.Mathlib.Omega.{arith}
 use lib.ListN.{length, length-append}
 use Rattle.words.specs.Answer.{pick}
@@ -105,7 +105,3 @@ pub state-length : (number count kept : ℕ) (ride : Ride) → length (state num
 unfolding state
 state-length number count kept ride =
     simp length-append (omega (arith, place-length number count kept (ride .odometer), group-length (ride .group), linking-length (ride .known .linking), speeds-length (ride .known)))
-
--- The same text in other words has the same room.
-pub room-as : {t u : List ℕ} (b : List ℕ) (at : ℕ) → t ≡ u → at + length u ≤ length b → at + length t ≤ length b
-room-as b at e h = rw e h

@@ -9,7 +9,7 @@ use mathlib.Core.Bool.{not}
 use mathlib.Core.List.{List, [], _∷_, _++_, append-assoc}
 use lib.Dec.{eqb}
 use lib.ListN.{length, length-append}
-use borrow.Author.Tests.{eq-eqb, eqb-true}
+use borrow.Author.Tests.{eq-eqb, eqb-true, not-false}
 use Rattle.words.specs.Answer.{Outcome, gives, refuses}
 use Rattle.words.proofs.Told.{told}
 use Rattle.settings.specs.declared.Store.{Store}
@@ -29,7 +29,6 @@ use Rattle.demands.specs.Table.{badLength}
 use Rattle.demands.specs.Contracts.{RunOver}
 use Rattle.demands.specs.Output.{recordsIn}
 use Rattle.demands.specs.Sections.{Whole, ByStep, linesFrom, afterSteps}
-use Rattle.demands.proofs.Common.Rules.{not-false}
 use Rattle.demands.proofs.Demand2.Runs.{over, good-run, ran}
 
 -- ---- whole records

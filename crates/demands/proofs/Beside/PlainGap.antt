@@ -3,6 +3,7 @@
 -- Assumes nothing.
 use mathlib.Core.Path.{sym, _∙_}
 use mathlib.Core.List.{[], _∷_}
+use borrow.Author.Tests.{not-false}
 use denote.Ref.{now}
 use Rattle.ride.specs.Joining.{allowed}
 use Rattle.ride.specs.Over.{through}
@@ -14,7 +15,6 @@ use Rattle.viewer.specs.Says.{saysOpeningWent}
 use Rattle.demands.specs.Table.{badLength}
 use Rattle.demands.specs.Rules.{row, Given, Is}
 use Rattle.demands.specs.PlainGap.{PlainGap}
-use Rattle.demands.proofs.Common.Rules.{not-false}
 use Rattle.demands.proofs.Common.Spelled.{bad-gap}
 use Rattle.demands.proofs.Common.OneVersion.{one-good, nineteen}
 use Rattle.demands.proofs.Demand1.{demand1}

@@ -1,8 +1,8 @@
 -- Rides in sections: the laws hold, and the program's blocks, card after card, are one listing.
 -- Assumes nothing.
 use Prim.Native.Nat.{ℕ}
-use mathlib.Core.Path.{_≡_, refl, ap, ap₂, _∙_}
-use mathlib.Core.Bool.{Bool, true, false, _||_}
+use mathlib.Core.Path.{_≡_, ap, ap₂, _∙_}
+use mathlib.Core.Bool.{Bool}
 use mathlib.Core.List.{List, [], _∷_, _++_, append-nil}
 use Rattle.words.specs.Answer.{pick}
 use Rattle.ride.specs.Step.{end}
@@ -13,6 +13,7 @@ use Rattle.demands.specs.Table.{badLength}
 use Rattle.demands.specs.Output.{ridden, output}
 use Rattle.demands.specs.Sections.{outputBy, outputOf, Blocks, Sections}
 use Rattle.demands.proofs.Common.OneVersion.{forty-so}
+use Rattle.demands.proofs.Demand1.Answers.{or-false}
 use Rattle.demands.proofs.Demand2.Runs.{runs-nowhere}
 use Rattle.demands.proofs.Beside.Cards.{two-by-run, three-by-run, two-by-step, three-by-step, empty-by-step}
 use Rattle.demands.proofs.Beside.Blocks.{comes, two-by-calls, three-by-calls, empty-by-calls, goes-on-by, at-once-by, program-by}
@@ -26,10 +27,6 @@ unfolding outputBy output
 one-card-so card =
     ap₂ (λ (b : Bool) (t : List ℕ). pick b (text (Line.Trace 16)) (whole t)) (or-false (badLength card)) (append-nil card)
     ∙ ap (λ (t : List ℕ). pick (badLength card) t (whole card)) (text-one (Line.Trace 16))
-  where
-    or-false : (b : Bool) → (b || false) ≡ b
-    or-false true = refl
-    or-false false = refl
 
 blocks : Blocks
 blocks = record {

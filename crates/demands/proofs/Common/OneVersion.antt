@@ -5,6 +5,7 @@ use Prim.Native.Nat.{ℕ}
 use mathlib.Core.Path.{_≡_, refl, sym, ap, subst, _∙_}
 use mathlib.Core.Bool.{Bool, true, false, not}
 use mathlib.Core.List.{List, _∷_}
+use borrow.Author.Tests.{not-false}
 use Rattle.words.specs.Answer.{Outcome, gives, refuses, then, pick}
 use Rattle.telegram.specs.Sync.{Good, good, isGood, goodPair}
 use Rattle.settings.specs.declared.Begun.{Begun}
@@ -17,7 +18,7 @@ use Rattle.demands.specs.Table02.{startsLate, overfull}
 use Rattle.demands.specs.Rules.{Rule, row, Decided}
 use Rattle.demands.specs.Stores.{BeginStore, storeRules}
 use Rattle.demands.specs.Output.{Forty}
-use Rattle.demands.proofs.Common.Rules.{true-not-false, not-false}
+use Rattle.demands.proofs.Common.Rules.{true-not-false}
 use Rattle.demands.proofs.Common.Spelled.{bad-gap}
 
 -- ---- the store

@@ -12,14 +12,6 @@ use Rattle.words.proofs.Never.{cannot-be}
 pub true-not-false : true ≡ false → ⊥
 true-not-false e = subst T e tt
 
-pub not-false : (t : Bool) → not t ≡ false → t ≡ true
-not-false true e = refl
-not-false false e = sym e
-
-pub not-true : (t : Bool) → not t ≡ true → t ≡ false
-not-true true e = sym e
-not-true false e = refl
-
 module _ {A : Type 0} (Reading : A → Type 0) (rules : List (Rule A)) (answer o : A) (rest : Decided Reading rules o) where
   -- the test asks for the refusal
   pub if-so : (t : Bool) → Decided Reading (record { holds = t; answer = answer } ∷ rules) (pick t answer o)

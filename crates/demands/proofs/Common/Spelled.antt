@@ -14,8 +14,8 @@ use Rattle.ride.specs.Joining.{allowed}
 use Rattle.demands.specs.Table.{badRecord, badGap}
 
 -- above is not "at most"
-above : (a b : ℕ) → ltb b a ≡ not (leb a b)
-above a b = go (ltb b a) refl
+pub above-not : (a b : ℕ) → ltb b a ≡ not (leb a b)
+above-not a b = go (ltb b a) refl
   where
     go : (t : Bool) → ltb b a ≡ t → t ≡ not (leb a b)
     go true e = ap not (sym (lt-leb a b (ltb-true b a e)))
@@ -37,7 +37,7 @@ either false u = refl
 -- "gap outside 1 to 200": not a gap that is allowed.
 pub bad-gap : (gap : ℕ) → badGap gap ≡ not (allowed gap)
 unfolding badGap
-bad-gap gap = ap₂ _||_ (above 1 gap) (above gap 200) ∙ either (leb 1 gap) (leb gap 200)
+bad-gap gap = ap₂ _||_ (above-not 1 gap) (above-not gap 200) ∙ either (leb 1 gap) (leb gap 200)
 
 -- bytes 5 to 7, and the kind, by what is not so
 in-words : (a z x y w : Bool) → not a || (not z && (not x || not y || not w)) ≡ not (a && (z || (x && y && w)))
@@ -55,5 +55,5 @@ bad-record r =
     let kind = getD r 4 0 in
     let zeroes : (ltb 0 (getD r 5 0) || ltb 0 (getD r 6 0) || ltb 0 (getD r 7 0)) ≡ (not (eqb (getD r 5 0) 0) || not (eqb (getD r 6 0) 0) || not (eqb (getD r 7 0) 0))
     = ap₂ _||_ (ap₂ _||_ (some-not (getD r 5 0)) (some-not (getD r 6 0))) (some-not (getD r 7 0)) in
-    ap₂ _||_ (above kind 3) (ap₂ _&&_ (some-not kind) zeroes)
+    ap₂ _||_ (above-not kind 3) (ap₂ _&&_ (some-not kind) zeroes)
     ∙ in-words (leb kind 3) (eqb kind 0) (eqb (getD r 5 0) 0) (eqb (getD r 6 0) 0) (eqb (getD r 7 0) 0)

@@ -11,7 +11,8 @@ use Rattle.contact.specs.History.{after, opens, closes}
 use Rattle.contact.specs.Contacts.{outside, since, Contacts, contact, quiet, refused, contacts}
 use Rattle.contact.specs.declared.Search.{Search}
 use Rattle.demands.specs.Table.{some, toEight, laterToFour, cut}
-use Rattle.demands.proofs.Demand1.Shifted.{some-alike, none-some, or-none, some-first, here, further, zeroes-on, zeroes-first, toFour, later-on, later-first, eight-on, eights-on}
+use Rattle.demands.proofs.Demand1.Answers.{or-false}
+use Rattle.demands.proofs.Demand1.Shifted.{some-alike, none-some, some-first, here, further, zeroes-on, zeroes-first, toFour, later-on, later-first, eight-on, eights-on}
 
 -- Whether what comes first is a refusal.
 abbrev pub cutFirst : Contacts → Bool
@@ -99,7 +100,7 @@ outside-cut (suc n) b h i =
         ≡ (opensCut b (here b h i n) (suc n) 0 || some (λ k. opensCut b (here b h i n) (suc n) (suc k)) n)
     go on true e =
         inside-cut n b i (after h (bitAt b i)) (i + 1)
-        ∙ sym (or-none (not (some (toFour b (further b h i n)) n)))
+        ∙ sym (or-false (not (some (toFour b (further b h i n)) n)))
         ∙ sym (ap₂ (λ (x y : Bool). x || y) (first-is true e) (none-some others (opened b h i n e) n))
     go on false e =
         on

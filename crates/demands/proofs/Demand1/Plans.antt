@@ -1,14 +1,13 @@
 -- The plan's refusals are those of the list, in its order.
 -- Assumes nothing.
 use Prim.Native.Nat.{ℕ, _+_, _*_, _/_, _%_}
-use native.Mathlib.Omega.{arith}
 use mathlib.Core.Path.{_≡_, refl, sym, ap, ap₂, subst, _∙_}
 use mathlib.Core.Bool.{Bool, true, false, not, _&&_, _||_}
 use mathlib.Core.List.{List, [], _∷_, map}
-use lib.Dec.{eqb, leb, ltb}
+use lib.Dec.{eqb, leb}
 use lib.ListN.{length}
-use borrow.Author.Tests.{leb-true, leb-false, lt-ltb, le-ltb}
 use Rattle.words.specs.Answer.{Outcome, gives, refuses, pick}
+use Rattle.words.proofs.Never.{cannot-be}
 use Rattle.ride.specs.Record.{byte, blank}
 use Rattle.ride.specs.Over.{records}
 use Rattle.acceptance.specs.declared.Acceptance.{Acceptance}
@@ -17,14 +16,7 @@ use Rattle.acceptance.specs.Plan.{Good, good, Planning, placeOf, isGood, allGoo
 use Rattle.acceptance.specs.Says.{saysPlanned}
 use Rattle.demands.specs.Rules.{Decided, Is}
 use Rattle.demands.specs.Plans.{Plans, badEntry, someBad, badPlan, nearNext, someNear, planRules, PlansDecided, PlansUntouched}
-
--- A number that is not above another, and one that is.
-above-not : (a b : ℕ) → ltb b a ≡ not (leb a b)
-above-not a b = by-test (leb a b) refl
-  where
-    by-test : (t : Bool) → leb a b ≡ t → ltb b a ≡ not (leb a b)
-    by-test true e = le-ltb b a (leb-true a b e) ∙ sym (ap not e)
-    by-test false e = lt-ltb b a (leb-false a b e) ∙ sym (ap not e)
+use Rattle.demands.proofs.Common.Spelled.{above-not}
 
 not-and : (a b : Bool) → (not a || not b) ≡ not (a && b)
 not-and true b = refl
@@ -64,9 +56,6 @@ near-is tolerance (r ∷ rs) =
 
 -- ---- the list
 
-no : {A : Type 0} → _≡_ {A = ℕ} 0 1 → A
-no z = absurd (omega arith)
-
 abbrev answered : Bool → Bool → Bool → Acceptance → Planning
 answered x y z whole =
     pick x (pick y (pick z (record { answer = gives good; plan = whole }) (record { answer = refuses 27; plan = emptyPlan })) (record { answer = refuses 26; plan = emptyPlan }))
@@ -77,13 +66,13 @@ abbrev Three : Bool → Bool → Bool → Outcome Good → Type 0
 Three x y z o = (x ≡ true → o ≡ refuses 28) × (x ≡ false → (y ≡ true → o ≡ refuses 26) × (y ≡ false → (z ≡ true → o ≡ refuses 27) × (z ≡ false → o ≡ gives good)))
 
 three : (x y z : Bool) (whole : Acceptance) → Three (not x) (not y) (not z) (answered x y z whole .answer)
-three true true true whole = (λ e. no (cc), λ e. (λ f. no (cc), λ f. (λ g. no (cc), λ g. refl)))
-three true true false whole = (λ e. no (cc), λ e. (λ f. no (cc), λ f. (λ g. refl, λ g. no (cc))))
-three true false z whole = (λ e. no (cc), λ e. (λ f. refl, λ f. no (cc)))
-three false y z whole = (λ e. refl, λ e. no (cc))
+three true true true whole = (λ e. cannot-be cc, λ e. (λ f. cannot-be cc, λ f. (λ g. cannot-be cc, λ g. refl)))
+three true true false whole = (λ e. cannot-be cc, λ e. (λ f. cannot-be cc, λ f. (λ g. refl, λ g. cannot-be cc)))
+three true false z whole = (λ e. cannot-be cc, λ e. (λ f. refl, λ f. cannot-be cc))
+three false y z whole = (λ e. refl, λ e. cannot-be cc)
 
 empty : (x y z : Bool) (whole : Acceptance) (n : ℕ) → answered x y z whole .answer ≡ refuses n → answered x y z whole .plan ≡ emptyPlan
-empty true true true whole n e = no (cc)
+empty true true true whole n e = cannot-be cc
 empty true true false whole n e = refl
 empty true false z whole n e = refl
 empty false y z whole n e = refl

@@ -6,7 +6,7 @@ use mathlib.Core.List.{List, [], _∷_}
 use Prim.Native.Nat.{ℕ, _+_, _*_, _^_}
 use lib.Dec.{eqb, leb, ltb}
 use lib.ListN.{length}
-use borrow.Author.Tests.{le-ltb, lt-ltb, le-leb, lt-leb, leb-true, leb-false, ltb-true, ltb-false}
+use borrow.Author.Tests.{le-leb, lt-leb, ltb-true, ltb-false}
 use Rattle.words.specs.Answer.{Outcome, gives, refuses, then, pick}
 use Rattle.words.specs.Why.{Why, why, unsaid, notCodeWord}
 use Rattle.words.specs.Plain.{isCode, figure}
@@ -23,21 +23,14 @@ use Rattle.demands.specs.Rules.{Rule, rowOf, row, Decided, Given, Is}
 use Rattle.demands.specs.Table.{notCode, above, fifteen, notSeven, beyond, isEmpty, noPlace, placesDiffer, isNumber}
 use Rattle.demands.specs.Lists.{noCode, is15, rulesAfterX, telegramRules, findRules, surveyRules, findReads, surveyReads}
 use Rattle.demands.proofs.Common.Rules.{true-not-false, if-not}
+use Rattle.demands.proofs.Common.Spelled.{above-not}
 
 -- A received word of n bits: 1.
 pub reading : (n w : ℕ) → Decided (Is (figure n (exchanged n w))) (rowOf (notCodeWord n w) (notCode n w) ∷ []) (readWord n w)
 unfolding notCode readWord
 reading n w = if-not (Is (figure n (exchanged n w))) [] (refuses (notCodeWord n w)) (gives (figure n (exchanged n w))) refl (isCode n (exchanged n w))
 
--- no more is not above
-above-leb : (x largest : ℕ) → ltb largest x ≡ not (leb x largest)
-above-leb x largest = go (leb x largest) refl
-  where
-    go : (t : Bool) → leb x largest ≡ t → ltb largest x ≡ not t
-    go true e = le-ltb largest x (leb-true x largest e)
-    go false e = lt-ltb largest x (leb-false x largest e)
-
--- and no less is not below
+-- No less is not below.
 below-ltb : (x bound : ℕ) → leb bound x ≡ not (ltb x bound)
 below-ltb x bound = go (ltb x bound) refl
   where
@@ -49,7 +42,7 @@ below-ltb x bound = go (ltb x bound) refl
 pub writing : (n largest x : ℕ) → Decided (Is (sent n x)) (row 2 (above largest x) ∷ []) (writeWord n largest x)
 unfolding above writeWord
 writing n largest x =
-    subst (λ (t : Bool). Decided (Is (sent n x)) (row 2 t ∷ []) (writeWord n largest x)) (sym (above-leb x largest))
+    subst (λ (t : Bool). Decided (Is (sent n x)) (row 2 t ∷ []) (writeWord n largest x)) (sym (above-not x largest))
     (if-not (Is (sent n x)) [] (refuses 2) (gives (sent n x)) refl (leb x largest))
 
 -- A sync pair: 4.
@@ -127,7 +120,7 @@ pub beyond-is : (b : List ℕ) (start len : ℕ) → beyond b start len ≡ not 
 unfolding beyond inside
 beyond-is b start len =
     ap₂ (λ (x y : Bool). x || y)
-    (ap₂ (λ (x y : Bool). x || y) (above-leb (start + len) (8 * length b)) (below-ltb (start + len) (2 ^ 64))) (above-leb len 16777216)
+    (ap₂ (λ (x y : Bool). x || y) (above-not (start + len) (8 * length b)) (below-ltb (start + len) (2 ^ 64))) (above-not len 16777216)
     ∙ any-not (leb (start + len) (8 * length b)) (ltb (start + len) (2 ^ 64)) (leb len 16777216)
   where
     any-not : (x y z : Bool) → ((not x || not y) || not z) ≡ not ((x && y) && z)

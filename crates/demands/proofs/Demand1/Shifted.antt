@@ -11,6 +11,7 @@ use Rattle.telegram.specs.Stretch.{bitAt}
 use Rattle.contact.specs.History.{after, zeroes}
 use Rattle.contact.specs.declared.Search.{Search}
 use Rattle.demands.specs.Table.{some, historyAfter, zeroesWith, toEight, laterToFour}
+use Rattle.demands.proofs.Demand1.Answers.{or-false}
 
 -- ---- one of some numbers
 
@@ -28,14 +29,10 @@ or-assoc : (a b c : Bool) → ((a || b) || c) ≡ (a || (b || c))
 or-assoc true b c = refl
 or-assoc false b c = refl
 
-pub or-none : (a : Bool) → (a || false) ≡ a
-or-none true = refl
-or-none false = refl
-
 -- the lowest of them first
 pub some-first : (f : ℕ → Bool) (n : ℕ) → some f (suc n) ≡ (f 0 || some (λ k. f (suc k)) n)
 unfolding some
-some-first f zero = sym (or-none (f 0))
+some-first f zero = sym (or-false (f 0))
 some-first f (suc n) = ap (λ (x : Bool). x || f (suc n)) (some-first f n) ∙ or-assoc (f 0) (some (λ k. f (suc k)) n) (f (suc n))
 
 -- ---- a search, and the one a bit further on

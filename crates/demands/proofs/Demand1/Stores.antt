@@ -25,7 +25,8 @@ use Rattle.demands.proofs.Demand1.StoreRules.{settings-so, version-so, 
 
 -- ---- each function
 
-no-more : (o : Outcome Kept) → then o (λ k. gives kept) ≡ o
+-- A judgement after which nothing more is judged stays.
+pub no-more : (o : Outcome Kept) → then o (λ k. gives kept) ≡ o
 no-more (gives kept) = refl
 no-more (refuses n) = refl
 

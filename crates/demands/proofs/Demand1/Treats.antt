@@ -6,6 +6,7 @@ use mathlib.Core.List.{List, [], _∷_}
 use Prim.Native.Nat.{ℕ, _/_, _≤_, _<_}
 use lib.Dec.{ltb}
 use lib.ListN.{length}
+use borrow.Author.Tests.{not-false}
 use Rattle.words.specs.Answer.{gives, refuses, pick}
 use Rattle.ride.specs.State.{noGroup}
 use Rattle.ride.specs.Joining.{allowed}
@@ -20,7 +21,7 @@ use Rattle.ride.proofs.At.{at-none, at-record}
 use Rattle.demands.specs.Rules.{row, Decided, Given}
 use Rattle.demands.specs.Table.{badGap}
 use Rattle.demands.specs.Contracts.{StepOf, TreatAt}
-use Rattle.demands.proofs.Common.Rules.{not-false, if-not, given}
+use Rattle.demands.proofs.Common.Rules.{if-not, given}
 use Rattle.demands.proofs.Common.Spelled.{bad-gap}
 use Rattle.demands.proofs.Demand1.Rides.{gives-not}
 

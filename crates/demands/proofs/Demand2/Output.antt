@@ -8,6 +8,7 @@ use mathlib.Core.List.{List, [], _∷_, _++_, map}
 use lib.Dec.{eqb}
 use lib.ListN.{length, take, drop}
 use lib.Seq.{take-all, take-at}
+use borrow.Author.Tests.{not-false}
 use Rattle.words.specs.Answer.{gives, pick}
 use Rattle.words.specs.Limits.{largest64}
 use Rattle.words.proofs.Told.{told}
@@ -35,7 +36,6 @@ use Rattle.ride_text.proofs.Determined as listing-is
 use Rattle.demands.specs.Table.{badLength}
 use Rattle.demands.specs.Contracts.{Fresh, PutLine, ListInto}
 use Rattle.demands.specs.Output.{Forty, ridden, output, recordsIn, Quoted, quoted, AllQuoted, Written}
-use Rattle.demands.proofs.Common.Rules.{not-false}
 use Rattle.demands.proofs.Common.OneVersion.{forty-so}
 use Rattle.demands.proofs.Demand2.Taking.{at-first, takes-so}
 

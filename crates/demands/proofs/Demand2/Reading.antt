@@ -6,7 +6,7 @@ use mathlib.Core.Path.{_≡_, refl, sym, ap, _∙_}
 use mathlib.Core.Bool.{Bool, true}
 use mathlib.Core.List.{List, [], _∷_, map, List·Memᴰ, List·Memᴰ·head, List·Memᴰ·tail}
 use lib.Dec.{eqb}
-use borrow.Author.Tests.{ne-eqb}
+use borrow.Author.Tests.{ne-eqb, not-false}
 use Rattle.words.specs.Answer.{Answer, gives, refuses, then, pick}
 use Rattle.words.specs.Why.{Why, why, are, unsaid}
 use Rattle.words.specs.Says.{saysLongRead}
@@ -31,7 +31,6 @@ use Rattle.demands.specs.Calls.{Comes, further}
 use Rattle.demands.specs.Demand2.{Good, Bad, no-code, is-15, placeOf, Telegrams}
 use Rattle.demands.proofs.Demand1.Refusals.{beyond-is}
 use Rattle.demands.proofs.Demand3.Handed.{specified, singlePlace, comes-listed}
-use Rattle.demands.proofs.Common.Rules.{not-false}
 
 -- ---- the words
 

@@ -4,6 +4,7 @@ use mathlib.Core.Path.{_≡_, refl, sym, ap, _∙_}
 use mathlib.Core.Bool.{Bool, true, false, not, _&&_}
 use mathlib.Core.List.{List, [], _∷_}
 use lib.Dec.{eqb, ltb, leb}
+use borrow.Author.Tests.{not-true}
 use Rattle.words.specs.Answer.{Outcome, gives, refuses, pick}
 use Rattle.group.specs.Balise.{balises, then, readAll}
 use Rattle.group_rows.specs.Row.{Row, row, fits, Found, none, found, calledA, Fit, misfit, fit, fitWith, fitRow, orElse, fitRows}
@@ -19,7 +20,7 @@ use Rattle.group_rows.specs.declared.Placed.{Placed}
 use Rattle.group_rows.specs.Row.{Y, Z}
 use Rattle.group.specs.declared.Group.{Group}
 use Rattle.balise_line.proofs.Places.{and-parts}
-use Rattle.demands.proofs.Common.Rules.{true-not-false, not-true, never}
+use Rattle.demands.proofs.Common.Rules.{true-not-false, never}
 use Rattle.demands.proofs.Common.Fits.{said, decide}
 use Rattle.words.proofs.Never.{cannot-be}
 

@@ -9,7 +9,7 @@ use native.Mathlib.Omega.{arith}
 use lib.Dec.{eqb}
 use lib.ListN.{length, length-append}
 use lib.Seq.{take-at, drop-at}
-use borrow.Author.Tests.{eq-eqb, eqb-true}
+use borrow.Author.Tests.{eq-eqb, eqb-true, not-false}
 use Rattle.words.specs.Answer.{Outcome, gives, refuses, pick}
 use Rattle.settings.specs.declared.Store.{Store}
 use Rattle.settings.specs.Versions.{Kept, kept}
@@ -28,7 +28,6 @@ use Rattle.ride.specs.declared.Stepped.{Stepped}
 use Rattle.demands.specs.Table.{badLength}
 use Rattle.demands.specs.Contracts.{StepOf, RunOver}
 use Rattle.demands.specs.Stores.{Good}
-use Rattle.demands.proofs.Common.Rules.{not-false}
 
 -- The records of a trace that begins with these eight bytes.
 module _ (bytes rest : List ℕ) (eight : length bytes ≡ 8) where

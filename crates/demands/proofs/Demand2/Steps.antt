@@ -6,7 +6,7 @@ use mathlib.Core.Bool.{Bool, true, _&&_}
 use mathlib.Core.List.{[], _∷_}
 use Prim.Native.Nat.{ℕ, _+_, _-_, _≤_}
 use lib.Dec.{ltb}
-use borrow.Author.Tests.{lt-ltb, le-ltb}
+use borrow.Author.Tests.{lt-ltb, le-ltb, not-false}
 use Rattle.words.specs.Answer.{Outcome, gives, refuses, pick}
 use Rattle.group.specs.Judge.{judge}
 use Rattle.group.specs.declared.Message.{Message}
@@ -23,7 +23,6 @@ use Rattle.ride.specs.declared.Ride.{Ride}
 use Rattle.ride.specs.declared.Ended.{Ended}
 use Rattle.demands.specs.Contracts.{JudgeGroup, EndOf}
 use Rattle.demands.specs.Steps.{OneStep, Accepts, LeavesBehind, NoneOpen}
-use Rattle.demands.proofs.Common.Rules.{not-false}
 use Rattle.demands.proofs.Common.Spelled.{bad-gap}
 
 -- what the record says

@@ -9,6 +9,7 @@ use mathlib.Core.List.{List, _++_}
 use lib.Dec.{eqb}
 use lib.ListN.{length, take, drop}
 use lib.Seq.{take-at, drop-at}
+use borrow.Author.Tests.{not-false}
 use Rattle.words.specs.Limits.{largest64}
 use Rattle.words.proofs.Told.{told}
 use Rattle.settings.specs.declared.Store.{Store}
@@ -31,7 +32,6 @@ use Rattle.demands.specs.Table.{badLength}
 use Rattle.demands.specs.Contracts.{ListInto}
 use Rattle.demands.specs.Stores.{Good}
 use Rattle.demands.specs.Output.{recordsIn, Takes}
-use Rattle.demands.proofs.Common.Rules.{not-false}
 
 -- A text put at the beginning.
 pub at-first : (t before : List ℕ) → placed t before 0 ≡ t ++ drop (length t) before

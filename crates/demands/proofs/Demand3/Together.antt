@@ -5,41 +5,26 @@ use mathlib.Core.Path.{_≡_, refl, sym, ap, ap₂, _∙_, subst}
 use mathlib.Core.Logic.{_⊎_, inl, inr}
 use mathlib.Core.Bool.{Bool, true}
 use mathlib.Core.List.{List, [], _∷_}
-use Prim.Native.Nat.{ℕ, _+_, _≤_}
+use Prim.Native.Nat.{ℕ, _≤_}
 use native.Mathlib.Omega.{arith}
 use lib.Dec.{eqb}
 use lib.ListN.{length}
 use borrow.Author.Tests.{eq-eqb}
 use Rattle.words.specs.Answer.{Outcome, gives, refuses, pick}
 use Rattle.words.specs.Plain.{among}
-use Rattle.telegram.specs.Stretch.{bitsAt}
 use Rattle.telegram.specs.Telegram.{Received}
 use Rattle.telegram.specs.Place.{wordsAt}
-use Rattle.telegram.specs.Survey.{sameWords, allAs, Alike, alike, together, survey}
+use Rattle.telegram.specs.Survey.{allAs, Alike, alike, together, survey}
 use Rattle.telegram.specs.Says.{saysSurveyed}
 use Rattle.telegram.specs.declared.Telegram.{Telegram}
 use Rattle.telegram.specs.declared.Surveyed.{Surveyed}
 use Rattle.balise_line.specs.Line.{OneBalise, Proper, placesOf}
 use Rattle.demands.specs.Contracts.{Survey as SurveyAllows}
 use Rattle.demands.specs.Demand3.{TheSent, SurveyedTheSent}
-use Rattle.balise_line.proofs.Places.{and-true, or-left, or-right}
-use Rattle.balise_line.proofs.Sent.{Sent, AllSent, read-as-sent}
+use Rattle.balise_line.proofs.Places.{or-left, or-right}
+use Rattle.balise_line.proofs.Sent.{Sent, AllSent, read-as-sent, all-alike}
 use Rattle.demands.proofs.Demand3.Handed.{the-sent}
 use Rattle.words.proofs.Never.{cannot-be}
-
--- Places that have the words sent are alike.
-all-alike : (o : OneBalise) (p : ℕ) → Sent o p → (ps : List ℕ) → ((q : ℕ) → among q ps ≡ true → Sent o q) → allAs (o .buffer) p ps ≡ true
-unfolding allAs sameWords
-all-alike o p here [] all = refl
-all-alike o p here (q ∷ ps) all =
-    let there = all q (or-left (among q ps) (eq-eqb q q refl)) in
-    let b = o .buffer in
-    and-true
-    (and-true
-    (and-true (eq-eqb (bitsAt b (p + 8) 8) (bitsAt b (q + 8) 8) (here .x-is ∙ sym (there .x-is)))
-    (eq-eqb (bitsAt b (p + 16) 8) (bitsAt b (q + 16) 8) (here .y-is ∙ sym (there .y-is))))
-    (eq-eqb (bitsAt b (p + 24) 8) (bitsAt b (q + 24) 8) (here .z-is ∙ sym (there .z-is))))
-    (all-alike o p here ps (λ r within. all r (or-right (eqb r q) within)))
 
 module _ (o : OneBalise) (proper : Proper o) (every-place : AllSent o) where
   abbrev pub b : List ℕ

@@ -9,6 +9,7 @@ use mathlib.Core.Bool.{false}
 use mathlib.Core.List.{List, [], _∷_}
 use lib.Dec.{eqb}
 use lib.ListN.{length}
+use borrow.Author.Tests.{not-false}
 use Rattle.telegram.specs.Sync.{differing, isGood, goodPair}
 use Rattle.settings.specs.declared.Begun.{Begun}
 use Rattle.settings.specs.declared.Store.{Store}
@@ -30,7 +31,6 @@ use Rattle.demands.specs.PlainGap.{Opened}
 use Rattle.demands.specs.Sections.{Whole, Call, ByList, afterCalls}
 use Rattle.demands.specs.Contracts.{RunOver}
 use Rattle.demands.specs.Stores.{BeginStore, Good}
-use Rattle.demands.proofs.Common.Rules.{not-false}
 use Rattle.demands.proofs.Witness.CallsMet.{lent}
 use Rattle.demands.proofs.Witness.ListsMet.{theCall, list-met}
 use Rattle.demands.proofs.Witness.SectionsMet.{firstCard, secondCard, whole-met}

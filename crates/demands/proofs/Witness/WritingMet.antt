@@ -5,7 +5,6 @@ use mathlib.Core.Path.{_≡_, refl}
 use mathlib.Core.List.{List, [], _∷_}
 use Prim.Native.Nat.{ℕ}
 use native.Mathlib.Omega.{arith}
-use denote.Ref.{RefT}
 use Rattle.words.specs.Bits.{word}
 use Rattle.words.specs.Plain.{isCheck, covers, count, carriers, carried, madeEven, plainWord}
 use Rattle.words.specs.Code.{other, exchanged, sent}
@@ -17,10 +16,7 @@ use Rattle.balise_writer.specs.Write.{telegrams, inRange, bytesOf, write}
 use Rattle.demands.specs.Contracts.{JudgeContact}
 use Rattle.demands.specs.Writing.{OneWriting}
 use Rattle.demands.proofs.Beside.Writing.{written-is-read}
-
--- A lent buffer with these bytes.
-abbrev lent : List ℕ → RefT (List ℕ)
-lent bytes = record { ptr = (0, 0); name = 0; now = bytes }
+use Rattle.demands.proofs.Witness.CallsMet.{lent}
 
 -- Ten bytes, and the same with two telegrams of 1, 8 and 5 in the first nine.
 abbrev ten : List ℕ

@@ -7,11 +7,12 @@ use lib.ListN.{length, take}
 use Rattle.words.specs.Answer.{Outcome}
 use Rattle.group_rows.specs.declared.Picked.{Picked}
 use Rattle.group_rows.specs.Fitting.{saysFitted}
+use Rattle.group_rows.proofs.Determined.{longest-one}
 use Rattle.group.proofs.Lists.{long-take}
 use Rattle.group_reason.specs.Opening.{openingRun}
 use Rattle.group_reason.specs.Reason.{opens, because}
 use Rattle.group_reason.specs.Explain.{whyFit}
-use Rattle.group_reason.proofs.Runs.{run-is-longest, longest-one}
+use Rattle.group_reason.proofs.Runs.{run-is-longest}
 use borrow.Author.Needs.{needs}
 use Rattle.group_reason.proofs.rows.why_fit.Statement.{statement}
 use Rattle.group_reason.proofs.rows.why_fit.Tie as tie

@@ -5,9 +5,9 @@ use Prim.Native.Nat.{ℕ, _+_, _≤_}
 use lib.ListN.{length}
 use Rattle.text.specs.Text.{codes}
 use Rattle.text.specs.Put.{put}
-use Rattle.text.proofs.Standing.{less, join, room-after, join-3, join-4}
+use Rattle.text.proofs.Standing.{less, join, room-after, join-3, join-4, room-as}
 use Rattle.viewer_text.specs.Pieces.{onPlace, onGroup, onLinking, onSpeeds}
-use Rattle.viewer_text.proofs.Pieces.{state-is, room-as}
+use Rattle.viewer_text.proofs.Pieces.{state-is}
 use borrow.Author.Needs.{needs}
 use Rattle.viewer_text.proofs.state.put_all.Statement.{statement}
 use Rattle.viewer_text.proofs.state.put_all.Tie as tie

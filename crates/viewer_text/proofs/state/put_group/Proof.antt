@@ -12,9 +12,8 @@ use Rattle.group.specs.declared.Balise.{Balise}
 use Rattle.group.specs.declared.Heard.{Heard}
 use Rattle.ride.specs.State.{noBalise}
 use Rattle.ride.specs.Closing.{firstPlace}
-use Rattle.text.proofs.Standing.{join-3}
+use Rattle.text.proofs.Standing.{join-3, room-as}
 use Rattle.viewer_text.specs.Pieces.{onGroup}
-use Rattle.viewer_text.proofs.Pieces.{room-as}
 use borrow.Author.Needs.{needs}
 use Rattle.viewer_text.proofs.state.put_group.Statement.{statement}
 use Rattle.viewer_text.proofs.state.put_group.Tie as tie
