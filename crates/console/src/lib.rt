@@ -68,7 +68,7 @@ pub use arguments::sync_pair;
 pub use arguments::sync_word;
 pub use arguments::word;
 pub use before::AskedFor;
-pub use before::Given;
+pub use before::OptionsWent;
 pub use before::options;
 pub use before::options_at;
 pub use blocks::CardBlock;

@@ -6,7 +6,7 @@ use lib.Dec.{eqb}
 use denote.Ref.{now}
 use Rattle.words.specs.Answer.{Answer, gives, refuses, pick}
 use Rattle.words.proofs.Told.{Fixed, told, FixedWith}
-use Rattle.track_lead.specs.declared.Way.{Way}
+use Rattle.track_lead.specs.declared.TrackWay.{TrackWay}
 use Rattle.track_lead.specs.declared.Taken.{Taken}
 use Rattle.track_lead.specs.Way.{Bad, refused, tooNear}
 use Rattle.track_lead.specs.Feed.{Writing}
@@ -34,7 +34,7 @@ abbrev takenBad : Bad → Taken
 takenBad (refused n) = pick (eqb n 18) Taken.TooHigh Taken.Lower
 takenBad tooNear = Taken.TooNear
 
-abbrev takenOf : Answer Bad Way → Taken
+abbrev takenOf : Answer Bad TrackWay → Taken
 takenOf (gives way) = Taken.On way
 takenOf (refuses bad) = takenBad bad
 

@@ -17,7 +17,7 @@ mod screen;
 mod session;
 
 use console::CardsFound;
-use console::Given;
+use console::OptionsWent;
 use figures::Figure;
 use reading::Start;
 use settings::Store;
@@ -113,10 +113,10 @@ fn go_on(start: Start, at: u8) {
     let first = asked.first;
     let how = asked.how;
     match how {
-        Given::Plain => look(store, start, first),
-        Given::Settings => after_settings(store, start, first),
-        Given::Usage => usage(),
-        Given::Said => {}
+        OptionsWent::Plain => look(store, start, first),
+        OptionsWent::Settings => after_settings(store, start, first),
+        OptionsWent::Usage => usage(),
+        OptionsWent::Said => {}
     }
 }
 
