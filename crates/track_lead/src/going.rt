@@ -80,6 +80,7 @@ pub fn take(way: TrackWay, place: u32, thing: Thing) -> Taken
     Taken::On(after(way, place, thing))
 }
 
+// The first decimetre of a way's lead: ten before its first place, or 0.
 pub fn from(way: TrackWay) -> u32
     ensures { λ r. ⌜ r ≡ from way ⌝ }
 {

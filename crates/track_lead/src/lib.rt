@@ -7,7 +7,7 @@
 // (frame after frame), specs/Lead.antt (the lead of a text), specs/Says.antt (the answers),
 // specs/Laws.antt (what is promised).
 ghost use mathlib.Core.Path.{_≡_};
-ghost use Rattle.track_lead.specs.Way.{fresh, take, from, until};
+ghost use Rattle.track_lead.specs.Way.{fresh, take, until};
 ghost use Rattle.track_lead.specs.Feed.{begin, passes, write};
 ghost use Rattle.track_lead.specs.Says.{saysTaken};
 
@@ -81,14 +81,7 @@ pub fn take(way: TrackWay, place: u32, thing: Thing) -> Taken
     going::take(way, place, thing)
 }
 
-// The first decimetre of a way's lead: ten before its first place, or 0.
-pub fn from(way: TrackWay) -> u32
-    ensures { λ r. ⌜ r ≡ from way ⌝ }
-{
-    going::from(way)
-}
-
-// The first decimetre after it; 0 for a way without a line.
+// The first decimetre after a way's lead; 0 for a way without a line.
 pub fn until(way: TrackWay) -> u32
     ensures { λ r. ⌜ r ≡ until way ⌝ }
 {
