@@ -8,6 +8,7 @@ ghost use Rattle.console.specs.Asked.{cardsFrom, Ridden};
 use crate::arguments::is_option;
 use crate::lengths::open_card;
 use crate::reading::fill;
+use crate::saying::begin_line;
 use crate::saying::cannot_write;
 use crate::status::CallEnded;
 use crate::status::tell;
@@ -51,8 +52,7 @@ fn tell_of(program: &[u8], aside: bool, line: u32, how: Condition) {
     let count = settings_text::put_told(line, how, &mut text, 0);
     tell(ended(how));
     if aside | is_too_long(how) {
-        io::write_all(STDERR_FILENO, program);
-        io::write_all(STDERR_FILENO, b": ");
+        begin_line(program);
         write(STDERR_FILENO, &text, count);
         return;
     }

@@ -17,8 +17,8 @@ mod screen;
 mod session;
 
 use console::CardsFound;
+use console::FigureAsked;
 use console::OptionsWent;
-use figures::Figure;
 use reading::Start;
 use settings::Store;
 
@@ -74,17 +74,10 @@ fn begins(argument: usize) -> StartGiven {
         usage();
         return StartGiven::Said;
     }
-    match console::number(argument, u64::MAX) {
-        Figure::Number(place) => StartGiven::With(Start::At { place, argument }),
-        Figure::Above => StartGiven::With(Start::At {
-            place: u64::MAX,
-            argument,
-        }),
-        Figure::Odd => {
-            console::wrong(b"view", b"PLACE", b"figure", argument);
-            StartGiven::Said
-        }
-    }
+    let FigureAsked::Is(place) = console::figure(b"view", b"PLACE", argument, u64::MAX) else {
+        return StartGiven::Said;
+    };
+    StartGiven::With(Start::At { place, argument })
 }
 
 // The cards from this argument on, after the settings; `-from PLACE` may stand before them, where
