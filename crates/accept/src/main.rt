@@ -7,7 +7,7 @@ mod report;
 
 use acceptance::Acceptance;
 use console::Cards;
-use console::Given;
+use console::OptionsWent;
 use settings::Store;
 
 // One line of usage.
@@ -47,9 +47,9 @@ fn main() {
     let first = asked.first;
     let how = asked.how;
     match how {
-        Given::Plain => accept(store, first),
-        Given::Settings => accept(store, first),
-        Given::Usage => usage(),
-        Given::Said => {}
+        OptionsWent::Plain => accept(store, first),
+        OptionsWent::Settings => accept(store, first),
+        OptionsWent::Usage => usage(),
+        OptionsWent::Said => {}
     }
 }

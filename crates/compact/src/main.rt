@@ -9,7 +9,7 @@ mod blocks;
 mod counts;
 
 use console::Cards;
-use console::Given;
+use console::OptionsWent;
 use settings::Store;
 
 // How it is called.
@@ -39,9 +39,9 @@ fn main() {
     let store = options.store;
     let how = options.how;
     match how {
-        Given::Plain => go_over(store, options.first),
-        Given::Settings => go_over(store, options.first),
-        Given::Usage => usage(),
-        Given::Said => {}
+        OptionsWent::Plain => go_over(store, options.first),
+        OptionsWent::Settings => go_over(store, options.first),
+        OptionsWent::Usage => usage(),
+        OptionsWent::Said => {}
     }
 }

@@ -14,14 +14,14 @@ use Rattle.settings_text.specs.declared.Sheet.{Sheet}
 use Rattle.settings_text.specs.Sheet.{isFine, sheet}
 use Rattle.settings_text.proofs.Good.{fine-is-good}
 use Rattle.console.specs.declared.before.AskedFor.{AskedFor}
-use Rattle.console.specs.declared.before.Given.{Given}
+use Rattle.console.specs.declared.before.OptionsWent.{OptionsWent}
 use Rattle.console.specs.Asked.{cardsFrom, Ridden}
 
-pub nothing-ridden : (at : ℕ) (r : AskedFor) (how : Given) → (r .how ≡ how) × (r .first ≡ at + 2) × (r .store ≡ noStore) → at + 2 ≡ cardsFrom at how → Ridden how noStore
+pub nothing-ridden : (at : ℕ) (r : AskedFor) (how : OptionsWent) → (r .how ≡ how) × (r .first ≡ at + 2) × (r .store ≡ noStore) → at + 2 ≡ cardsFrom at how → Ridden how noStore
     → (r .first ≡ cardsFrom at (r .how)) × Ridden (r .how) (r .store)
 nothing-ridden at r how e f g = (
   e .1 ∙ f ∙ ap (cardsFrom at) (sym (e .0)),
-  subst (λ (h : Given). Ridden h (r .store)) (sym (e .0)) (subst (λ (s : Store). Ridden how s) (sym (e .2)) g),
+  subst (λ (h : OptionsWent). Ridden h (r .store)) (sym (e .0)) (subst (λ (s : Store). Ridden how s) (sym (e .2)) g),
 )
 
 only-fine : (how : Condition) → isFine how ≡ true → how ≡ Condition.Fine

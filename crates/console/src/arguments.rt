@@ -63,7 +63,7 @@ pub fn number_in(program: &[u8], name: &[u8], k: usize, least: u32, most: u32) -
 }
 
 // Argument k as a word of two hex digits.
-pub fn word(k: usize) -> Byte {
+fn word(k: usize) -> Byte {
     let mut text = io::buffer();
     let length = os::arg(k, &mut text);
     if os::errno() != 0 {
@@ -73,7 +73,7 @@ pub fn word(k: usize) -> Byte {
 }
 
 // Argument k, a sync word of this name; where it is none that is said.
-pub fn sync_word(program: &[u8], name: &[u8], k: usize) -> Byte {
+fn sync_word(program: &[u8], name: &[u8], k: usize) -> Byte {
     let asked = word(k);
     let Byte::Is(_) = asked else {
         wrong(program, name, b"word of two hex digits", k);

@@ -8,6 +8,7 @@ ghost use Rattle.console.specs.Asked.{cardsFrom, Ridden};
 use crate::arguments::is_option;
 use crate::lengths::open_card;
 use crate::reading::fill;
+use crate::saying::begin_line;
 use crate::saying::cannot_write;
 use crate::status::CallEnded;
 use crate::status::tell;
@@ -24,7 +25,7 @@ use settings_text::no_store;
 const GAP: u32 = 40;
 
 // How asking for the settings went.
-pub enum Given {
+pub enum OptionsWent {
     Plain,
     Settings,
     Usage,
@@ -35,7 +36,7 @@ pub enum Given {
 pub struct AskedFor {
     pub store: Store,
     pub first: usize,
-    pub how: Given,
+    pub how: OptionsWent,
 }
 
 // Room for the longest text of settings, and one byte more, which tells a longer one.
@@ -51,8 +52,7 @@ fn tell_of(program: &[u8], aside: bool, line: u32, how: Condition) {
     let count = settings_text::put_told(line, how, &mut text, 0);
     tell(ended(how));
     if aside | is_too_long(how) {
-        io::write_all(STDERR_FILENO, program);
-        io::write_all(STDERR_FILENO, b": ");
+        begin_line(program);
         write(STDERR_FILENO, &text, count);
         return;
     }
@@ -84,7 +84,7 @@ fn is_too_long(how: Condition) -> bool {
 }
 
 // Nothing is ridden.
-fn none(at: u8, how: Given) -> AskedFor
+fn none(at: u8, how: OptionsWent) -> AskedFor
     ensures { λ r. ⌜ (r .how ≡ how) × (r .first ≡ at + 2) × (r .store ≡ noStore) ⌝ }
 {
     AskedFor {
@@ -106,11 +106,11 @@ fn judged(program: &[u8], aside: bool, at: u8, text: &[u8]) -> AskedFor
         return AskedFor {
             store,
             first: at as usize + 2,
-            how: Given::Settings,
+            how: OptionsWent::Settings,
         };
     }
     tell_of(program, aside, line, how);
-    none(at, Given::Said)
+    none(at, OptionsWent::Said)
 }
 
 // The settings of the open file, or what is said of it.
@@ -122,7 +122,7 @@ fn from_file(program: &[u8], aside: bool, at: u8, fd: i32) -> AskedFor
     let count = got.count;
     if got.failed {
         cannot_read(program, at as usize + 1);
-        return none(at, Given::Said);
+        return none(at, OptionsWent::Said);
     }
     judged(program, aside, at, &text[..count])
 }
@@ -138,17 +138,17 @@ pub fn options_at(program: &[u8], aside: bool, at: u8) -> AskedFor
         return AskedFor {
             store,
             first: at as usize,
-            how: Given::Plain,
+            how: OptionsWent::Plain,
         };
     }
     let file = at as usize + 1;
     if os::arg_count() <= file {
-        return none(at, Given::Usage);
+        return none(at, OptionsWent::Usage);
     }
     let fd = open_card(file);
     if fd < 0 {
         cannot_open(program, file);
-        return none(at, Given::Said);
+        return none(at, OptionsWent::Said);
     }
     let asked = from_file(program, aside, at, fd);
     libc::close(fd);

@@ -4,18 +4,16 @@
 // 1. `tell`: a program has no exit status in this language, so one digit goes to descriptor 9,
 //    which the launcher (./run, atc2) alone opens; a program that is run by itself has no such
 //    pipe, and nothing happens.
-// 2. `say`, `say_of`: a line of standard error that begins with the program's name; `fail`,
-//    `fail_of`, `fail_with`: the same where the call comes to nothing by it, which is told.
-//    `usage`, `cannot_write`, `wrong` (an argument), `refuse`, `to_terminal`: what programs have to
-//    say alike, and tell.
+// 2. `fail`, `fail_of`: a line of standard error that begins with the program's name, where the
+//    call comes to nothing by it, which is told. `usage`, `cannot_write`, `wrong` (an argument),
+//    `refuse`, `to_terminal`: what programs have to say alike, and tell.
 // 3. `room`: room for lines; `write`: the first bytes of a buffer to either stream; `put`: to
 //    standard output, and a failure is said and told; `refuse_by`: a line there by which the call
 //    is refused; `refuse_here`: `refused 4: WORDS`; `refuse_trace`: `trace refused 16`, in document
 //    01's words.
-// 4. `number`, `word`, `is_input`, `is_option`: an argument as a figure, as a word of two hex
-//    digits, as standard input (`-`), as an option (`-p`). `figure` (the largest stands for all
-//    above it), `number_in` (a range), `sync_word`, `sync_pair`: the same, and where it is none
-//    that is said.
+// 4. `number`, `is_input`, `is_option`: an argument as a figure, as standard input (`-`), as an
+//    option (`-p`). `figure` (the largest stands for all above it), `number_in` (a range),
+//    `sync_pair` (two words of two hex digits): the same, and where it is none that is said.
 // 5. `options(program, aside)` takes `-s SETTINGS` and answers an `AskedFor`: the store of the
 //    settings; the first argument after them (1, or 3); and how it went: `Plain` (no `-s`: the
 //    store of document 01's gap, 40), `Settings` (the good store of the file), `Usage` (`-s`
@@ -39,8 +37,8 @@
 // 9. `cannot_open`, `cannot_read`, `only_once`, `say_found`: one line of standard error each,
 //    `explain: cannot open FILE`, and it is told. Of a bad length `say_found` says nothing: that is
 //    `trace refused 16`. `say_goes`: what ended a pass.
-// 10. `not_begun`, `go_on`, `go_on_somehow`, `wipe`: how far long work is, at a terminal; `go_over`
-//     and `next_block` say it by themselves.
+// 10. `not_begun`, `go_on_somehow`, `wipe`: how far long work is, at a terminal; `go_over` and
+//     `next_block` say it by themselves.
 // Promises: all is safe and ends; what is read lies within what was lent, and a block is whole
 // records; where the cards begin, and that what is ridden under is good (specs/Asked.antt). The
 // words of a refusal are `refusals`', figures `figures`', settings `settings_text`'s. What is read
@@ -65,10 +63,8 @@ pub use arguments::is_option;
 pub use arguments::number;
 pub use arguments::number_in;
 pub use arguments::sync_pair;
-pub use arguments::sync_word;
-pub use arguments::word;
 pub use before::AskedFor;
-pub use before::Given;
+pub use before::OptionsWent;
 pub use before::options;
 pub use before::options_at;
 pub use blocks::CardBlock;
@@ -80,7 +76,6 @@ pub use lengths::CardsFound;
 pub use lengths::go_over;
 pub use lengths::open_card;
 pub use progress::Far;
-pub use progress::go_on;
 pub use progress::go_on_somehow;
 pub use progress::not_begun;
 pub use progress::wipe;
@@ -89,10 +84,7 @@ pub use reading::fill;
 pub use saying::cannot_write;
 pub use saying::fail;
 pub use saying::fail_of;
-pub use saying::fail_with;
 pub use saying::refuse;
-pub use saying::say;
-pub use saying::say_of;
 pub use saying::to_terminal;
 pub use saying::usage;
 pub use saying::wrong;

@@ -12,7 +12,7 @@ mod whole;
 use acceptance::Acceptance;
 use acceptance_console::Compared;
 use console::Cards;
-use console::Given;
+use console::OptionsWent;
 use settings::Store;
 
 // The line for wrong or missing arguments.
@@ -106,9 +106,9 @@ fn main() {
     let first = asked.first;
     let how = asked.how;
     match how {
-        Given::Plain => go(before, store, first),
-        Given::Settings => go(before, store, first),
-        Given::Usage => usage(),
-        Given::Said => {}
+        OptionsWent::Plain => go(before, store, first),
+        OptionsWent::Settings => go(before, store, first),
+        OptionsWent::Usage => usage(),
+        OptionsWent::Said => {}
     }
 }

@@ -1,6 +1,6 @@
 // The settings before the leads: a sync pair, or a file.
 use console::AskedFor;
-use console::Given;
+use console::OptionsWent;
 use console::PairAsked;
 use settings::Verdict;
 use settings_text::no_store;
@@ -29,21 +29,21 @@ fn pair(program: &[u8], aside: bool, s: u8, t: u8) -> AskedFor {
         Verdict::Kept => AskedFor {
             store,
             first: AFTER,
-            how: Given::Plain,
+            how: OptionsWent::Plain,
         },
         Verdict::Refused(_) => {
             refuse(program, aside);
             AskedFor {
                 store,
                 first: AFTER,
-                how: Given::Said,
+                how: OptionsWent::Said,
             }
         }
     }
 }
 
 // Nothing is ridden.
-fn none(how: Given) -> AskedFor {
+fn none(how: OptionsWent) -> AskedFor {
     AskedFor {
         store: no_store(),
         first: AFTER,
@@ -54,10 +54,10 @@ fn none(how: Given) -> AskedFor {
 // The words of a pair, from the arguments.
 fn pair_named(program: &[u8], aside: bool) -> AskedFor {
     if os::arg_count() < AFTER {
-        return none(Given::Usage);
+        return none(OptionsWent::Usage);
     }
     let PairAsked::Is(s, t) = console::sync_pair(program, 1) else {
-        return none(Given::Said);
+        return none(OptionsWent::Said);
     };
     pair(program, aside, s, t)
 }
@@ -69,9 +69,9 @@ pub fn options(program: &[u8], aside: bool) -> AskedFor {
     let first = asked.first;
     let how = asked.how;
     match how {
-        Given::Plain => pair_named(program, aside),
-        Given::Settings => AskedFor { store, first, how },
-        Given::Usage => AskedFor { store, first, how },
-        Given::Said => AskedFor { store, first, how },
+        OptionsWent::Plain => pair_named(program, aside),
+        OptionsWent::Settings => AskedFor { store, first, how },
+        OptionsWent::Usage => AskedFor { store, first, how },
+        OptionsWent::Said => AskedFor { store, first, how },
     }
 }

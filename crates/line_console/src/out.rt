@@ -10,7 +10,7 @@ use libc::STDOUT_FILENO;
 const ENOUGH: usize = 32768;
 
 // What is asked for: strips or lines, with this sync pair.
-pub struct Asked {
+pub struct Wanted {
     pub draws: bool,
     pub s: u8,
     pub t: u8,
@@ -39,7 +39,7 @@ fn write(out: Out, buf: &[u8]) -> Out
 // bit `first` of the bytes kept, after the text that stands, which leaves room for it.
 pub fn add(
     out: Out,
-    asked: Asked,
+    asked: Wanted,
     end: u64,
     bits: usize,
     judged: Judged,

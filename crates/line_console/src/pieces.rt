@@ -3,8 +3,8 @@ ghost use mathlib.Core.Path.{_≡_};
 ghost use Prim.Native.Nat.{_≤_};
 ghost use lib.ListN.{length};
 use crate::out;
-use crate::out::Asked;
 use crate::out::Out;
+use crate::out::Wanted;
 use antenna::Ear;
 use antenna::Until;
 use console::Far;
@@ -15,7 +15,7 @@ use console::wipe;
 // Where the going over stands: the ear, how many bits were heard before, in which bit of the bytes
 // kept the latest contact begins, how many bytes are kept, how far all that is, and whether all
 // writes so far succeeded.
-struct Heard {
+struct HeardSoFar {
     ear: Ear,
     bits: u64,
     first: u8,
@@ -48,9 +48,16 @@ fn keep(piece: &[u8], from: usize, kept: &mut [u8], have: usize) -> usize {
 }
 
 // The going over with a piece of so many bits more.
-fn further(from: Heard, ear: Ear, bits: usize, first: u8, have: usize, is_good: bool) -> Heard {
+fn further(
+    from: HeardSoFar,
+    ear: Ear,
+    bits: usize,
+    first: u8,
+    have: usize,
+    is_good: bool,
+) -> HeardSoFar {
     let far = from.far;
-    Heard {
+    HeardSoFar {
         ear,
         bits: std::num::wrapping_add_u64(from.bits, bits as u64),
         first,
@@ -71,7 +78,13 @@ fn no_text() -> Out
 }
 
 // What stands for the contacts that close in a piece is written.
-fn over(from: Heard, asked: Asked, piece: &[u8], kept: &mut [u8], buf: &mut [u8]) -> Heard
+fn over(
+    from: HeardSoFar,
+    asked: Wanted,
+    piece: &[u8],
+    kept: &mut [u8],
+    buf: &mut [u8],
+) -> HeardSoFar
     requires { ⌜ (length (now piece) ≤ 65536) × (length (now buf) ≡ 262144) ⌝ }
 {
     let bits = piece.len() * 8;
@@ -113,20 +126,20 @@ fn over(from: Heard, asked: Asked, piece: &[u8], kept: &mut [u8], buf: &mut [u8]
 
 // The same for the front of the block, so many bytes long.
 fn front(
-    from: Heard,
-    asked: Asked,
+    from: HeardSoFar,
+    asked: Wanted,
     block: &[u8],
     count: usize,
     kept: &mut [u8],
     buf: &mut [u8],
-) -> Heard
+) -> HeardSoFar
     requires { ⌜ (count ≤ length (now block)) × (length (now block) ≤ 65536) × (length (now buf) ≡ 262144) ⌝ }
 {
     over(from, asked, &block[..count], kept, buf)
 }
 
 // What is said at the end of the line, where lines are asked for; whether it was written.
-fn end(from: Heard, draws: bool) -> Went {
+fn end(from: HeardSoFar, draws: bool) -> Went {
     let far = from.far;
     wipe(far);
     if draws {
@@ -146,8 +159,8 @@ fn end(from: Heard, draws: bool) -> Went {
 }
 
 // A line that has not begun.
-fn fresh() -> Heard {
-    Heard {
+fn fresh() -> HeardSoFar {
+    HeardSoFar {
         ear: antenna::fresh(),
         bits: 0,
         first: 0,
@@ -181,7 +194,7 @@ pub fn all(fd: i32, draws: bool, s: u8, t: u8) -> Went {
         if count == 0 {
             return end(heard, draws);
         }
-        let asked = Asked { draws, s, t };
+        let asked = Wanted { draws, s, t };
         heard = front(heard, asked, &block, count, &mut kept, &mut buf);
         if !heard.is_good {
             return Went::Unwritten;

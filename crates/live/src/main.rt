@@ -6,7 +6,7 @@
 // cannot be said of a program's reads and writes stands in docs/EXCEPTIONS.md.
 mod riding;
 
-use console::Given;
+use console::OptionsWent;
 
 fn main() {
     let asked = leads::options(b"live", false);
@@ -14,12 +14,12 @@ fn main() {
     let first = asked.first;
     let how = asked.how;
     match how {
-        Given::Plain => riding::all(store, first),
-        Given::Settings => riding::all(store, first),
-        Given::Usage => console::usage(
+        OptionsWent::Plain => riding::all(store, first),
+        OptionsWent::Settings => riding::all(store, first),
+        OptionsWent::Usage => console::usage(
             b"live",
             b"live S S* [LEAD..], or live -s SETTINGS [LEAD..]",
         ),
-        Given::Said => {}
+        OptionsWent::Said => {}
     }
 }

@@ -10,28 +10,28 @@ use Rattle.lines.specs.declared.Number.{Number}
 use Rattle.lines.specs.declared.Name.{Name}
 use Rattle.lines.specs.declared.TextLine.{TextLine}
 use Rattle.trace_text.specs.Said.{nth}
-use Rattle.plan_text.specs.declared.Kind.{Kind}
+use Rattle.plan_text.specs.declared.KindNumber.{KindNumber}
 use Rattle.plan_text.specs.declared.Entry.{Entry}
 
 -- The kind that a name is.
-abbrev pub kindOf : Name → Kind
-kindOf Name.Signal = Kind.Is 0
-kindOf Name.Warning = Kind.Is 1
-kindOf Name.Annulled = Kind.Is 2
-kindOf Name.Line = Kind.Is 3
-kindOf Name.Route = Kind.Is 4
-kindOf Name.Other = Kind.Odd
-kindOf Name.Marker = Kind.Odd
-kindOf Name.Unreadable = Kind.Odd
-kindOf Name.Position = Kind.Odd
-kindOf Name.Raw = Kind.Odd
+abbrev pub kindOf : Name → KindNumber
+kindOf Name.Signal = KindNumber.Is 0
+kindOf Name.Warning = KindNumber.Is 1
+kindOf Name.Annulled = KindNumber.Is 2
+kindOf Name.Line = KindNumber.Is 3
+kindOf Name.Route = KindNumber.Is 4
+kindOf Name.Other = KindNumber.Odd
+kindOf Name.Marker = KindNumber.Odd
+kindOf Name.Unreadable = KindNumber.Odd
+kindOf Name.Position = KindNumber.Odd
+kindOf Name.Raw = KindNumber.Odd
 
 -- An entry of a kind, at its place.
-abbrev pub entered : ℕ → Kind → Entry
-entered place (Kind.Is kind) = Entry.At place kind
-entered place Kind.Odd = Entry.Unreadable
+abbrev pub entered : ℕ → KindNumber → Entry
+entered place (KindNumber.Is kind) = Entry.At place kind
+entered place KindNumber.Odd = Entry.Unreadable
 
-abbrev pub atPlace : Number → Kind → Entry
+abbrev pub atPlace : Number → KindNumber → Entry
 atPlace (Number.Is place) kind = entered place kind
 atPlace Number.Above kind = Entry.Unreadable
 atPlace Number.Odd kind = Entry.Unreadable

@@ -12,7 +12,7 @@ use lines::TextLine;
 use trace_text::What;
 
 // The kind of an entry, 0 to 4, or none.
-enum Kind {
+enum KindNumber {
     Is(u8),
     Odd,
 }
@@ -25,30 +25,30 @@ pub enum Entry {
 }
 
 // The kind that a name is.
-fn kind_of(name: Name) -> Kind
+fn kind_of(name: Name) -> KindNumber
     ensures { λ r. ⌜ r ≡ kindOf name ⌝ }
 {
     match name {
-        Name::Signal => Kind::Is(0),
-        Name::Warning => Kind::Is(1),
-        Name::Annulled => Kind::Is(2),
-        Name::Line => Kind::Is(3),
-        Name::Route => Kind::Is(4),
-        Name::Other => Kind::Odd,
-        Name::Marker => Kind::Odd,
-        Name::Unreadable => Kind::Odd,
-        Name::Position => Kind::Odd,
-        Name::Raw => Kind::Odd,
+        Name::Signal => KindNumber::Is(0),
+        Name::Warning => KindNumber::Is(1),
+        Name::Annulled => KindNumber::Is(2),
+        Name::Line => KindNumber::Is(3),
+        Name::Route => KindNumber::Is(4),
+        Name::Other => KindNumber::Odd,
+        Name::Marker => KindNumber::Odd,
+        Name::Unreadable => KindNumber::Odd,
+        Name::Position => KindNumber::Odd,
+        Name::Raw => KindNumber::Odd,
     }
 }
 
 // An entry of a kind, at its place.
-fn entered(place: u32, kind: Kind) -> Entry
+fn entered(place: u32, kind: KindNumber) -> Entry
     ensures { λ r. ⌜ r ≡ entered place kind ⌝ }
 {
     match kind {
-        Kind::Is(k) => Entry::At { place, kind: k },
-        Kind::Odd => Entry::Unreadable,
+        KindNumber::Is(k) => Entry::At { place, kind: k },
+        KindNumber::Odd => Entry::Unreadable,
     }
 }
 

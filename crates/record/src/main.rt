@@ -9,7 +9,7 @@
 mod out;
 mod pieces;
 
-use console::Given;
+use console::OptionsWent;
 use settings::Store;
 
 // The records of the leads from this argument on, but not to a terminal.
@@ -25,12 +25,12 @@ fn main() {
     let first = asked.first;
     let how = asked.how;
     match how {
-        Given::Plain => record(store, first),
-        Given::Settings => record(store, first),
-        Given::Usage => console::usage(
+        OptionsWent::Plain => record(store, first),
+        OptionsWent::Settings => record(store, first),
+        OptionsWent::Usage => console::usage(
             b"record",
             b"record S S* [LEAD..], or record -s SETTINGS [LEAD..]",
         ),
-        Given::Said => {}
+        OptionsWent::Said => {}
     }
 }

@@ -20,12 +20,12 @@ use Rattle.ride.specs.declared.Linking.{Linking}
 use Rattle.ride.specs.declared.Known.{Known}
 use Rattle.ride.specs.declared.Seen.{Seen}
 use Rattle.ride.specs.declared.Ride.{Ride}
-use Rattle.ride.specs.declared.closing.Verdict.{Verdict}
+use Rattle.ride.specs.declared.closing.GroupVerdict.{GroupVerdict}
 use Rattle.ride.specs.State.{noBalise, noGroup, isOpen, nothingKnown}
 use Rattle.ride.specs.Linking.{markAt, markOf, isOverdue, missedPlace}
 use Rattle.ride.specs.Closing.{Closing, linkingFrom, mainFrom, knownFrom, knownAfter, markFrom, firstPlace, lineOf, close, leave}
 use Rattle.ride.specs.Step.{end, ended}
-use Rattle.ride.specs.Inside.{Judgement, saysVerdict}
+use Rattle.ride.specs.Inside.{Judgement, saysGroupVerdict}
 
 -- ---- linking that is set
 
@@ -66,14 +66,14 @@ verdictOn g known judged = record { line = lineOf g (known .linking) judged; kno
 
 -- a refused group's line shows its first place, and nothing is known then
 pub faulted : (g : Group) (before after : Known) (seen : Seen) (n : ℕ) → 0 < n → after ≡ nothingKnown → seen .place ≡ firstPlace g
-    → saysVerdict (record { fault = n; seen = seen; known = after }) ≡ verdictOn g before (refuses n)
-unfolding saysVerdict
+    → saysGroupVerdict (record { fault = n; seen = seen; known = after }) ≡ verdictOn g before (refuses n)
+unfolding saysGroupVerdict
 faulted g before after seen n h e f = rw (ne-eqb n 0 (omega (arith, h)), e, f)
 
 -- a group closes with the verdict on it
-pub closed-with : (g : Group) (known : Known) (v : Verdict) (c : Closing) → saysVerdict v ≡ verdictOn g known (judge g)
-    → c ≡ record { lines = saysVerdict v .line ∷ []; closed = g; group = noGroup; known = v .known } → c ≡ close g known
-unfolding close saysVerdict
+pub closed-with : (g : Group) (known : Known) (v : GroupVerdict) (c : Closing) → saysGroupVerdict v ≡ verdictOn g known (judge g)
+    → c ≡ record { lines = saysGroupVerdict v .line ∷ []; closed = g; group = noGroup; known = v .known } → c ≡ close g known
+unfolding close saysGroupVerdict
 closed-with g known v c e h = h ∙ ap (λ (w : Judgement). record { lines = w .line ∷ []; closed = g; group = noGroup; known = w .known }) e
 
 -- ---- the end

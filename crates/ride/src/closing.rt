@@ -8,7 +8,7 @@ ghost use Rattle.ride.specs.State.{noGroup};
 ghost use Rattle.ride.specs.Closing.{knownAfter, lineOf, leave};
 ghost use Rattle.ride.specs.Step.{ended};
 ghost use Rattle.ride.specs.Says.{saysClosed, saysEnded};
-ghost use Rattle.ride.specs.Inside.{saysVerdict};
+ghost use Rattle.ride.specs.Inside.{saysGroupVerdict};
 use crate::Ended;
 use crate::Known;
 use crate::Line;
@@ -40,22 +40,22 @@ pub struct Closed {
 // What judging a group says: the number of its refusal, or 0; what its line shows (of a refused
 // group its first place, and nothing else); and what is known then. Its line is made of it where it
 // is written, field by field.
-pub struct Verdict {
+pub struct GroupVerdict {
     pub fault: u8,
     pub seen: Seen,
     pub known: Known,
 }
 
 // The verdict on an accepted group.
-fn accepted(group: Group, known: Known, message: Message) -> Verdict
-    ensures { λ r. ⌜ saysVerdict r ≡ record { line = lineOf group (known .linking) (gives message); known = knownAfter (gives message) known } ⌝ }
+fn accepted(group: Group, known: Known, message: Message) -> GroupVerdict
+    ensures { λ r. ⌜ saysGroupVerdict r ≡ record { line = lineOf group (known .linking) (gives message); known = knownAfter (gives message) known } ⌝ }
 {
     let content = message.content;
     let number = message.number;
     let linking = known.linking;
     let seen = seen_from(message, linking);
     let after = known_from(content, message.place, number, known);
-    Verdict {
+    GroupVerdict {
         fault: 0,
         seen,
         known: after,
@@ -63,13 +63,13 @@ fn accepted(group: Group, known: Known, message: Message) -> Verdict
 }
 
 // The verdict on a group that is refused with this number.
-fn faulty(group: Group, known: Known, number: u8) -> Verdict
+fn faulty(group: Group, known: Known, number: u8) -> GroupVerdict
     requires { ⌜ 0 < number ⌝ }
-    ensures { λ r. ⌜ saysVerdict r ≡ record { line = lineOf group (known .linking) (refuses number); known = knownAfter (refuses number) known } ⌝ }
+    ensures { λ r. ⌜ saysGroupVerdict r ≡ record { line = lineOf group (known .linking) (refuses number); known = knownAfter (refuses number) known } ⌝ }
 {
     let first = group.kept[0];
     let nothing = nothing_known();
-    Verdict {
+    GroupVerdict {
         fault: number,
         seen: Seen {
             place: first.place as u64,
@@ -83,8 +83,8 @@ fn faulty(group: Group, known: Known, number: u8) -> Verdict
 }
 
 // The verdict on a group.
-pub fn judge(group: Group, known: Known) -> Verdict
-    ensures { λ r. ⌜ saysVerdict r ≡ record { line = lineOf group (known .linking) (judge group); known = knownAfter (judge group) known } ⌝ }
+pub fn judge(group: Group, known: Known) -> GroupVerdict
+    ensures { λ r. ⌜ saysGroupVerdict r ≡ record { line = lineOf group (known .linking) (judge group); known = knownAfter (judge group) known } ⌝ }
 {
     match group::judge(group) {
         GroupJudged::Accepted(message) => accepted(group, known, message),
@@ -97,8 +97,8 @@ pub fn judge(group: Group, known: Known) -> Verdict
 }
 
 // The line of a verdict.
-fn line_from(verdict: Verdict) -> Line
-    ensures { λ r. ⌜ r ≡ saysVerdict verdict .line ⌝ }
+fn line_from(verdict: GroupVerdict) -> Line
+    ensures { λ r. ⌜ r ≡ saysGroupVerdict verdict .line ⌝ }
 {
     let seen = verdict.seen;
     if verdict.fault == 0 {
@@ -108,8 +108,8 @@ fn line_from(verdict: Verdict) -> Line
 }
 
 // The group closes with this verdict.
-pub fn close(group: Group, verdict: Verdict) -> Closed
-    ensures { λ r. ⌜ saysClosed r ≡ record { lines = saysVerdict verdict .line ∷ []; closed = group; group = noGroup; known = verdict .known } ⌝ }
+pub fn close(group: Group, verdict: GroupVerdict) -> Closed
+    ensures { λ r. ⌜ saysClosed r ≡ record { lines = saysGroupVerdict verdict .line ∷ []; closed = group; group = noGroup; known = verdict .known } ⌝ }
 {
     let line = line_from(verdict);
     let known = verdict.known;

@@ -10,7 +10,7 @@ mod blocks;
 mod saying;
 
 use console::CardsFound;
-use console::Given;
+use console::OptionsWent;
 use settings::Store;
 
 // The lines of the cards from this argument on, whose lengths were kept, by way of a lent block.
@@ -60,9 +60,9 @@ pub fn list_cards(program: &[u8], call: &[u8], reasons: bool) {
     let first = asked.first;
     let how = asked.how;
     match how {
-        Given::Plain => go_over(program, call, reasons, store, first),
-        Given::Settings => go_over(program, call, reasons, store, first),
-        Given::Usage => saying::usage(program, call, reasons),
-        Given::Said => {}
+        OptionsWent::Plain => go_over(program, call, reasons, store, first),
+        OptionsWent::Settings => go_over(program, call, reasons, store, first),
+        OptionsWent::Usage => saying::usage(program, call, reasons),
+        OptionsWent::Said => {}
     }
 }

@@ -10,7 +10,7 @@ use Rattle.lines.specs.declared.Number.{Number}
 use Rattle.lines.specs.declared.Word.{Word}
 use Rattle.lines.specs.declared.TextLine.{TextLine}
 use Rattle.lines.specs.Words.{largest, noWord}
-use Rattle.settings_text.specs.declared.line.Figure.{Figure}
+use Rattle.settings_text.specs.declared.line.Decimetres.{Decimetres}
 use Rattle.settings_text.specs.declared.line.Stated.{Stated}
 
 -- Word i of a line, the first at 0.
@@ -19,22 +19,22 @@ wordAt line i = getD (line .words) i noWord
 
 -- A number as a place or a gap. The largest of 32 bits stands for all above it: a number too large
 -- for its type is refused as what it is, 18 or 19.
-abbrev pub figureOf : Number → Figure
-figureOf (Number.Is n) = Figure.Is n
-figureOf Number.Above = Figure.Is largest
-figureOf Number.Odd = Figure.Odd
+abbrev pub figureOf : Number → Decimetres
+figureOf (Number.Is n) = Decimetres.Is n
+figureOf Number.Above = Decimetres.Is largest
+figureOf Number.Odd = Decimetres.Odd
 
 -- A figure, or a sync word, goes on to what follows; without it the line is unreadable.
-abbrev pub withFigure : Figure → (ℕ → Stated) → Stated
-withFigure (Figure.Is n) next = next n
-withFigure Figure.Odd next = Stated.Unreadable
+abbrev pub withFigure : Decimetres → (ℕ → Stated) → Stated
+withFigure (Decimetres.Is n) next = next n
+withFigure Decimetres.Odd next = Stated.Unreadable
 
 abbrev pub withWord : Byte → (ℕ → Stated) → Stated
 withWord (Byte.Is b) next = next b
 withWord Byte.Odd next = Stated.Unreadable
 
 -- Four words are a version: its place, its gap, S and S*.
-unfoldable pub version : Figure → Figure → Byte → Byte → Stated
+unfoldable pub version : Decimetres → Decimetres → Byte → Byte → Stated
 version place gap s t =
     withFigure place λ p.
     withFigure gap λ g.

@@ -6,7 +6,7 @@ use lines::Number;
 use lines::TextLine;
 
 // A place or a gap of a line, or none.
-enum Figure {
+enum Decimetres {
     Is(u32),
     Odd,
 }
@@ -19,24 +19,24 @@ pub enum Stated {
 }
 
 // A number as a place or a gap; the largest of 32 bits stands for all above it.
-fn figure_of(number: Number) -> Figure
+fn figure_of(number: Number) -> Decimetres
     ensures { λ r. ⌜ r ≡ figureOf number ⌝ }
 {
     match number {
-        Number::Is(n) => Figure::Is(n),
-        Number::Above => Figure::Is(4294967295),
-        Number::Odd => Figure::Odd,
+        Number::Is(n) => Decimetres::Is(n),
+        Number::Above => Decimetres::Is(4294967295),
+        Number::Odd => Decimetres::Odd,
     }
 }
 
 // Four words as a version.
-fn version_of(place: Figure, gap: Figure, s: Byte, t: Byte) -> Stated
+fn version_of(place: Decimetres, gap: Decimetres, s: Byte, t: Byte) -> Stated
     ensures { λ r. ⌜ r ≡ version place gap s t ⌝ }
 {
-    let Figure::Is(place) = place else {
+    let Decimetres::Is(place) = place else {
         return Stated::Unreadable;
     };
-    let Figure::Is(gap) = gap else {
+    let Decimetres::Is(gap) = gap else {
         return Stated::Unreadable;
     };
     let Byte::Is(s) = s else {

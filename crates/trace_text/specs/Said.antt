@@ -17,20 +17,20 @@ use Rattle.lines.specs.declared.TextLine.{TextLine}
 use Rattle.lines.specs.Words.{noWord}
 use Rattle.trace_text.specs.declared.What.{What}
 use Rattle.trace_text.specs.declared.Said.{Said}
-use Rattle.trace_text.specs.declared.reading.Figure.{Figure}
+use Rattle.trace_text.specs.declared.reading.Capped.{Capped}
 use Rattle.trace_text.specs.declared.reading.Read.{Read}
 
 -- A word as a figure: "a figure of any length is a figure". One too large for its type, of which
 -- `most` is the largest, stands as that, which is refused like it.
-unfoldable pub figureOf : Number → ℕ → Figure
-figureOf (Number.Is n) most = Figure.Is (pick (leb n most) n most)
-figureOf Number.Above most = Figure.Is most
-figureOf Number.Odd most = Figure.Odd
+unfoldable pub figureOf : Number → ℕ → Capped
+figureOf (Number.Is n) most = Capped.Is (pick (leb n most) n most)
+figureOf Number.Above most = Capped.Is most
+figureOf Number.Odd most = Capped.Odd
 
 -- What is needed goes on to what follows; without it nothing can be read.
-abbrev pub withFigure : Figure → (ℕ → Read) → Read
-withFigure (Figure.Is n) next = next n
-withFigure Figure.Odd next = Read.Odd
+abbrev pub withFigure : Capped → (ℕ → Read) → Read
+withFigure (Capped.Is n) next = next n
+withFigure Capped.Odd next = Read.Odd
 
 abbrev pub withByte : Byte → (ℕ → Read) → Read
 withByte (Byte.Is b) next = next b

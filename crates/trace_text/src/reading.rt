@@ -8,8 +8,8 @@ use lines::Number;
 use lines::TextLine;
 use lines::Word;
 
-// A figure, or none.
-pub enum Figure {
+// A figure, no larger than the largest asked for, or none.
+pub enum Capped {
     Is(u32),
     Odd,
 }
@@ -21,18 +21,18 @@ pub enum Read {
 }
 
 // A word as a figure, of which `most` is the largest that its type has.
-fn figure_of(number: Number, most: u32) -> Figure
+fn figure_of(number: Number, most: u32) -> Capped
     ensures { λ r. ⌜ r ≡ figureOf number most ⌝ }
 {
     match number {
         Number::Is(n) => {
             if n > most {
-                return Figure::Is(most);
+                return Capped::Is(most);
             }
-            Figure::Is(n)
+            Capped::Is(n)
         }
-        Number::Above => Figure::Is(most),
-        Number::Odd => Figure::Odd,
+        Number::Above => Capped::Is(most),
+        Number::Odd => Capped::Odd,
     }
 }
 
@@ -58,10 +58,10 @@ fn named(name: Name) -> Read
 fn numbered(first: Number, second: Number) -> Read
     ensures { λ r. ⌜ r ≡ numbered first second ⌝ }
 {
-    let Figure::Is(x) = figure_of(first, 255) else {
+    let Capped::Is(x) = figure_of(first, 255) else {
         return Read::Odd;
     };
-    let Figure::Is(y) = figure_of(second, 65535) else {
+    let Capped::Is(y) = figure_of(second, 65535) else {
         return Read::Odd;
     };
     if x != 12 {
@@ -78,13 +78,13 @@ fn numbered(first: Number, second: Number) -> Read
 fn figures(first: Number, second: Number, third: Number) -> Read
     ensures { λ r. ⌜ r ≡ figures first second third ⌝ }
 {
-    let Figure::Is(x) = figure_of(first, 255) else {
+    let Capped::Is(x) = figure_of(first, 255) else {
         return Read::Odd;
     };
-    let Figure::Is(y) = figure_of(second, 65535) else {
+    let Capped::Is(y) = figure_of(second, 65535) else {
         return Read::Odd;
     };
-    let Figure::Is(z) = figure_of(third, 255) else {
+    let Capped::Is(z) = figure_of(third, 255) else {
         return Read::Odd;
     };
     if x == 12 {

@@ -7,7 +7,7 @@ use crate::taking::PassStands;
 use console::CardsFound;
 use libc::SEEK_SET;
 use lines::TextLine;
-use track_lead::Way;
+use track_lead::TrackWay;
 use typed_lines::LineCame;
 
 // Whether a pass goes on.
@@ -115,7 +115,7 @@ fn with_failure(stand: Laying) -> Laying {
 }
 
 // A pass at the text's beginning, over a way that is known so far.
-fn begun(call: TrackCall, way: Way, writes: bool) -> Laying {
+fn begun(call: TrackCall, way: TrackWay, writes: bool) -> Laying {
     Laying {
         writes,
         lines: 0,
@@ -143,7 +143,7 @@ fn finish(stand: Laying, room: &mut [u8]) {
 }
 
 // The second pass: the frames.
-fn feed(fd: i32, call: TrackCall, way: Way, text: &mut [u8], room: &mut [u8]) {
+fn feed(fd: i32, call: TrackCall, way: TrackWay, text: &mut [u8], room: &mut [u8]) {
     let written = pass(fd, begun(call, way, true), text, room);
     finish(written, room);
 }

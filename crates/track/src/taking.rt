@@ -4,7 +4,7 @@ use lines::TextLine;
 use track_lead::Feed;
 use track_lead::Taken;
 use track_lead::Thing;
-use track_lead::Way;
+use track_lead::TrackWay;
 use track_text::Entry;
 
 // How a pass stands: it goes on, or a line is not taken, or a write failed.
@@ -24,7 +24,7 @@ pub enum PassStands {
 pub struct Laying {
     pub writes: bool,
     pub lines: u64,
-    pub way: Way,
+    pub way: TrackWay,
     pub feed: Feed,
     pub how: PassStands,
 }

@@ -11,8 +11,8 @@ use borrow.Author.Tests.{ltb-false}
 use Rattle.words.specs.Answer.{gives, pick}
 use Rattle.words.proofs.Never.{cannot-be}
 use Rattle.track_lead.specs.declared.Thing.{Thing}
-use Rattle.track_lead.specs.declared.Mark.{Mark}
-use Rattle.track_lead.specs.declared.Way.{Way}
+use Rattle.track_lead.specs.declared.Place.{Place}
+use Rattle.track_lead.specs.declared.TrackWay.{TrackWay}
 use Rattle.track_lead.specs.Way.{highest, isSent, isNear, after, take}
 use Rattle.track_lead.specs.Lead.{Item, wayFrom, Over, firstFrame, latest}
 use Rattle.track_lead.proofs.Latest.{Rising, rises, given-then, TakenSo, taken-so, position, soon}
@@ -32,8 +32,8 @@ pub from-0 : (items : List Item) → SentFrom 0 items
 from-0 [] = tt
 from-0 (item ∷ items) = ((λ is. omega arith), from-0 items)
 
-not-near : (mark : Mark) (p place : ℕ) → mark ≡ Mark.At p → isNear mark place ≡ false → p + 4 ≤ place
-not-near mark p place is far = ltb-false place (p + 4) (sym (ap (λ (m : Mark). isNear m place) is) ∙ far)
+not-near : (mark : Place) (p place : ℕ) → mark ≡ Place.At p → isNear mark place ≡ false → p + 4 ≤ place
+not-near mark p place is far = ltb-false place (p + 4) (sym (ap (λ (m : Place). isNear m place) is) ∙ far)
 
 and-left : (a c : Bool) → (a && c) ≡ false → a ≡ true → c ≡ false
 and-left true c e is = e
@@ -41,14 +41,14 @@ and-left false true e is = sym is
 and-left false false e is = refl
 
 -- The thing before, after a line.
-pub thing-then : (way : Way) (item : Item) (next : Way) (b : Bool) → TakenSo way (item .place) (item .thing) next → isSent (item .thing) ≡ b
-    → next .thing ≡ pick b (Mark.At (item .place)) (way .thing)
+pub thing-then : (way : TrackWay) (item : Item) (next : TrackWay) (b : Bool) → TakenSo way (item .place) (item .thing) next → isSent (item .thing) ≡ b
+    → next .thing ≡ pick b (Place.At (item .place)) (way .thing)
 unfolding after
-thing-then way item next b t is = ap (λ (w : Way). w .thing) (t .next-is) ∙ ap (λ (c : Bool). pick c (Mark.At (item .place)) (way .thing)) is
+thing-then way item next b t is = ap (λ (w : TrackWay). w .thing) (t .next-is) ∙ ap (λ (c : Bool). pick c (Place.At (item .place)) (way .thing)) is
 
 -- One line, and then the others.
-one-apart : (way : Way) (item : Item) (items : List Item) (next : Way) (p : ℕ) → way .thing ≡ Mark.At p → TakenSo way (item .place) (item .thing) next
-    → ((q : ℕ) → next .thing ≡ Mark.At q → SentFrom (q + 4) items) → (b : Bool) → isSent (item .thing) ≡ b → SentFrom (p + 4) (item ∷ items)
+one-apart : (way : TrackWay) (item : Item) (items : List Item) (next : TrackWay) (p : ℕ) → way .thing ≡ Place.At p → TakenSo way (item .place) (item .thing) next
+    → ((q : ℕ) → next .thing ≡ Place.At q → SentFrom (q + 4) items) → (b : Bool) → isSent (item .thing) ≡ b → SentFrom (p + 4) (item ∷ items)
 one-apart way item items next p there t rest true is =
     let far = not-near (way .thing) p (item .place) there (and-left (isSent (item .thing)) (isNear (way .thing) (item .place)) (t .apart) is) in
     ((λ e. far), weaker (p + 4) (item .place + 4) items (omega arith) (rest (item .place) (thing-then way item next true t is)))
@@ -56,7 +56,7 @@ one-apart way item items next p there t rest false is =
     ((λ e. let z : _≡_ {A = Bool} true false = sym e ∙ is in cannot-be cc), rest p (thing-then way item next false t is ∙ there))
 
 -- After a thing at a place, the next lies four beyond it.
-pub apart : (way : Way) (items : List Item) (last : Way) (p : ℕ) → wayFrom way items ≡ gives last → way .thing ≡ Mark.At p → SentFrom (p + 4) items
+pub apart : (way : TrackWay) (items : List Item) (last : TrackWay) (p : ℕ) → wayFrom way items ≡ gives last → way .thing ≡ Place.At p → SentFrom (p + 4) items
 unfolding wayFrom
 apart way [] last p is there = tt
 apart way (item ∷ items) last p is there =

@@ -22,7 +22,7 @@ use Rattle.trace_text_laws.specs.Texts.{Result, made, before, Comes, no-more}
 use Rattle.track_text.specs.declared.Entry.{Entry}
 use Rattle.track_text.specs.Read.{balise, thingAt, readSaid, read}
 use Rattle.track_lead.specs.declared.Thing.{Thing}
-use Rattle.track_lead.specs.declared.Way.{Way}
+use Rattle.track_lead.specs.declared.TrackWay.{TrackWay}
 use Rattle.track_lead.specs.declared.Feed.{Feed}
 use Rattle.track_lead.specs.Way.{Bad}
 use Rattle.track_lead.specs.Way as ways
@@ -41,11 +41,11 @@ use Rattle.track_laws.proofs.Writing.{Counts, written, counts-on}
 
 -- ---- `track` takes the lines, and writes their lead
 
-is-way : {way last : Way} {items : List Item} → Goes way items last → wayFrom way items ≡ gives last
+is-way : {way last : TrackWay} {items : List Item} → Goes way items last → wayFrom way items ≡ gives last
 unfolding wayFrom
 is-way calls.none = refl
 is-way {way} {last} (on {next = next} {item = item} {items = items} taken rest) =
-    ap (λ (a : Answer Bad Way). then a (λ w. wayFrom w items)) (sym (taken .1)) ∙ is-way rest
+    ap (λ (a : Answer Bad TrackWay). then a (λ w. wayFrom w items)) (sym (taken .1)) ∙ is-way rest
 
 counts-passes : (feed : Feed) (thing : Thing) → Counts feed → Counts (passes feed thing)
 unfolding passes
@@ -171,7 +171,7 @@ of-lines _ _ (calls.thing {l = l} {ls = ls} {items = items} place thing reads re
 
 -- ---- the whole way
 
-begins-counting : (way : Way) (n s t : ℕ) → 0 < n → Counts (begin way n s t)
+begins-counting : (way : TrackWay) (n s t : ℕ) → 0 < n → Counts (begin way n s t)
 unfolding begin
 begins-counting way n s t some = some
 
@@ -180,7 +180,7 @@ unfolding wayOf
 the-whole-way n s t text lead store pieces records result tracked some few pair sure held whole is recording taken =
     let items = tracked .items in
     let way = tracked .way in
-    let goes : wayFrom ways.fresh items ≡ gives way = ap (λ (w : Way). wayFrom w items) (sym (tracked .is-fresh .1)) ∙ is-way (tracked .goes) in
+    let goes : wayFrom ways.fresh items ≡ gives way = ap (λ (w : TrackWay). wayFrom w items) (sym (tracked .is-fresh .1)) ∙ is-way (tracked .goes) in
     let feed-is : tracked .feed ≡ begin way n s t = tracked .begins .1 in
     let counts : Counts (tracked .feed) = subst Counts (sym feed-is) (begins-counting way n s t some) in
     let its-lead : lead ≡ leadOf n s t way items =

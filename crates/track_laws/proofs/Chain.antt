@@ -22,7 +22,7 @@ use Rattle.recording.specs.Contacts.{lineIn, sIn, tIn, recordsFor}
 use Rattle.recording.specs.Document.{wholeLine}
 use Rattle.recording.proofs.Document.{all-length, bit-of}
 use Rattle.track_lead.specs.declared.Thing.{Thing}
-use Rattle.track_lead.specs.declared.Way.{Way}
+use Rattle.track_lead.specs.declared.TrackWay.{TrackWay}
 use Rattle.track_lead.specs.Way.{highest, isSent, take}
 use Rattle.track_lead.specs.Sent.{sends}
 use Rattle.track_lead.specs.Sent as sent-specs
@@ -171,7 +171,7 @@ module _ (n s t begin : ℕ) (all : List Item) (some : 0 < n) (m : ℕ) (store :
   position-one item rest over i h here is on = (on .0 ∙ no-record item rest (item .thing) refl is, on .1)
 
   -- Line after line.
-  pub chain : (rest : List Item) (way last : Way) (over : Over) (i h q : ℕ) → wayFrom way rest ≡ gives last → Here rest over i → Still h → i ≤ end
+  pub chain : (rest : List Item) (way last : TrackWay) (over : Over) (i h q : ℕ) → wayFrom way rest ≡ gives last → Here rest over i → Still h → i ≤ end
       → SentFrom q rest → i ≤ 96 * firstFrame n begin q → Fit n begin m rest → Sure s t rest → Done rest i h
   unfolding wayFrom
   chain [] way last over i h q is here still within from-there reach fit sure = nothing-more over i h here still within
@@ -181,7 +181,7 @@ module _ (n s t begin : ℕ) (all : List Item) (some : 0 < n) (m : ℕ) (store :
       by (isSent (item .thing)) refl (g .0) taken (g .2)
       (λ over′ i′ h′ q′ here′ still′ within′ from′ reach′. chain rest (g .0) last over′ i′ h′ q′ (g .2) here′ still′ within′ from′ reach′ (fit .1) (sure .1))
     where
-      by : (c : Bool) → isSent (item .thing) ≡ c → (next : Way) → TakenSo way (item .place) (item .thing) next → wayFrom next rest ≡ gives last
+      by : (c : Bool) → isSent (item .thing) ≡ c → (next : TrackWay) → TakenSo way (item .place) (item .thing) next → wayFrom next rest ≡ gives last
           → ((over′ : Over) (i′ h′ q′ : ℕ) → Here rest over′ i′ → Still h′ → i′ ≤ end → SentFrom q′ rest → i′ ≤ 96 * firstFrame n begin q′ → Done rest i′ h′)
           → Done (item ∷ rest) i h
       by false e next taken goes on = position-one item rest over i h here e (on over i h q (passed-position item rest over i here e) still within (from-there .1) reach)

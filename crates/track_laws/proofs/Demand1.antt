@@ -15,7 +15,7 @@ use Rattle.trace_text.specs.declared.What.{What}
 use Rattle.trace_text.specs.Record.{Recording, recording, recordOf, bytesOf}
 use Rattle.trace_text.specs.Record as recorded
 use Rattle.track_lead.specs.declared.Thing.{Thing}
-use Rattle.track_lead.specs.declared.Way.{Way}
+use Rattle.track_lead.specs.declared.TrackWay.{TrackWay}
 use Rattle.track_lead.specs.Way.{Bad, refused, tooNear, isSent, isNear, after, take}
 use Rattle.track_lead.specs.Says.{saysTaken}
 use Rattle.track_lead.proofs.Determined.{takenOf, taken-back}
@@ -55,12 +55,12 @@ recorded-so place What.Unreadable = (recorded.made, refl)
 recorded-so place What.Position = (recorded.made, refl)
 recorded-so place (What.Raw kind x y z) = (recorded.made, refl)
 
-taken-so : (way : Way) (place : ℕ) (thing : Thing)
+taken-so : (way : TrackWay) (place : ℕ) (thing : Thing)
     → Decided Given (takeRules way place thing) (take way place thing)
 unfolding take tooHigh
 taken-so way place thing =
     let near : Bool = isSent thing && isNear (way .thing) place in
-    let last : Answer Bad Way = pick near (refuses tooNear) (gives (after way place thing)) in
+    let last : Answer Bad TrackWay = pick near (refuses tooNear) (gives (after way place thing)) in
     if-so Given (rowOf (refused 17) (ltb place (way .last)) ∷ rowOf tooNear near ∷ []) (refuses (refused 18)) (pick (ltb place (way .last)) (refuses (refused 17)) last)
     (if-so Given (rowOf tooNear near ∷ []) (refuses (refused 17)) last
     (if-so Given [] (refuses tooNear) (gives (after way place thing)) (after way place thing, refl) near)

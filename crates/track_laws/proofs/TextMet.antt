@@ -25,8 +25,8 @@ use Rattle.contact_laws.proofs.Either.{audible-computed}
 use Rattle.recording.specs.Recording.{noneHeld, heldAt, recorded}
 use Rattle.recording.specs.Contacts.{withoutPositions}
 use Rattle.track_lead.specs.declared.Thing.{Thing}
-use Rattle.track_lead.specs.declared.Mark.{Mark}
-use Rattle.track_lead.specs.declared.Way.{Way}
+use Rattle.track_lead.specs.declared.Place.{Place}
+use Rattle.track_lead.specs.declared.TrackWay.{TrackWay}
 use Rattle.track_lead.specs.Way.{fresh, take, after}
 use Rattle.track_lead.specs.Lead.{Item, wayFrom, wayOf, leadOf}
 use Rattle.track_laws.specs.Sure.{Pair, passedAt, Heard, Sure, recordsOf}
@@ -36,8 +36,8 @@ use Rattle.track_laws.proofs.WholeWay.{whole-way}
 abbrev text : List Item
 text = record { place = 1000; thing = Thing.Balise 0x17 0x8e 0x5a } ∷ record { place = 1004; thing = Thing.Marker } ∷ record { place = 1008; thing = Thing.Unreadable } ∷ []
 
-abbrev way : Way
-way = record { first = Mark.At 1000; last = 1008; thing = Mark.At 1008 }
+abbrev way : TrackWay
+way = record { first = Place.At 1000; last = 1008; thing = Place.At 1008 }
 
 is-taken : wayOf text ≡ gives way
 unfolding wayOf wayFrom take after fresh

@@ -22,8 +22,8 @@ use Rattle.trace_text_laws.specs.Texts.{made, Comes, no-more, nothing, thing, T
 use Rattle.trace_text_laws.proofs.OneLine.{lent, first, last, read-out}
 use Rattle.track_text.specs.Read.{read}
 use Rattle.track_lead.specs.declared.Thing.{Thing}
-use Rattle.track_lead.specs.declared.Mark.{Mark}
-use Rattle.track_lead.specs.declared.Way.{Way}
+use Rattle.track_lead.specs.declared.Place.{Place}
+use Rattle.track_lead.specs.declared.TrackWay.{TrackWay}
 use Rattle.track_lead.specs.declared.Feed.{Feed}
 use Rattle.track_lead.specs.Way as ways
 use Rattle.track_lead.specs.Feed.{begin, passes, frame, after, frames, write}
@@ -61,8 +61,8 @@ frameOf odometer a = 0 ∷ 0 ∷ 0 ∷ odometer ∷ a ∷ a ∷ a ∷ a ∷ a �
 abbrev pub lead : List ℕ
 lead = frameOf 0 0 ++ frameOf 1 255 ++ frameOf 2 255 ++ frameOf 3 255 ++ frameOf 4 255 ++ frameOf 5 255 ++ frameOf 6 255 ++ frameOf 7 255 ++ frameOf 8 255 ++ frameOf 9 255 ++ frameOf 10 255
 
-abbrev way : Way
-way = record { first = Mark.At 0; last = 0; thing = Mark.At 0 }
+abbrev way : TrackWay
+way = record { first = Place.At 0; last = 0; thing = Place.At 0 }
 
 abbrev at-first : Feed
 at-first = record { n = 1; s = 0x72; t = 0x0d; place = 0; nth = 0; thing = Thing.Nothing; since = 0 }

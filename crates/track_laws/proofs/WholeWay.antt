@@ -21,7 +21,7 @@ use Rattle.recording.specs.Document.{wholeLine}
 use Rattle.recording.proofs.Contacts.{one-each}
 use Rattle.recording.proofs.Document.{the-contacts}
 use Rattle.track_lead.specs.declared.Thing.{Thing}
-use Rattle.track_lead.specs.declared.Way.{Way}
+use Rattle.track_lead.specs.declared.TrackWay.{TrackWay}
 use Rattle.track_lead.specs.Way.{highest, from, until, fresh}
 use Rattle.track_lead.specs.Sent.{sends}
 use Rattle.track_lead.specs.Lead.{Item, wayFrom, wayOf, nothing, odometerAt, framesAt, leadOf}
@@ -66,7 +66,7 @@ recorded-so store lead m records frames small done =
     ∙ append-nil records
 
 -- A text with its way's ends known.
-with-ends : (n s t : ℕ) (items : List Item) (way : Way) (store : Store) (some : 0 < n) → n ≤ 1000 → wayOf items ≡ gives way → Pair s t → Sure s t items → Throughout store s t
+with-ends : (n s t : ℕ) (items : List Item) (way : TrackWay) (store : Store) (some : 0 < n) → n ≤ 1000 → wayOf items ≡ gives way → Pair s t → Sure s t items → Throughout store s t
     → until way ≤ highest + 1 → Fit n (from way) (n * (until way - from way)) items
     → withoutPositions (recorded store (leadOf n s t way items)) ≡ recordsOf items
 unfolding wayOf leadOf
@@ -82,9 +82,9 @@ with-ends n s t items way store some few is pair sure held ends fit =
     ones-still (omega arith) (from-0 items) (omega arith) fit sure)
 
 -- A way without a line has no end.
-empty-ends : (way : Way) → wayOf [] ≡ gives way → until way ≤ highest + 1
+empty-ends : (way : TrackWay) → wayOf [] ≡ gives way → until way ≤ highest + 1
 unfolding wayOf wayFrom fresh until
-empty-ends way is = let same : fresh ≡ way = cc in subst (λ (w : Way). until w ≤ highest + 1) same (omega arith)
+empty-ends way is = let same : fresh ≡ way = cc in subst (λ (w : TrackWay). until w ≤ highest + 1) same (omega arith)
 
 pub whole-way : WholeWay
 whole-way n s t [] way store some few is pair sure held = with-ends n s t [] way store some few is pair sure held (empty-ends way is) tt

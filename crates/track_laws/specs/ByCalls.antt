@@ -14,7 +14,7 @@ use Rattle.lines_laws.specs.Texts as texts
 use Rattle.trace_text_laws.specs.Texts.{Result, made, Taken}
 use Rattle.track_text.specs.declared.Entry.{Entry}
 use Rattle.track_lead.specs.declared.Thing.{Thing}
-use Rattle.track_lead.specs.declared.Way.{Way}
+use Rattle.track_lead.specs.declared.TrackWay.{TrackWay}
 use Rattle.track_lead.specs.declared.Taken.{Taken as OneTaken}
 use Rattle.track_lead.specs.declared.Feed.{Feed}
 use Rattle.track_lead.specs.declared.Wrote.{Wrote}
@@ -36,9 +36,9 @@ pub data Items : List TextLine → List Item → Type 0 where
       → Items (l ∷ ls) (record { place = place; thing = thing } ∷ items)
 
 -- The first pass: each is taken.
-pub data Goes : Way → List Item → Way → Type 0 where
-  none : {way : Way} → Goes way [] way
-  on : {way next last : Way} {item : Item} {items : List Item} → TakeLine way (item .place) (item .thing) (OneTaken.On next) → Goes next items last → Goes way (item ∷ items) last
+pub data Goes : TrackWay → List Item → TrackWay → Type 0 where
+  none : {way : TrackWay} → Goes way [] way
+  on : {way next last : TrackWay} {item : Item} {items : List Item} → TakeLine way (item .place) (item .thing) (OneTaken.On next) → Goes next items last → Goes way (item ∷ items) last
 
 -- `write` is asked on and on, into buffers with room for a frame, until nothing comes: all frames
 -- before the decimetre `to`.
@@ -65,9 +65,9 @@ pub record Tracked (n s t : ℕ) (text lead : List ℕ) : Type 0 where
   pub read : ReadOut first others lines
   pub items : List Item
   pub are : Items lines items
-  pub fresh : Way
+  pub fresh : TrackWay
   pub is-fresh : FreshWay fresh
-  pub way : Way
+  pub way : TrackWay
   pub goes : Goes fresh items way
   pub feed : Feed
   pub begins : BeginFeed way n s t feed

@@ -12,7 +12,7 @@ use denote.Triple.Clauses.{AtExit}
 use Rattle.lines.specs.declared.TextLine.{TextLine}
 use Rattle.track_text.specs.declared.Entry.{Entry}
 use Rattle.track_lead.specs.declared.Thing.{Thing}
-use Rattle.track_lead.specs.declared.Way.{Way}
+use Rattle.track_lead.specs.declared.TrackWay.{TrackWay}
 use Rattle.track_lead.specs.declared.Taken.{Taken}
 use Rattle.track_lead.specs.declared.Feed.{Feed}
 use Rattle.track_lead.specs.declared.Wrote.{Wrote}
@@ -37,18 +37,18 @@ ReadsAs line r = (e : AtExit (endedOf 0 read-kinds.ps read-kinds.r) tt) × read-
 
 -- The contract of `fresh` allows this way, that of `take` the answer r for a line with this place
 -- and thing after this way.
-abbrev pub FreshWay : Way → Type 0
+abbrev pub FreshWay : TrackWay → Type 0
 FreshWay r = (e : AtExit (endedOf 0 fresh-kinds.ps fresh-kinds.r) tt) × fresh-reads.Post tt tt r e
 
-abbrev pub TakeLine : Way → ℕ → Thing → Taken → Type 0
+abbrev pub TakeLine : TrackWay → ℕ → Thing → Taken → Type 0
 TakeLine way place thing r = (e : AtExit (endedOf 0 take-kinds.ps take-kinds.r) tt) × take-reads.Post tt (way, (place, (thing, tt))) r e
 
 -- The contract of `until` allows this end of a way, that of `begin` this feed at its beginning,
 -- that of `passes` the feed r once this thing begins.
-abbrev pub Until : Way → ℕ → Type 0
+abbrev pub Until : TrackWay → ℕ → Type 0
 Until way r = (e : AtExit (endedOf 0 until-kinds.ps until-kinds.r) tt) × until-reads.Post tt (way, tt) r e
 
-abbrev pub BeginFeed : Way → ℕ → ℕ → ℕ → Feed → Type 0
+abbrev pub BeginFeed : TrackWay → ℕ → ℕ → ℕ → Feed → Type 0
 BeginFeed way n s t r = (e : AtExit (endedOf 0 begin-kinds.ps begin-kinds.r) tt) × begin-reads.Post tt (way, (n, (s, (t, tt)))) r e
 
 abbrev pub Passes : Feed → Thing → Feed → Type 0

@@ -22,7 +22,7 @@ use Rattle.trace_text.specs.Record.{eightZeroes}
 use Rattle.trace_text.specs.Says.{saysMakingWent}
 use Rattle.trace_text_laws.specs.Calls.{RecordOf}
 use Rattle.track_lead.specs.declared.Thing.{Thing}
-use Rattle.track_lead.specs.declared.Way.{Way}
+use Rattle.track_lead.specs.declared.TrackWay.{TrackWay}
 use Rattle.track_lead.specs.declared.Taken.{Taken}
 use Rattle.track_lead.specs.Way.{Bad, refused, tooNear, isSent, isNear}
 use Rattle.track_lead.specs.Says.{saysTaken}
@@ -48,14 +48,14 @@ whatRules What.Position = []
 whatRules (What.Raw kind x y z) = []
 
 -- A line of a track: "18, 17, too near, in this order".
-abbrev pub takeRules : Way → ℕ → Thing → List (Rule (Answer Bad Way))
+abbrev pub takeRules : TrackWay → ℕ → Thing → List (Rule (Answer Bad TrackWay))
 takeRules way place thing =
     rowOf (refused 18) (tooHigh place) ∷ rowOf (refused 17) (ltb place (way .last)) ∷ rowOf tooNear (isSent thing && isNear (way .thing) place) ∷ []
 
 pub record Demand1 : Type 0 where
   pub spell : (x y z : ℕ) (r : Spelt) → Spell x y z r → Decided Given (figureRules x y z) (saysSpelt r)
   pub record-of : (place : ℕ) (what : What) (r : Recorded) → RecordOf place what r → Decided Given (whatRules what) (saysMakingWent (r .how))
-  pub take : (way : Way) (place : ℕ) (thing : Thing) (r : Taken) → TakeLine way place thing r
+  pub take : (way : TrackWay) (place : ℕ) (thing : Thing) (r : Taken) → TakeLine way place thing r
       → Decided Given (takeRules way place thing) (saysTaken r)
 
 -- "A refusal hands out no figure": the same refusal is the same answer, whatever was asked; the

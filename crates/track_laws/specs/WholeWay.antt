@@ -10,7 +10,7 @@ use Rattle.words.specs.Answer.{gives}
 use Rattle.settings.specs.declared.Store.{Store}
 use Rattle.recording.specs.Recording.{heldAt, recorded}
 use Rattle.recording.specs.Contacts.{withoutPositions}
-use Rattle.track_lead.specs.declared.Way.{Way}
+use Rattle.track_lead.specs.declared.TrackWay.{TrackWay}
 use Rattle.track_lead.specs.Way.{highest}
 use Rattle.track_lead.specs.Lead.{Item, wayOf, leadOf}
 use Rattle.track_laws.specs.Sure.{Pair, Sure, recordsOf}
@@ -21,5 +21,5 @@ Throughout store s t = (place : ℕ) → place ≤ highest → (heldAt store pla
 
 abbrev pub WholeWay : Type 0
 WholeWay =
-    (n s t : ℕ) (items : List Item) (way : Way) (store : Store) → 0 < n → n ≤ 1000 → wayOf items ≡ gives way → Pair s t → Sure s t items → Throughout store s t
+    (n s t : ℕ) (items : List Item) (way : TrackWay) (store : Store) → 0 < n → n ≤ 1000 → wayOf items ≡ gives way → Pair s t → Sure s t items → Throughout store s t
     → withoutPositions (recorded store (leadOf n s t way items)) ≡ recordsOf items

@@ -6,7 +6,7 @@ use lib.Dec.{eqb}
 use denote.Ref.{now}
 use Rattle.words.specs.Answer.{Answer, gives, refuses, pick}
 use Rattle.words.proofs.Told.{Fixed, told, FixedWith}
-use Rattle.track_lead.specs.declared.Way.{Way}
+use Rattle.track_lead.specs.declared.TrackWay.{TrackWay}
 use Rattle.track_lead.specs.declared.Taken.{Taken}
 use Rattle.track_lead.specs.Way.{Bad, refused, tooNear}
 use Rattle.track_lead.specs.Feed.{Writing}
@@ -15,8 +15,6 @@ use Rattle.track_lead.proofs.fresh.Kinds as fresh-kinds
 use Rattle.track_lead.proofs.fresh.Reads as fresh-reads
 use Rattle.track_lead.proofs.take.Kinds as take-kinds
 use Rattle.track_lead.proofs.take.Reads as take-reads
-use Rattle.track_lead.proofs.from.Kinds as from-kinds
-use Rattle.track_lead.proofs.from.Reads as from-reads
 use Rattle.track_lead.proofs.until.Kinds as until-kinds
 use Rattle.track_lead.proofs.until.Reads as until-reads
 use Rattle.track_lead.proofs.begin.Kinds as begin-kinds
@@ -34,7 +32,7 @@ abbrev pub takenBad : Bad → Taken
 takenBad (refused n) = pick (eqb n 18) Taken.TooHigh Taken.Lower
 takenBad tooNear = Taken.TooNear
 
-abbrev pub takenOf : Answer Bad Way → Taken
+abbrev pub takenOf : Answer Bad TrackWay → Taken
 takenOf (gives way) = Taken.On way
 takenOf (refuses bad) = takenBad bad
 
@@ -46,9 +44,6 @@ taken-back Taken.TooNear = refl
 
 pub take-determined : Fixed 0 take-kinds.ps take-kinds.r take-reads.Post
 take-determined κs a x y at-x at-y p q = told saysTaken takenOf taken-back x y p q
-
-pub from-determined : Fixed 0 from-kinds.ps from-kinds.r from-reads.Post
-from-determined κs a x y at-x at-y p q = p ∙ sym q
 
 pub until-determined : Fixed 0 until-kinds.ps until-kinds.r until-reads.Post
 until-determined κs a x y at-x at-y p q = p ∙ sym q

@@ -8,7 +8,7 @@ use lib.ListN.{take}
 use Rattle.words.specs.Answer.{gives, refuses}
 use Rattle.balise_writer.specs.Write.{telegrams}
 use Rattle.track_lead.specs.declared.Thing.{Thing}
-use Rattle.track_lead.specs.declared.Mark.{Mark}
+use Rattle.track_lead.specs.declared.Place.{Place}
 use Rattle.track_lead.specs.Way.{fresh, after, refused, tooNear, from, until}
 use Rattle.track_lead.specs.Way as way-specs
 use Rattle.track_lead.specs.Sent.{lineIn}
@@ -28,7 +28,7 @@ fourth = refl
 abbrev markers : ℕ → ℕ → List Item
 markers a b = record { place = a; thing = Thing.Marker } ∷ record { place = b; thing = Thing.Marker } ∷ []
 
-four-apart : wayOf (markers 500 504) ≡ gives (record { first = Mark.At 500; last = 504; thing = Mark.At 504 })
+four-apart : wayOf (markers 500 504) ≡ gives (record { first = Place.At 500; last = 504; thing = Place.At 504 })
 unfolding wayOf wayFrom way-specs.take after fresh
 four-apart = refl
 
@@ -41,6 +41,6 @@ unfolding wayOf wayFrom way-specs.take after fresh
 below = refl
 
 -- The way from a place below ten, and up to the highest.
-edges : (from (record { first = Mark.At 9; last = 9; thing = Mark.Never }) ≡ 0) × (until (record { first = Mark.At 9; last = 3999999991; thing = Mark.Never }) ≡ 4000000001)
+edges : (from (record { first = Place.At 9; last = 9; thing = Place.Never }) ≡ 0) × (until (record { first = Place.At 9; last = 3999999991; thing = Place.Never }) ≡ 4000000001)
 unfolding from until
 edges = (refl, refl)

@@ -12,8 +12,8 @@ use borrow.Author.Tests.{ltb-false, lt-leb, le-leb}
 use Rattle.words.specs.Answer.{Answer, gives, refuses, then, pick}
 use Rattle.words.proofs.Never.{cannot-be}
 use Rattle.track_lead.specs.declared.Thing.{Thing}
-use Rattle.track_lead.specs.declared.Mark.{Mark}
-use Rattle.track_lead.specs.declared.Way.{Way}
+use Rattle.track_lead.specs.declared.Place.{Place}
+use Rattle.track_lead.specs.declared.TrackWay.{TrackWay}
 use Rattle.track_lead.specs.Way.{highest, isSent, isNear, fresh, firstOf, after, Bad, refused, tooNear, take, fromOf, untilOf, from, until}
 use Rattle.track_lead.specs.Lead.{Item, wayFrom, wayOf, Over, firstFrame, latest}
 
@@ -31,18 +31,18 @@ rises low high (item ∷ items) r = let l = rises (item .place) high items (r .1
 
 -- A line that is taken: its place is no lower than the last, and at most 4,000,000,000; and the way
 -- after it.
-pub record TakenSo (way : Way) (place : ℕ) (thing : Thing) (next : Way) : Type 0 where
+pub record TakenSo (way : TrackWay) (place : ℕ) (thing : Thing) (next : TrackWay) : Type 0 where
   pub on : way .last ≤ place
   pub low : place ≤ highest
   pub apart : (isSent thing && isNear (way .thing) place) ≡ false
   pub next-is : next ≡ after way place thing
 
-pub taken-so : (way : Way) (place : ℕ) (thing : Thing) (next : Way) → take way place thing ≡ gives next → TakenSo way place thing next
+pub taken-so : (way : TrackWay) (place : ℕ) (thing : Thing) (next : TrackWay) → take way place thing ≡ gives next → TakenSo way place thing next
 unfolding take
 taken-so way place thing next is = by (ltb highest place) refl (ltb place (way .last)) refl (isSent thing && isNear (way .thing) place) refl is
   where
     by : (a : Bool) → ltb highest place ≡ a → (b : Bool) → ltb place (way .last) ≡ b → (c : Bool) → (isSent thing && isNear (way .thing) place) ≡ c
-        → pick {A = Answer Bad Way} a (refuses (refused 18)) (pick b (refuses (refused 17)) (pick c (refuses tooNear) (gives (after way place thing)))) ≡ gives next
+        → pick {A = Answer Bad TrackWay} a (refuses (refused 18)) (pick b (refuses (refused 17)) (pick c (refuses tooNear) (gives (after way place thing)))) ≡ gives next
         → TakenSo way place thing next
     by false p false q false r e =
         record {
@@ -56,66 +56,66 @@ taken-so way place thing next is = by (ltb highest place) refl (ltb place (way .
     by false p false q true r e = absurd (cannot-be cc)
 
 -- What goes on with an answer that is given.
-pub given-then : (a : Answer Bad Way) (next : Way → Answer Bad Way) (w : Way) → then a next ≡ gives w → (v : Way) × (a ≡ gives v) × (next v ≡ gives w)
+pub given-then : (a : Answer Bad TrackWay) (next : TrackWay → Answer Bad TrackWay) (w : TrackWay) → then a next ≡ gives w → (v : TrackWay) × (a ≡ gives v) × (next v ≡ gives w)
 given-then (gives v) next w is = (v, refl, is)
 given-then (refuses r) next w is = absurd (cannot-be cc)
 
 -- A text that is taken.
-pub record TakenAll (way : Way) (items : List Item) (last : Way) : Type 0 where
+pub record TakenAll (way : TrackWay) (items : List Item) (last : TrackWay) : Type 0 where
   pub rising : Rising (way .last) (last .last) items
   pub low : way .last ≤ highest → last .last ≤ highest
-  pub first-kept : (place : ℕ) → way .first ≡ Mark.At place → last .first ≡ Mark.At place
+  pub first-kept : (place : ℕ) → way .first ≡ Place.At place → last .first ≡ Place.At place
 
-pub taken-all : (way : Way) (items : List Item) (last : Way) → wayFrom way items ≡ gives last → TakenAll way items last
+pub taken-all : (way : TrackWay) (items : List Item) (last : TrackWay) → wayFrom way items ≡ gives last → TakenAll way items last
 unfolding wayFrom after
 taken-all way [] last is =
     let same : way ≡ last = cc in
     record {
-      rising = subst (λ (w : Way). way .last ≤ w .last) same (omega arith);
-      low = λ l. subst (λ (w : Way). w .last ≤ highest) same l;
-      first-kept = λ place e. ap (λ (w : Way). w .first) (sym same) ∙ e;
+      rising = subst (λ (w : TrackWay). way .last ≤ w .last) same (omega arith);
+      low = λ l. subst (λ (w : TrackWay). w .last ≤ highest) same l;
+      first-kept = λ place e. ap (λ (w : TrackWay). w .first) (sym same) ∙ e;
     }
 taken-all way (item ∷ items) last is =
     let g = given-then (take way (item .place) (item .thing)) (λ next. wayFrom next items) last is in
     let t = taken-so way (item .place) (item .thing) (g .0) (g .1) in
     let rest = taken-all (g .0) items last (g .2) in
-    let there : g .0 .last ≡ item .place = ap (λ (w : Way). w .last) (t .next-is) in
+    let there : g .0 .last ≡ item .place = ap (λ (w : TrackWay). w .last) (t .next-is) in
     record {
       rising = (t .on, subst (λ (p : ℕ). Rising p (last .last) items) there (rest .rising));
       low = λ l. rest .low (omega (arith, there, t .low));
-      first-kept = λ place e. rest .first-kept place (ap (λ (w : Way). w .first) (t .next-is) ∙ ap (λ (m : Mark). firstOf m (item .place)) e);
+      first-kept = λ place e. rest .first-kept place (ap (λ (w : TrackWay). w .first) (t .next-is) ∙ ap (λ (m : Place). firstOf m (item .place)) e);
     }
 
 -- ---- where a way begins and ends
 
 -- A way that has a line.
-pub record Reaches (items : List Item) (way : Way) : Type 0 where
+pub record Reaches (items : List Item) (way : TrackWay) : Type 0 where
   pub rising : Rising (from way) (way .last) items
   pub ends : way .last ≤ until way
   pub low : until way ≤ highest + 1
   pub until-is : until way ≡ min (way .last + 10) highest + 1
 
-first-after : (place : ℕ) (thing : Thing) → after fresh place thing .first ≡ Mark.At place
+first-after : (place : ℕ) (thing : Thing) → after fresh place thing .first ≡ Place.At place
 unfolding after fresh
 first-after place thing = refl
 
-first-place : (item : Item) (items : List Item) (way : Way) → wayOf (item ∷ items) ≡ gives way → way .first ≡ Mark.At (item .place)
+first-place : (item : Item) (items : List Item) (way : TrackWay) → wayOf (item ∷ items) ≡ gives way → way .first ≡ Place.At (item .place)
 unfolding wayOf wayFrom fresh
 first-place item items way is =
     let g = given-then (take fresh (item .place) (item .thing)) (λ next. wayFrom next items) way is in
     let t = taken-so fresh (item .place) (item .thing) (g .0) (g .1) in
     taken-all (g .0) items way (g .2) .first-kept (item .place) (after-first item t)
   where
-    after-first : (item : Item) {next : Way} → TakenSo fresh (item .place) (item .thing) next → next .first ≡ Mark.At (item .place)
-    after-first item t = ap (λ (w : Way). w .first) (t .next-is) ∙ first-after (item .place) (item .thing)
+    after-first : (item : Item) {next : TrackWay} → TakenSo fresh (item .place) (item .thing) next → next .first ≡ Place.At (item .place)
+    after-first item t = ap (λ (w : TrackWay). w .first) (t .next-is) ∙ first-after (item .place) (item .thing)
 
-pub reaches : (item : Item) (items : List Item) (way : Way) → wayOf (item ∷ items) ≡ gives way → Reaches (item ∷ items) way
+pub reaches : (item : Item) (items : List Item) (way : TrackWay) → wayOf (item ∷ items) ≡ gives way → Reaches (item ∷ items) way
 unfolding wayOf fresh from until
 reaches item items way is =
     let all = taken-all fresh (item ∷ items) way is in
     let first-is = first-place item items way is in
     let from-is : fromOf (way .first) ≡ item .place - 10 = ap fromOf first-is in
-    let until-is : untilOf (way .first) (way .last) ≡ min (way .last + 10) highest + 1 = ap (λ (m : Mark). untilOf m (way .last)) first-is in
+    let until-is : untilOf (way .first) (way .last) ≡ min (way .last + 10) highest + 1 = ap (λ (m : Place). untilOf m (way .last)) first-is in
     let low = all .low (omega arith) in
     record {
       rising = (omega (arith, from-is), all .rising .1);

@@ -8,7 +8,7 @@ use native.Mathlib.Omega.{arith}
 use native.Mathlib.Nat.{mul-sub, mul-le-mul-left}
 use Rattle.words.specs.Answer.{gives, pick}
 use Rattle.track_lead.specs.declared.Thing.{Thing}
-use Rattle.track_lead.specs.declared.Way.{Way}
+use Rattle.track_lead.specs.declared.TrackWay.{TrackWay}
 use Rattle.track_lead.specs.declared.Feed.{Feed}
 use Rattle.track_lead.specs.Way.{isSent, from, until, fresh}
 use Rattle.track_lead.specs.Feed.{begin, passes, frames}
@@ -149,7 +149,7 @@ module _ (n s t first : ℕ) (some : 0 < n) where
   as-lead (suc m) items k = ap (λ (l : List ℕ). frameWith n s t first some (latest n first items k nothing) k ++ l) (as-lead m items (k + 1))
 
 -- A feed at its beginning stands at frame 0.
-at-the-first : (n s t : ℕ) (way : Way) (some : 0 < n) → Stands n s t (from way) some (begin way n s t) nothing 0
+at-the-first : (n s t : ℕ) (way : TrackWay) (some : 0 < n) → Stands n s t (from way) some (begin way n s t) nothing 0
 unfolding begin
 at-the-first n s t way some =
     record {
@@ -168,12 +168,12 @@ at-the-first n s t way some =
     }
 
 -- A text without a line has no frame.
-nothing-fed : (n s t : ℕ) (way : Way) → 0 < n → wayOf [] ≡ gives way → fed (begin way n s t) [] (until way) ≡ framesAt n s t (from way) [] 0 (n * (until way - from way))
+nothing-fed : (n s t : ℕ) (way : TrackWay) → 0 < n → wayOf [] ≡ gives way → fed (begin way n s t) [] (until way) ≡ framesAt n s t (from way) [] 0 (n * (until way - from way))
 unfolding wayOf wayFrom fed fresh begin from until frames framesAt
 nothing-fed n s t way some is =
     let same : fresh ≡ way = cc in
     let none : n * (0 - 0) ≡ 0 = omega arith in
-    subst (λ (w : Way). fed (begin w n s t) [] (until w) ≡ framesAt n s t (from w) [] 0 (n * (until w - from w))) same
+    subst (λ (w : TrackWay). fed (begin w n s t) [] (until w) ≡ framesAt n s t (from w) [] 0 (n * (until w - from w))) same
     (ap (λ (m : ℕ). frames (begin fresh n s t) 0 m .bytes) (let e : n * (0 - 0) - 0 ≡ 0 = omega arith in e) ∙ ap (λ (m : ℕ). framesAt n s t 0 [] 0 m) (sym none))
 
 pub feeds-the-lead : FeedsTheLead

@@ -9,12 +9,12 @@ use lib.ListN.{length, drop}
 use Rattle.words.specs.Answer.{pick}
 use Rattle.track_lead.specs.declared.Thing.{Thing}
 use Rattle.track_lead.specs.declared.Feed.{Feed}
-use Rattle.track_lead.specs.declared.Way.{Way}
+use Rattle.track_lead.specs.declared.TrackWay.{TrackWay}
 use Rattle.track_lead.specs.Way.{from}
 use Rattle.track_lead.specs.Sent.{lineIn}
 
 -- At the first frame of a way, where nothing is sent yet.
-unfoldable pub begin : Way → ℕ → ℕ → ℕ → Feed
+unfoldable pub begin : TrackWay → ℕ → ℕ → ℕ → Feed
 begin way n s t = record { n = n; s = s; t = t; place = from way; nth = 0; thing = Thing.Nothing; since = 0 }
 
 -- A thing begins with the next frame.

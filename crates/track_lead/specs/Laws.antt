@@ -6,7 +6,7 @@ use mathlib.Core.Path.{_≡_}
 use mathlib.Core.List.{List, [], _∷_, _++_}
 use Rattle.words.specs.Answer.{gives, pick}
 use Rattle.track_lead.specs.declared.Feed.{Feed}
-use Rattle.track_lead.specs.declared.Way.{Way}
+use Rattle.track_lead.specs.declared.TrackWay.{TrackWay}
 use Rattle.track_lead.specs.Way.{isSent, until}
 use Rattle.track_lead.specs.Feed.{Fed, begin, passes, frames}
 use Rattle.track_lead.specs.Lead.{Item, wayOf, leadOf}
@@ -39,5 +39,5 @@ fed feed (item ∷ items) to =
 -- They are the lead of the text.
 abbrev pub FeedsTheLead : Type 0
 FeedsTheLead =
-    (n s t : ℕ) (items : List Item) (way : Way) → 0 < n → wayOf items ≡ gives way
+    (n s t : ℕ) (items : List Item) (way : TrackWay) → 0 < n → wayOf items ≡ gives way
     → fed (begin way n s t) items (until way) ≡ leadOf n s t way items

@@ -8,7 +8,7 @@ use mathlib.Core.List.{List, [], _∷_, _++_}
 use lib.Dec.{leb}
 use Rattle.words.specs.Answer.{Answer, gives, refuses, then, pick}
 use Rattle.track_lead.specs.declared.Thing.{Thing}
-use Rattle.track_lead.specs.declared.Way.{Way}
+use Rattle.track_lead.specs.declared.TrackWay.{TrackWay}
 use Rattle.track_lead.specs.Way.{Bad, isSent, fresh, take, from, until}
 use Rattle.track_lead.specs.Sent.{lineIn}
 use Rattle.track_lead.specs.Feed.{frameOf}
@@ -19,11 +19,11 @@ pub record Item : Type 0 where
   pub thing : Thing
 
 -- The way after some lines, or why one is not taken.
-unfoldable pub wayFrom : Way → List Item → Answer Bad Way
+unfoldable pub wayFrom : TrackWay → List Item → Answer Bad TrackWay
 wayFrom way [] = gives way
 wayFrom way (item ∷ items) = then (take way (item .place) (item .thing)) λ next. wayFrom next items
 
-unfoldable pub wayOf : List Item → Answer Bad Way
+unfoldable pub wayOf : List Item → Answer Bad TrackWay
 wayOf items = wayFrom fresh items
 
 -- A thing and the frame with which it begins.
@@ -64,5 +64,5 @@ framesAt n s t begin items k zero = []
 framesAt n s t begin items k (suc m) = frameAt n s t begin items k ++ framesAt n s t begin items (k + 1) m
 
 -- The lead of a way over these lines.
-unfoldable pub leadOf : ℕ → ℕ → ℕ → Way → List Item → List ℕ
+unfoldable pub leadOf : ℕ → ℕ → ℕ → TrackWay → List Item → List ℕ
 leadOf n s t way items = framesAt n s t (from way) items 0 (n * (until way - from way))

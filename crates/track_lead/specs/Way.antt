@@ -8,8 +8,8 @@ use mathlib.Core.Bool.{Bool, true, false, _&&_}
 use lib.Dec.{ltb}
 use Rattle.words.specs.Answer.{Answer, gives, refuses, pick}
 use Rattle.track_lead.specs.declared.Thing.{Thing}
-use Rattle.track_lead.specs.declared.Mark.{Mark}
-use Rattle.track_lead.specs.declared.Way.{Way}
+use Rattle.track_lead.specs.declared.Place.{Place}
+use Rattle.track_lead.specs.declared.TrackWay.{TrackWay}
 
 -- The highest place.
 abbrev pub highest : ℕ
@@ -23,21 +23,21 @@ isSent Thing.Unreadable = true
 isSent Thing.Nothing = false
 
 -- Before the first line.
-unfoldable pub fresh : Way
-fresh = record { first = Mark.Never; last = 0; thing = Mark.Never }
+unfoldable pub fresh : TrackWay
+fresh = record { first = Place.Never; last = 0; thing = Place.Never }
 
 -- "`track: line 3 too near` for fewer than 4 dm after the thing before."
-abbrev pub isNear : Mark → ℕ → Bool
-isNear Mark.Never place = false
-isNear (Mark.At before) place = ltb place (before + 4)
+abbrev pub isNear : Place → ℕ → Bool
+isNear Place.Never place = false
+isNear (Place.At before) place = ltb place (before + 4)
 
 -- The way after a line that is taken.
-abbrev pub firstOf : Mark → ℕ → Mark
-firstOf Mark.Never place = Mark.At place
-firstOf (Mark.At before) place = Mark.At before
+abbrev pub firstOf : Place → ℕ → Place
+firstOf Place.Never place = Place.At place
+firstOf (Place.At before) place = Place.At before
 
-unfoldable pub after : Way → ℕ → Thing → Way
-after way place thing = record { first = firstOf (way .first) place; last = place; thing = pick (isSent thing) (Mark.At place) (way .thing) }
+unfoldable pub after : TrackWay → ℕ → Thing → TrackWay
+after way place thing = record { first = firstOf (way .first) place; last = place; thing = pick (isSent thing) (Place.At place) (way .thing) }
 
 -- Why a line is not taken: a refusal of document 01 by its number, or that it is too near.
 pub data Bad : Type 0 where
@@ -45,7 +45,7 @@ pub data Bad : Type 0 where
   tooNear : Bad
 
 -- One line: 18, 17, too near; or the way after it.
-unfoldable pub take : Way → ℕ → Thing → Answer Bad Way
+unfoldable pub take : TrackWay → ℕ → Thing → Answer Bad TrackWay
 take way place thing =
     pick (ltb highest place) (refuses (refused 18))
     (pick (ltb place (way .last)) (refuses (refused 17))
@@ -53,16 +53,16 @@ take way place thing =
     (gives (after way place thing))))
 
 -- The first decimetre of the lead, and the first after it; a way without a line has none.
-abbrev pub fromOf : Mark → ℕ
-fromOf Mark.Never = 0
-fromOf (Mark.At place) = place - 10
+abbrev pub fromOf : Place → ℕ
+fromOf Place.Never = 0
+fromOf (Place.At place) = place - 10
 
-abbrev pub untilOf : Mark → ℕ → ℕ
-untilOf Mark.Never last = 0
-untilOf (Mark.At place) last = min (last + 10) highest + 1
+abbrev pub untilOf : Place → ℕ → ℕ
+untilOf Place.Never last = 0
+untilOf (Place.At place) last = min (last + 10) highest + 1
 
-unfoldable pub from : Way → ℕ
+unfoldable pub from : TrackWay → ℕ
 from way = fromOf (way .first)
 
-unfoldable pub until : Way → ℕ
+unfoldable pub until : TrackWay → ℕ
 until way = untilOf (way .first) (way .last)

@@ -3,10 +3,10 @@ ghost use mathlib.Core.Path.{_≡_};
 ghost use Prim.Native.Nat.{_+_, min};
 ghost use Rattle.track_lead.specs.Way.{isSent, isNear, firstOf, after, take, highest, fromOf, from, until};
 ghost use Rattle.track_lead.specs.Says.{saysTaken};
-use crate::Mark;
+use crate::Place;
 use crate::Taken;
 use crate::Thing;
-use crate::Way;
+use crate::TrackWay;
 
 // The highest place, in dm.
 const HIGHEST: u32 = 4000000000;
@@ -24,47 +24,47 @@ fn is_sent(thing: Thing) -> bool
 }
 
 // Whether a place is fewer than four decimetres after the thing before.
-fn is_near(thing: Mark, place: u32) -> bool
+fn is_near(thing: Place, place: u32) -> bool
     ensures { λ r. ⌜ r ≡ isNear thing place ⌝ }
 {
     match thing {
-        Mark::Never => false,
-        Mark::At(before) => (place as u64) < (before as u64) + 4,
+        Place::Never => false,
+        Place::At(before) => (place as u64) < (before as u64) + 4,
     }
 }
 
 // The first place, after one more.
-fn first_of(first: Mark, place: u32) -> Mark
+fn first_of(first: Place, place: u32) -> Place
     ensures { λ r. ⌜ r ≡ firstOf first place ⌝ }
 {
     match first {
-        Mark::Never => Mark::At(place),
-        Mark::At(before) => Mark::At(before),
+        Place::Never => Place::At(place),
+        Place::At(before) => Place::At(before),
     }
 }
 
 // The way after a line that is taken.
-fn after(way: Way, place: u32, thing: Thing) -> Way
+fn after(way: TrackWay, place: u32, thing: Thing) -> TrackWay
     ensures { λ r. ⌜ r ≡ after way place thing ⌝ }
 {
     let before = way.first;
     let first = first_of(before, place);
     let last = way.thing;
     if is_sent(thing) {
-        return Way {
+        return TrackWay {
             first,
             last: place,
-            thing: Mark::At(place),
+            thing: Place::At(place),
         };
     }
-    Way {
+    TrackWay {
         first,
         last: place,
         thing: last,
     }
 }
 
-pub fn take(way: Way, place: u32, thing: Thing) -> Taken
+pub fn take(way: TrackWay, place: u32, thing: Thing) -> Taken
     ensures { λ r. ⌜ saysTaken r ≡ take way place thing ⌝ }
 {
     if place > HIGHEST {
@@ -80,19 +80,20 @@ pub fn take(way: Way, place: u32, thing: Thing) -> Taken
     Taken::On(after(way, place, thing))
 }
 
-pub fn from(way: Way) -> u32
+// The first decimetre of a way's lead: ten before its first place, or 0.
+pub fn from(way: TrackWay) -> u32
     ensures { λ r. ⌜ r ≡ from way ⌝ }
 {
     let first = way.first;
     from_of(first)
 }
 
-fn from_of(first: Mark) -> u32
+fn from_of(first: Place) -> u32
     ensures { λ r. ⌜ r ≡ fromOf first ⌝ }
 {
     match first {
-        Mark::Never => 0,
-        Mark::At(place) => { if place < 10 { 0 } else { place - 10 } }
+        Place::Never => 0,
+        Place::At(place) => { if place < 10 { 0 } else { place - 10 } }
     }
 }
 
@@ -106,12 +107,12 @@ fn last_of(last: u32) -> u32
     last + 10
 }
 
-pub fn until(way: Way) -> u32
+pub fn until(way: TrackWay) -> u32
     ensures { λ r. ⌜ r ≡ until way ⌝ }
 {
     let first = way.first;
     match first {
-        Mark::Never => 0,
-        Mark::At(_) => last_of(way.last) + 1,
+        Place::Never => 0,
+        Place::At(_) => last_of(way.last) + 1,
     }
 }

@@ -7,7 +7,7 @@
 // (frame after frame), specs/Lead.antt (the lead of a text), specs/Says.antt (the answers),
 // specs/Laws.antt (what is promised).
 ghost use mathlib.Core.Path.{_≡_};
-ghost use Rattle.track_lead.specs.Way.{fresh, take, from, until};
+ghost use Rattle.track_lead.specs.Way.{fresh, take, until};
 ghost use Rattle.track_lead.specs.Feed.{begin, passes, write};
 ghost use Rattle.track_lead.specs.Says.{saysTaken};
 
@@ -25,21 +25,21 @@ pub enum Thing {
 }
 
 // A place, if there is one.
-pub enum Mark {
+pub enum Place {
     Never,
     At(u32),
 }
 
 // A way: its first place, its last (0 before the first), and the last at which something is sent.
-pub struct Way {
-    pub first: Mark,
+pub struct TrackWay {
+    pub first: Place,
     pub last: u32,
-    pub thing: Mark,
+    pub thing: Place,
 }
 
 // What taking a line answers: the way after it, or why it is refused.
 pub enum Taken {
-    On(Way),
+    On(TrackWay),
     TooHigh,
     Lower,
     TooNear,
@@ -64,39 +64,32 @@ pub struct Wrote {
 }
 
 // Before the first line.
-pub fn fresh() -> Way
+pub fn fresh() -> TrackWay
     ensures { λ r. ⌜ r ≡ fresh ⌝ }
 {
-    Way {
-        first: Mark::Never,
+    TrackWay {
+        first: Place::Never,
         last: 0,
-        thing: Mark::Never,
+        thing: Place::Never,
     }
 }
 
 // One line of the text: the way after it, or refusal 18, 17, or that it is too near.
-pub fn take(way: Way, place: u32, thing: Thing) -> Taken
+pub fn take(way: TrackWay, place: u32, thing: Thing) -> Taken
     ensures { λ r. ⌜ saysTaken r ≡ take way place thing ⌝ }
 {
     going::take(way, place, thing)
 }
 
-// The first decimetre of a way's lead: ten before its first place, or 0.
-pub fn from(way: Way) -> u32
-    ensures { λ r. ⌜ r ≡ from way ⌝ }
-{
-    going::from(way)
-}
-
-// The first decimetre after it; 0 for a way without a line.
-pub fn until(way: Way) -> u32
+// The first decimetre after a way's lead; 0 for a way without a line.
+pub fn until(way: TrackWay) -> u32
     ensures { λ r. ⌜ r ≡ until way ⌝ }
 {
     going::until(way)
 }
 
 // A feed at the first frame of a way, with n frames to each decimetre and the sync pair s and t.
-pub fn begin(way: Way, n: u32, s: u8, t: u8) -> Feed
+pub fn begin(way: TrackWay, n: u32, s: u8, t: u8) -> Feed
     ensures { λ r. ⌜ r ≡ begin way n s t ⌝ }
 {
     Feed {

@@ -12,16 +12,16 @@ pub struct InputLine {
 }
 
 // A byte, or the end of the input.
-struct Got {
+struct InputByte {
     byte: u8,
     is_end: bool,
 }
 
 // The next byte.
-fn read_one() -> Got {
+fn read_one() -> InputByte {
     let mut one = [0u8; 1];
     let got = libc::read(STDIN_FILENO, &mut one);
-    Got {
+    InputByte {
         byte: one[0],
         is_end: got < 1,
     }

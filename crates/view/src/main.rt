@@ -17,8 +17,8 @@ mod screen;
 mod session;
 
 use console::CardsFound;
-use console::Given;
-use figures::Figure;
+use console::FigureAsked;
+use console::OptionsWent;
 use reading::Start;
 use settings::Store;
 
@@ -74,17 +74,10 @@ fn begins(argument: usize) -> StartGiven {
         usage();
         return StartGiven::Said;
     }
-    match console::number(argument, u64::MAX) {
-        Figure::Number(place) => StartGiven::With(Start::At { place, argument }),
-        Figure::Above => StartGiven::With(Start::At {
-            place: u64::MAX,
-            argument,
-        }),
-        Figure::Odd => {
-            console::wrong(b"view", b"PLACE", b"figure", argument);
-            StartGiven::Said
-        }
-    }
+    let FigureAsked::Is(place) = console::figure(b"view", b"PLACE", argument, u64::MAX) else {
+        return StartGiven::Said;
+    };
+    StartGiven::With(Start::At { place, argument })
 }
 
 // The cards from this argument on, after the settings; `-from PLACE` may stand before them, where
@@ -113,10 +106,10 @@ fn go_on(start: Start, at: u8) {
     let first = asked.first;
     let how = asked.how;
     match how {
-        Given::Plain => look(store, start, first),
-        Given::Settings => after_settings(store, start, first),
-        Given::Usage => usage(),
-        Given::Said => {}
+        OptionsWent::Plain => look(store, start, first),
+        OptionsWent::Settings => after_settings(store, start, first),
+        OptionsWent::Usage => usage(),
+        OptionsWent::Said => {}
     }
 }
 

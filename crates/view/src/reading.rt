@@ -26,7 +26,7 @@ pub enum Filling {
 
 // Where filling the buffer stands: the pass over the cards, how many bytes the buffer has, how many
 // records were passed over before them, and how it goes on.
-pub struct Step {
+pub struct FilledSoFar {
     pass: Pass,
     pub have: usize,
     pub before: u64,
@@ -68,7 +68,7 @@ fn is_more(how: Filling) -> bool {
 }
 
 // The next block after so many bytes of the buffer.
-fn next(pass: Pass, before: u64, lengths: &[u64], trace: &mut [u8], have: usize) -> Step
+fn next(pass: Pass, before: u64, lengths: &[u64], trace: &mut [u8], have: usize) -> FilledSoFar
     requires { ⌜ have ≤ length (now trace) ⌝ }
     ensures { λ r. ⌜ r .have ≤ length (now (trace .entry)) ⌝ }
 {
@@ -76,7 +76,7 @@ fn next(pass: Pass, before: u64, lengths: &[u64], trace: &mut [u8], have: usize)
     let goes = block.how;
     let then = block.pass;
     let how = judged(goes);
-    Step {
+    FilledSoFar {
         pass: then,
         have: have + block.read,
         before,
@@ -85,11 +85,11 @@ fn next(pass: Pass, before: u64, lengths: &[u64], trace: &mut [u8], have: usize)
 }
 
 // Before the first block.
-fn begin(first: usize) -> Step
+fn begin(first: usize) -> FilledSoFar
     ensures { λ r. ⌜ r .have ≡ 0 ⌝ }
 {
     let pass = console::begin(first);
-    Step {
+    FilledSoFar {
         pass,
         have: 0,
         before: 0,
@@ -99,7 +99,7 @@ fn begin(first: usize) -> Step
 
 // The first block that has a record at or past the place, but for those that will be refused, from
 // that record on; the blocks before it are passed over. No run uses up the turns.
-fn begin_at(first: usize, place: u64, lengths: &[u64], trace: &mut [u8]) -> Step
+fn begin_at(first: usize, place: u64, lengths: &[u64], trace: &mut [u8]) -> FilledSoFar
     ensures { λ r. ⌜ r .have ≤ length (now (trace .entry)) ⌝ }
 {
     let most = smaller(trace.len(), 65536);
@@ -128,7 +128,7 @@ fn begin_at(first: usize, place: u64, lengths: &[u64], trace: &mut [u8]) -> Step
 }
 
 // The blocks after it, as long as there is room. No run uses up the turns.
-fn fill(begun: Step, lengths: &[u64], trace: &mut [u8]) -> Step
+fn fill(begun: FilledSoFar, lengths: &[u64], trace: &mut [u8]) -> FilledSoFar
     requires { ⌜ begun .have ≤ length (now trace) ⌝ }
     ensures { λ r. ⌜ r .have ≤ length (now (trace .entry)) ⌝ }
 {
@@ -147,7 +147,7 @@ fn fill(begun: Step, lengths: &[u64], trace: &mut [u8]) -> Step
 }
 
 // The buffer filled from where the ride begins.
-pub fn read(start: Start, first: usize, lengths: &[u64], trace: &mut [u8]) -> Step
+pub fn read(start: Start, first: usize, lengths: &[u64], trace: &mut [u8]) -> FilledSoFar
     ensures { λ r. ⌜ r .have ≤ length (now (trace .entry)) ⌝ }
 {
     match start {

@@ -18,14 +18,21 @@ const LINES: usize = 12;
 const RECORDS: usize = 6;
 
 // A ride with its last lines at the start of a buffer: its state, and how many bytes they have.
-struct Told {
+struct LastLines {
     ride: Ride,
     have: usize,
 }
 
 // The lines of some records, the first with this number, after those that the buffer has; of them
 // all the last are kept.
-fn go_on(ride: Ride, store: Store, number: u64, records: &[u8], buf: &mut [u8], have: usize) -> Told
+fn go_on(
+    ride: Ride,
+    store: Store,
+    number: u64,
+    records: &[u8],
+    buf: &mut [u8],
+    have: usize,
+) -> LastLines
     requires { ⌜ have ≤ length (now buf) ⌝ }
     ensures { λ r. ⌜ r .have ≤ length (now (buf .entry)) ⌝ }
 {
@@ -33,12 +40,12 @@ fn go_on(ride: Ride, store: Store, number: u64, records: &[u8], buf: &mut [u8], 
     let done = listed.done;
     let after = listed.ride;
     let Done::Took { records: _, bytes } = done else {
-        return Told { ride: after, have };
+        return LastLines { ride: after, have };
     };
     let end = have + smaller(bytes, buf.len() - have);
     let from = viewer_text::last_lines(&buf[..end], LINES);
     let left = to_start(buf, smaller(from, end), end);
-    Told {
+    LastLines {
         ride: after,
         have: left,
     }

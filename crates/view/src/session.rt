@@ -20,10 +20,10 @@ use viewer::Moved;
 use viewer::OpeningWent;
 use viewer::Standing;
 use viewer_text::Command;
-use viewer_text::Sought;
+use viewer_text::SoughtLine;
 
 // What a command comes to: where the viewer then stands, and what is noted.
-struct Came {
+struct CameTo {
     stand: Standing,
     note: Note,
 }
@@ -46,16 +46,16 @@ fn noted(ending: Ending) -> Note {
 }
 
 // Where a move ended, and why.
-fn moved_to(moved: Moved) -> Came {
+fn moved_to(moved: Moved) -> CameTo {
     let stand = moved.stand;
     let ending = moved.ending;
     let note = noted(ending);
-    Came { stand, note }
+    CameTo { stand, note }
 }
 
 // The viewer where it stands, and the list of commands.
-fn help(stand: Standing) -> Came {
-    Came {
+fn help(stand: Standing) -> CameTo {
+    CameTo {
         stand,
         note: Note::Help,
     }
@@ -63,7 +63,7 @@ fn help(stand: Standing) -> Came {
 
 // Forward to just after the next record that gives a line with the word; where there is none the
 // viewer stays. Without a word, the list of commands.
-fn find(trace: &[u8], stand: Standing, word: &[u8], on_screen: bool) -> Came {
+fn find(trace: &[u8], stand: Standing, word: &[u8], on_screen: bool) -> CameTo {
     if word.len() == 0 {
         return help(stand);
     }
@@ -71,8 +71,8 @@ fn find(trace: &[u8], stand: Standing, word: &[u8], on_screen: bool) -> Came {
     let store = stand.settings;
     let sought = viewer_text::seek(trace, stand.number, ride, store, word);
     match sought {
-        Sought::After(times) => moved_to(forth(trace, stand, times, on_screen)),
-        Sought::Nowhere => Came {
+        SoughtLine::After(times) => moved_to(forth(trace, stand, times, on_screen)),
+        SoughtLine::Nowhere => CameTo {
             stand,
             note: Note::NoLine,
         },
@@ -80,7 +80,7 @@ fn find(trace: &[u8], stand: Standing, word: &[u8], on_screen: bool) -> Came {
 }
 
 // One command but `q`, with the last word that was asked for.
-fn obey(trace: &[u8], stand: Standing, command: Command, word: &[u8], on_screen: bool) -> Came {
+fn obey(trace: &[u8], stand: Standing, command: Command, word: &[u8], on_screen: bool) -> CameTo {
     match command {
         Command::Forward(times) => moved_to(forth(trace, stand, times as usize, on_screen)),
         Command::Back(times) => moved_to(viewer::backs_at(stand, times as usize)),

@@ -26,7 +26,7 @@ use Rattle.viewer.specs.Stand.{passed}
 use Rattle.viewer.specs.Viewing.{stepOf}
 use Rattle.viewer.specs.Going.{all, after, Moved as Moves, forwards}
 use Rattle.viewer.proofs.Many.{forwards-next}
-use Rattle.viewer_text.specs.declared.seeking.Sought.{Sought}
+use Rattle.viewer_text.specs.declared.seeking.SoughtLine.{SoughtLine}
 use Rattle.viewer_text.specs.Finding.{has}
 use Rattle.viewer_text.specs.Seeking.{further, seekIn, under, seek}
 use Rattle.viewer_laws.specs.Seeking.{Seeking}
@@ -34,16 +34,16 @@ use Rattle.viewer_laws.specs.Seeking.{Seeking}
 -- ---- among as many records as there are
 
 -- how far a search leads, and at least one record on
-Far : Sought → ℕ → Type 0
-Far (Sought.After n) most = (0 < n) × (n ≤ most)
-Far Sought.Nowhere most = Unit {0}
+Far : SoughtLine → ℕ → Type 0
+Far (SoughtLine.After n) most = (0 < n) × (n ≤ most)
+Far SoughtLine.Nowhere most = Unit {0}
 
-one-further : (x : Sought) (most : ℕ) → Far x most → Far (further 1 x) (suc most)
+one-further : (x : SoughtLine) (most : ℕ) → Far x most → Far (further 1 x) (suc most)
 unfolding Far
-one-further (Sought.After n) most h = (omega arith, omega (arith, h .1))
-one-further Sought.Nowhere most h = tt
+one-further (SoughtLine.After n) most h = (omega arith, omega (arith, h .1))
+one-further SoughtLine.Nowhere most h = tt
 
-either : (b : Bool) (x : Sought) (most : ℕ) → Far x most → Far (pick b (Sought.After 1) (further 1 x)) (suc most)
+either : (b : Bool) (x : SoughtLine) (most : ℕ) → Far x most → Far (pick b (SoughtLine.After 1) (further 1 x)) (suc most)
 unfolding Far
 either true x most h = (omega arith, omega arith)
 either false x most h = one-further x most h
@@ -62,12 +62,12 @@ record Found (trace : List ℕ) (number : ℕ) (store : Store) (n : ℕ) : Type 
   pub few : number + n ≤ length trace / 8
 
 found-by : (o : Outcome Kept) (word : List ℕ) (store : Store) (ride : Ride) (number n : ℕ) (trace : List ℕ) → judged store ≡ o
-    → Sought.After n ≡ under o (seekIn word (gapAt store) ride (number + 1) (records (drop (number * 8) trace))) → Found trace number store n
+    → SoughtLine.After n ≡ under o (seekIn word (gapAt store) ride (number + 1) (records (drop (number * 8) trace))) → Found trace number store n
 unfolding Far
 found-by (refuses k) word store ride number n trace j e = cannot-be cc
 found-by (gives kept) word store ride number n trace j e =
     let left : List (List ℕ) = records (drop (number * 8) trace) in
-    let far : Far (Sought.After n) (length left) = subst (λ (x : Sought). Far x (length left)) (sym e) (far-in word (gapAt store) ride (number + 1) left) in
+    let far : Far (SoughtLine.After n) (length left) = subst (λ (x : SoughtLine). Far x (length left)) (sym e) (far-in word (gapAt store) ride (number + 1) left) in
     let many : length left ≡ length (drop (number * 8) trace) / 8 = records-length (length (drop (number * 8) trace) / 8) (drop (number * 8) trace) in
     let some : 0 < n = far .0 in
     let most : n ≤ length left = far .1 in
@@ -95,7 +95,7 @@ pub seeking : Seeking
 unfolding seek
 seeking = record {
   leads = λ trace word s n m c f.
-      let is : Sought.After n ≡ seek word (s .settings) (s .ride) (s .number) trace =
+      let is : SoughtLine.After n ≡ seek word (s .settings) (s .ride) (s .number) trace =
       c .6 ∙ ap (λ (t : List ℕ). seek t (s .settings) (s .ride) (s .number) (c .1 .now)) (c .5) ∙ ap (seek word (s .settings) (s .ride) (s .number)) (c .4) in
       let there = found-by (judged (s .settings)) word (s .settings) (s .ride) (s .number) n trace refl is in
       let moved = f .4 ∙ ap (λ (t : List ℕ). forwards n t s) (f .3) in

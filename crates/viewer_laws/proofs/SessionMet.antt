@@ -29,7 +29,7 @@ use Rattle.ride.specs.Over.{firstRecords}
 use Rattle.ride_text.specs.Text.{textWith, linesText}
 use Rattle.viewer_text.specs.Finding.{small, standsAt, standsBefore, has}
 use Rattle.viewer_text.specs.Seeking.{seekIn, seek}
-use Rattle.viewer_text.specs.declared.seeking.Sought.{Sought}
+use Rattle.viewer_text.specs.declared.seeking.SoughtLine.{SoughtLine}
 use Rattle.viewer_text.specs.Screen.{linesFrom}
 use Rattle.viewer_laws.specs.Session.{StartAt, ForwardsAt, BacksAt, Move, forward, back, afresh, Lead, session, Views}
 use Rattle.viewer_laws.proofs.Session.{sessions}
@@ -104,6 +104,6 @@ lasts text lines = (([], tt), lent text, (lent text, (lines, tt)), refl, refl)
 abbrev malformed : List ℕ
 malformed = 0x00 ∷ 0x00 ∷ 0x03 ∷ 0xE8 ∷ 0x04 ∷ 0x00 ∷ 0x00 ∷ 0x00 ∷ []
 
-pub seeks : Seeks malformed 0 freshRide store (codes "Refused") (Sought.After 1)
+pub seeks : Seeks malformed 0 freshRide store (codes "Refused") (SoughtLine.After 1)
 unfolding seek seekIn has standsBefore standsAt small linesText textWith decimal digits treat checkRecord odometerOf passedOf inOrder firstRecords freshRide noGroup nothingKnown differing isGood goodPair settingsOf follows noStore versionsOf openedStore begin allFollow versionsInOrder judged
 seeks = (([], ([], tt)), lent malformed, lent (codes "Refused"), (lent malformed, (0, (freshRide, (store, (lent (codes "Refused"), tt))))), refl, refl, refl)

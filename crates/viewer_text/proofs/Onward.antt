@@ -29,22 +29,22 @@ use Rattle.ride_text.specs.declared.Listed.{Listed}
 use Rattle.ride_text.specs.Says.{saysDone, saysListed}
 use Rattle.ride_text.proofs.Taken.{all-taken, step-short}
 use Rattle.viewer_text.specs.Finding.{has}
-use Rattle.viewer_text.specs.declared.seeking.Sought.{Sought}
+use Rattle.viewer_text.specs.declared.seeking.SoughtLine.{SoughtLine}
 use Rattle.viewer_text.specs.Seeking.{further, seekIn, bytesOf, seek}
 
 -- ---- records before the first
 
-pub further-none : (x : Sought) → further 0 x ≡ x
-further-none (Sought.After n) =
+pub further-none : (x : SoughtLine) → further 0 x ≡ x
+further-none (SoughtLine.After n) =
     let e : 0 + n ≡ n = omega arith in
-    ap Sought.After e
-further-none Sought.Nowhere = refl
+    ap SoughtLine.After e
+further-none SoughtLine.Nowhere = refl
 
-pub further-on : (m : ℕ) (x : Sought) → further m (further 1 x) ≡ further (m + 1) x
-further-on m (Sought.After n) =
+pub further-on : (m : ℕ) (x : SoughtLine) → further m (further 1 x) ≡ further (m + 1) x
+further-on m (SoughtLine.After n) =
     let e : m + (1 + n) ≡ m + 1 + n = omega arith in
-    ap Sought.After e
-further-on m Sought.Nowhere = refl
+    ap SoughtLine.After e
+further-on m SoughtLine.Nowhere = refl
 
 -- ---- the records that are left
 
@@ -136,7 +136,7 @@ pub seek-here : (word : List ℕ) (store : Store) (ride : Ride) (i : ℕ) (trace
     let r = recordAt trace i in
     let s = treat ride (gapAt store (odometerOf r)) r in
     has (stepText withReasons (i + 1) s) word ≡ true
-    → seekIn word (gapAt store) ride (i + 1) (records (drop (i * 8) trace)) ≡ Sought.After 1
+    → seekIn word (gapAt store) ride (i + 1) (records (drop (i * 8) trace)) ≡ SoughtLine.After 1
 unfolding seekIn
 seek-here word store ride i trace less e =
     ap (seekIn word (gapAt store) ride (i + 1)) (left-one trace i less) ∙ rw e refl
@@ -151,11 +151,11 @@ seek-next word store ride i trace less e =
     let r : List ℕ = recordAt trace i in
     let s : Step = treat ride (gapAt store (odometerOf r)) r in
     ap (seekIn word (gapAt store) ride (i + 1)) (left-one trace i less)
-    ∙ ap (λ (b : Bool). pick b (Sought.After 1) (further 1 (seekIn word (gapAt store) (s .ride) (suc (i + 1)) (records (drop ((i + 1) * 8) trace))))) e
+    ∙ ap (λ (b : Bool). pick b (SoughtLine.After 1) (further 1 (seekIn word (gapAt store) (s .ride) (suc (i + 1)) (records (drop ((i + 1) * 8) trace))))) e
     ∙ ap (λ (n : ℕ). further 1 (seekIn word (gapAt store) (s .ride) n (records (drop ((i + 1) * 8) trace)))) (sym (add-one (i + 1)))
 
 pub seek-none : (word : List ℕ) (store : Store) (ride : Ride) (i : ℕ) (trace : List ℕ) → length trace / 8 ≤ i
-    → seekIn word (gapAt store) ride (i + 1) (records (drop (i * 8) trace)) ≡ Sought.Nowhere
+    → seekIn word (gapAt store) ride (i + 1) (records (drop (i * 8) trace)) ≡ SoughtLine.Nowhere
 unfolding seekIn
 seek-none word store ride i trace past = ap (seekIn word (gapAt store) ride (i + 1)) (left-none trace i past)
 
@@ -166,6 +166,6 @@ pub seek-good : (word : List ℕ) (store : Store) (ride : Ride) (number : ℕ) (
 unfolding seek
 seek-good word store ride number trace good = rw good refl
 
-pub seek-bad : (word : List ℕ) (store : Store) (ride : Ride) (number : ℕ) (trace : List ℕ) (n : ℕ) → judged store ≡ refuses n → Sought.Nowhere ≡ seek word store ride number trace
+pub seek-bad : (word : List ℕ) (store : Store) (ride : Ride) (number : ℕ) (trace : List ℕ) (n : ℕ) → judged store ≡ refuses n → SoughtLine.Nowhere ≡ seek word store ride number trace
 unfolding seek
 seek-bad word store ride number trace n bad = rw bad refl

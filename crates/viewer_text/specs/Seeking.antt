@@ -17,21 +17,21 @@ use Rattle.ride_text.specs.Style.{withReasons}
 use Rattle.ride_text.specs.Told.{stepText}
 use Rattle.ride_text.specs.List.{Taken}
 use Rattle.viewer_text.specs.Finding.{has}
-use Rattle.viewer_text.specs.declared.seeking.Sought.{Sought}
+use Rattle.viewer_text.specs.declared.seeking.SoughtLine.{SoughtLine}
 
 -- With so many records more before it.
-abbrev pub further : ℕ → Sought → Sought
-further n (Sought.After times) = Sought.After (n + times)
-further n Sought.Nowhere = Sought.Nowhere
+abbrev pub further : ℕ → SoughtLine → SoughtLine
+further n (SoughtLine.After times) = SoughtLine.After (n + times)
+further n SoughtLine.Nowhere = SoughtLine.Nowhere
 
 -- Among some records, the first of which has this number: the first whose lines have the word, each
 -- record treated in the state that the one before left, with the gap that a rule gives for its
 -- odometer.
-unfoldable pub seekIn : List ℕ → (ℕ → ℕ) → Ride → ℕ → List (List ℕ) → Sought
-seekIn word gaps ride number [] = Sought.Nowhere
+unfoldable pub seekIn : List ℕ → (ℕ → ℕ) → Ride → ℕ → List (List ℕ) → SoughtLine
+seekIn word gaps ride number [] = SoughtLine.Nowhere
 seekIn word gaps ride number (r ∷ rs) =
     let s : Step = treat ride (gaps (odometerOf r)) r in
-    pick (has (stepText withReasons number s) word) (Sought.After 1) (further 1 (seekIn word gaps (s .ride) (suc number) rs))
+    pick (has (stepText withReasons number s) word) (SoughtLine.After 1) (further 1 (seekIn word gaps (s .ride) (suc number) rs))
 
 -- How many bytes a listing wrote.
 abbrev pub bytesOf : Outcome Taken → ℕ
@@ -39,10 +39,10 @@ bytesOf (gives t) = t .bytes
 bytesOf (refuses n) = 0
 
 -- Settings that are refused lead nowhere.
-abbrev pub under : Outcome Kept → Sought → Sought
+abbrev pub under : Outcome Kept → SoughtLine → SoughtLine
 under (gives k) sought = sought
-under (refuses n) sought = Sought.Nowhere
+under (refuses n) sought = SoughtLine.Nowhere
 
 -- From where so many records lie before, in this state: among the records that are left.
-unfoldable pub seek : List ℕ → Store → Ride → ℕ → List ℕ → Sought
+unfoldable pub seek : List ℕ → Store → Ride → ℕ → List ℕ → SoughtLine
 seek word store ride number trace = under (judged store) (seekIn word (gapAt store) ride (number + 1) (records (drop (number * 8) trace)))

@@ -26,7 +26,7 @@ use ride::Ride;
 pub use screen::first_around;
 pub use screen::last_lines;
 pub use screen::put_beside;
-pub use seeking::Sought;
+pub use seeking::SoughtLine;
 pub use seeking::seek;
 
 // Where a viewer stands, to the letter, into buf from `at` on, all other bytes as they were, and

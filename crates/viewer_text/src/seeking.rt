@@ -18,7 +18,7 @@ use settings::Store;
 
 // Where the next line with a word is: so many records forward lead to just after the record that
 // gives it; or there is none.
-pub enum Sought {
+pub enum SoughtLine {
     After(usize),
     Nowhere,
 }
@@ -35,7 +35,7 @@ fn bytes_of(done: Done) -> usize
 }
 
 // The records that are left, one after the other, up to the first that gives a line with the word.
-fn over(trace: &[u8], number: usize, ride: Ride, store: Store, word: &[u8]) -> Sought
+fn over(trace: &[u8], number: usize, ride: Ride, store: Store, word: &[u8]) -> SoughtLine
     requires { ⌜ judged store ≡ gives kept ⌝ }
     ensures { λ r. ⌜ r ≡ seekIn (now (word .entry)) (gapAt store) ride (number + 1) (records (drop (number * 8) (now (trace .entry)))) ⌝ }
 {
@@ -58,23 +58,23 @@ fn over(trace: &[u8], number: usize, ride: Ride, store: Store, word: &[u8]) -> S
         let bytes = bytes_of(done);
         times += 1;
         if has(&text[..bytes], word) {
-            return Sought::After(times);
+            return SoughtLine::After(times);
         }
         now = listed.ride;
         i += 1;
     }
-    Sought::Nowhere
+    SoughtLine::Nowhere
 }
 
 // How many records forward lead to just after the first one that gives a line with the word, as
 // `explain` writes it, where so many records lie before the viewer and the ride is in this state.
 // With settings that are refused there is none.
-pub fn seek(trace: &[u8], number: usize, ride: Ride, store: Store, word: &[u8]) -> Sought
+pub fn seek(trace: &[u8], number: usize, ride: Ride, store: Store, word: &[u8]) -> SoughtLine
     ensures { λ r. ⌜ r ≡ seek (now (word .entry)) store ride number (now (trace .entry)) ⌝ }
 {
     let asked = settings::at(store, 0);
     match asked {
-        Asked::Refused(_) => Sought::Nowhere,
+        Asked::Refused(_) => SoughtLine::Nowhere,
         Asked::InForce(_) => over(trace, number, ride, store, word),
     }
 }

@@ -14,18 +14,9 @@ Inv-loop plan store records out₀ drawing₀ i₀ out drawing i = (length out �
 abbrev μ-loop : tie.MeasureT-loop
 μ-loop plan store records out₀ drawing₀ i₀ out drawing i = length records / 8 - i
 
-loop-holds : tie.Need-loop-holds Inv-loop μ-loop
-loop-holds c = (refl, omega arith)
-
 -- after a call the buffer has the length that it had
 kept : (c : tie.After-draw Inv-loop μ-loop) → length (c .draw .last .1 .1 .1 .1 .0) ≡ length (c .before .before .before .before .before .before .before .before .args .out .now)
 kept c = c .draw .kept .1 .1 .1 .1 .0 ∙ c .before .before .before .before .loop .inv .0
-
-sub-written : tie.Need-sub-written Inv-loop μ-loop
-sub-written c = omega (arith, c .before .before .before .before .before .before .before .loop .inv .1)
-
-same-length : tie.Need-same-length Inv-loop μ-loop
-same-length c = kept (c .before .before .before .before .before .before)
 
 -- no more was drawn than was left
 within : (c : tie.Else1 Inv-loop μ-loop) →
@@ -44,26 +35,12 @@ add-i c =
     let l = c .before .before .before .before .before .before .before .before .before .before in
     omega (arith, fits l (l .loop .i + c .before .written .result) (within c))
 
-loop-less : tie.Need-loop-less Inv-loop μ-loop
-loop-less c = omega (arith, within c, c .if1 .left)
-
-loop-again : tie.Need-loop-again Inv-loop μ-loop
-loop-again c = (kept (c .before .before .before .before .before .before), within c)
-
-same-length-2 : tie.Need-same-length-2 Inv-loop μ-loop
-same-length-2 c = c .before .loop .inv .0
-
 pub draw-records-spec : {M : Type 1} → statement M
 draw-records-spec =
     tie.close
     (tie.spec
-    Inv-loop
-    μ-loop
-    loop-holds
-    (λ c. omega (arith, c .loop-test .taken)) (λ c. omega (arith, c .loop-test .taken)) (λ c. omega (arith, c .loop-test .taken)) (λ c. omega (arith, c .loop-test .taken)) (λ c κs. tt) sub-written
-    (λ c κs. tt) same-length
-    (λ c. tt) add-i
-    loop-less
-    loop-again
-    same-length-2
-    (λ c. tt))
+    Inv-loop μ-loop
+    (λ c. (refl, omega arith)) (λ c. omega (arith, c .loop-test .taken)) (λ c. omega (arith, c .loop-test .taken)) (λ c. omega (arith, c .loop-test .taken))
+    (λ c. omega (arith, c .loop-test .taken)) (λ c κs. tt) (λ c. omega (arith, c .before .before .before .before .before .before .before .loop .inv .1))
+    (λ c κs. tt) (λ c. kept (c .before .before .before .before .before .before)) (λ c. tt) add-i
+    (λ c. omega (arith, within c, c .if1 .left)) (λ c. (kept (c .before .before .before .before .before .before), within c)) (λ c. c .before .loop .inv .0) (λ c. tt))

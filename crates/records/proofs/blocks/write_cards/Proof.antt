@@ -1,5 +1,4 @@
 -- `write_cards` writes block after block, and counts its turns down. The block keeps its length.
-use Prim.Native.Nat.{_≤_}
 use mathlib.Core.Path.{_≡_, refl, _∙_}
 use native.Mathlib.Omega.{arith}
 use lib.ListN.{length}
@@ -14,39 +13,21 @@ abbrev μ-loop : tie.MeasureT-loop
 μ-loop lengths block₀ stand₀ pass₀ turns₀ name block stand pass turns = turns
 
 -- what was read lies within the block
-within : (c : tie.After-next-block Inv-loop μ-loop) → c .next-block .result .read ≤ length (c .next-block .last .1 .1 .0)
-within c = omega (arith, c .next-block .ensures .0, c .next-block .kept .1 .1 .0)
-
 write-front-requires : tie.Need-write-front-requires Inv-loop μ-loop
-write-front-requires c κs = within (c .before .before .before)
+write-front-requires c κs =
+    let n = c .before .before .before .next-block in
+    omega (arith, n .ensures .0, n .kept .1 .1 .0)
 
 -- the block after a block
-kept : (c : tie.After-next-block Inv-loop μ-loop) →
-    let l = c .before .before .before in
-    length (c .next-block .last .1 .1 .0) ≡ length (l .before .before .before .before .args .block .now)
-kept c = c .next-block .kept .1 .1 .0 ∙ c .before .before .before .loop .inv
-
-same-length : tie.Need-same-length Inv-loop μ-loop
-same-length c = kept (c .before .before .before .before .before .before .before .before)
-
-same-length-2 : tie.Need-same-length-2 Inv-loop μ-loop
-same-length-2 c = kept (c .before .before .before .before .before .before .before .before)
-
-loop-again : tie.Need-loop-again Inv-loop μ-loop
-loop-again c = kept (c .before .before .before .before .before .before .before .before .before)
-
-same-length-3 : tie.Need-same-length-3 Inv-loop μ-loop
-same-length-3 c = c .before .loop .inv
+kept : (n : tie.After-next-block Inv-loop μ-loop) → length (n .next-block .last .1 .1 .0) ≡ length (n .before .before .before .before .before .before .before .args .block .now)
+kept n = n .next-block .kept .1 .1 .0 ∙ n .before .before .before .loop .inv
 
 pub write-cards-spec : {M : Type 1} → statement M
 write-cards-spec =
     tie.close
     (tie.spec
-    Inv-loop
-    μ-loop
+    Inv-loop μ-loop
     (λ c κs. tt) (λ c. refl) (λ c κs. tt) write-front-requires
-    (λ c. search needs) (λ c κs. tt) same-length
-    (λ c. tt) (λ c. search needs) (λ c κs. tt) same-length-2
-    (λ c. tt) (λ c. omega arith) (λ c. omega arith) loop-again
-    same-length-3
-    (λ c. tt))
+    (λ c. search needs) (λ c κs. tt) (λ c. kept (c .before .before .before .before .before .before .before .before)) (λ c. tt) (λ c. search needs)
+    (λ c κs. tt) (λ c. kept (c .before .before .before .before .before .before .before .before))
+    (λ c. tt) (λ c. omega arith) (λ c. omega arith) (λ c. kept (c .before .before .before .before .before .before .before .before .before)) (λ c. c .before .loop .inv) (λ c. tt))

@@ -4,7 +4,7 @@ use mathlib.Core.Bool.{Bool, true, false, _&&_}
 use borrow.Author.Needs.{needs}
 use borrow.Author.Tests.{lt-ltb, le-ltb}
 use Rattle.words.specs.Answer.{Answer, gives, refuses, pick}
-use Rattle.track_lead.specs.declared.Way.{Way}
+use Rattle.track_lead.specs.declared.TrackWay.{TrackWay}
 use Rattle.track_lead.specs.Way.{after, Bad, tooNear, take}
 use Rattle.track_lead.proofs.Taking.{unless-near}
 use Rattle.track_lead.proofs.going.take.Statement.{statement}
@@ -21,7 +21,7 @@ returns-2 c = simp (le-ltb _ _ (c .before .before .if1 .left), lt-ltb _ _ (c .if
 -- past the first two tests
 past : (c : tie.After-is-near) (t : Bool) → (c .before .is-sent .result && c .is-near .result) ≡ t →
     let a = c .before .before .before .before .before .args in
-    pick {A = Answer Bad Way} t (refuses tooNear) (gives (after (a .way) (a .place) (a .thing))) ≡ take (a .way) (a .place) (a .thing)
+    pick {A = Answer Bad TrackWay} t (refuses tooNear) (gives (after (a .way) (a .place) (a .thing))) ≡ take (a .way) (a .place) (a .thing)
 past c t both =
     let e = c .before .before in
     let a = e .before .before .before .args in
