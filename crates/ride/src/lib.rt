@@ -33,7 +33,7 @@ pub use records::check_record;
 use settings::Asked;
 use settings::Bad;
 use settings::Store;
-pub use settings::allowed;
+use settings::allowed;
 pub use trace::Given;
 pub use trace::Reply;
 pub use trace::Treated;
