@@ -8,6 +8,7 @@ pub mod Bounds
 pub mod ShortWays
 pub mod Short
 pub mod Judging
+pub mod Said
 pub mod Signed
 pub mod AtItsPlace
 pub mod Rising
@@ -19,4 +20,5 @@ pub mod Entered
 pub mod SafeTexts
 pub mod Safe
 pub mod Titled
+pub mod Explained
 pub mod Determined
