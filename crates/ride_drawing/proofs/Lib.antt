@@ -8,6 +8,7 @@ pub mod Bounds
 pub mod ShortWays
 pub mod Short
 pub mod Judging
+pub mod Said
 pub mod Signed
 pub mod AtItsPlace
 pub mod Rising
@@ -20,4 +21,5 @@ pub mod SafeTexts
 pub mod Safe
 pub mod Titled
 pub mod Examples
+pub mod Explained
 pub mod Determined

@@ -1,4 +1,5 @@
--- What is promised of titles: each is its line, and none needs an escape.
+-- What is promised of titles: each is its line, those of a ride are what `explain` writes of it,
+-- and none needs an escape.
 -- Assumes nothing.
 use Prim.Native.Nat.{ℕ}
 use Prim.Native.String.{String}
@@ -10,14 +11,21 @@ use Rattle.text.specs.Text.{codes, decimal}
 use Rattle.text.specs.Pieces.{whole}
 use Rattle.group.specs.declared.Group.{Group}
 use Rattle.ride.specs.declared.Line.{Line}
+use Rattle.ride.specs.declared.Ride.{Ride}
 use Rattle.ride.specs.declared.Seen.{Seen}
 use Rattle.ride_text.specs.Style.{withReasons}
 use Rattle.ride_text.specs.Text.{lineText}
+use Rattle.ride_text.specs.Told.{tellOver, endText}
 use Rattle.acceptance.specs.declared.Entry.{Entry}
 use Rattle.acceptance.specs.declared.Role.{Role}
 use Rattle.acceptance_text.specs.Lines.{entryLine, groupLine}
 use Rattle.ride_drawing.specs.Sign.{title, sign}
 use Rattle.ride_drawing.specs.Row.{entryTitle, entrySign, extraTitle, extraSign}
+use Rattle.ride_drawing.specs.declared.Pen.{Pen}
+use Rattle.ride_drawing.specs.declared.Plan.{Plan}
+use Rattle.ride_drawing.specs.Element.{Element, plain, mark, entry, extra}
+use Rattle.ride_drawing.specs.Drawing.{drawEnd}
+use Rattle.ride_drawing.specs.Draw.{drawOver}
 
 -- ---- each title is its line
 
@@ -42,6 +50,22 @@ pub record Titled : Type 0 where
   pub reported : (i : ℕ) (e : Entry) → entryTitle i e ++ codes "\n" ≡ entryLine i e
   pub extras : (s : Seen) (edge : ℕ) → HasTitle "<g class='e'><title>" (extraTitle s) (extraSign s edge)
   pub answered : (s : Seen) → extraTitle s ++ codes "\n" ≡ groupLine (s .place) (s .kind) Role.Extra
+
+-- ---- the titles of a ride are what `explain` writes
+
+-- The titles of the lines' signs among some elements, in order, each with a newline.
+abbrev pub titlesOf : List Element → List ℕ
+titlesOf [] = []
+titlesOf (plain pieces ∷ es) = titlesOf es
+titlesOf (mark closed line edge place ∷ es) = title closed line ++ codes "\n" ++ titlesOf es
+titlesOf (entry i e edge ∷ es) = titlesOf es
+titlesOf (extra s edge ∷ es) = titlesOf es
+
+-- The titles of a ride are the text that `explain` tells of the same records, each fault with the
+-- reason of its own group; so are those of its end.
+pub record Explained : Type 0 where
+  pub over : (plan : Plan) (gaps : ℕ → ℕ) (pen : Pen) (ride : Ride) (number : ℕ) (rs : List (List ℕ)) → titlesOf (drawOver plan gaps pen ride number rs .elements) ≡ tellOver withReasons gaps ride number rs .text
+  pub ending : (plan : Plan) (pen : Pen) (ride : Ride) → titlesOf (drawEnd plan pen ride) ≡ endText withReasons ride
 
 -- ---- no title needs an escape
 

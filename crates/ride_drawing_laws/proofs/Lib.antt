@@ -1,3 +1,4 @@
 pub mod Pictures
 pub mod Blocks
 pub mod BlocksMet
+pub mod Pages

@@ -3,6 +3,7 @@
 -- Assumes nothing.
 use Prim.Native.Nat.{ℕ}
 use mathlib.Core.Path.{_≡_}
+use mathlib.Core.Bool.{true}
 use mathlib.Core.List.{List}
 use contract.Lifetimes.{Lfts}
 use denote.Ref.{RefT, now}
@@ -17,7 +18,8 @@ use Rattle.ride_drawing.specs.declared.Drawn.{Drawn}
 use Rattle.ride_drawing.proofs.draw.Kinds as draw-kinds
 use Rattle.ride_drawing.proofs.draw.Reads as draw-reads
 use Rattle.demands.specs.Rules.{Decided, Given}
-use Rattle.demands.specs.Stores.{traceRules}
+use Rattle.demands.specs.Table.{badLength}
+use Rattle.demands.specs.Stores.{Good, traceRules}
 
 -- The contract of `draw` allows the answer r for this block of records, and that the lent buffer,
 -- which held `before`, holds `after` then.
@@ -33,3 +35,7 @@ pub record PicturesDecided : Type 0 where
   -- what is refused stays as it was
   pub untouched : (plan : Plan) (drawing : Drawing) (store : Store) (block before : List ℕ) (r : Drawn) (after : List ℕ) (n : ℕ) → DrawInto plan drawing store block before r after
       → saysDone (r .done) ≡ refuses n → (r .drawing ≡ drawing) × (after ≡ before)
+  -- and such a refusal there is: under a good store, 16 for any block that is no whole number of
+  -- records
+  pub such-call : (plan : Plan) (drawing : Drawing) (store : Store) (block before : List ℕ) → Good store → badLength block ≡ true
+      → (r : Drawn) × DrawInto plan drawing store block before r before × (saysDone (r .done) ≡ refuses 16)
