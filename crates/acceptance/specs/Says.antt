@@ -1,6 +1,5 @@
 -- What each case of this crate's answers says.
 -- Assumes nothing.
-use Prim.Native.Nat.{ℕ}
 use Rattle.words.specs.Answer.{Outcome, gives, refuses}
 use Rattle.acceptance.specs.declared.PlanJudged.{PlanJudged}
 use Rattle.acceptance.specs.declared.Planned.{Planned}

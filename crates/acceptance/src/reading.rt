@@ -1,10 +1,9 @@
 // A plan from its bytes.
 ghost use mathlib.Core.Path.{_≡_};
-ghost use Prim.Native.Nat.{ℕ, _+_, _-_, _*_, _/_, _≤_};
+ghost use Prim.Native.Nat.{_+_, _-_, _*_, _/_, _≤_};
 ghost use mathlib.Core.List.{_++_};
 ghost use lib.ListN.{length, take, drop, replicate};
-ghost use Rattle.ride.specs.Record.{byte};
-ghost use Rattle.ride.specs.Over.{firstRecords, records};
+ghost use Rattle.ride.specs.Over.{records};
 ghost use Rattle.acceptance.specs.Plan.{kindOf, isGood, allGood, wellFormed, entryOf, entriesOf, apart, noEntry, emptyPlan};
 use crate::Acceptance;
 use crate::Entry;

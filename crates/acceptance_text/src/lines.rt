@@ -5,7 +5,6 @@ ghost use mathlib.Core.List.{_++_};
 ghost use lib.ListN.{length};
 ghost use Rattle.text.specs.Text.{codes, decimal};
 ghost use Rattle.text.specs.Put.{put, came};
-ghost use Rattle.acceptance.specs.Taking.{oneMore};
 ghost use Rattle.acceptance_text.specs.Lines.{partWords, groupLine, metWords, entryLine, sumLine, troubleLine, verdict, refusedLine};
 use acceptance::Entry;
 use acceptance::Met;

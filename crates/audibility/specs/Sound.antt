@@ -2,7 +2,7 @@
 -- (`contact_laws/specs/Zeroes.antt`).
 -- Assumes nothing.
 use Prim.Native.Nat.{ℕ, zero, suc}
-use mathlib.Core.Bool.{Bool, true, false, _||_}
+use mathlib.Core.Bool.{Bool, false, _||_}
 use mathlib.Core.List.{[]}
 use lib.Dec.{ltb}
 use Rattle.words.specs.Answer.{Outcome, gives, refuses, then, pick}

@@ -4,7 +4,6 @@
 use Prim.Native.Nat.{ℕ}
 use mathlib.Core.Path.{_≡_}
 use mathlib.Core.List.{List, [], _∷_, _++_}
-use lib.ListN.{length}
 use Rattle.words.specs.Answer.{gives}
 use Rattle.telegram.specs.declared.Telegram.{Telegram}
 use Rattle.contact.specs.Contacts.{contact, quiet, contactsFrom, fromStart}

@@ -2,10 +2,9 @@
 -- block waits for the next block.
 -- Assumes nothing.
 use Prim.Native.Nat.{ℕ}
-use mathlib.Core.Bool.{Bool, true}
+use mathlib.Core.Bool.{true}
 use mathlib.Core.List.{List, [], _∷_, _++_}
 use Rattle.words.specs.Answer.{pick}
-use Rattle.ride.specs.declared.Ride.{Ride}
 use Rattle.ride.specs.Record.{odometerOf}
 use Rattle.ride.specs.Step.{treat}
 use Rattle.compaction.specs.declared.Waiting.{Waiting}

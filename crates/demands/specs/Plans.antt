@@ -15,7 +15,7 @@ use lib.Dec.{eqb, leb, ltb}
 use lib.ListN.{length, getD}
 use Rattle.words.specs.Answer.{Outcome, refuses}
 use Rattle.ride.specs.Over.{records}
-use Rattle.acceptance.specs.Plan.{Good, good, placeOf, emptyPlan}
+use Rattle.acceptance.specs.Plan.{good, placeOf, emptyPlan}
 use Rattle.acceptance.specs.Says.{saysPlanned}
 use Rattle.acceptance.specs.declared.Planned.{Planned}
 use Rattle.acceptance.proofs.plan.Kinds as plan-kinds

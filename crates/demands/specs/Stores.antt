@@ -5,7 +5,7 @@
 -- Assumes nothing.
 use Prim.Native.Nat.{ℕ}
 use mathlib.Core.Path.{_≡_}
-use mathlib.Core.Bool.{Bool, true}
+use mathlib.Core.Bool.{true}
 use mathlib.Core.List.{List, [], _∷_, _++_}
 use lib.ListN.{take}
 use contract.Lifetimes.{Lfts}
@@ -34,7 +34,7 @@ use Rattle.contact.proofs.judge_under.Kinds as judge-kinds
 use Rattle.contact.proofs.judge_under.Reads as judge-reads
 use Rattle.demands.specs.Table.{notSeven, badLength, badGap}
 use Rattle.demands.specs.Table02.{tooHigh, notAbove, startsLate, full, overfull}
-use Rattle.demands.specs.Rules.{Rule, row, Decided, Given, Is}
+use Rattle.demands.specs.Rules.{Rule, row, Decided, Is}
 use Rattle.demands.specs.Lists.{judgeRules, JudgeReads}
 
 -- ---- what the contracts allow

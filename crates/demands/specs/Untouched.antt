@@ -4,7 +4,6 @@ use Prim.Native.Nat.{ℕ}
 use mathlib.Core.Bool.{true}
 use mathlib.Core.Path.{_≡_}
 use mathlib.Core.List.{List, [], _∷_}
-use lib.ListN.{take}
 use Rattle.words.specs.Answer.{Answer, gives, refuses}
 use Rattle.words.specs.Plain.{figure}
 use Rattle.words.specs.Says.{saysShortRead, saysShortWritten, saysLongRead, saysLongWritten}

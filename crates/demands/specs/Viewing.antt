@@ -25,7 +25,7 @@ use Rattle.viewer.specs.declared.Started.{Started}
 use Rattle.viewer.specs.declared.Forwarded.{Forwarded}
 use Rattle.viewer.specs.declared.Backed.{Backed}
 use Rattle.viewer.specs.Stand.{opened}
-use Rattle.viewer.specs.Viewing.{Done, done}
+use Rattle.viewer.specs.Viewing.{done}
 use Rattle.viewer.specs.Says.{saysOpeningWent, saysCallWent}
 use Rattle.viewer.specs.Laws.{Starts, Forwards, Backs}
 use Rattle.viewer.proofs.start_at.Kinds as start-kinds

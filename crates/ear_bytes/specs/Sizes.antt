@@ -1,6 +1,6 @@
 -- How large the figures of a hearing can be: as its types have it.
 -- Assumes nothing.
-use Prim.Native.Nat.{ℕ, _<_}
+use Prim.Native.Nat.{_<_}
 use Rattle.telegram.specs.declared.Telegram.{Telegram}
 use Rattle.antenna.specs.declared.Places.{Places}
 use Rattle.antenna.specs.declared.Stand.{Stand}

@@ -1,7 +1,6 @@
 // Digits, one after the other.
 ghost use mathlib.Core.Path.{_≡_};
-ghost use Prim.Native.Nat.{ℕ, _<_, _≤_};
-ghost use lib.ListN.{length, getD};
+ghost use Prim.Native.Nat.{_<_, _≤_};
 ghost use mathlib.Core.Bool.{true};
 ghost use lib.Dec.{leb};
 ghost use Rattle.words.specs.Answer.{pick};

@@ -10,7 +10,7 @@ use Rattle.group_rows.specs.declared.Direction.{Direction}
 use Rattle.group_rows.specs.declared.Kind.{Kind}
 use Rattle.group_rows.specs.declared.Part.{Part}
 use Rattle.group_rows.specs.declared.Placed.{Placed}
-use Rattle.group_rows.specs.Row.{isCategory, isOneOf, isMarker, Found, none, found, Fit, fit, fitRows}
+use Rattle.group_rows.specs.Row.{isCategory, isOneOf, isMarker, Found, none, found, fit, fitRows}
 use Rattle.group_rows.specs.Rows.{present, opposite, fitIn}
 use Rattle.group_rows.specs.Fitting.{rowsFor}
 

@@ -6,7 +6,6 @@ use mathlib.Core.List.{List, [], _∷_}
 use lib.Dec.{eqb, leb, ltb}
 use lib.ListN.{drop}
 use Rattle.words.specs.Answer.{pick}
-use Rattle.text.specs.Text.{codes}
 use Rattle.figures.specs.Figures.{between, hex}
 use Rattle.figures.specs.declared.Byte.{Byte}
 use Rattle.lines.specs.declared.Number.{Number}

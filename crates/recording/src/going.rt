@@ -1,6 +1,6 @@
 // From one record to the next.
 ghost use mathlib.Core.Path.{_≡_};
-ghost use Prim.Native.Nat.{ℕ, _≤_, _<_};
+ghost use Prim.Native.Nat.{_≤_, _<_};
 ghost use Rattle.words.specs.Answer.{pick};
 ghost use Rattle.settings.specs.At.{leaves};
 ghost use Rattle.contact.specs.Says.{saysJudged};

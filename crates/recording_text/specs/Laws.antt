@@ -12,7 +12,6 @@ use Rattle.recording.specs.Frame.{acceptedAfter}
 use Rattle.recording.specs.Recording.{framesOf, recorded}
 use Rattle.recording.specs.Contacts.{before, withoutPositions}
 use Rattle.recording_text.specs.declared.Frames.{Frames}
-use Rattle.recording_text.specs.declared.Records.{Records}
 use Rattle.recording_text.specs.Counts.{judgeFrame, noFrames, countFrames, noRecords, countRecords}
 
 -- The odometer in force after a frame is judged: "the last accepted odometer stands for its own".

@@ -13,7 +13,7 @@ use Rattle.ride.specs.declared.Line.{Line}
 use Rattle.ride.specs.declared.Ride.{Ride}
 use Rattle.ride.specs.State.{isOpen}
 use Rattle.ride.specs.Closing.{firstPlace}
-use Rattle.ride.specs.Step.{Step, end}
+use Rattle.ride.specs.Step.{end}
 use Rattle.ride_drawing.specs.declared.Pen.{Pen}
 use Rattle.ride_drawing.specs.declared.Plan.{Plan}
 use Rattle.ride_drawing.specs.Strip.{greater, arrive, closing}

@@ -1,12 +1,11 @@
 -- The row over the strips: the entries of a plan of the test track, met or absent, and the groups
 -- of the ride that are extra.
 -- Assumes nothing.
-use Prim.Native.Nat.{ℕ, suc, _-_, _/_}
+use Prim.Native.Nat.{ℕ, _-_, _/_}
 use mathlib.Core.Bool.{Bool, true, false, not, _&&_, _||_}
 use mathlib.Core.List.{List, [], _∷_, _++_}
 use lib.Dec.{eqb, leb}
 use lib.ListN.{length, take}
-use Rattle.words.specs.Answer.{pick}
 use Rattle.text.specs.Text.{codes, decimal}
 use Rattle.ride.specs.declared.Seen.{Seen}
 use Rattle.acceptance.specs.declared.Met.{Met}

@@ -1,9 +1,9 @@
 -- The sign of a line: its shape at its place, the line as its title, and what stands beside it.
 -- Assumes nothing.
 use Prim.Native.Nat.{ℕ, _+_, _-_, _*_, _/_, _%_}
-use mathlib.Core.Bool.{Bool, true, false}
+use mathlib.Core.Bool.{true, false}
 use mathlib.Core.List.{List, [], _∷_, _++_}
-use lib.Dec.{leb, ltb}
+use lib.Dec.{ltb}
 use lib.ListN.{length, take}
 use Rattle.words.specs.Answer.{pick}
 use Rattle.text.specs.Text.{codes, decimal}
@@ -12,7 +12,6 @@ use Rattle.group_rows.specs.declared.Kind.{Kind}
 use Rattle.group.specs.declared.Number.{Number}
 use Rattle.group.specs.declared.Group.{Group}
 use Rattle.ride.specs.declared.Mark.{Mark}
-use Rattle.ride.specs.declared.Seen.{Seen}
 use Rattle.ride.specs.declared.Line.{Line}
 use Rattle.ride_text.specs.Style.{withReasons}
 use Rattle.ride_text.specs.Text.{lineText}

@@ -15,7 +15,7 @@ use Rattle.ride.specs.declared.Line.{Line}
 use Rattle.ride.specs.declared.Ride.{Ride}
 use Rattle.ride.specs.Closing.{firstPlace}
 use Rattle.ride.specs.Step.{end}
-use Rattle.ride_text.specs.SameLines.{Said, saidBy, saidOver}
+use Rattle.ride_text.specs.SameLines.{Said, saidBy}
 
 -- A line `PLACE fault N: ..` where this group closed.
 pub record Reasoned (g : Group) (place n : ℕ) : Type 0 where

@@ -8,8 +8,8 @@ use Rattle.words.specs.Answer.{Outcome, gives}
 use Rattle.settings.specs.declared.Version.{Version}
 use Rattle.settings.specs.declared.Store.{Store}
 use Rattle.settings.specs.declared.Held.{Held}
-use Rattle.settings.specs.Versions.{then, highest, Kept, kept}
-use Rattle.settings.specs.Store.{noVersion, begin, judged, mayAdd, add, Change}
+use Rattle.settings.specs.Versions.{then, highest, kept}
+use Rattle.settings.specs.Store.{noVersion, begin, judged, add}
 use Rattle.settings.specs.At.{asked}
 
 -- Version i of a store, the first at 0.

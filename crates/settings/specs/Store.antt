@@ -2,7 +2,6 @@
 -- place 0, so it is never empty. Versions are added in rising place order and never altered."
 -- Assumes nothing.
 use Prim.Native.Nat.{ℕ, _+_, _-_}
-use mathlib.Core.Bool.{Bool}
 use mathlib.Core.List.{List, [], _∷_}
 use lib.Dec.{eqb, ltb}
 use lib.ListN.{take, getD, set, replicate}

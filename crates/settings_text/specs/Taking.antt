@@ -1,6 +1,5 @@
 -- A line given to the store of the settings, or to none yet: a store of no version.
 -- Assumes nothing.
-use Prim.Native.Nat.{ℕ}
 use lib.Dec.{eqb}
 use Rattle.words.specs.Answer.{Outcome, gives, refuses, pick}
 use Rattle.settings.specs.declared.Version.{Version}

@@ -4,7 +4,7 @@
 -- where no line is to be named.
 -- Assumes nothing.
 use Prim.Native.Nat.{ℕ}
-use mathlib.Core.List.{List, [], _++_}
+use mathlib.Core.List.{List, _++_}
 use lib.Dec.{eqb}
 use Rattle.words.specs.Answer.{pick}
 use Rattle.text.specs.Text.{codes, decimal}

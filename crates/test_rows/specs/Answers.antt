@@ -3,7 +3,7 @@
 -- is put piece by piece into a lent buffer, each piece whole or not at all.
 -- Assumes nothing.
 use Prim.Native.Nat.{ℕ}
-use mathlib.Core.Bool.{Bool, true, false}
+use mathlib.Core.Bool.{Bool, false}
 use mathlib.Core.List.{List, [], _∷_, _++_}
 use Rattle.words.specs.Answer.{Outcome, gives, refuses, pick}
 use Rattle.text.specs.Text.{codes, decimal}

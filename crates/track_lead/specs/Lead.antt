@@ -3,10 +3,10 @@
 -- "Frames are written for every dm from the first to the last, both included".
 -- Assumes nothing.
 use Prim.Native.Nat.{ℕ, zero, suc, _+_, _-_, _*_, _/_}
-use mathlib.Core.Bool.{Bool, _&&_}
+use mathlib.Core.Bool.{_&&_}
 use mathlib.Core.List.{List, [], _∷_, _++_}
 use lib.Dec.{leb}
-use Rattle.words.specs.Answer.{Answer, gives, refuses, then, pick}
+use Rattle.words.specs.Answer.{Answer, gives, then, pick}
 use Rattle.track_lead.specs.declared.Thing.{Thing}
 use Rattle.track_lead.specs.declared.TrackWay.{TrackWay}
 use Rattle.track_lead.specs.Way.{Bad, isSent, fresh, take, from, until}

@@ -1,6 +1,5 @@
 // A text gone over once, line by line.
 ghost use mathlib.Core.Path.{_≡_};
-ghost use lib.ListN.{length};
 use crate::giving::Form;
 use crate::giving::of_line;
 use libc::STDOUT_FILENO;

@@ -1,6 +1,5 @@
 // Going as a command asks, and the lines of the records that are passed.
 ghost use Prim.Native.Nat.{_+_, _/_, _<_, _≤_};
-ghost use lib.ListN.{length};
 use ride::Ride;
 use ride_text::Done;
 use ride_text::REASONS;

@@ -13,7 +13,6 @@ use Rattle.viewer.specs.declared.Went.{Went}
 use Rattle.viewer.specs.declared.Came.{Came}
 use Rattle.viewer.specs.declared.Ending.{Ending}
 use Rattle.viewer.specs.declared.Moved.{Moved}
-use Rattle.viewer.specs.declared.Viewer.{Viewer}
 use Rattle.viewer.specs.declared.Started.{Started}
 use Rattle.viewer.specs.declared.Forwarded.{Forwarded}
 use Rattle.viewer.specs.declared.Backed.{Backed}
