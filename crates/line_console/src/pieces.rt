@@ -15,7 +15,7 @@ use console::wipe;
 // Where the going over stands: the ear, how many bits were heard before, in which bit of the bytes
 // kept the latest contact begins, how many bytes are kept, how far all that is, and whether all
 // writes so far succeeded.
-struct HeardSoFar {
+struct SoFar {
     ear: Ear,
     bits: u64,
     first: u8,
@@ -48,16 +48,9 @@ fn keep(piece: &[u8], from: usize, kept: &mut [u8], have: usize) -> usize {
 }
 
 // The going over with a piece of so many bits more.
-fn further(
-    from: HeardSoFar,
-    ear: Ear,
-    bits: usize,
-    first: u8,
-    have: usize,
-    is_good: bool,
-) -> HeardSoFar {
+fn further(from: SoFar, ear: Ear, bits: usize, first: u8, have: usize, is_good: bool) -> SoFar {
     let far = from.far;
-    HeardSoFar {
+    SoFar {
         ear,
         bits: std::num::wrapping_add_u64(from.bits, bits as u64),
         first,
@@ -78,13 +71,7 @@ fn no_text() -> Out
 }
 
 // What stands for the contacts that close in a piece is written.
-fn over(
-    from: HeardSoFar,
-    asked: Wanted,
-    piece: &[u8],
-    kept: &mut [u8],
-    buf: &mut [u8],
-) -> HeardSoFar
+fn over(from: SoFar, asked: Wanted, piece: &[u8], kept: &mut [u8], buf: &mut [u8]) -> SoFar
     requires { ⌜ (length (now piece) ≤ 65536) × (length (now buf) ≡ 262144) ⌝ }
 {
     let bits = piece.len() * 8;
@@ -126,20 +113,20 @@ fn over(
 
 // The same for the front of the block, so many bytes long.
 fn front(
-    from: HeardSoFar,
+    from: SoFar,
     asked: Wanted,
     block: &[u8],
     count: usize,
     kept: &mut [u8],
     buf: &mut [u8],
-) -> HeardSoFar
+) -> SoFar
     requires { ⌜ (count ≤ length (now block)) × (length (now block) ≤ 65536) × (length (now buf) ≡ 262144) ⌝ }
 {
     over(from, asked, &block[..count], kept, buf)
 }
 
 // What is said at the end of the line, where lines are asked for; whether it was written.
-fn end(from: HeardSoFar, draws: bool) -> Went {
+fn end(from: SoFar, draws: bool) -> Went {
     let far = from.far;
     wipe(far);
     if draws {
@@ -159,8 +146,8 @@ fn end(from: HeardSoFar, draws: bool) -> Went {
 }
 
 // A line that has not begun.
-fn fresh() -> HeardSoFar {
-    HeardSoFar {
+fn fresh() -> SoFar {
+    SoFar {
         ear: antenna::fresh(),
         bits: 0,
         first: 0,

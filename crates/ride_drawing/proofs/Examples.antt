@@ -27,7 +27,8 @@ came-there : whole (band (Linking.Set 4000 1000) 0 1000 5000)
 unfolding band due middle onStrip decimal digits
 came-there = refl
 
--- "Main speed 130, target 80": the figure of the greater over its line, that of the lesser under it.
+-- "Main speed 130, target 80": the figure of the greater stands over its line, that of the lesser
+-- under it.
 abbrev slower-next : Known
 slower-next = record { linking = Linking.Unset; main = Told.Kmh 130; target = Told.Kmh 80; number = Number.None }
 
