@@ -102,7 +102,8 @@ static void take_frame(const uint8_t *frame)
     frames++;
     if (given > MOST_DM || given < odometer) {
         if (refused++ == 0)
-            fprintf(stderr, "record: frame %llu refused %d\n", (unsigned long long)frames, given > MOST_DM ? 18 : 17);
+            fprintf(stderr, "record: frame %llu refused %s\n", (unsigned long long)frames,
+                    given > MOST_DM ? "18: odometer above 4,000,000,000" : "17: odometer below the last accepted one");
     } else {
         odometer = given;
     }
