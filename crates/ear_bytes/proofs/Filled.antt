@@ -17,7 +17,8 @@ use Rattle.recording.specs.declared.Taken.{Taken}
 use Rattle.recording.specs.Asking.{Going, gave, usedUp, goOn}
 use Rattle.recording.specs.Says.{Went, went, saysCame, saysTaken}
 use Rattle.ear_bytes.specs.declared.Hearing.{Hearing}
-use Rattle.ear_bytes.specs.Hearing.{joined, Stood, stands, first, atEnd, coming, afterGoing, someOf, Written, written, roomFor, hear, end, either}
+use Rattle.ear_bytes.specs.Hearing.{joined, Stood, stands, first, atEnd, afterGoing, someOf, Written, written, roomFor, hear, end}
+use Rattle.ear_bytes.specs.Inside.{coming, either}
 
 -- What is written of what came, after `at` bytes.
 abbrev parts : Tape → ℕ → ℕ → ℕ → List ℕ → Written

@@ -3,10 +3,8 @@
 -- record more.
 -- Assumes nothing.
 use Prim.Native.Nat.{ℕ, zero, suc, _*_, _/_}
-use mathlib.Core.Bool.{Bool, true, false}
 use mathlib.Core.List.{List, [], _∷_, _++_}
 use lib.ListN.{length}
-use Rattle.words.specs.Answer.{pick}
 use Rattle.text.specs.Put.{placed}
 use Rattle.settings.specs.declared.Store.{Store}
 use Rattle.recording.specs.declared.Tape.{Tape}
@@ -40,13 +38,9 @@ first bytes s = record { tape = s .tape; frame = s .frame; bit = s .bit; records
 
 -- ---- record after record
 
--- What comes next at the lead's end; and there or of a piece.
+-- What comes next at the lead's end.
 abbrev pub atEnd : Tape → ℕ → ℕ → Going
 atEnd tape k i = ofEnding k i (finish tape)
-
-abbrev pub coming : Bool → Store → List ℕ → Tape → ℕ → ℕ → Going
-coming true store lead = atEnd
-coming false store lead = goOn store lead
 
 abbrev pub afterGoing : Going → (Tape → ℕ → ℕ → Stood) → Stood
 afterGoing (gave tape k i bytes) on = first bytes (on tape k i)
@@ -77,12 +71,9 @@ written s buffer =
 abbrev pub roomFor : List ℕ → ℕ
 roomFor buffer = length buffer / 8
 
--- A piece of the lead heard, and the lead's end; and the one or the other.
+-- A piece of the lead heard, and the lead's end.
 unfoldable pub hear : Hearing → Store → List ℕ → List ℕ → Written
 hear hearing store lead buffer = written (someOf (goOn store lead) (roomFor buffer) (hearing .tape) 0 (hearing .bit)) buffer
 
 unfoldable pub end : Hearing → List ℕ → Written
 end hearing buffer = written (someOf atEnd (roomFor buffer) (hearing .tape) 0 (hearing .bit)) buffer
-
-abbrev pub either : Bool → Hearing → Store → List ℕ → List ℕ → Written
-either ends hearing store lead buffer = pick ends (end hearing buffer) (hear hearing store lead buffer)

@@ -3,7 +3,7 @@ ghost use mathlib.Core.Path.{_≡_};
 ghost use lib.ListN.{length};
 ghost use Rattle.text.specs.Put.{put, came};
 ghost use Rattle.recording.specs.Says.{went, saysTaken};
-ghost use Rattle.ear_bytes.specs.Hearing.{coming, either};
+ghost use Rattle.ear_bytes.specs.Inside.{coming, either};
 ghost use Rattle.ear_bytes.specs.Says.{says};
 use crate::Hearing;
 use crate::Wrote;

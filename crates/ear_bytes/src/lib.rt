@@ -4,8 +4,9 @@
 // Promises: what is made of a hearing reads back as that hearing; any bytes at all read as some
 // hearing; pieces of any length and rooms of any size give the records of the whole lead.
 // Specification: specs/Ears.antt (the figures of a hearing, and the hearing in some bytes),
-// specs/Hearing.antt (the records that have room), specs/Sizes.antt (how large the figures can be);
-// what is promised of pieces and rooms: specs/Laws.antt.
+// specs/Hearing.antt (the records that have room), specs/Inside.antt (the one loop for both),
+// specs/Sizes.antt (how large the figures can be); what is promised of pieces and rooms:
+// specs/Laws.antt.
 ghost use mathlib.Core.Path.{_≡_};
 ghost use Rattle.ear_bytes.specs.Ears.{earBytes, earIn};
 ghost use Rattle.ear_bytes.specs.Hearing.{fresh, hear, end};

@@ -68,13 +68,13 @@ known-level w v l r h = simp (lt-ltb l r h)
 abbrev pub middleLine : ℕ → List (List ℕ)
 middleLine x = metres (codes "<path class='c' d='M") x ++ codes " 124v64'/>\n" ∷ []
 
-pub middle-drawn : (edge from to at x y : ℕ) → x ≡ onStrip edge at → y ≡ at - edge → (ltb from at && (leb at to && leb y 10000)) ≡ true → middleLine x ≡ middle edge from to at
+pub middle-drawn : (edge from to at x : ℕ) → x ≡ onStrip edge at → (leb from at && (leb at to && (ltb from to && ltb x 11000))) ≡ true → middleLine x ≡ middle edge from to at
 unfolding middle
-middle-drawn edge from to at x y e d h = rw (← e, ← d, h)
+middle-drawn edge from to at x e h = rw (← e, h)
 
-pub middle-none : (edge from to at y : ℕ) → y ≡ at - edge → (ltb from at && (leb at to && leb y 10000)) ≡ false → [] ≡ middle edge from to at
+pub middle-none : (edge from to at x : ℕ) → x ≡ onStrip edge at → (leb from at && (leb at to && (ltb from to && ltb x 11000))) ≡ false → [] ≡ middle edge from to at
 unfolding middle
-middle-none edge from to at y d h = rw (← d, h)
+middle-none edge from to at x e h = rw (← e, h)
 
 -- ---- lines
 

@@ -90,7 +90,7 @@ due-size l r = either (ltb l r) _ [] 160 drawn (nothing 160)
 
 middle-size : (edge from to at : ℕ) → size (middle edge from to at) ≤ 100
 unfolding middle
-middle-size edge from to at = either (ltb from at && (leb at to && leb (at - edge) 10000)) _ [] 100 drawn (nothing 100)
+middle-size edge from to at = either (leb from at && (leb at to && (ltb from to && ltb (onStrip edge at) 11000))) _ [] 100 drawn (nothing 100)
   where
     drawn : size (metres (codes "<path class='c' d='M") (onStrip edge at) ++ codes " 124v64'/>\n" ∷ []) ≤ 100
     drawn =

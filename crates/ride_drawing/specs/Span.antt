@@ -42,11 +42,11 @@ due l r =
     (metres (codes "<rect class='d' y='124' height='64' x='") l ++ metres (codes "' width='") (r - l) ++ codes "'/>\n" ∷ [])
     []
 
--- The middle of the band, where it lies after one place, at most at the other, and on the strip: a
--- signal that comes just there ends the band at its middle.
+-- The middle of the band, where it lies from one place to another, the last one too, and on the
+-- strip: a signal that comes just there ends the band at its middle.
 unfoldable pub middle : ℕ → ℕ → ℕ → ℕ → List (List ℕ)
 middle edge from to at =
-    pick (ltb from at && (leb at to && leb (at - edge) 10000))
+    pick (leb from at && (leb at to && (ltb from to && ltb (onStrip edge at) 11000)))
     (metres (codes "<path class='c' d='M") (onStrip edge at) ++ codes " 124v64'/>\n" ∷ [])
     []
 

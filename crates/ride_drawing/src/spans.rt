@@ -1,6 +1,6 @@
 // What is known between two places: speeds as lines, and where the next signal is due.
 ghost use mathlib.Core.Path.{_≡_};
-ghost use Prim.Native.Nat.{_-_, _≤_};
+ghost use Prim.Native.Nat.{_≤_};
 ghost use Rattle.text.specs.Put.{came};
 ghost use Rattle.ride.specs.declared.Linking.{Linking};
 ghost use Rattle.text.specs.Pieces.{puts};
@@ -68,19 +68,13 @@ fn put_due(l: u64, r: u64, buf: &mut [u8], at: usize) -> usize
     put(b"'/>\n", buf, b)
 }
 
-// How far a place lies beyond an edge.
-fn beyond(edge: u64, place: u64) -> u64
-    ensures { λ r. ⌜ r ≡ place - edge ⌝ }
-{
-    if place > edge { place - edge } else { 0 }
-}
-
 // The middle of the band.
 fn put_middle(edge: u64, from: u64, to: u64, place: u64, buf: &mut [u8], at: usize) -> usize
     ensures { λ n. ⌜ came n (now (buf .exit)) ≡ puts (middle edge from to place) (now (buf .entry)) at ⌝ }
 {
-    if (from < place) & ((place <= to) & (beyond(edge, place) <= 10000)) {
-        let a = put_metres(b"<path class='c' d='M", on_strip(edge, place), buf, at);
+    let x = on_strip(edge, place);
+    if (from <= place) & ((place <= to) & ((from < to) & (x < 11000))) {
+        let a = put_metres(b"<path class='c' d='M", x, buf, at);
         return put(b" 124v64'/>\n", buf, a);
     }
     at

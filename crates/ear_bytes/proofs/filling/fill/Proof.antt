@@ -6,7 +6,7 @@ use native.Mathlib.Omega.{arith}
 use lib.ListN.{length}
 use borrow.Author.Needs.{needs}
 use Rattle.ear_bytes.specs.declared.Wrote.{Wrote}
-use Rattle.ear_bytes.specs.Hearing.{coming, either}
+use Rattle.ear_bytes.specs.Inside.{coming, either}
 use Rattle.ear_bytes.specs.Says.{says}
 use Rattle.ear_bytes.proofs.Filled.{from, whole, full, over, on, next-place, keeps-length, room-less}
 use Rattle.ear_bytes.proofs.filling.fill.Statement.{statement}

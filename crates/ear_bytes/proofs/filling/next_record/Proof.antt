@@ -5,7 +5,7 @@ use mathlib.Core.Bool.{Bool}
 use borrow.Author.Needs.{needs}
 use Rattle.recording.specs.Says.{went}
 use Rattle.recording.proofs.Endings.{ended-is}
-use Rattle.ear_bytes.specs.Hearing.{coming}
+use Rattle.ear_bytes.specs.Inside.{coming}
 use Rattle.ear_bytes.proofs.filling.next_record.Statement.{statement}
 use Rattle.ear_bytes.proofs.filling.next_record.Tie as tie
 
