@@ -3,6 +3,8 @@
 // lent array as it was.
 // Specification: specs/Face.antt, Contacts.antt, Stores.antt, Rides.antt and Leads.antt (answers as
 // C numbers), over the specifications of the crates below.
+#![tactic(auto)]
+
 pub mod balises;
 pub mod codes;
 pub mod contacts;

@@ -4,3 +4,4 @@
 // Specification: specs/Demand1.antt, Settings.antt, SettingsText.antt, Handed.antt, Sent.antt,
 // Rides.antt and Leads.antt, over the contracts as Calls.antt, RideCalls.antt and LeadsCalls.antt
 // have them.
+#![tactic(auto)]

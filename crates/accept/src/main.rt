@@ -3,6 +3,8 @@
 // acceptance, block by block.
 // Specification: none of its own; what cannot be said of a program's reads and writes stands in
 // docs/EXCEPTIONS.md.
+#![tactic(auto)]
+
 mod report;
 
 use acceptance::Acceptance;

@@ -5,6 +5,8 @@
 // part.
 // Specification: specs/Plan.antt (a plan), specs/Taking.antt (a line is taken), specs/Report.antt,
 // specs/Says.antt (the refusals).
+#![tactic(auto)]
+
 ghost use Rattle.std.specs.Prelude.{◌≡◌};
 ghost use Rattle.acceptance.specs.Plan.{plan};
 ghost use Rattle.acceptance.specs.Taking.{take_line};
@@ -20,14 +22,14 @@ use ride::Line;
 pub use taking::one_more;
 
 // Whether an entry was met: not, or by a group with this A place.
-#[derive(Drop)]
+#[derive(Clone, Copy)]
 pub enum Met {
     Absent,
     At(u64),
 }
 
 // An entry of a plan.
-#[derive(Drop)]
+#[derive(Clone, Copy)]
 pub struct Entry {
     pub place: u32,
     pub kind: Kind,
@@ -36,7 +38,7 @@ pub struct Entry {
 
 // A run: the plan's entries, of which there are `count`, with what met them; the tolerance; how
 // many groups were extra.
-#[derive(Drop)]
+#[derive(Clone, Copy)]
 pub struct Acceptance {
     pub entries: [Entry; 64],
     pub count: usize,
@@ -46,7 +48,7 @@ pub struct Acceptance {
 
 // How a plan was judged: good, or refused for the tolerance (28), for a record, the length or the
 // count (26), or for entries out of order or too near (27).
-#[derive(Drop)]
+#[derive(Clone, Copy)]
 pub enum PlanJudged {
     Good,
     Tolerance,
@@ -56,7 +58,7 @@ pub enum PlanJudged {
 
 // What reading a plan answers: a run over it that has not begun, and how it was judged; a refused
 // one is the empty plan.
-#[derive(Drop)]
+#[derive(Clone, Copy)]
 pub struct Planned {
     pub plan: Acceptance,
     pub judged: PlanJudged,
@@ -64,7 +66,7 @@ pub struct Planned {
 
 // What part a line takes: the group met the entry with this index, it is extra, or the line takes
 // no part.
-#[derive(Drop)]
+#[derive(Clone, Copy)]
 pub enum Role {
     Wanted(usize),
     Extra,
@@ -72,21 +74,21 @@ pub enum Role {
 }
 
 // What taking a line answers: the run after it, and the line's part.
-#[derive(Drop)]
+#[derive(Clone, Copy)]
 pub struct Took {
     pub state: Acceptance,
     pub answer: Role,
 }
 
 // What the report says of an index: the entry, met or absent, or that there is none.
-#[derive(Drop)]
+#[derive(Clone, Copy)]
 pub enum Reported {
     Entry(Entry),
     NoEntry,
 }
 
 // The sums of a run. As many groups are wanted as entries are met.
-#[derive(Drop)]
+#[derive(Clone, Copy)]
 pub struct Sums {
     pub entries: usize,
     pub met: usize,

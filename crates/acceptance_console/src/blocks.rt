@@ -9,7 +9,7 @@ use console::Goes;
 use settings::Store;
 
 // A ride compared with a plan so far, and whether that is whole: all reads and writes succeeded.
-#[derive(Drop)]
+#[derive(Clone, Copy)]
 pub struct Compared {
     pub going: Going,
     pub whole: bool,

@@ -15,6 +15,8 @@
 // `acceptance_text::accept`'s and `finish`'s; what they come to, whatever the blocks, is
 // crates/acceptance_laws/specs/Accepted.antt. What is read or written stands outside contracts:
 // docs/EXCEPTIONS.md.
+#![tactic(auto)]
+
 mod blocks;
 mod plans;
 mod verdict;

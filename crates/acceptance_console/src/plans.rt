@@ -7,7 +7,7 @@ const MOST: u64 = 4294967295;
 
 // A run over a plan that has not begun, and whether there is one: a run over the empty plan where
 // it was said that there is none.
-#[derive(Drop)]
+#[derive(Clone, Copy)]
 pub struct PlanAsked {
     pub run: Acceptance,
     pub is_good: bool,

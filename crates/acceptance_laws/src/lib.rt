@@ -5,3 +5,4 @@
 // Specification: specs/ByContract.antt (what the contracts allow), specs/Lines.antt (groups among
 // lines), specs/Accepted.antt (what is promised), specs/Calls.antt (the program's calls),
 // specs/Depot.antt (all of it, over a ride).
+#![tactic(auto)]

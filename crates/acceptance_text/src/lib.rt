@@ -6,6 +6,8 @@
 // Specification: specs/Lines.antt (the words), specs/Taking.antt (lines taken), specs/Accept.antt
 // (a block of records, and the end), specs/Says.antt (the answers); specs/Inside.antt (what the
 // functions inside say); a text in a buffer is `text`'s specs/Put.antt.
+#![tactic(auto)]
+
 ghost use Rattle.std.specs.Prelude.{◌≡◌};
 ghost use Rattle.text.specs.Put.{put, came};
 ghost use Rattle.acceptance_text.specs.Lines.{entry_line, sum_line, is_passed, last_lines, refused_line};
@@ -23,7 +25,7 @@ pub use taking::Troubles;
 
 // An acceptance run on its way: the state of the ride, the run over the plan, and what went wrong
 // so far.
-#[derive(Drop)]
+#[derive(Clone, Copy)]
 pub struct Going {
     pub ride: Ride,
     pub run: Acceptance,
@@ -32,7 +34,7 @@ pub struct Going {
 
 // How far a block was taken: so many records, and so many bytes of lines written; or why none is:
 // for the settings (their number) or the block's length (16).
-#[derive(Drop)]
+#[derive(Clone, Copy)]
 pub enum Progress {
     Took { records: usize, bytes: usize },
     Settings(Bad),
@@ -40,7 +42,7 @@ pub enum Progress {
 }
 
 // What taking a block answers: where the run stands after it, and how far it was taken.
-#[derive(Drop)]
+#[derive(Clone, Copy)]
 pub struct Advanced {
     pub going: Going,
     pub progress: Progress,
@@ -48,14 +50,14 @@ pub struct Advanced {
 
 // What the end of the ride wrote: so many bytes; or that there is no room for its lines, and the
 // ride has not ended.
-#[derive(Drop)]
+#[derive(Clone, Copy)]
 pub enum Ending {
     Wrote(usize),
     NoRoom,
 }
 
 // What ending the ride answers: where the run stands then, and what was written.
-#[derive(Drop)]
+#[derive(Clone, Copy)]
 pub struct Finished {
     pub going: Going,
     pub ending: Ending,

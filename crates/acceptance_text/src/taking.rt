@@ -14,7 +14,7 @@ use ride::{Given, Line, Lines};
 
 // What went wrong on a ride, counted: how many faults, and how many refused records. The largest
 // number of 64 bits stands for that many or more.
-#[derive(Drop)]
+#[derive(Clone, Copy)]
 pub struct Troubles {
     pub faults: u64,
     pub refused: u64,
@@ -22,7 +22,7 @@ pub struct Troubles {
 
 // What taking some lines leaves: the run, what went wrong so far, and the place in the buffer after
 // their text.
-#[derive(Drop)]
+#[derive(Clone, Copy)]
 pub struct Written {
     pub run: Acceptance,
     pub troubles: Troubles,

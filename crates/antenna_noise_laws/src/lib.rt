@@ -2,3 +2,4 @@
 // contracts of `antenna::fresh` and `hear_piece`. No code.
 // Promises: nothing of its own; specs/ has what is claimed, proofs/ shows that it holds.
 // Specification: specs/InPieces.antt.
+#![tactic(auto)]

@@ -3,6 +3,8 @@
 // Promises: a line is written to the letter and whole, or not at all; bytes around it stay.
 // Specification: specs/Lines.antt (the words); what listening in pieces comes to is
 // crates/antenna_text_laws; a text in a buffer is `text`'s specs/Put.antt.
+#![tactic(auto)]
+
 ghost use Rattle.std.specs.Prelude.{◌≡◌};
 ghost use Rattle.text.specs.Put.{put, came};
 ghost use Rattle.antenna_text.specs.Lines.{told_line, closed_before};

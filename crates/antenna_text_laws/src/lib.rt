@@ -2,3 +2,4 @@
 // crates below. No code.
 // Promises: nothing of its own; specs/ has what is claimed, proofs/ shows that it holds.
 // Specification: specs/Listening.antt.
+#![tactic(auto)]

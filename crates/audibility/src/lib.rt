@@ -3,6 +3,8 @@
 // Promises: a telegram is called broken exactly if some sixteen bits in a row of its line have four
 // zeroes or fewer; texts are written whole or not at all.
 // Specification: specs/Sound.antt, specs/Lines.antt (the words), specs/Says.antt (the answers).
+#![tactic(auto)]
+
 ghost use Rattle.std.specs.Prelude.{◌≡◌};
 ghost use Rattle.telegram.specs.Spelling.{asked};
 ghost use Rattle.text.specs.Put.{put, came};
@@ -16,7 +18,7 @@ mod sixteen;
 use telegram::Spelt;
 
 // Whether a balise can be heard: audible, or broken; or why there is none, 2, 3 or 4.
-#[derive(Drop)]
+#[derive(Clone, Copy)]
 pub enum Sound {
     Audible,
     Broken,

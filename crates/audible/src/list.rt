@@ -4,7 +4,7 @@ use audibility::Sound;
 
 // What is listed so far: the place after the lines that stand in the buffer, and how many there
 // are. There are 5,198 telegrams.
-#[derive(Drop)]
+#[derive(Clone, Copy)]
 pub struct ListedSoFar {
     pub at: usize,
     pub count: u32,

@@ -4,6 +4,8 @@
 // are those of audibility.
 // Specification: none of its own; what cannot be said of a program's writes stands in
 // docs/EXCEPTIONS.md.
+#![tactic(auto)]
+
 mod list;
 mod out;
 

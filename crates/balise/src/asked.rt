@@ -6,7 +6,7 @@ use figures::Figure;
 
 // A balise: its figures, its sync words, the number of telegrams, and the bytes of quiet line
 // around them.
-#[derive(Drop)]
+#[derive(Clone, Copy)]
 pub struct BaliseCall {
     pub x: u8,
     pub y: u16,
@@ -19,7 +19,7 @@ pub struct BaliseCall {
 
 // What is asked for; that there are too few or too many arguments; or that one of them is wrong,
 // which was said.
-#[derive(Drop)]
+#[derive(Clone, Copy)]
 pub enum BaliseAsked {
     For(BaliseCall),
     Usage,

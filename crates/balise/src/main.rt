@@ -3,6 +3,8 @@
 // large is refused as the figure it is.
 // Specification: none of its own; what cannot be said of a program's reads and writes stands in
 // docs/EXCEPTIONS.md.
+#![tactic(auto)]
+
 ghost use Rattle.std.specs.Prelude.{◌≡◌, length};
 
 mod asked;

@@ -2,3 +2,4 @@
 // Promises: nothing of its own; proofs/ has the laws of such a stretch: which of its bits are
 // places, and what is read there.
 // Specification: specs/Line.antt, specs/Forty.antt.
+#![tactic(auto)]

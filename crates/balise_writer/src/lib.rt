@@ -4,6 +4,8 @@
 // Specification: specs/Write.antt (the bytes and the refusals), specs/Says.antt (the answers).
 // Laws: bit j of what is written is the bit that the balise sends as line bit j (`WritesTheLine` of
 // specs/Sender.antt).
+#![tactic(auto)]
+
 ghost use Rattle.std.specs.Prelude.{◌≡◌};
 ghost use Rattle.balise_writer.specs.Write.{write};
 ghost use Rattle.balise_writer.specs.Says.{says_written};
@@ -13,7 +15,7 @@ mod filling;
 use telegram::Spelt;
 
 // What writing a test balise answers: so many bytes written, or why none.
-#[derive(Drop)]
+#[derive(Clone, Copy)]
 pub enum Written {
     Bytes(usize),
     TooLarge,

@@ -3,3 +3,4 @@
 // Promises: nothing of its own; specs/ has what is claimed, proofs/ shows that it holds.
 // Specification: specs/Same.antt (a record says the balise that was judged), specs/InFull.antt (one
 // way in full).
+#![tactic(auto)]

@@ -6,6 +6,8 @@
 // Specification: none of its own; what its calls of `list` come to is
 // crates/demands/specs/Sections.antt, what cannot be said of a program's reads and writes stands in
 // docs/EXCEPTIONS.md.
+#![tactic(auto)]
+
 use ride_text::PLAIN;
 
 fn main() {

@@ -4,6 +4,8 @@
 // can write, and is the printed list.
 // Specification: specs/Hex.antt (the digits of a word); the words are those of words::write_short
 // and words_list::list.
+#![tactic(auto)]
+
 mod hex;
 mod listing;
 

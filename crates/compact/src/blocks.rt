@@ -10,7 +10,7 @@ use settings::Store;
 
 // Where the trace stands: what waits, how many records came and how many were kept, and whether all
 // writes so far succeeded.
-#[derive(Drop)]
+#[derive(Clone, Copy)]
 struct KeptSoFar {
     waiting: Waiting,
     records: u64,

@@ -5,6 +5,8 @@
 // Specification: specs/Counting.antt for its counts; what the blocks come to is
 // crates/compaction_laws/specs/Blocks.antt, what cannot be said of a program's reads and writes
 // stands in docs/EXCEPTIONS.md.
+#![tactic(auto)]
+
 mod blocks;
 mod counts;
 

@@ -4,6 +4,8 @@
 // Specification: specs/Dropped.antt (which records are dropped), Compact.antt (a trace, and one in
 // blocks), Blocks.antt (what waits between two blocks), Smaller.antt (what is promised of the
 // records that are kept), Says.antt (the answers).
+#![tactic(auto)]
+
 ghost use Rattle.std.specs.Prelude.{◌≡◌};
 ghost use Rattle.compaction.specs.Compact.{compact, compact_block};
 ghost use Rattle.compaction.specs.Says.{says_compacted, says_block};
@@ -18,7 +20,7 @@ use settings::{Asked, Bad, Store};
 
 // A trace between two blocks: the record that waits for the next one, if one does, and the state
 // before it. At first none waits.
-#[derive(Drop)]
+#[derive(Clone, Copy)]
 pub struct Waiting {
     pub ride: Ride,
     pub bytes: [u8; 8],
@@ -27,7 +29,7 @@ pub struct Waiting {
 
 // How many bytes are kept; or why nothing is done: for the settings (their number) or the trace's
 // length (16).
-#[derive(Drop)]
+#[derive(Clone, Copy)]
 pub enum Size {
     Bytes(usize),
     Settings(Bad),
@@ -35,14 +37,14 @@ pub enum Size {
 }
 
 // What compacting answers: the state after the trace, and its new length.
-#[derive(Drop)]
+#[derive(Clone, Copy)]
 pub struct Compacted {
     pub ride: Ride,
     pub size: Size,
 }
 
 // What a block answers: what waits after it, and how many bytes at its start are kept.
-#[derive(Drop)]
+#[derive(Clone, Copy)]
 pub struct Block {
     pub waiting: Waiting,
     pub size: Size,

@@ -13,7 +13,7 @@ use settings::{Held, Store};
 
 // What a block comes to: what waits then, with the gap that it is treated with, and how many bytes
 // of the block are settled as kept.
-#[derive(Drop)]
+#[derive(Clone, Copy)]
 pub struct Walked {
     pub waiting: Waiting,
     pub gap: u32,

@@ -3,3 +3,4 @@
 // Promises: nothing of its own; specs/ has the definitions and what is claimed, proofs/ shows that
 // the claims hold.
 // Specification: specs/Trace.antt (a whole trace), specs/Blocks.antt (a trace in blocks).
+#![tactic(auto)]

@@ -14,7 +14,7 @@ pub fn number(k: usize, most: u64) -> Figure {
 
 // An argument as a number, where the largest asked for stands for all above it; or none, which was
 // said.
-#[derive(Drop)]
+#[derive(Clone, Copy)]
 pub enum FigureAsked {
     Is(u64),
     Said,
@@ -33,7 +33,7 @@ pub fn figure(program: &[u8], name: &[u8], k: usize, most: u64) -> FigureAsked {
 }
 
 // An argument as a number in a range; one out of it; or none, which was said.
-#[derive(Drop)]
+#[derive(Clone, Copy)]
 pub enum NumberAsked {
     Is(u32),
     Usage,
@@ -84,7 +84,7 @@ fn sync_word(program: &[u8], name: &[u8], k: usize) -> Byte {
 }
 
 // Two arguments as sync words; or that one is none, which was said.
-#[derive(Drop)]
+#[derive(Clone, Copy)]
 pub enum PairAsked {
     Is(u8, u8),
     Said,

@@ -19,7 +19,7 @@ use settings_text::{Condition, no_store};
 const GAP: u32 = 40;
 
 // How asking for the settings went.
-#[derive(Drop)]
+#[derive(Clone, Copy)]
 pub enum OptionsWent {
     Plain,
     Settings,
@@ -28,7 +28,7 @@ pub enum OptionsWent {
 }
 
 // What the arguments ask for: the settings, the first argument after them, and how it went.
-#[derive(Drop)]
+#[derive(Clone, Copy)]
 pub struct AskedFor {
     pub store: Store,
     pub first: usize,

@@ -8,7 +8,7 @@ use crate::reading::fill;
 
 // Where a pass over the cards stands: the first card's argument, how many cards were begun, the
 // latest one's argument, its file with the bytes left of it (below 0: none), and how far it is.
-#[derive(Drop)]
+#[derive(Clone, Copy)]
 pub struct Pass {
     first: usize,
     begun: usize,
@@ -20,7 +20,7 @@ pub struct Pass {
 
 // How a pass goes on: more may come; all cards were read; the card of this argument cannot be
 // opened any more, or a read of it failed; or the lent block has no room for a record.
-#[derive(Drop)]
+#[derive(Clone, Copy)]
 pub enum Goes {
     More,
     End,
@@ -31,7 +31,7 @@ pub enum Goes {
 
 // What a block leaves: the pass, how many bytes of whole records stand at the start of the block,
 // and how it goes on.
-#[derive(Drop)]
+#[derive(Clone, Copy)]
 pub struct CardBlock {
     pub pass: Pass,
     pub read: usize,

@@ -10,7 +10,7 @@ use libc::SEEK_SET;
 // What going over the cards finds: cards of whole records; no card; more of them than lengths are
 // kept; or the number of the argument whose card cannot be opened, cannot be read, has a length
 // that is no multiple of 8, or cannot be gone over a second time.
-#[derive(Drop)]
+#[derive(Clone, Copy)]
 pub enum CardsFound {
     Cards,
     NoCard,
@@ -23,7 +23,7 @@ pub enum CardsFound {
 
 // One card: how many bytes it has, whether it could be opened, whether it could be read, and
 // whether it can be gone over again; and how far the work is.
-#[derive(Drop)]
+#[derive(Clone, Copy)]
 struct Card {
     bytes: u64,
     is_open: bool,
@@ -33,7 +33,7 @@ struct Card {
 }
 
 // What going over comes to, and how far the work is then.
-#[derive(Drop)]
+#[derive(Clone, Copy)]
 struct Gone {
     found: CardsFound,
     far: Far,

@@ -43,6 +43,8 @@
 // records; where the cards begin, and that what is ridden under is good (specs/Asked.antt). The
 // words of a refusal are `refusals`', figures `figures`', settings `settings_text`'s. What is read
 // or written stands outside contracts: docs/EXCEPTIONS.md.
+#![tactic(auto)]
+
 mod arguments;
 mod before;
 mod blocks;

@@ -9,7 +9,7 @@ use libc::{STDERR_FILENO, STDOUT_FILENO};
 
 // Whether the work has begun; the second that it is and how many came since, from the third of
 // which on it is said how far it is; how many bytes were gone over; and whether anybody is told.
-#[derive(Drop)]
+#[derive(Clone, Copy)]
 pub struct Far {
     on: bool,
     last: i64,

@@ -4,14 +4,14 @@ ghost use Rattle.std.specs.Prelude.{◌≤◌, length};
 use crate::progress::{Far, go_on_somehow};
 
 // How many bytes were read, and whether a read failed then.
-#[derive(Drop)]
+#[derive(Clone, Copy)]
 pub struct Filled {
     pub count: usize,
     pub failed: bool,
 }
 
 // How many bytes a file has, none where a read failed; and how far the work is.
-#[derive(Drop)]
+#[derive(Clone, Copy)]
 pub struct Length {
     pub bytes: u64,
     pub failed: bool,

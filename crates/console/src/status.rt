@@ -8,7 +8,7 @@ const LAUNCHER: i32 = 9;
 // came to nothing, and that was said; or nothing was said, and a card cannot be opened or read, a
 // write failed, the arguments are wrong, there are too many cards, or a card cannot be gone over
 // twice.
-#[derive(Drop)]
+#[derive(Clone, Copy)]
 pub enum CallEnded {
     Refused,
     Said,

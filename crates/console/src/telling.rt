@@ -43,7 +43,7 @@ pub fn say_found(program: &[u8], found: CardsFound) {
 
 // What going over the cards comes to for a program: they can be read; one has a bad length; none is
 // named; or it was said what is wrong with them.
-#[derive(Drop)]
+#[derive(Clone, Copy)]
 pub enum Cards {
     Whole,
     BadLength,

@@ -8,7 +8,7 @@ ghost use Rattle.contact.specs.History.{zeroes_of};
 
 // A count: its three digits, lowest first, while it is below eight, and whether it is eight or
 // more.
-#[derive(Drop)]
+#[derive(Clone, Copy)]
 struct Count {
     a: u64,
     b: u64,

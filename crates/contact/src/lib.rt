@@ -6,6 +6,8 @@
 // specs/Judge.antt, specs/Under.antt (under a store of settings), specs/Says.antt (the answers).
 // Laws: calling next_contact on and on gives exactly the contacts of one definition over the whole
 // stretch (proofs/Law.antt).
+#![tactic(auto)]
+
 ghost use Rattle.std.specs.Prelude.{◌≡◌};
 ghost use Rattle.contact.specs.Contacts.{begin, next_contact};
 ghost use Rattle.contact.specs.Judge.{judge};
@@ -22,7 +24,7 @@ use telegram::{Reach, Surveyed, Telegram};
 
 // A search for contacts: the next bit, the bits left, and the latest sixteen bits, of which the
 // newest is the lowest.
-#[derive(Drop)]
+#[derive(Clone, Copy)]
 pub struct Search {
     pub next: usize,
     pub left: usize,
@@ -30,7 +32,7 @@ pub struct Search {
 }
 
 // What beginning a search answers.
-#[derive(Drop)]
+#[derive(Clone, Copy)]
 pub enum SearchBegun {
     Search(Search),
     Beyond,
@@ -38,7 +40,7 @@ pub enum SearchBegun {
 
 // What asking for the next contact answers: a contact, with the search after its closing bit; that
 // no further one opens; a contact cut by the end of the record; or a stretch beyond the buffer.
-#[derive(Drop)]
+#[derive(Clone, Copy)]
 pub enum Next {
     Contact {
         start: usize,
@@ -52,7 +54,7 @@ pub enum Next {
 
 // What judging a contact answers: what was read, with the first place and the number of places; a
 // marker; or why neither.
-#[derive(Drop)]
+#[derive(Clone, Copy)]
 pub enum Judged {
     Read {
         telegram: Telegram,
@@ -68,7 +70,7 @@ pub enum Judged {
 
 // What judging a contact under a store answers: what was read, with the first place and the number
 // of places; a marker; why the settings or the place are refused; or why it is neither.
-#[derive(Drop)]
+#[derive(Clone, Copy)]
 pub enum JudgedUnder {
     Read {
         telegram: Telegram,

@@ -4,6 +4,8 @@
 // or not at all; bytes around it stay.
 // Specification: specs/Strips.antt (what is drawn), specs/Laws.antt (a box at each place, on a
 // strip, whole; nothing is left out); pieces in a buffer are `text`'s specs/Pieces.antt.
+#![tactic(auto)]
+
 ghost use Rattle.std.specs.Prelude.{◌≡◌};
 ghost use Rattle.text.specs.Put.{came};
 ghost use Rattle.text.specs.Pieces.{puts};

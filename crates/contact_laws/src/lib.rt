@@ -4,3 +4,4 @@
 // the claims hold.
 // Specification: specs/Heard.antt (one balise), specs/Marker.antt, specs/Row.antt (one after the
 // other), specs/Limits.antt (less does not do).
+#![tactic(auto)]

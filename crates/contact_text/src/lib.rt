@@ -1,6 +1,8 @@
 // What was heard on a recorded line, as lines of text.
 // Promises: a line is written to the letter and whole, or not at all; bytes around it stay.
 // Specification: specs/Lines.antt (the words); a text in a buffer is `text`'s specs/Put.antt.
+#![tactic(auto)]
+
 ghost use Rattle.std.specs.Prelude.{◌≡◌};
 ghost use Rattle.text.specs.Put.{put, came};
 ghost use Rattle.contact_text.specs.Lines.{heard};

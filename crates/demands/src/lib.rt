@@ -6,3 +6,4 @@
 // when), Demand2.antt, Demand3.antt, SyncNoise.antt; beside them Stores, Settings, Sections,
 // PlainGap, Viewing, Compacting, OddOrEven and Reasons; the contracts they speak of: Contracts,
 // Calls.
+#![tactic(auto)]

@@ -5,6 +5,8 @@
 // block by block; the listing is that of ride_text, the verdict that of acceptance_text.
 // Specification: none of its own; what cannot be said of a program's reads and writes stands in
 // docs/EXCEPTIONS.md.
+#![tactic(auto)]
+
 mod page;
 mod strips;
 mod whole;

@@ -7,7 +7,7 @@ use ride_text::Done;
 use settings::Store;
 
 // Where the drawing stands, and whether all reads and writes so far succeeded.
-#[derive(Drop)]
+#[derive(Clone, Copy)]
 struct DrawnSoFar {
     drawing: Drawing,
     is_good: bool,

@@ -7,6 +7,8 @@
 // specs/Hearing.antt (the records that have room), specs/Inside.antt (the one loop for both),
 // specs/Sizes.antt (how large the figures can be); what is promised of pieces and rooms:
 // specs/Laws.antt.
+#![tactic(auto)]
+
 ghost use Rattle.std.specs.Prelude.{◌≡◌};
 ghost use Rattle.ear_bytes.specs.Ears.{ear_bytes, ear_in};
 ghost use Rattle.ear_bytes.specs.Hearing.{fresh, hear, end};
@@ -20,7 +22,7 @@ use recording::Tape;
 use settings::Store;
 
 // A hearing under way: the tape at the lead, and the bit of the next frame to go on from.
-#[derive(Drop)]
+#[derive(Clone, Copy)]
 pub struct Hearing {
     pub tape: Tape,
     pub bit: usize,
@@ -28,7 +30,7 @@ pub struct Hearing {
 
 // What a call wrote: the hearing then, how many frames of the piece are used, and how many bytes of
 // records stand in the buffer.
-#[derive(Drop)]
+#[derive(Clone, Copy)]
 pub struct Wrote {
     pub hearing: Hearing,
     pub frames: usize,

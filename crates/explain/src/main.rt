@@ -4,6 +4,8 @@
 // card by card.
 // Specification: none of its own; what cannot be said of a program's reads and writes stands in
 // docs/EXCEPTIONS.md.
+#![tactic(auto)]
+
 use ride_text::REASONS;
 
 fn main() {

@@ -3,6 +3,8 @@
 // Promises: every text is answered; an odd one or one that is too large is told apart, and nothing
 // is wrapped round; a field that a text has not is empty.
 // Specification: specs/Figures.antt, specs/Fields.antt.
+#![tactic(auto)]
+
 ghost use Rattle.std.specs.Prelude.{◌≡◌};
 ghost use Rattle.figures.specs.Figures.{decimal, hex};
 
@@ -12,7 +14,7 @@ mod fields;
 pub use fields::{field, has, more, place_of};
 
 // What a text is as a decimal number: a number, one above the largest asked for, or none.
-#[derive(Drop)]
+#[derive(Clone, Copy)]
 pub enum Figure {
     Number(u64),
     Above,
@@ -20,7 +22,7 @@ pub enum Figure {
 }
 
 // What a text is as a word of two hex digits: a byte, or none.
-#[derive(Drop)]
+#[derive(Clone, Copy)]
 pub enum Byte {
     Is(u8),
     Odd,

@@ -11,7 +11,7 @@ use crate::{Content, Measured, parts};
 use group_rows::{Kind, Placed};
 
 // What a present group says beyond its kind, or that its distance is not allowed.
-#[derive(Drop)]
+#[derive(Clone, Copy)]
 pub enum Contained {
     NoDistance,
     Is(Content),

@@ -4,6 +4,8 @@
 // Specification: specs/Rows.antt of group_rows (the rows), specs/Judge.antt (the judgement),
 // specs/Distance.antt, specs/Speed.antt, specs/Says.antt. 14 is not used: no group fits a row of
 // each direction (specs/OneWay.antt of `group_rows`).
+#![tactic(auto)]
+
 ghost use Rattle.std.specs.Prelude.{◌≡◌};
 ghost use Rattle.group.specs.Distance.{distance};
 ghost use Rattle.group.specs.Speed.{signal_speed};
@@ -20,7 +22,7 @@ mod tables;
 use group_rows::{Direction, Kind};
 
 // What was heard at a balise: three received words, a marker, or nothing readable.
-#[derive(Drop)]
+#[derive(Clone, Copy)]
 pub enum Heard {
     Words(u8, u8, u8),
     Marker,
@@ -28,7 +30,7 @@ pub enum Heard {
 }
 
 // A balise as received: its place in dm, and what was heard there.
-#[derive(Drop)]
+#[derive(Clone, Copy)]
 pub struct Balise {
     pub place: u32,
     pub heard: Heard,
@@ -36,7 +38,7 @@ pub struct Balise {
 
 // A group: its first five balises, how many there were (255 stands for 255 or more), and the last
 // one's place.
-#[derive(Drop)]
+#[derive(Clone, Copy)]
 pub struct Group {
     pub kept: [Balise; 5],
     pub count: u8,
@@ -44,21 +46,21 @@ pub struct Group {
 }
 
 // What a figure tells of a speed.
-#[derive(Drop)]
+#[derive(Clone, Copy)]
 pub enum Told {
     Unknown,
     Kmh(u16),
 }
 
 // The figure of a group's number balise (12), or none.
-#[derive(Drop)]
+#[derive(Clone, Copy)]
 pub enum Number {
     None,
     Figure(u16),
 }
 
 // What looking up a distance answers: decimetres, or refusal 15.
-#[derive(Drop)]
+#[derive(Clone, Copy)]
 pub enum Measured {
     Dm(u32),
     NoDistance,
@@ -66,7 +68,7 @@ pub enum Measured {
 
 // What a group says beyond its kind. The distance of a preset point is table DF's figure (BY 14):
 // it announces no signal, and a ride links nothing by it.
-#[derive(Drop)]
+#[derive(Clone, Copy)]
 pub enum Content {
     Signal {
         distance: u32,
@@ -82,7 +84,7 @@ pub enum Content {
 }
 
 // The message of an accepted group; place is that of its A balise.
-#[derive(Drop)]
+#[derive(Clone, Copy)]
 pub struct Message {
     pub direction: Direction,
     pub kind: Kind,
@@ -95,7 +97,7 @@ pub struct Message {
 
 // What judging a group answers: its message, or the refusals 10, 11, 12, 13 and 15 in this order.
 // 14 is not used.
-#[derive(Drop)]
+#[derive(Clone, Copy)]
 pub enum GroupJudged {
     Accepted(Message),
     One,

@@ -6,7 +6,7 @@ ghost use Rattle.group.specs.Inside.{says_sought};
 use group_rows::{Part, Placed};
 
 // A balise that is looked for.
-#[derive(Drop)]
+#[derive(Clone, Copy)]
 pub enum Sought {
     Missing,
     Is(Placed),

@@ -10,14 +10,14 @@ use group_rows::{Part, Placed};
 use telegram::{Telegram, TelegramRead};
 
 // What reading a balise answers: it as read, or refusal 12.
-#[derive(Drop)]
+#[derive(Clone, Copy)]
 pub enum PartRead {
     Is(Part),
     Refused,
 }
 
 // What reading the balises of a group answers: the balises, their number and good, or refusal 12.
-#[derive(Drop)]
+#[derive(Clone, Copy)]
 pub struct AllRead {
     pub parts: [Placed; 5],
     pub number: Number,

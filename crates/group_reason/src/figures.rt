@@ -11,7 +11,7 @@ use group_rows::{Kind, Part, Placed};
 
 // A balise that was looked for: whether it is there, and then its index from 0, its place and its
 // figures.
-#[derive(Drop)]
+#[derive(Clone, Copy)]
 pub struct Sought {
     pub is: bool,
     pub balise: u8,

@@ -4,6 +4,8 @@
 // Specification: specs/Explain.antt (the reasons), specs/Opening.antt (the opening run),
 // specs/Says.antt (the answers); what they name is true: specs/Truths.antt. Its text:
 // specs/Text.antt; a text in a buffer is `text`'s specs/Put.antt.
+#![tactic(auto)]
+
 ghost use Rattle.std.specs.Prelude.{◌≡◌};
 ghost use Rattle.text.specs.Put.{put, came};
 ghost use Rattle.group_reason.specs.Explain.{explain};
@@ -21,7 +23,7 @@ use words::Parity;
 
 // What is bad about a balise: it was unreadable, or a word of it is no code word (1), with the
 // parity of its ones, or reads 15 (3).
-#[derive(Drop)]
+#[derive(Clone, Copy)]
 pub enum BadBalise {
     Unreadable,
     NotCode(Word, Parity),
@@ -32,7 +34,7 @@ pub enum BadBalise {
 // for 255 or more); for 12 the first bad balise, from 0, with its place and what is bad; for 13 how
 // many of how many balises open a permitted group; for 15 the balise whose figure breaks the rule,
 // with its place.
-#[derive(Drop)]
+#[derive(Clone, Copy)]
 pub enum Reason {
     None,
     One(u8),

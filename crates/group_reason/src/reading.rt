@@ -10,7 +10,7 @@ use group_rows::{Part, Placed};
 use telegram::{Telegram, TelegramRead};
 
 // What reading a balise answers: it as read, or what is bad about it.
-#[derive(Drop)]
+#[derive(Clone, Copy)]
 pub enum PartRead {
     Is(Part),
     Refused(BadBalise),
@@ -18,7 +18,7 @@ pub enum PartRead {
 
 // What reading the balises of a group answers: the balises and good, or the first bad one, its
 // place and what is bad.
-#[derive(Drop)]
+#[derive(Clone, Copy)]
 pub struct AllRead {
     pub good: bool,
     pub parts: [Placed; 5],

@@ -6,6 +6,8 @@
 // specs/Fitting.antt, specs/Opening.antt.
 // Laws: no group fits a row of each direction, for the first balise that is no 12 tells it
 // (specs/OneWay.antt); at most one row of a direction fits (proofs/Unique.antt).
+#![tactic(auto)]
+
 ghost use Rattle.std.specs.Prelude.{◌≡◌, ltb, ◌++◌, take, drop};
 ghost use Rattle.words.specs.Answer.{pick};
 ghost use Rattle.group_rows.specs.Row.{is_category};
@@ -19,7 +21,7 @@ mod stands;
 mod tails;
 
 // A balise as read: the figures of X, Y and Z, the number of a number balise (12), or a marker.
-#[derive(Drop)]
+#[derive(Clone, Copy)]
 pub enum Part {
     Figures(u8, u8, u8),
     Number(u16),
@@ -27,14 +29,14 @@ pub enum Part {
 }
 
 // A balise as read, with its place.
-#[derive(Drop)]
+#[derive(Clone, Copy)]
 pub struct Placed {
     pub place: u32,
     pub part: Part,
 }
 
 // The kinds of groups.
-#[derive(Drop)]
+#[derive(Clone, Copy)]
 pub enum Kind {
     Signal,
     Warning,
@@ -44,7 +46,7 @@ pub enum Kind {
 }
 
 // The direction of a group.
-#[derive(Drop)]
+#[derive(Clone, Copy)]
 pub enum Direction {
     Present,
     Opposite,
@@ -52,7 +54,7 @@ pub enum Direction {
 
 // What a row says of the balises that fit it: direction and kind, the speed of a route board (0 for
 // any other), and the balise that the row calls A.
-#[derive(Drop)]
+#[derive(Clone, Copy)]
 pub struct Picked {
     pub direction: Direction,
     pub kind: Kind,
@@ -61,7 +63,7 @@ pub struct Picked {
 }
 
 // What fitting balises to the rows answers: what the row says, or refusal 13.
-#[derive(Drop)]
+#[derive(Clone, Copy)]
 pub enum Fitted {
     Is(Picked),
     NoRow,

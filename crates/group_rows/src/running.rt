@@ -34,7 +34,7 @@ pub fn end_at(at: Walk) -> Fitted
 }
 
 // How far the balises lead: the first count of them open a group, and the walk then stands at at.
-#[derive(Drop)]
+#[derive(Clone, Copy)]
 pub struct Run {
     pub at: Walk,
     pub count: usize,

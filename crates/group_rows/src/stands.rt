@@ -2,7 +2,7 @@
 use crate::Picked;
 
 // Before A: what has passed. Back: only rows of the opposite direction are open.
-#[derive(Drop)]
+#[derive(Clone, Copy)]
 pub enum Before {
     Nothing,
     Number,
@@ -15,7 +15,7 @@ pub enum Before {
 }
 
 // After A: what must come next.
-#[derive(Drop)]
+#[derive(Clone, Copy)]
 pub enum Must {
     Nine,
     LowNine,
@@ -25,7 +25,7 @@ pub enum Must {
 }
 
 // After A: what may come next. The group may end here.
-#[derive(Drop)]
+#[derive(Clone, Copy)]
 pub enum May {
     Fourteen,
     Eight,
@@ -34,21 +34,21 @@ pub enum May {
 }
 
 // What comes after A.
-#[derive(Drop)]
+#[derive(Clone, Copy)]
 pub enum Tail {
     Must(Must),
     May(May),
 }
 
 // A stand: before A, or after it, with what its row says.
-#[derive(Drop)]
+#[derive(Clone, Copy)]
 pub enum Walk {
     Before(Before),
     After(Tail, Picked),
 }
 
 // What one balise more answers: no row is open any more, or where the walk stands.
-#[derive(Drop)]
+#[derive(Clone, Copy)]
 pub enum Step {
     Shut,
     To(Walk),

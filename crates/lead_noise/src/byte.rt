@@ -5,7 +5,7 @@ ghost use Rattle.lead_noise.specs.Generator.{next, drawn};
 ghost use Rattle.lead_noise.specs.Noise.{noisy_bit, noisy_byte};
 
 // A byte with noise, and the generator's number after it.
-#[derive(Drop)]
+#[derive(Clone, Copy)]
 pub struct Noisy {
     pub byte: u8,
     pub x: u32,

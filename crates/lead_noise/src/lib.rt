@@ -4,6 +4,8 @@
 // bytes after the last whole frame.
 // Specification: specs/Generator.antt (which bits flip), specs/Noise.antt (the lead with noise),
 // specs/Laws.antt (what is promised).
+#![tactic(auto)]
+
 ghost use Rattle.std.specs.Prelude.{◌≡◌};
 ghost use Rattle.lead_noise.specs.Noise.{with_noise};
 

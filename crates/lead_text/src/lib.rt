@@ -6,6 +6,8 @@
 // Specification: specs/Places.antt (where a reading stands), List.antt (the listing), Says.antt
 // (the answers), Inside.antt (the next record, one record listed); what is promised of all calls
 // together: crates/lead_text_laws/specs.
+#![tactic(auto)]
+
 ghost use Rattle.std.specs.Prelude.{◌≡◌};
 ghost use Rattle.lead_text.specs.List.{fresh, list_frames, list_end};
 ghost use Rattle.lead_text.specs.Says.{says_written};
@@ -20,7 +22,7 @@ use settings::{Asked, Bad, Store};
 
 // A ride under way: the tape at the lead, the ride over the records that came, the number of the
 // next one, and the frame of the lent piece and the bit of its line to go on from.
-#[derive(Drop)]
+#[derive(Clone, Copy)]
 pub struct Underway {
     pub tape: Tape,
     pub ride: Ride,
@@ -31,7 +33,7 @@ pub struct Underway {
 
 // How far a call came, and how many bytes it wrote: all that was lent is used; the room is used,
 // and the same is lent again; or the settings are refused.
-#[derive(Drop)]
+#[derive(Clone, Copy)]
 pub enum HowFar {
     Over(usize),
     Full(usize),
@@ -39,7 +41,7 @@ pub enum HowFar {
 }
 
 // What a call answers: the ride then, and how far it came.
-#[derive(Drop)]
+#[derive(Clone, Copy)]
 pub struct Written {
     pub underway: Underway,
     pub how: HowFar,

@@ -12,7 +12,7 @@ use settings::Store;
 
 // What listing a record answers: whether it was taken; the ride, the next record's number and the
 // next place then.
-#[derive(Drop)]
+#[derive(Clone, Copy)]
 pub struct One {
     pub taken: bool,
     pub ride: Ride,

@@ -4,3 +4,4 @@
 // Specification: specs/Calls.antt (what the contracts allow), specs/Live.antt (the lines of `live`
 // are those of `explain` over what `record` writes), specs/Explain.antt (call for call, over the
 // trace's bytes), specs/Demand1.antt (which settings are refused, and what that leaves).
+#![tactic(auto)]

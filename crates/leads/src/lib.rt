@@ -14,6 +14,8 @@
 //    of standard error for what failed, which is told.
 // Promises: all is safe and ends; what is read lies within what was lent, and a piece is whole
 // frames. What is read or written stands outside contracts: docs/EXCEPTIONS.md.
+#![tactic(auto)]
+
 mod before;
 mod carrying;
 mod pieces;

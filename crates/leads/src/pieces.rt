@@ -8,7 +8,7 @@ use libc::STDIN_FILENO;
 // Where the reading of the leads stands: the argument of the first, how many were begun, the open
 // file (below 0: none), the bytes of a frame that is not whole yet: where they stand in the block,
 // and how many they are; and how far it is.
-#[derive(Drop)]
+#[derive(Clone, Copy)]
 pub struct Leads {
     first: usize,
     begun: usize,
@@ -20,7 +20,7 @@ pub struct Leads {
 
 // How the reading goes on: more may come; all leads were read; the lead of this argument cannot be
 // opened, or a read of it failed; or the lent block has no room for a frame.
-#[derive(Drop)]
+#[derive(Clone, Copy)]
 pub enum ReadingGoes {
     More,
     End,
@@ -31,7 +31,7 @@ pub enum ReadingGoes {
 
 // What a call leaves: the reading, how many bytes of whole frames stand at the start of the block,
 // and how it goes on.
-#[derive(Drop)]
+#[derive(Clone, Copy)]
 pub struct Piece {
     pub leads: Leads,
     pub length: usize,

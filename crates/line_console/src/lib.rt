@@ -6,6 +6,8 @@
 // Specification: none of its own; what the pieces come to is crates/antenna_text_laws, that strips
 // have room is crates/contact_drawing/specs/Laws.antt, what cannot be said of a program's reads and
 // writes stands in docs/EXCEPTIONS.md.
+#![tactic(auto)]
+
 mod out;
 mod pieces;
 

@@ -9,7 +9,7 @@ use libc::STDOUT_FILENO;
 const ENOUGH: usize = 32768;
 
 // What is asked for: strips or lines, with this sync pair.
-#[derive(Drop)]
+#[derive(Clone, Copy)]
 pub struct Wanted {
     pub draws: bool,
     pub s: u8,
@@ -17,7 +17,7 @@ pub struct Wanted {
 }
 
 // How many bytes of text stand in the buffer, and whether all writes so far succeeded.
-#[derive(Drop)]
+#[derive(Clone, Copy)]
 pub struct Out {
     pub length: usize,
     pub is_good: bool,

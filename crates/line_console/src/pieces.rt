@@ -9,7 +9,7 @@ use console::{Far, go_on_somehow, not_begun, wipe};
 // Where the going over stands: the ear, how many bits were heard before, in which bit of the bytes
 // kept the latest contact begins, how many bytes are kept, how far all that is, and whether all
 // writes so far succeeded.
-#[derive(Drop)]
+#[derive(Clone, Copy)]
 struct SoFar {
     ear: Ear,
     bits: u64,
@@ -153,7 +153,7 @@ fn fresh() -> SoFar {
 }
 
 // What the open file gives went well, or a read or a write failed.
-#[derive(Drop)]
+#[derive(Clone, Copy)]
 pub enum Went {
     Well,
     Unread,

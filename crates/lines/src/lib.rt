@@ -6,6 +6,8 @@
 // are.
 // Specification: specs/Text.antt (lines and words), specs/Words.antt (what a word is, what is kept
 // of a line), specs/Reading.antt (character by character); laws: the crate lines_laws.
+#![tactic(auto)]
+
 ghost use Rattle.std.specs.Prelude.{◌≡◌};
 ghost use Rattle.lines.specs.Text.{beginning};
 ghost use Rattle.lines.specs.Reading.{fresh, next_line};
@@ -18,7 +20,7 @@ use keeping::closed;
 use spelling::{letter_on, no_letters};
 
 // What a word is as a decimal number: none, a number, or one above 4,294,967,295.
-#[derive(Drop)]
+#[derive(Clone, Copy)]
 pub enum Number {
     Odd,
     Is(u32),
@@ -26,7 +28,7 @@ pub enum Number {
 }
 
 // What a word is as a name: another word, or one of those that a text has.
-#[derive(Drop)]
+#[derive(Clone, Copy)]
 pub enum Name {
     Other,
     Marker,
@@ -41,7 +43,7 @@ pub enum Name {
 }
 
 // What a word is: as a number, as two hex digits, as a name.
-#[derive(Drop)]
+#[derive(Clone, Copy)]
 pub struct Word {
     pub number: Number,
     pub byte: Byte,
@@ -49,7 +51,7 @@ pub struct Word {
 }
 
 // What is kept of a line: how many words it has, 7 for all above 6, and the first six of them.
-#[derive(Drop)]
+#[derive(Clone, Copy)]
 pub struct TextLine {
     pub words: [Word; 6],
     pub count: usize,
@@ -57,7 +59,7 @@ pub struct TextLine {
 
 // A word so far: as a number, its first two characters, how many it has (3 for all above 2), and
 // its letters as one number.
-#[derive(Drop)]
+#[derive(Clone, Copy)]
 pub struct Letters {
     pub number: Number,
     pub first: u8,
@@ -67,7 +69,7 @@ pub struct Letters {
 }
 
 // A line so far: its words, the word that is being read, and whether its comment has begun.
-#[derive(Drop)]
+#[derive(Clone, Copy)]
 pub struct Reader {
     pub line: TextLine,
     pub word: Letters,
@@ -76,7 +78,7 @@ pub struct Reader {
 
 // What a block gives of a line: the line as far as it goes, whether it ends there, where the next
 // one begins, and where reading goes on from.
-#[derive(Drop)]
+#[derive(Clone, Copy)]
 pub struct Got {
     pub line: TextLine,
     pub ends: bool,

@@ -4,6 +4,8 @@
 // antenna_text and contact_text, piece by piece, by line_console.
 // Specification: none of its own; what the pieces come to is crates/antenna_text_laws, what cannot
 // be said of a program's reads and writes stands in docs/EXCEPTIONS.md.
+#![tactic(auto)]
+
 use console::{PairAsked, is_input};
 use libc::STDIN_FILENO;
 use telegram::Pair;

@@ -4,6 +4,8 @@
 // those of the ride's end ride_text's.
 // Specification: none of its own; what the pieces come to is crates/lead_text/specs/Live.antt, what
 // cannot be said of a program's reads and writes stands in docs/EXCEPTIONS.md.
+#![tactic(auto)]
+
 mod riding;
 
 use console::OptionsWent;

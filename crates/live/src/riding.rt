@@ -7,7 +7,7 @@ use ride_text::REASONS;
 use settings::Store;
 
 // Where the program stands: the ride under way, and whether all so far went well.
-#[derive(Drop)]
+#[derive(Clone, Copy)]
 struct RiddenSoFar {
     underway: Underway,
     is_good: bool,

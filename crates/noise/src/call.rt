@@ -3,7 +3,7 @@ use console::{NumberAsked, number_in};
 
 // A seed, 1 to 2,147,483,646, and how many bits in a million flip; that the arguments are no call;
 // or that one of them is no number, which was said.
-#[derive(Drop)]
+#[derive(Clone, Copy)]
 pub enum NoiseAsked {
     For { seed: u32, chance: u32 },
     Usage,

@@ -4,6 +4,8 @@
 // those after the last whole frame as they came.
 // Specification: none of its own; that the pieces join is crates/lead_noise/specs/Laws.antt, what
 // cannot be said of a program's reads and writes stands in docs/EXCEPTIONS.md.
+#![tactic(auto)]
+
 mod call;
 mod pieces;
 

@@ -5,7 +5,7 @@ use leads::{Leads, ReadingGoes};
 use libc::STDOUT_FILENO;
 
 // The generator's number, and whether the write before succeeded.
-#[derive(Drop)]
+#[derive(Clone, Copy)]
 struct Sent {
     x: u32,
     is_good: bool,

@@ -4,3 +4,4 @@
 // the claims hold.
 // Specification: specs/Pass.antt (a pass with flips), specs/Reading.antt (no false reading),
 // specs/Marker.antt, specs/Limits.antt with specs/Lines.antt (one flip more).
+#![tactic(auto)]

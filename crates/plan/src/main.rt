@@ -2,6 +2,8 @@
 // Promises: it is safe and it ends; what a line says and its entry are those of plan_text.
 // Specification: none of its own; what cannot be said of a program's reads and writes stands in
 // docs/EXCEPTIONS.md.
+#![tactic(auto)]
+
 use typed::Form;
 
 fn main() {

@@ -2,6 +2,8 @@
 // or `route`.
 // Promises: every line is answered: an entry, nothing, or unreadable; an entry is its eight bytes.
 // Specification: specs/Entry.antt.
+#![tactic(auto)]
+
 ghost use Rattle.std.specs.Prelude.{◌≡◌};
 ghost use Rattle.trace_text.specs.Record.{bytes_of};
 ghost use Rattle.plan_text.specs.Entry.{kind_of, entered, at_place, entry};
@@ -11,14 +13,14 @@ use lines::{Name, Number, TextLine};
 use trace_text::What;
 
 // The kind of an entry, 0 to 4, or none.
-#[derive(Drop)]
+#[derive(Clone, Copy)]
 enum KindNumber {
     Is(u8),
     Odd,
 }
 
 // What a line says: nothing, an entry at a place in dm, or it is unreadable.
-#[derive(Drop)]
+#[derive(Clone, Copy)]
 pub enum Entry {
     Nothing,
     At { place: u32, kind: u8 },

@@ -6,6 +6,8 @@
 // Specification: none of its own; what the pieces come to is crates/recording/specs/Laws.antt and
 // crates/recording_text/specs/Laws.antt, what cannot be said of a program's reads and writes stands
 // in docs/EXCEPTIONS.md.
+#![tactic(auto)]
+
 mod out;
 mod pieces;
 

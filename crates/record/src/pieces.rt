@@ -9,7 +9,7 @@ use recording_text::{Frames, Records};
 use settings::Store;
 
 // Where the recording stands: the tape, what was counted, and whether all writes so far succeeded.
-#[derive(Drop)]
+#[derive(Clone, Copy)]
 struct RecordedSoFar {
     tape: Tape,
     frames: Frames,

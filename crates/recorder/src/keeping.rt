@@ -11,7 +11,7 @@ use contact::Judged;
 use telegram::{Spelt, Telegram};
 
 // Kind and words of a record, or why there are none.
-#[derive(Drop)]
+#[derive(Clone, Copy)]
 pub enum Kept {
     Is { kind: u8, x: u8, y: u8, z: u8 },
     TooLarge,

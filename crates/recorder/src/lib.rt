@@ -4,6 +4,8 @@
 // Specification: specs/Record.antt (the bytes and the refusals), specs/Says.antt (the answer).
 // Laws: the words of a reading are those received at its first place (`AsReceived` of
 // specs/Received.antt).
+#![tactic(auto)]
+
 ghost use Rattle.std.specs.Prelude.{◌≡◌};
 ghost use Rattle.recorder.specs.Record.{record_of_meant, recording};
 ghost use Rattle.recorder.specs.Says.{says_recorded};
@@ -14,7 +16,7 @@ use contact::Judged;
 use keeping::Kept;
 
 // How making a record went: made, or why not: 2, 3, 4, 5 or 18.
-#[derive(Drop)]
+#[derive(Clone, Copy)]
 pub enum Went {
     Made,
     TooLarge,
@@ -25,7 +27,7 @@ pub enum Went {
 }
 
 // What making a record answers: its eight bytes, all zero if it is not made, and how it went.
-#[derive(Drop)]
+#[derive(Clone, Copy)]
 pub struct Recorded {
     pub bytes: [u8; 8],
     pub went: Went,

@@ -7,6 +7,8 @@
 // specs/Recording.antt (the records of a lead), specs/Asking.antt (one record at a time),
 // specs/Says.antt (the answers); what is promised: specs/Laws.antt, Rising.antt, Contacts.antt,
 // Document.antt.
+#![tactic(auto)]
+
 ghost use Rattle.std.specs.Prelude.{◌≡◌};
 ghost use Rattle.recording.specs.Recording.{fresh};
 ghost use Rattle.recording.specs.Asking.{go_on, finish};
@@ -21,7 +23,7 @@ use antenna::{Ear, Stand};
 use settings::Store;
 
 // The last record's odometer, if there is a record.
-#[derive(Drop)]
+#[derive(Clone, Copy)]
 pub enum Last {
     Never,
     At(u32),
@@ -29,7 +31,7 @@ pub enum Last {
 
 // A tape: the ear at the line, the odometer in force, that of the frame in which the open contact
 // opened, and the last record's.
-#[derive(Drop)]
+#[derive(Clone, Copy)]
 pub struct Tape {
     pub ear: Ear,
     pub odometer: u32,
@@ -38,7 +40,7 @@ pub struct Tape {
 }
 
 // Whether a record came.
-#[derive(Drop)]
+#[derive(Clone, Copy)]
 pub enum Came {
     Record,
     Nothing,
@@ -46,7 +48,7 @@ pub enum Came {
 
 // What going on answers: the tape after it, the frame and the bit of its line to go on from, and
 // the record, if one came; if none did, all frames are used and the eight bytes are zero.
-#[derive(Drop)]
+#[derive(Clone, Copy)]
 pub struct Taken {
     pub tape: Tape,
     pub frame: usize,
@@ -57,7 +59,7 @@ pub struct Taken {
 
 // What the end answers: the tape after it, and the record, if one came; if none did, there is no
 // further one.
-#[derive(Drop)]
+#[derive(Clone, Copy)]
 pub struct Ended {
     pub tape: Tape,
     pub came: Came,

@@ -4,3 +4,4 @@
 // Specification: specs/Calls.antt (what the contracts allow), specs/Hearing.antt (a line in
 // pieces), specs/Recorded.antt (a lead and its records), specs/Says.antt (a record says the balise
 // judged), specs/Row.antt (balises passed clean), specs/Demand1.antt (refusal 5).
+#![tactic(auto)]

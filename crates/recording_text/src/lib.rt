@@ -4,6 +4,8 @@
 // are written to the letter and whole, or not at all.
 // Specification: specs/Counts.antt (what is counted), specs/Lines.antt (the words), specs/Laws.antt
 // (what is promised); a text in a buffer is `text`'s specs/Put.antt.
+#![tactic(auto)]
+
 ghost use Rattle.std.specs.Prelude.{◌≡◌};
 ghost use Rattle.text.specs.Put.{put, came};
 ghost use Rattle.recording_text.specs.Counts.{no_frames, count_frames, no_records, count_record};
@@ -14,7 +16,7 @@ mod lines;
 
 // The first frame whose odometer was refused: none yet, or its number, counted from 1, with 17 or
 // 18.
-#[derive(Drop)]
+#[derive(Clone, Copy)]
 pub enum First {
     NotYet,
     Frame(u64, u8),
@@ -22,7 +24,7 @@ pub enum First {
 
 // Whole frames so far, those refused among them, the first of these, and the last accepted
 // odometer.
-#[derive(Drop)]
+#[derive(Clone, Copy)]
 pub struct Frames {
     pub frames: u64,
     pub refused: u64,
@@ -31,7 +33,7 @@ pub struct Frames {
 }
 
 // Records so far, the contacts among them, and what these were.
-#[derive(Drop)]
+#[derive(Clone, Copy)]
 pub struct Records {
     pub contacts: u64,
     pub read: u64,

@@ -13,14 +13,14 @@ pub fn room() -> [u8; 8192]
 }
 
 // How many records were written, and whether all writes so far succeeded.
-#[derive(Drop)]
+#[derive(Clone, Copy)]
 struct WrittenSoFar {
     count: u64,
     is_good: bool,
 }
 
 // How many bytes of lines stand in a buffer, and how many records they are of all.
-#[derive(Drop)]
+#[derive(Clone, Copy)]
 struct LinesPut {
     bytes: usize,
     count: u64,

@@ -3,6 +3,8 @@
 // Promises: it is safe and it ends; the lines are those of trace_text.
 // Specification: none of its own; the laws are those of the crates lines_laws and trace_text_laws,
 // what cannot be said of a program's reads and writes stands in docs/EXCEPTIONS.md.
+#![tactic(auto)]
+
 mod blocks;
 
 use console::Cards;

@@ -2,6 +2,8 @@
 // `refused 22: no state is kept to go back to`.
 // Promises: a refusal is written to the letter and whole, or not at all; bytes around it stay.
 // Specification: specs/Words.antt (the table); a text in a buffer is `text`'s specs/Put.antt.
+#![tactic(auto)]
+
 ghost use Rattle.std.specs.Prelude.{◌≡◌};
 ghost use Rattle.text.specs.Put.{put, came};
 ghost use Rattle.refusals.specs.Words.{refused};

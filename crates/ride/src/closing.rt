@@ -18,7 +18,7 @@ use group_rows::{Direction, Kind};
 
 // What closing leaves: its lines, the group that closed, the group that is there then, and what is
 // known then.
-#[derive(Drop)]
+#[derive(Clone, Copy)]
 pub struct Closed {
     pub lines: Lines,
     pub closed: Group,
@@ -29,7 +29,7 @@ pub struct Closed {
 // What judging a group says: the number of its refusal, or 0; what its line shows (of a refused
 // group its first place, and nothing else); and what is known then. Its line is made of it where it
 // is written, field by field.
-#[derive(Drop)]
+#[derive(Clone, Copy)]
 pub struct GroupVerdict {
     pub fault: u8,
     pub seen: Seen,

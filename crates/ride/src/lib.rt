@@ -4,6 +4,8 @@
 // Specification: specs/Record.antt, State.antt, Joining.antt, Linking.antt, Closing.antt,
 // Step.antt, At.antt (one record of a trace), Over.antt (a whole trace), Says.antt (the answers),
 // Inside.antt (an answer that no caller sees).
+#![tactic(auto)]
+
 ghost use Rattle.std.specs.Prelude.{◌≡◌};
 ghost use Rattle.ride.specs.State.{fresh_ride};
 ghost use Rattle.ride.specs.Step.{step, end};
@@ -30,14 +32,14 @@ use settings::{Asked, Bad, Store, allowed};
 pub use trace::{Given, Reply, Treated, odometer_at, treat_at};
 
 // Linking: not set, or set with a distance in dm from a place.
-#[derive(Drop)]
+#[derive(Clone, Copy)]
 pub enum Linking {
     Unset,
     Set { distance: u32, from: u32 },
 }
 
 // What is known on the way; number: the last present signal's, none after a refused group.
-#[derive(Drop)]
+#[derive(Clone, Copy)]
 pub struct Known {
     pub linking: Linking,
     pub main: Told,
@@ -46,7 +48,7 @@ pub struct Known {
 }
 
 // A ride's state: the last accepted odometer, the group (open above count 0), what is known.
-#[derive(Drop)]
+#[derive(Clone, Copy)]
 pub struct Ride {
     pub odometer: u32,
     pub group: Group,
@@ -54,14 +56,14 @@ pub struct Ride {
 }
 
 // What a record says beyond its odometer: a balise as heard, or a position only.
-#[derive(Drop)]
+#[derive(Clone, Copy)]
 pub enum Passed {
     Balise(Heard),
     Position,
 }
 
 // Why a record is refused: 16, 18 and 17 in this order.
-#[derive(Drop)]
+#[derive(Clone, Copy)]
 pub enum Wrong {
     Malformed,
     TooHigh,
@@ -69,14 +71,14 @@ pub enum Wrong {
 }
 
 // What checking a record answers: its odometer and what it says, or why it is refused.
-#[derive(Drop)]
+#[derive(Clone, Copy)]
 pub enum Checked {
     Accepted(u32, Passed),
     Refused(Wrong),
 }
 
 // The mark of a present signal; other groups have none.
-#[derive(Drop)]
+#[derive(Clone, Copy)]
 pub enum Mark {
     Unmarked,
     First,
@@ -86,7 +88,7 @@ pub enum Mark {
 }
 
 // An accepted group as a line shows it; place is that of its A balise, number that of a signal.
-#[derive(Drop)]
+#[derive(Clone, Copy)]
 pub struct Seen {
     pub place: u64,
     pub direction: Direction,
@@ -97,7 +99,7 @@ pub struct Seen {
 
 // A line: an accepted group; a refused group's first place and number; a missed signal's place; a
 // refused record's number in the trace and its refusal; the refusal of a whole trace.
-#[derive(Drop)]
+#[derive(Clone, Copy)]
 pub enum Line {
     Group(Seen),
     Fault(u64, u8),
@@ -107,7 +109,7 @@ pub enum Line {
 }
 
 // The lines of one record or of the end, in order: at most two.
-#[derive(Drop)]
+#[derive(Clone, Copy)]
 pub enum Lines {
     None,
     One(Line),
@@ -115,7 +117,7 @@ pub enum Lines {
 }
 
 // What a step reports: that the gap is refused (19), why the record is, or its lines.
-#[derive(Drop)]
+#[derive(Clone, Copy)]
 pub enum Report {
     Gap,
     Refused(Wrong),
@@ -123,7 +125,7 @@ pub enum Report {
 }
 
 // What a step answers: the state after it, the group that closed (count 0: none), the report.
-#[derive(Drop)]
+#[derive(Clone, Copy)]
 pub struct Stepped {
     pub ride: Ride,
     pub closed: Group,
@@ -131,7 +133,7 @@ pub struct Stepped {
 }
 
 // What ending the ride answers: the state after it, the group that closed, and its line.
-#[derive(Drop)]
+#[derive(Clone, Copy)]
 pub struct Ended {
     pub ride: Ride,
     pub closed: Group,
@@ -139,7 +141,7 @@ pub struct Ended {
 }
 
 // How a run went: through all records, or refused for the settings or the trace's length (16).
-#[derive(Drop)]
+#[derive(Clone, Copy)]
 pub enum Way {
     Through,
     Settings(Bad),
@@ -147,7 +149,7 @@ pub enum Way {
 }
 
 // What a run over a trace answers: the state after it, and how it went.
-#[derive(Drop)]
+#[derive(Clone, Copy)]
 pub struct Ran {
     pub ride: Ride,
     pub way: Way,

@@ -19,7 +19,7 @@ use group::Group;
 use settings::{Held, Store, allowed};
 
 // What a record gives: why it is refused, or its lines.
-#[derive(Drop)]
+#[derive(Clone, Copy)]
 pub enum Given {
     Refused(Wrong),
     Lines(Lines),
@@ -27,7 +27,7 @@ pub enum Given {
 
 // What treating the record at an index replies: that the gap is refused (19), that the trace has no
 // such record, or what it gives.
-#[derive(Drop)]
+#[derive(Clone, Copy)]
 pub enum Reply {
     Gap,
     NoRecord,
@@ -36,7 +36,7 @@ pub enum Reply {
 
 // What treating the record at an index answers: the state after it, the group that closed (none:
 // one with count 0), and the reply.
-#[derive(Drop)]
+#[derive(Clone, Copy)]
 pub struct Treated {
     pub ride: Ride,
     pub closed: Group,

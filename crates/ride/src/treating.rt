@@ -8,7 +8,7 @@ use crate::{Given, Report, Ride, Stepped};
 use group::Group;
 
 // What treating a record leaves: the state, the group that closed, and what the record gives.
-#[derive(Drop)]
+#[derive(Clone, Copy)]
 pub struct Treating {
     pub ride: Ride,
     pub closed: Group,

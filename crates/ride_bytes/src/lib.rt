@@ -3,6 +3,8 @@
 // Promises: what is made of a ride reads back as that ride; any bytes at all read as some ride.
 // Specification: specs/Things.antt (a speed, a number, linking, a balise as figures), Rides.antt
 // (the figures of a ride, and the ride in some bytes).
+#![tactic(auto)]
+
 ghost use Rattle.std.specs.Prelude.{◌≡◌};
 ghost use Rattle.ride_bytes.specs.Rides.{ride_bytes, ride_in};
 

@@ -26,7 +26,7 @@ pub fn size(reasons: bool, lent: usize) -> usize
 
 // Where the ride stands: the state, the next record's number, and whether all reads and writes so
 // far succeeded.
-#[derive(Drop)]
+#[derive(Clone, Copy)]
 pub struct Listing {
     ride: Ride,
     number: u64,

@@ -6,6 +6,8 @@
 // Promises: it is safe and it ends; the lines are those of the crate ride_text, block by block and
 // card by card. What its calls of `list` come to is crates/demands/specs/Sections.antt; what cannot
 // be said of a program's reads and writes stands in docs/EXCEPTIONS.md.
+#![tactic(auto)]
+
 mod blocks;
 mod saying;
 

@@ -9,6 +9,8 @@
 // Sign.antt (the signs), Row.antt (a plan's entries), Ticks.antt (refused records), Way.antt (from
 // strip to strip), Drawing.antt (a record and the end), Draw.antt (a block of records); the
 // promises: Laws.antt, Places.antt (of places), Titles.antt (of titles).
+#![tactic(auto)]
+
 ghost use Rattle.std.specs.Prelude.{◌≡◌};
 ghost use Rattle.text.specs.Put.{came};
 ghost use Rattle.text.specs.Pieces.{puts};
@@ -35,7 +37,7 @@ use settings::{Asked, Store};
 
 // Where the pen stands: the left edge of its strip in dm, the place up to which what is known has
 // been drawn, whether a strip is open, and how many ticks lie under the next one.
-#[derive(Drop)]
+#[derive(Clone, Copy)]
 pub struct Pen {
     pub edge: u64,
     pub from: u64,
@@ -45,14 +47,14 @@ pub struct Pen {
 
 // A plan of the test track, to be drawn as a row over the strips: the run over it once the whole
 // ride was taken; or that none is given.
-#[derive(Drop)]
+#[derive(Clone, Copy)]
 pub struct Plan {
     pub run: Acceptance,
     pub asked: bool,
 }
 
 // Where a drawing stands: the ride, the next record's number, and the pen.
-#[derive(Drop)]
+#[derive(Clone, Copy)]
 pub struct Drawing {
     pub ride: Ride,
     pub number: u64,
@@ -61,7 +63,7 @@ pub struct Drawing {
 
 // What drawing a block answers: where the drawing stands then, and how it went: so many records
 // taken and bytes written, or refused as a listing is.
-#[derive(Drop)]
+#[derive(Clone, Copy)]
 pub struct Drawn {
     pub drawing: Drawing,
     pub done: Done,

@@ -15,7 +15,7 @@ use acceptance::{Entry, Reported};
 use ride::Known;
 
 // Where the pen stands after the entries that it came by, and the place after what was put.
-#[derive(Drop)]
+#[derive(Clone, Copy)]
 pub struct Went {
     pub pen: Pen,
     pub next: usize,

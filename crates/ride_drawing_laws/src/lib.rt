@@ -4,3 +4,4 @@
 // the claims hold.
 // Specification: specs/Pictures.antt (what is refused), specs/Blocks.antt (a ride in blocks),
 // specs/Pages.antt (a ride with its end).
+#![tactic(auto)]

@@ -5,6 +5,8 @@
 // Specification: specs/Text.antt (the words), Told.antt (a ride told), List.antt (the listing),
 // Says.antt (the answers), SameLines.antt (the checker's lines in either style); a text in a buffer
 // is `text`'s specs/Put.antt.
+#![tactic(auto)]
+
 ghost use Rattle.std.specs.Prelude.{◌≡◌};
 ghost use Rattle.text.specs.Put.{put, came};
 ghost use Rattle.ride_text.specs.Text.{kind_word, text, line_text};
@@ -28,7 +30,7 @@ pub const REASONS: bool = true;
 
 // How a listing went: so many records taken and bytes written, or refused for the settings (their
 // number) or the trace's length (16).
-#[derive(Drop)]
+#[derive(Clone, Copy)]
 pub enum Done {
     Took { records: usize, bytes: usize },
     Settings(Bad),
@@ -36,7 +38,7 @@ pub enum Done {
 }
 
 // What a listing answers: the state after it, the next record's number, and how it went.
-#[derive(Drop)]
+#[derive(Clone, Copy)]
 pub struct Listed {
     pub ride: Ride,
     pub number: u64,

@@ -4,6 +4,8 @@
 // is that of contact_drawing, lines are those of antenna_text and contact_text, by line_console.
 // Specification: none of its own; what cannot be said of a program's reads and writes stands in
 // docs/EXCEPTIONS.md.
+#![tactic(auto)]
+
 mod page;
 
 use console::PairAsked;

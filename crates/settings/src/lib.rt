@@ -7,6 +7,8 @@
 // specs/Laws.antt. A store's own refusal is that of a lent store which begin and add did not make:
 // 25 for a count above 32, 19 for a count of 0, 24 for a first place that is not 0, else the number
 // that its first bad version would have been given.
+#![tactic(auto)]
+
 ghost use Rattle.std.specs.Prelude.{◌≡◌};
 ghost use Rattle.settings.specs.Store.{begin, add};
 ghost use Rattle.settings.specs.At.{asked};
@@ -21,7 +23,7 @@ pub use versions::allowed;
 
 // A version of the settings: the gap and the sync words S and S* (s and t), in force from a place
 // on.
-#[derive(Drop)]
+#[derive(Clone, Copy)]
 pub struct Version {
     pub place: u32,
     pub gap: u32,
@@ -30,14 +32,14 @@ pub struct Version {
 }
 
 // A store: its versions are the first `count`, in rising order of their places.
-#[derive(Drop)]
+#[derive(Clone, Copy)]
 pub struct Store {
     pub versions: [Version; 32],
     pub count: usize,
 }
 
 // Why a version, a store or a place is refused: 4, 19, 18, 24 and 25 in this order.
-#[derive(Drop)]
+#[derive(Clone, Copy)]
 pub enum Bad {
     Pair,
     Gap,
@@ -47,14 +49,14 @@ pub enum Bad {
 }
 
 // A judgement: kept, or why it is refused.
-#[derive(Drop)]
+#[derive(Clone, Copy)]
 pub enum Verdict {
     Kept,
     Refused(Bad),
 }
 
 // What opening a store answers: the store, and how it went. Refused, its store has count 0.
-#[derive(Drop)]
+#[derive(Clone, Copy)]
 pub struct Begun {
     pub store: Store,
     pub verdict: Verdict,
@@ -62,7 +64,7 @@ pub struct Begun {
 
 // What adding a version answers: the store after it, and how it went. Refused, it is the store as
 // it was.
-#[derive(Drop)]
+#[derive(Clone, Copy)]
 pub struct Added {
     pub store: Store,
     pub verdict: Verdict,
@@ -71,7 +73,7 @@ pub struct Added {
 // The settings in force at a place, with the places from which and until which they are: `until` is
 // the first place at which they are not. The last version is in force to the end; its `until` is
 // 4,000,000,001.
-#[derive(Drop)]
+#[derive(Clone, Copy)]
 pub struct Held {
     pub gap: u32,
     pub s: u8,
@@ -81,7 +83,7 @@ pub struct Held {
 }
 
 // What asking for a place answers: the settings in force there, or why it is refused.
-#[derive(Drop)]
+#[derive(Clone, Copy)]
 pub enum Asked {
     InForce(Held),
     Refused(Bad),

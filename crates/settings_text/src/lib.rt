@@ -6,6 +6,8 @@
 // Specification: specs/Line.antt (what a line states), Taking.antt (a line given to the store),
 // Sheet.antt (a whole text), Told.antt (what is said of a bad one); lines and their words are those
 // of the crate lines. Demand 1 for `take` and `read`: the crate settings_text_laws.
+#![tactic(auto)]
+
 ghost use Rattle.std.specs.Prelude.{◌≡◌};
 ghost use Rattle.text.specs.Put.{put, came};
 ghost use Rattle.settings_text.specs.Taking.{take_line};
@@ -23,7 +25,7 @@ pub use taking::no_store;
 
 // How a line or a text is: fine, unreadable, of a first place that is not 0, refused with a number
 // of the documents, or longer than is read.
-#[derive(Drop)]
+#[derive(Clone, Copy)]
 pub enum Condition {
     Fine,
     Unreadable,
@@ -33,7 +35,7 @@ pub enum Condition {
 }
 
 // What a line leaves: the store, and how the line is.
-#[derive(Drop)]
+#[derive(Clone, Copy)]
 pub struct Taken {
     pub store: Store,
     pub how: Condition,
@@ -41,7 +43,7 @@ pub struct Taken {
 
 // What a text comes to: the store that its lines make, none where it is not fine; where a line is
 // bad its number, from 1 on, else 0; and how it is.
-#[derive(Drop)]
+#[derive(Clone, Copy)]
 pub struct Sheet {
     pub store: Store,
     pub line: u32,

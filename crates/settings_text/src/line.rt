@@ -6,14 +6,14 @@ use figures::Byte;
 use lines::{Number, TextLine};
 
 // A place or a gap of a line, or none.
-#[derive(Drop)]
+#[derive(Clone, Copy)]
 enum Decimetres {
     Is(u32),
     Odd,
 }
 
 // What a line states: nothing, a version, or it is unreadable.
-#[derive(Drop)]
+#[derive(Clone, Copy)]
 pub enum Stated {
     Nothing,
     Version { place: u32, gap: u32, s: u8, t: u8 },

@@ -2,3 +2,4 @@
 // code.
 // Promises: nothing of its own; specs/ has what is claimed, proofs/ shows that it holds.
 // Specification: specs/Demand1.antt.
+#![tactic(auto)]

@@ -3,6 +3,8 @@
 // Promises: what is made of a store reads back as that store; any bytes at all read as some store.
 // Specification: specs/Figures.antt (figures and bytes), Stores.antt (the figures of a store, and
 // the store in some bytes).
+#![tactic(auto)]
+
 ghost use Rattle.std.specs.Prelude.{◌≡◌};
 ghost use Rattle.state_bytes.specs.Stores.{store_bytes, store_in};
 

@@ -6,6 +6,8 @@
 // specs/Place.antt, specs/Survey.antt, specs/Says.antt (the answers).
 // Laws: asked again from the bit after each place until 6, `find` hands out exactly the places of
 // the stretch, each once, in order (proofs/Law.antt).
+#![tactic(auto)]
+
 ghost use Rattle.std.specs.Prelude.{◌≡◌};
 ghost use Rattle.telegram.specs.Stretch.{stretch_of};
 ghost use Rattle.telegram.specs.Sync.{good_pair};
@@ -29,7 +31,7 @@ pub use spelling::{Spelt, spell};
 use words::{Parity, ShortRead};
 
 // What the judgement of a sync pair answers.
-#[derive(Drop)]
+#[derive(Clone, Copy)]
 pub enum Pair {
     Good,
     NotSeven,
@@ -37,21 +39,21 @@ pub enum Pair {
 
 // What the judgement of a stretch answers: it is taken, or it reaches beyond the lent buffer or is
 // too long.
-#[derive(Drop)]
+#[derive(Clone, Copy)]
 pub enum Reach {
     Inside,
     Beyond,
 }
 
 // What a telegram says: three figures, or the number of a number balise.
-#[derive(Drop)]
+#[derive(Clone, Copy)]
 pub enum Telegram {
     Figures(u8, u8, u8),
     Number(u16),
 }
 
 // The words of a telegram; YZ is Y and Z as one long word.
-#[derive(Drop)]
+#[derive(Clone, Copy)]
 pub enum Word {
     X,
     Y,
@@ -61,7 +63,7 @@ pub enum Word {
 
 // What reading three received words answers: the telegram, or which word was bad and why; one that
 // is no code word with the parity of its ones.
-#[derive(Drop)]
+#[derive(Clone, Copy)]
 pub enum TelegramRead {
     Is(Telegram),
     NotCode(Word, Parity),
@@ -70,7 +72,7 @@ pub enum TelegramRead {
 
 // What the search for single telegrams answers: the first place and its telegram, or why there is
 // none.
-#[derive(Drop)]
+#[derive(Clone, Copy)]
 pub enum Found {
     At { place: usize, telegram: Telegram },
     NotSeven,
@@ -80,7 +82,7 @@ pub enum Found {
 
 // What the survey of a stretch answers: places that are all alike, with the first of them and their
 // number, or why not.
-#[derive(Drop)]
+#[derive(Clone, Copy)]
 pub enum Surveyed {
     Alike {
         telegram: Telegram,

@@ -12,7 +12,7 @@ use words::{LongWritten, ShortWritten};
 const TWELVE: u8 = 0xC3;
 
 // The three words to send, or why there are none: refusal 2 or 3.
-#[derive(Drop)]
+#[derive(Clone, Copy)]
 pub enum Spelt {
     Words { x: u8, y: u8, z: u8 },
     TooLarge,

@@ -3,6 +3,8 @@
 // Promises: it is safe and it ends; what it writes is compared with the file stdout beside it.
 // Specification: none of its own; document 01's "Edges for tests" and document 02's rule of the
 // settings, worked out by hand.
+#![tactic(auto)]
+
 mod contacts;
 mod judgements;
 mod say;

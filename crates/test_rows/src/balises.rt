@@ -10,14 +10,14 @@ use group::Heard;
 use words::{LongWritten, ShortWritten};
 
 // What a line's word stands for: something heard, or nothing that a line may have.
-#[derive(Drop)]
+#[derive(Clone, Copy)]
 pub enum Meant {
     Is(Heard),
     Nothing,
 }
 
 // A received short word, or none.
-#[derive(Drop)]
+#[derive(Clone, Copy)]
 pub enum Short {
     Word(u8),
     Nothing,

@@ -2,7 +2,7 @@
 use crate::tally::Tally;
 use crate::{distances, groups, speeds, tally};
 
-#[derive(Drop)]
+#[derive(Clone, Copy)]
 pub enum File {
     Distances,
     Speeds,

@@ -5,7 +5,7 @@ use crate::{answers, balises, say, tally};
 use group::{Balise, Group, Heard};
 
 // The balises of a line as a group, good if each is one.
-#[derive(Drop)]
+#[derive(Clone, Copy)]
 struct Gathered {
     good: bool,
     group: Group,

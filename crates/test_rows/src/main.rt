@@ -5,6 +5,8 @@
 // Specification: specs/Spelling.antt (the numbers that fields spell), Balises.antt (the balises of
 // a row), Answers.antt (what is written of an answer), Counting.antt; the tables as the scan shows
 // them, and the groups worked out by hand.
+#![tactic(auto)]
+
 ghost use Rattle.io.specs.Counts.{IsPrefixLen};
 
 mod answers;

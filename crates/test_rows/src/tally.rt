@@ -5,7 +5,7 @@ ghost use Rattle.test_rows.specs.Counting.{no_entries, one_entry};
 use crate::say;
 use figures::more;
 
-#[derive(Drop)]
+#[derive(Clone, Copy)]
 pub struct Tally {
     pub compared: u32,
     pub righted: u32,

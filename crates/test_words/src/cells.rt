@@ -9,7 +9,7 @@ use figures::{Byte, Figure};
 // What a line holds: a figure with the word that its cell shows; one whose cell shows no word, with
 // the word put right; one whose cell shows a wrong word, with that word and the word put right; one
 // whose cell is unreadable; a comment, or none of these.
-#[derive(Drop)]
+#[derive(Clone, Copy)]
 pub enum Cell {
     Word(u16, u16),
     Right(u16, u16),
@@ -20,7 +20,7 @@ pub enum Cell {
 }
 
 // What was read off a cell: a word, that it is unreadable, or neither.
-#[derive(Drop)]
+#[derive(Clone, Copy)]
 pub enum Shown {
     Word(u16),
     Unreadable,

@@ -6,7 +6,7 @@ use crate::say;
 use figures::more;
 
 // How the word of a cell was found: written so, read so by the checks, read so by the list.
-#[derive(Drop)]
+#[derive(Clone, Copy)]
 pub struct WordFound {
     pub written: bool,
     pub checked: bool,
@@ -14,7 +14,7 @@ pub struct WordFound {
 }
 
 // The cells of one kind, and how many of them were found so.
-#[derive(Drop)]
+#[derive(Clone, Copy)]
 pub struct Cells {
     pub all: u32,
     pub written: u32,
@@ -24,7 +24,7 @@ pub struct Cells {
 
 // What was counted. Of the misread ones, what the scan shows was refused by the checks, and is
 // absent from the list; `next` is the figure that stands next.
-#[derive(Drop)]
+#[derive(Clone, Copy)]
 pub struct Counts {
     pub cells: u32,
     pub readable: Cells,

@@ -6,7 +6,7 @@ use words::{LongRead, LongWritten, Parity, ShortRead, ShortWritten};
 
 // How many of the words are read, how many of those are written back, and how many of the refused
 // ones are odd and even.
-#[derive(Drop)]
+#[derive(Clone, Copy)]
 struct Tally {
     read: u32,
     back: u32,

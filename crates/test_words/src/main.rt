@@ -5,6 +5,8 @@
 // with the file stdout beside it.
 // Specification: specs/Lines.antt (a line of the table's file), specs/Counting.antt; the table as
 // the scan shows it.
+#![tactic(auto)]
+
 mod alike;
 mod cells;
 mod counts;

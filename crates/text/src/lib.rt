@@ -2,6 +2,8 @@
 // Promises: a text is written whole or not at all, and the bytes around it stay; no call needs room
 // that it does not test for.
 // Specification: specs/Text.antt (texts and numbers), specs/Put.antt (a text in a buffer).
+#![tactic(auto)]
+
 ghost use Rattle.std.specs.Prelude.{◌≡◌, ◌++◌};
 ghost use Rattle.text.specs.Text.{decimal};
 ghost use Rattle.text.specs.Put.{put, came};

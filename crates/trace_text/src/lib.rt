@@ -4,6 +4,8 @@
 // record, or is refused with 2 or 3.
 // Specification: specs/Said.antt (what a line says), specs/Record.antt (its record),
 // specs/Thing.antt (what a record says), specs/Line.antt (its line).
+#![tactic(auto)]
+
 ghost use Rattle.std.specs.Prelude.{◌≡◌};
 ghost use Rattle.trace_text.specs.Said.{said, thing};
 ghost use Rattle.trace_text.specs.Record.{record_of_meant, recording};
@@ -23,7 +25,7 @@ use reading::Read;
 // What lies at a place: a balise with its figures X, Y and Z (for X = 12 with its number Y), where
 // one too large for its type stands as the largest of it; a marker, something unreadable, a
 // position only; or any record, by its kind and words.
-#[derive(Drop)]
+#[derive(Clone, Copy)]
 pub enum What {
     Balise { x: u8, y: u16, z: u8 },
     Marker,
@@ -33,7 +35,7 @@ pub enum What {
 }
 
 // What a line says: nothing, what lies at a place in dm, or it is unreadable.
-#[derive(Drop)]
+#[derive(Clone, Copy)]
 pub enum Said {
     Nothing,
     Thing { place: u32, what: What },
@@ -41,7 +43,7 @@ pub enum Said {
 }
 
 // How making a record went: made, or refusal 2 or 3.
-#[derive(Drop)]
+#[derive(Clone, Copy)]
 pub enum MakingWent {
     Made,
     TooLarge,
@@ -49,7 +51,7 @@ pub enum MakingWent {
 }
 
 // What making a record answers: its eight bytes, all zero if it is not made, and how it went.
-#[derive(Drop)]
+#[derive(Clone, Copy)]
 pub struct Recorded {
     pub bytes: [u8; 8],
     pub how: MakingWent,

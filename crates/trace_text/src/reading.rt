@@ -7,14 +7,14 @@ use figures::Byte;
 use lines::{Name, Number, TextLine, Word};
 
 // A figure, no larger than the largest asked for, or none.
-#[derive(Drop)]
+#[derive(Clone, Copy)]
 pub enum Capped {
     Is(u32),
     Odd,
 }
 
 // What lies at the place, or that it cannot be read.
-#[derive(Drop)]
+#[derive(Clone, Copy)]
 pub enum Read {
     Is(What),
     Odd,

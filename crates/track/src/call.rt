@@ -2,7 +2,7 @@
 use console::{NumberAsked, PairAsked};
 
 // A sync pair, and how many frames there are to each decimetre; the text's file is argument 1.
-#[derive(Drop)]
+#[derive(Clone, Copy)]
 pub struct TrackCall {
     pub s: u8,
     pub t: u8,
@@ -10,7 +10,7 @@ pub struct TrackCall {
 }
 
 // What is asked for; that the arguments are no call; or that one of them is wrong, which was said.
-#[derive(Drop)]
+#[derive(Clone, Copy)]
 pub enum TrackAsked {
     For(TrackCall),
     Usage,

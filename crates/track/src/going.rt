@@ -24,7 +24,7 @@ fn goes_on(how: PassStands) -> bool {
 
 // A pass over the open text: how it stands, whether all of it could be read, and whether it is
 // over.
-#[derive(Drop)]
+#[derive(Clone, Copy)]
 struct TextPassed {
     stand: Laying,
     is_read: bool,

@@ -3,6 +3,8 @@
 // thing; nothing is written of a text that is refused.
 // Specification: none of its own; what the frames come to is crates/track_lead/specs/Laws.antt,
 // what cannot be said of a program's reads and writes stands in docs/EXCEPTIONS.md.
+#![tactic(auto)]
+
 mod call;
 mod going;
 mod saying;

@@ -5,7 +5,7 @@ use track_lead::{Feed, Taken, Thing, TrackWay};
 use track_text::Entry;
 
 // How a pass stands: it goes on, or a line is not taken, or a write failed.
-#[derive(Drop)]
+#[derive(Clone, Copy)]
 pub enum PassStands {
     On,
     Unreadable,
@@ -19,7 +19,7 @@ pub enum PassStands {
 
 // A pass over the text: whether it writes (the second does), the number of its line, the way, the
 // feed, and how it stands.
-#[derive(Drop)]
+#[derive(Clone, Copy)]
 pub struct Laying {
     pub writes: bool,
     pub lines: u64,

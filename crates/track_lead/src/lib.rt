@@ -6,6 +6,8 @@
 // Specification: specs/Way.antt (the lines), specs/Sent.antt (what a thing sends), specs/Feed.antt
 // (frame after frame), specs/Lead.antt (the lead of a text), specs/Says.antt (the answers),
 // specs/Laws.antt (what is promised).
+#![tactic(auto)]
+
 ghost use Rattle.std.specs.Prelude.{◌≡◌};
 ghost use Rattle.track_lead.specs.Way.{fresh, take, until};
 ghost use Rattle.track_lead.specs.Feed.{begin, passes, write};
@@ -17,7 +19,7 @@ mod sending;
 
 // What stands at a place: a balise, by the words that it sends; a marker; what is unreadable; or
 // nothing, a position only.
-#[derive(Drop)]
+#[derive(Clone, Copy)]
 pub enum Thing {
     Balise { x: u8, y: u8, z: u8 },
     Marker,
@@ -26,14 +28,14 @@ pub enum Thing {
 }
 
 // A place, if there is one.
-#[derive(Drop)]
+#[derive(Clone, Copy)]
 pub enum Place {
     Never,
     At(u32),
 }
 
 // A way: its first place, its last (0 before the first), and the last at which something is sent.
-#[derive(Drop)]
+#[derive(Clone, Copy)]
 pub struct TrackWay {
     pub first: Place,
     pub last: u32,
@@ -41,7 +43,7 @@ pub struct TrackWay {
 }
 
 // What taking a line answers: the way after it, or why it is refused.
-#[derive(Drop)]
+#[derive(Clone, Copy)]
 pub enum Taken {
     On(TrackWay),
     TooHigh,
@@ -51,7 +53,7 @@ pub enum Taken {
 
 // A feed: the frames to each decimetre, the sync pair; the next frame's odometer, and which of the
 // decimetre's frames it is, from 0; the thing last begun, and how many frames ago, up to 3.
-#[derive(Drop)]
+#[derive(Clone, Copy)]
 pub struct Feed {
     pub n: u32,
     pub s: u8,
@@ -63,7 +65,7 @@ pub struct Feed {
 }
 
 // What writing answers: the feed after it, and how many bytes were written.
-#[derive(Drop)]
+#[derive(Clone, Copy)]
 pub struct Wrote {
     pub feed: Feed,
     pub count: usize,

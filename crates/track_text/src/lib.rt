@@ -1,6 +1,8 @@
 // The text of a track (house), line by line: the lines of a trace's text, but for `raw`.
 // Promises: every line is answered: a thing at a place, nothing, unreadable, or refusal 2 or 3.
 // Specification: specs/Read.antt.
+#![tactic(auto)]
+
 ghost use Rattle.std.specs.Prelude.{◌≡◌};
 ghost use Rattle.track_text.specs.Read.{thing_at, read_said, read, balise};
 ghost use Rattle.telegram.specs.Spelling.{asked, spell};
@@ -11,7 +13,7 @@ use trace_text::{Said, What};
 use track_lead::Thing;
 
 // What a line says: nothing, a thing at a place in dm, or why it is none.
-#[derive(Drop)]
+#[derive(Clone, Copy)]
 pub enum Entry {
     Nothing,
     At { place: u32, thing: Thing },

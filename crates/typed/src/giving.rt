@@ -4,7 +4,7 @@ use plan_text::Entry;
 use trace_text::{Recorded, Said};
 
 // The form of a text: the records of a trace, or the entries of a plan.
-#[derive(Drop)]
+#[derive(Clone, Copy)]
 pub enum Form {
     Trace,
     Plan,
@@ -12,7 +12,7 @@ pub enum Form {
 
 // What a line gives: whether it has bytes, which they are, and what is wrong with it: 0 for
 // nothing, 1 for an unreadable line, else document 01's number.
-#[derive(Drop)]
+#[derive(Clone, Copy)]
 pub struct LineGives {
     pub bytes: [u8; 8],
     pub has: bool,

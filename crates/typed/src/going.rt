@@ -7,7 +7,7 @@ use lines::TextLine;
 use typed_lines::LineCame;
 
 // How a pass goes: on, to the text's end or to its first wrong line, or a read or a write failed.
-#[derive(Drop)]
+#[derive(Clone, Copy)]
 pub enum PassGoes {
     On,
     Whole,
@@ -17,7 +17,7 @@ pub enum PassGoes {
 
 // Where a pass stands: the number of its line, how many things were given, how many bytes wait to
 // be written, what is wrong with the line, and how it goes.
-#[derive(Drop)]
+#[derive(Clone, Copy)]
 pub struct TypedSoFar {
     pub number: u64,
     pub things: u64,

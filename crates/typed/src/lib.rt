@@ -5,6 +5,8 @@
 // Promises: it is safe and it ends, in the same memory for a file of any size; what a line says and
 // its bytes are those of trace_text and plan_text. What is read or written stands outside
 // contracts: docs/EXCEPTIONS.md.
+#![tactic(auto)]
+
 mod giving;
 mod going;
 mod telling;

@@ -9,6 +9,8 @@
 // Promises: it is safe and it ends, in the same memory for a file of any size. What is kept of a
 // line is what `lines` keeps; that the blocks join is crates/lines_laws/specs/Texts.antt. What is
 // read or written stands outside contracts: docs/EXCEPTIONS.md.
+#![tactic(auto)]
+
 mod telling;
 
 use lines::{Got, Reader, TextLine};
@@ -17,7 +19,7 @@ pub use telling::{fail_line, refuse_line};
 // Where the reading of a text stands: its file, the line that is being read and its number, how
 // many bytes of the text are in the block and where the line goes on there; whether the first block
 // was read, and whether the last line was handed out.
-#[derive(Drop)]
+#[derive(Clone, Copy)]
 pub struct TextPass {
     fd: i32,
     reader: Reader,
@@ -29,7 +31,7 @@ pub struct TextPass {
 }
 
 // What comes: a line, the end of the text, or that it cannot be read.
-#[derive(Drop)]
+#[derive(Clone, Copy)]
 pub enum LineCame {
     Line,
     End,
@@ -37,7 +39,7 @@ pub enum LineCame {
 }
 
 // The pass after it, the line and its number.
-#[derive(Drop)]
+#[derive(Clone, Copy)]
 pub struct NextLine {
     pub pass: TextPass,
     pub line: TextLine,

@@ -5,7 +5,7 @@ use libc::STDIN_FILENO;
 
 // A line: how many bytes it has, whether the input ended before it began, and whether it filled its
 // room: no command is that long.
-#[derive(Drop)]
+#[derive(Clone, Copy)]
 pub struct InputLine {
     pub count: usize,
     pub is_end: bool,
@@ -13,7 +13,7 @@ pub struct InputLine {
 }
 
 // A byte, or the end of the input.
-#[derive(Drop)]
+#[derive(Clone, Copy)]
 struct InputByte {
     byte: u8,
     is_end: bool,

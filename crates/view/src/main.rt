@@ -4,6 +4,8 @@
 // found are those of the crates viewer, ride_text, trace_text and viewer_text.
 // Specification: none of its own; what cannot be said of a program's reads and writes stands in
 // docs/EXCEPTIONS.md.
+#![tactic(auto)]
+
 ghost use Rattle.std.specs.Prelude.{◌≤◌};
 
 mod going;
@@ -21,7 +23,7 @@ use reading::Start;
 use settings::Store;
 
 // Where the ride begins by the arguments, or that what is wrong with them was said.
-#[derive(Drop)]
+#[derive(Clone, Copy)]
 enum StartGiven {
     With(Start),
     Said,

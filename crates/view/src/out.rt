@@ -5,7 +5,7 @@ use viewer::Standing;
 // What is noted beside where the viewer stands: nothing; at the start, that it is no start of the
 // cards, but at this record, at this place; after a command the number of the refusal that stopped
 // it, that no further line has the word, or the list of commands.
-#[derive(Drop)]
+#[derive(Clone, Copy)]
 pub enum Note {
     Nothing,
     From { record: u64, place: u32 },

@@ -8,7 +8,7 @@ use console::{Goes, Pass};
 
 // Where a ride begins: with the first record, or with the first at or past the place that an
 // argument names.
-#[derive(Drop)]
+#[derive(Clone, Copy)]
 pub enum Start {
     First,
     At { place: u64, argument: usize },
@@ -16,7 +16,7 @@ pub enum Start {
 
 // How filling the buffer goes on: more may come; all was read; there is more than it has room for;
 // or a card failed, and that was said.
-#[derive(Drop)]
+#[derive(Clone, Copy)]
 pub enum Filling {
     More,
     Whole,
@@ -26,7 +26,7 @@ pub enum Filling {
 
 // Where filling the buffer stands: the pass over the cards, how many bytes the buffer has, how many
 // records were passed over before them, and how it goes on.
-#[derive(Drop)]
+#[derive(Clone, Copy)]
 pub struct FilledSoFar {
     pass: Pass,
     pub have: usize,

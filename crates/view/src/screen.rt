@@ -16,7 +16,7 @@ const LINES: usize = 12;
 const RECORDS: usize = 6;
 
 // A ride with its last lines at the start of a buffer: its state, and how many bytes they have.
-#[derive(Drop)]
+#[derive(Clone, Copy)]
 struct LastLines {
     ride: Ride,
     have: usize,

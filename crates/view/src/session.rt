@@ -11,14 +11,14 @@ use viewer::{Ending, Moved, OpeningWent, Standing};
 use viewer_text::{Command, SoughtLine};
 
 // What a command comes to: where the viewer then stands, and what is noted.
-#[derive(Drop)]
+#[derive(Clone, Copy)]
 struct CameTo {
     stand: Standing,
     note: Note,
 }
 
 // What is asked for, and how many letters the last word then has.
-#[derive(Drop)]
+#[derive(Clone, Copy)]
 struct Order {
     command: Command,
     letters: usize,

@@ -6,6 +6,8 @@
 // Laws: after any calls number, kept count and state are those of a plain definition with a history
 // as a list (`Viewing` of specs/Laws.antt); 22 and 23 leave the viewer (`Refusing`); many at once
 // are so many single calls, none of them refused (`ManyAtOnce`).
+#![tactic(auto)]
+
 ghost use Rattle.std.specs.Prelude.{◌≡◌};
 ghost use Rattle.viewer.specs.Viewing.{start, forward, back};
 ghost use Rattle.viewer.specs.Says.{holding, over, says_started, says_forwarded, says_backed};
@@ -25,7 +27,7 @@ use settings::{Bad, Store};
 
 // Where a viewer stands: how many records lie before it, how many states are kept, the state there,
 // the last states (that before record n, the first with 0, at n % 256), and the settings.
-#[derive(Drop)]
+#[derive(Clone, Copy)]
 pub struct Standing {
     pub number: usize,
     pub kept: usize,
@@ -35,7 +37,7 @@ pub struct Standing {
 }
 
 // How opening went: done, or refused for the settings (their number) or the trace's length (16).
-#[derive(Drop)]
+#[derive(Clone, Copy)]
 pub enum OpeningWent {
     Open,
     Settings(Bad),
@@ -44,7 +46,7 @@ pub enum OpeningWent {
 
 // How a call went: done, or refused since nothing is kept (22), at the end (23), or for settings
 // that no opening lets in (their number).
-#[derive(Drop)]
+#[derive(Clone, Copy)]
 pub enum CallWent {
     Done,
     NothingKept,
@@ -53,7 +55,7 @@ pub enum CallWent {
 }
 
 // What opening answers over a lent trace.
-#[derive(Drop)]
+#[derive(Clone, Copy)]
 pub struct Opened {
     pub stand: Standing,
     pub begun: OpeningWent,
@@ -61,7 +63,7 @@ pub struct Opened {
 
 // What going forward over a lent trace answers: where the viewer stands, the lines that the record
 // gave, and the group that closed.
-#[derive(Drop)]
+#[derive(Clone, Copy)]
 pub struct Went {
     pub stand: Standing,
     pub lines: Lines,
@@ -70,7 +72,7 @@ pub struct Went {
 }
 
 // What going back answers.
-#[derive(Drop)]
+#[derive(Clone, Copy)]
 pub struct Came {
     pub stand: Standing,
     pub how: CallWent,
@@ -79,7 +81,7 @@ pub struct Came {
 // Why many calls made no further step: all that were asked for were made, or the next one is
 // refused: nothing is kept (22), at the end (23), or for settings that no opening lets in (their
 // number).
-#[derive(Drop)]
+#[derive(Clone, Copy)]
 pub enum Ending {
     All,
     NothingKept,
@@ -89,7 +91,7 @@ pub enum Ending {
 
 // What going many times answers: where the viewer stands, how many steps were made, none of which
 // was refused, and why no further one.
-#[derive(Drop)]
+#[derive(Clone, Copy)]
 pub struct Moved {
     pub stand: Standing,
     pub steps: usize,
@@ -97,21 +99,21 @@ pub struct Moved {
 }
 
 // A viewer: the lent trace, and where it stands.
-#[derive(Drop)]
+#[derive(Clone, Copy)]
 pub struct Viewer<'a> {
     pub trace: &'a [u8],
     pub stand: Standing,
 }
 
 // A viewer that was opened. A refused one holds an empty trace.
-#[derive(Drop)]
+#[derive(Clone, Copy)]
 pub struct Started<'a> {
     pub viewer: Viewer<'a>,
     pub begun: OpeningWent,
 }
 
 // A viewer after a forward: the lines that the record gave, and the group that closed.
-#[derive(Drop)]
+#[derive(Clone, Copy)]
 pub struct Forwarded<'a> {
     pub viewer: Viewer<'a>,
     pub lines: Lines,
@@ -120,7 +122,7 @@ pub struct Forwarded<'a> {
 }
 
 // A viewer after a back.
-#[derive(Drop)]
+#[derive(Clone, Copy)]
 pub struct Backed<'a> {
     pub viewer: Viewer<'a>,
     pub how: CallWent,

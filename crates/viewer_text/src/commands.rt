@@ -10,7 +10,7 @@ use figures::Figure;
 // to the next line of the ride that has a word (which stands in the line, from one place up to
 // another; one without a letter means the word before), the same again, the end, or nothing that is
 // known.
-#[derive(Drop)]
+#[derive(Clone, Copy)]
 pub enum Command {
     Forward(u64),
     Back(u64),

@@ -4,6 +4,8 @@
 // Specification: specs/Text.antt (what is shown), specs/Commands.antt (the commands),
 // specs/Finding.antt (a word in a text), specs/Seeking.antt (the next line of a ride that has it),
 // specs/Screen.antt (what a terminal shows beside it), specs/Missing.antt (that no line has it).
+#![tactic(auto)]
+
 ghost use Rattle.std.specs.Prelude.{◌≡◌};
 ghost use Rattle.text.specs.Put.{put, came};
 ghost use Rattle.viewer_text.specs.Text.{state};

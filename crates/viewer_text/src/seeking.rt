@@ -15,7 +15,7 @@ use settings::{Asked, Store};
 
 // Where the next line with a word is: so many records forward lead to just after the record that
 // gives it; or there is none.
-#[derive(Drop)]
+#[derive(Clone, Copy)]
 pub enum SoughtLine {
     After(usize),
     Nowhere,

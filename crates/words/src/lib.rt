@@ -4,6 +4,8 @@
 // Specification: specs/Plain.antt (the plain code H), specs/Code.antt (the sent code M),
 // specs/Why.antt (refusals of words), specs/Says.antt (the answers); specs/Limits.antt is for those
 // above: the largest number of 64 bits.
+#![tactic(auto)]
+
 ghost use Rattle.std.specs.Prelude.{◌≡◌};
 ghost use Rattle.words.specs.Code.{read_short, write_short, read_long, write_long};
 ghost use Rattle.words.specs.Says.{says_short_read, says_short_written, says_long_read, says_long_written};
@@ -12,35 +14,35 @@ mod reading;
 mod writing;
 
 // Whether a word's ones are odd or even in number.
-#[derive(Drop)]
+#[derive(Clone, Copy)]
 pub enum Parity {
     Odd,
     Even,
 }
 
 // What reading a short word answers.
-#[derive(Drop)]
+#[derive(Clone, Copy)]
 pub enum ShortRead {
     Figure(u8),
     NotCode(Parity),
 }
 
 // What writing a figure as a short word answers.
-#[derive(Drop)]
+#[derive(Clone, Copy)]
 pub enum ShortWritten {
     Word(u8),
     TooLarge,
 }
 
 // What reading a long word answers.
-#[derive(Drop)]
+#[derive(Clone, Copy)]
 pub enum LongRead {
     Figure(u16),
     NotCode(Parity),
 }
 
 // What writing a figure as a long word answers.
-#[derive(Drop)]
+#[derive(Clone, Copy)]
 pub enum LongWritten {
     Word(u16),
     TooLarge,

@@ -2,6 +2,8 @@
 // Promises: it gives for every word what the reader by checks gives; each word of the list stands
 // at its own figure and nowhere else.
 // Specification: specs/Listed.antt (the list, and reading by it), specs/Alike.antt (the promises).
+#![tactic(auto)]
+
 ghost use Rattle.std.specs.Prelude.{◌≡◌};
 ghost use Rattle.words.specs.Code.{read_long};
 ghost use Rattle.words.specs.Says.{says_long_read};
