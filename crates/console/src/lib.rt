@@ -54,17 +54,20 @@ mod reading;
 mod saying;
 mod status;
 mod streams;
+mod system;
 mod telling;
 
 pub use arguments::{
     FigureAsked, NumberAsked, PairAsked, figure, is_input, is_option, number, number_in, sync_pair,
+    words,
 };
 pub use before::{AskedFor, OptionsWent, options, options_at};
 pub use blocks::{CardBlock, Goes, Pass, begin, next_block};
-pub use lengths::{CardsFound, go_over, open_card};
+pub use lengths::{CardsFound, go_over, open_card, to_start};
 pub use progress::{Far, go_on_somehow, not_begun, wipe};
-pub use reading::{Filled, fill};
-pub use saying::{cannot_write, fail, fail_of, refuse, to_terminal, usage, wrong};
+pub use reading::{Filled, fill, read_some};
+pub use saying::{cannot_write, fail, fail_of, refuse, say, to_terminal, usage, wrong};
 pub use status::{CallEnded, tell};
-pub use streams::{put, refuse_by, refuse_here, refuse_trace, room, write};
+pub use streams::{Stream, put, refuse_by, refuse_here, refuse_trace, room, write};
+pub use system::{Source, System};
 pub use telling::{Cards, cannot_open, cannot_read, find_cards, only_once, say_found, say_goes};
