@@ -40,20 +40,20 @@ module _ {n : ℕ} (wide : Width n) (c : Joined-is_even-3) (small : c.args.w < 2
   two : c.if-is_even.value ≡ e 8 && e 4
   unfolding mask word covers other
   two =
-      ⊎_elim (λ s. asked _ (e 8) (e 4) (sym one ∙ s.0.taken) (s.2 ∙ s.1.ensures ∙ even_under wide w small 4 _ refl))
-      (λ s. unasked _ (e 8) (e 4) (sym one ∙ s.0.left) (s.1 ∙ one)) c.if-is_even.branch-raw
+      ⊎_elim (λ s. asked _ (e 8) (e 4) (sym one ∙ s.if-is_even.true) (s.value-is ∙ s.is_even-then-is_even.ensures ∙ even_under wide w small 4 _ refl))
+      (λ s. unasked _ (e 8) (e 4) (sym one ∙ s.if-is_even.false) (s.value-is ∙ one)) c.if-is_even.branch-raw
 
   three : c.if-is_even-2.value ≡ (e 8 && e 4) && e 2
   unfolding mask word covers other
   three =
-      ⊎_elim (λ s. asked _ (e 8 && e 4) (e 2) (sym two ∙ s.0.taken) (s.2 ∙ s.1.ensures ∙ even_under wide w small 2 _ refl))
-      (λ s. unasked _ (e 8 && e 4) (e 2) (sym two ∙ s.0.left) (s.1 ∙ two)) c.if-is_even-2.branch-raw
+      ⊎_elim (λ s. asked _ (e 8 && e 4) (e 2) (sym two ∙ s.if-is_even-2.true) (s.value-is ∙ s.is_even-then-is_even-2.ensures ∙ even_under wide w small 2 _ refl))
+      (λ s. unasked _ (e 8 && e 4) (e 2) (sym two ∙ s.if-is_even-2.false) (s.value-is ∙ two)) c.if-is_even-2.branch-raw
 
   four : c.if-is_even-3.value ≡ ((e 8 && e 4) && e 2) && e 1
   unfolding mask word covers other
   four =
-      ⊎_elim (λ s. asked _ ((e 8 && e 4) && e 2) (e 1) (sym three ∙ s.0.taken) (s.2 ∙ s.1.ensures ∙ even_under wide w small 1 _ refl))
-      (λ s. unasked _ ((e 8 && e 4) && e 2) (e 1) (sym three ∙ s.0.left) (s.1 ∙ three)) c.if-is_even-3.branch-raw
+      ⊎_elim (λ s. asked _ ((e 8 && e 4) && e 2) (e 1) (sym three ∙ s.if-is_even-3.true) (s.value-is ∙ s.is_even-then-is_even-3.ensures ∙ even_under wide w small 1 _ refl))
+      (λ s. unasked _ ((e 8 && e 4) && e 2) (e 1) (sym three ∙ s.if-is_even-3.false) (s.value-is ∙ three)) c.if-is_even-3.branch-raw
 
 -- the last is asked where the four hold
 all_five : {n : ℕ} (wide : Width n) (c : After-is_even-then-is_even-4) → let w = c.args.w in w < 2 ^ n
