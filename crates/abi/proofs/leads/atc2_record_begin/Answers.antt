@@ -1,0 +1,10 @@
+-- `atc2_record_begin` leaves the bytes of a fresh hearing.
+-- Assumes nothing.
+use mathlib.Core.Path.{refl, ap, ◌∙◌}
+use Rattle.ear_bytes.specs.Ears.{ear_bytes}
+use Rattle.abi.proofs.leads.atc2_record_begin.Goals as goal
+
+pub returns : goal.returns
+returns c =
+    let begun = c.fresh-begun.ensures in
+    (refl, (c.ear_bytes-bytes.ensures.0 ∙ ap ear_bytes begun, c.ear_bytes-bytes.ensures.1 ∙ begun))

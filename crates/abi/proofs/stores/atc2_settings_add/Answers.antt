@@ -1,0 +1,49 @@
+-- `atc2_settings_add` leaves the store that `add` makes of the lent one, or returns its refusal and
+-- leaves what was lent.
+-- Assumes nothing.
+use mathlib.Core.Path.{◌≡◌, sym, ap, ◌∙◌}
+use Rattle.words.specs.Answer.{gives, refuses}
+use Rattle.settings.specs.declared.Store.{Store}
+use Rattle.settings.specs.declared.Version.{Version}
+use Rattle.settings.specs.Versions.{kept}
+use Rattle.settings.specs.Store.{Change, add}
+use Rattle.settings.specs.Says.{says_bad, says_verdict, says_added}
+use Rattle.state_bytes.specs.Stores.{store_in}
+use Rattle.abi.proofs.Minus.{back}
+use Rattle.abi.proofs.Stored.{stored, unstored}
+use Rattle.abi.proofs.stores.atc2_settings_add.Goals.{After-add-added, Start}
+use Rattle.abi.proofs.stores.atc2_settings_add.Goals as goal
+
+-- The version that is added.
+version : Start → Version
+version s = record { place = s.args.place; gap = s.args.gap; s = s.args.s; t = s.args.t }
+
+-- What `add` came to.
+came : (w : After-add-added) → says_added w.add-added.result ≡ add (store_in w.args.store.now) (version w.before.before.before.before)
+unfolding version
+came w =
+    let s = w.before.before.before.before in
+    w.add-added.ensures ∙ ap (λ (held : Store). add held (record { place = s.args.place; gap = s.args.gap; s = s.args.s; t = s.args.t })) w.store_in-held.ensures
+
+-- What is specified.
+change : After-add-added → Change
+change w = add (store_in w.before.before.before.before.args.store.now) (version w.before.before.before.before)
+
+pub returns-in-Kept : goal.returns-in-Kept
+unfolding version change
+returns-in-Kept c =
+    let w = c.before.before.before.before in
+    let a = w.args in
+    let went : gives kept ≡ (change w).answer = ap says_verdict (sym c.in-Kept.is) ∙ ap (λ (x : Change). x.answer) (came w) in
+    let made : w.add-added.result.store ≡ (change w).store = ap (λ (x : Change). x.store) (came w) in
+    stored (change w).answer (change w).store a.store.now w.add-added.result.store c.store_Bytes.result went made
+    c.store_Bytes.ensures.0 c.store_Bytes.ensures.1
+
+pub returns-in-Refused : goal.returns-in-Refused
+unfolding version change
+returns-in-Refused c =
+    let w = c.before.before.before.before.before in
+    let a = w.args in
+    let bad = c.in-Refused.bad in
+    let went : refuses (says_bad bad) ≡ (change w).answer = ap says_verdict (sym c.in-Refused.is) ∙ ap (λ (x : Change). x.answer) (came w) in
+    unstored (change w).answer (change w).store a.store.now (says_bad bad) _ went (back c.of_settings.result (says_bad bad) c.of_settings.ensures.0 c.of_settings.ensures.1)

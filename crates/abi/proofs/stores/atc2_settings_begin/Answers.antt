@@ -1,0 +1,35 @@
+-- `atc2_settings_begin` leaves the store that `begin` opens, or returns its refusal and leaves what
+-- was lent.
+-- Assumes nothing.
+use mathlib.Core.Path.{◌≡◌, sym, ap, ◌∙◌}
+use Rattle.words.specs.Answer.{gives, refuses}
+use Rattle.settings.specs.Versions.{kept}
+use Rattle.settings.specs.Store.{Change, begin}
+use Rattle.settings.specs.Says.{says_bad, says_verdict, says_begun}
+use Rattle.abi.proofs.Minus.{back}
+use Rattle.abi.proofs.Stored.{stored, unstored}
+use Rattle.abi.proofs.stores.atc2_settings_begin.Goals.{After-begin-begun}
+use Rattle.abi.proofs.stores.atc2_settings_begin.Goals as goal
+
+-- What `begin` came to.
+came : (w : After-begin-begun) → says_begun w.begin-begun.result ≡ begin w.args.gap w.args.s w.args.t
+came w = w.begin-begun.ensures
+
+pub returns-in-Kept : goal.returns-in-Kept
+returns-in-Kept c =
+    let w = c.before.before.before.before in
+    let a = w.args in
+    let went : gives kept ≡ (begin a.gap a.s a.t).answer =
+    ap says_verdict (sym c.in-Kept.is) ∙ ap (λ (x : Change). x.answer) (came w) in
+    let made : w.begin-begun.result.store ≡ (begin a.gap a.s a.t).store = ap (λ (x : Change). x.store) (came w) in
+    stored (begin a.gap a.s a.t).answer (begin a.gap a.s a.t).store a.store.now w.begin-begun.result.store c.store_Bytes.result went made
+    c.store_Bytes.ensures.0 c.store_Bytes.ensures.1
+
+pub returns-in-Refused : goal.returns-in-Refused
+returns-in-Refused c =
+    let w = c.before.before.before.before.before in
+    let a = w.args in
+    let bad = c.in-Refused.bad in
+    let went : refuses (says_bad bad) ≡ (begin a.gap a.s a.t).answer =
+    ap says_verdict (sym c.in-Refused.is) ∙ ap (λ (x : Change). x.answer) (came w) in
+    unstored (begin a.gap a.s a.t).answer (begin a.gap a.s a.t).store a.store.now (says_bad bad) _ went (back c.of_settings.result (says_bad bad) c.of_settings.ensures.0 c.of_settings.ensures.1)

@@ -1,0 +1,14 @@
+-- What the loop keeps true.
+use Prim.Native.Nat.{ℕ, ◌-◌, ◌/◌, ◌≤◌}
+use mathlib.Core.Path.{◌≡◌, refl, sym, ap, ◌∙◌}
+use lib.ListN.{length}
+use Rattle.ride.specs.Over.{first_records, records}
+use Rattle.acceptance.specs.Plan.{all_good}
+use Rattle.acceptance.proofs.Filling.{good_from, good_on, good_not, good_end}
+use Rattle.acceptance.proofs.reading.all_good.Given as goal
+
+abbrev pub invariant-loop-i : goal.invariant-loop-i
+invariant-loop-i l = (l.i ≤ l.count) × (l.count ≡ length l.bytes / 8) × (all_good (records l.bytes) ≡ good_from l.bytes l.count l.i)
+
+abbrev pub decreases-loop-i : goal.decreases-loop-i
+decreases-loop-i l = l.count - l.i

@@ -1,0 +1,34 @@
+-- The entries of the records passed stand before the room that is left.
+-- Assumes nothing.
+use Prim.Native.Nat.{◌-◌, ◌/◌, ◌≤◌, ◌<◌}
+use mathlib.Core.Path.{◌≡◌, refl, ap, ◌∙◌}
+use mathlib.Core.List.{List}
+use native.Mathlib.Omega.{arith}
+use lib.ListN.{length, set, length-set}
+use Rattle.ride.specs.Over.{first_records}
+use Rattle.acceptance.specs.declared.Entry.{Entry}
+use Rattle.acceptance.proofs.Filling.{filled, fill_next, fill_end}
+use Rattle.acceptance.proofs.reading.entries.Goals as goal
+
+pub loop-i-init : goal.loop-i-init
+unfolding first_records
+loop-i-init c = (omega arith, refl, ap length c.no_entries-entries.ensures, c.no_entries-entries.ensures)
+
+pub loop-i-preserved : goal.loop-i-preserved
+loop-i-preserved c =
+    let t = c.before.before in
+    let b = t.args.bytes.now in
+    let i = t.loop-i.i in
+    let room : i < 64 = omega (arith, t.requires) in (
+      omega arith,
+      t.loop-i.invariant.1,
+      simp length-set t.loop-i.invariant.2,
+      ap (λ (es : List Entry). set es i c.entry_at.result) t.loop-i.invariant.3 ∙ ap (set (filled b i) i) c.entry_at.ensures ∙ fill_next b i room,
+    )
+
+pub returns : goal.returns
+returns c =
+    let t = c.before in
+    let b = t.args.bytes.now in
+    let last : t.loop-i.i ≡ length b / 8 = omega arith in
+    t.loop-i.invariant.3 ∙ ap (filled b) last ∙ fill_end b

@@ -1,0 +1,12 @@
+-- What the loop keeps true.
+use Prim.Native.Nat.{◌-◌, ◌/◌, ◌≤◌, ◌<◌}
+use mathlib.Core.Path.{◌≡◌, refl, ap, ◌∙◌}
+use lib.ListN.{length, set, length-set}
+use Rattle.acceptance.proofs.Filling.{filled, fill_next, fill_end}
+use Rattle.acceptance.proofs.reading.entries.Given as goal
+
+abbrev pub invariant-loop-i : goal.invariant-loop-i
+invariant-loop-i l = (l.i ≤ l.count) × (l.count ≡ length l.bytes / 8) × (length l.entries ≡ 64) × (l.entries ≡ filled l.bytes l.i)
+
+abbrev pub decreases-loop-i : goal.decreases-loop-i
+decreases-loop-i l = l.count - l.i

@@ -1,0 +1,27 @@
+-- By the number.
+-- Assumes nothing.
+use borrow.Author.Tests.{ne_eqb}
+use Rattle.acceptance.specs.Plan.{kind_of}
+use Rattle.acceptance.proofs.reading.kind_of.Goals as goal
+
+pub returns-in-0 : goal.returns-in-0
+unfolding kind_of
+returns-in-0 c = rw c.in-0.is
+
+pub returns-in-1 : goal.returns-in-1
+unfolding kind_of
+returns-in-1 c = rw c.in-1.is
+
+pub returns-in-2 : goal.returns-in-2
+unfolding kind_of
+returns-in-2 c = rw c.in-2.is
+
+pub returns-in-3 : goal.returns-in-3
+unfolding kind_of
+returns-in-3 c = rw c.in-3.is
+
+pub returns-in_default : goal.returns-in_default
+unfolding kind_of
+returns-in_default c =
+    let n = c.args.n in
+    simp (ne_eqb n 0 c.in_default.in_default-own.rest.0.0.0.1, ne_eqb n 1 c.in_default.in_default-own.rest.0.0.1, ne_eqb n 2 c.in_default.in_default-own.rest.0.1, ne_eqb n 3 c.in_default.in_default-own.rest.1)

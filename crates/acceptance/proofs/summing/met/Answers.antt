@@ -1,0 +1,52 @@
+-- From the last entry down, those met are counted.
+-- Assumes nothing.
+use Prim.Native.Nat.{ℕ, ◌+◌, ◌-◌, ◌≤◌, ◌<◌}
+use mathlib.Core.Path.{◌≡◌, sym, ap, ◌∙◌}
+use mathlib.Core.Bool.{true, false}
+use native.Mathlib.Omega.{arith}
+use lib.ListN.{length, take, drop, get_or}
+use borrow.Author.Tests.{not-true, not-false}
+use Rattle.acceptance.specs.Plan.{no_entry}
+use Rattle.acceptance.specs.Taking.{is_absent}
+use Rattle.acceptance.specs.Report.{met_in}
+use Rattle.acceptance.proofs.Walks.{met_not, met_one, met_none}
+use Rattle.acceptance.proofs.summing.met.Goals as goal
+
+-- What is left from i on begins with entry i - 1 where i is one less.
+back : (i : ℕ) → 0 < i → i - 1 + 1 ≡ i
+back i h = omega arith
+
+pub loop-i-init : goal.loop-i-init
+loop-i-init c =
+    let a = c.args in
+    let k : a.n ≤ length a.t1 = omega arith in
+    (omega arith, sym (met_none a.t1 a.n k), omega arith)
+
+pub loop-i-preserved-then-not-is_absent : goal.loop-i-preserved-then-not-is_absent
+loop-i-preserved-then-not-is_absent c =
+    let t = c.before.before.before.before in
+    let a = t.args in
+    let k : a.n ≤ length a.t1 = omega arith in
+    let j : t.loop-i.i - 1 < a.n = omega arith in
+    let is : is_absent (get_or a.t1 (t.loop-i.i - 1) no_entry).met ≡ false = sym c.is_absent.ensures ∙ not-true _ c.if-not-is_absent.true-raw in
+    let same : met_in (drop (t.loop-i.i - 1 + 1) (take a.n a.t1)) ≡ met_in (drop t.loop-i.i (take a.n a.t1)) =
+    ap (λ (m : ℕ). met_in (drop m (take a.n a.t1))) (back t.loop-i.i c.loop-i-test.true) in
+    (omega arith, omega (arith, t.loop-i.invariant.1, met_one a.t1 a.n (t.loop-i.i - 1) j k is), omega arith)
+
+pub loop-i-preserved : goal.loop-i-preserved
+loop-i-preserved c =
+    let t = c.before.before.before.before in
+    let a = t.args in
+    let k : a.n ≤ length a.t1 = omega arith in
+    let j : t.loop-i.i - 1 < a.n = omega arith in
+    let is : is_absent (get_or a.t1 (t.loop-i.i - 1) no_entry).met ≡ true = sym c.is_absent.ensures ∙ not-false _ c.if-not-is_absent.false-raw in
+    let same : met_in (drop (t.loop-i.i - 1 + 1) (take a.n a.t1)) ≡ met_in (drop t.loop-i.i (take a.n a.t1)) =
+    ap (λ (m : ℕ). met_in (drop m (take a.n a.t1))) (back t.loop-i.i c.loop-i-test.true) in
+    (omega arith, omega (arith, t.loop-i.invariant.1, met_not a.t1 a.n (t.loop-i.i - 1) j k is), omega arith)
+
+pub returns : goal.returns
+returns c =
+    let t = c.before in
+    let a = t.args in
+    let last : t.loop-i.i ≡ 0 = omega arith in
+    (t.loop-i.invariant.1 ∙ ap (λ (m : ℕ). met_in (drop m (take a.n a.t1))) last, omega arith)

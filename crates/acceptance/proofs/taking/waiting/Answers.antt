@@ -1,0 +1,39 @@
+-- No entry before i waits, so the first that waits is the first of what is left.
+-- Assumes nothing.
+use Prim.Native.Nat.{ℕ, ◌+◌, ◌-◌, ◌≤◌}
+use mathlib.Core.Path.{◌≡◌, sym, ap, ◌∙◌}
+use native.Mathlib.Omega.{arith}
+use lib.ListN.{length, take, drop}
+use Rattle.acceptance.specs.Taking.{waiting}
+use Rattle.acceptance.proofs.Walks.{wait_here, wait_on, wait_none}
+use Rattle.acceptance.proofs.taking.waiting.Goals as goal
+
+pub loop-i-init : goal.loop-i-init
+loop-i-init c =
+    let a = c.args in
+    let none : waiting a.tolerance a.place a.kind (take a.n a.t4) ≡ 0 + waiting a.tolerance a.place a.kind (take a.n a.t4) = omega arith in
+    (omega arith, none)
+
+pub returns-then-waits : goal.returns-then-waits
+returns-then-waits c =
+    let t = c.before.before.before.before in
+    let a = t.args in
+    let k : a.n ≤ length a.t4 = omega arith in
+    omega (arith, t.loop-i.invariant.1, wait_here a.tolerance a.place a.kind a.t4 a.n t.loop-i.i c.loop-i-test.true k (sym c.waits.ensures ∙ c.if-waits.true))
+
+pub loop-i-preserved : goal.loop-i-preserved
+loop-i-preserved c =
+    let t = c.before.before.before.before in
+    let a = t.args in
+    let k : a.n ≤ length a.t4 = omega arith in
+    (omega arith, omega (arith, t.loop-i.invariant.1, wait_on a.tolerance a.place a.kind a.t4 a.n t.loop-i.i c.loop-i-test.true k (sym c.waits.ensures ∙ c.if-waits.false)))
+
+pub returns : goal.returns
+returns c =
+    let t = c.before in
+    let a = t.args in
+    let k : a.n ≤ length a.t4 = omega arith in
+    let last : t.loop-i.i ≡ a.n = omega arith in
+    let is : waiting a.tolerance a.place a.kind (drop t.loop-i.i (take a.n a.t4)) ≡ 0 =
+    ap (λ (j : ℕ). waiting a.tolerance a.place a.kind (drop j (take a.n a.t4))) last ∙ wait_none a.tolerance a.place a.kind a.t4 a.n k in
+    omega (arith, t.loop-i.invariant.1)

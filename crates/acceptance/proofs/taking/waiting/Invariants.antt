@@ -1,0 +1,12 @@
+-- What the loop keeps true.
+use Prim.Native.Nat.{ℕ, ◌+◌, ◌-◌, ◌≤◌}
+use mathlib.Core.Path.{◌≡◌, sym, ap, ◌∙◌}
+use lib.ListN.{length, take, drop}
+use Rattle.acceptance.specs.Taking.{waiting}
+use Rattle.acceptance.proofs.taking.waiting.Given as goal
+
+abbrev pub invariant-loop-i : goal.invariant-loop-i
+invariant-loop-i l = (l.i ≤ l.n) × (waiting l.tolerance l.place l.kind (take l.n l.entries) ≡ l.i + waiting l.tolerance l.place l.kind (drop l.i (take l.n l.entries)))
+
+abbrev pub decreases-loop-i : goal.decreases-loop-i
+decreases-loop-i l = l.n - l.i

@@ -1,0 +1,34 @@
+-- `over` takes block after block, and counts its turns down. The two buffers keep their lengths.
+use Rattle.std.proofs.Common.{◌≡◌, length, sym, ◌∙◌, arith, length-take-le, rules}
+use Rattle.acceptance_console.proofs.blocks.over.Goals.{After-take_records-stand}
+use Rattle.acceptance_console.proofs.blocks.over.Goals as goal
+
+-- the buffers after a block
+kept : (t : After-take_records-stand) →
+    let n = t.before.before.before.before.before in
+    let a = n.args in
+    (length n.next_block-got.new.1.1.0 ≡ length a.block.now) × (length t.take_records-stand.new.1.1.1.1.1.0 ≡ length a.out.now)
+kept t =
+    let n = t.before.before.before.before.before in
+    let inv = n.loop-turns.invariant in
+    (n.next_block-got.auto.1.1.0 ∙ inv.0, t.take_records-stand.auto.1.1.1.1.1.0 ∙ inv.1)
+
+pub slice_bounds-take_records-end-in-loop-turns : goal.slice_bounds-take_records-end-in-loop-turns
+slice_bounds-take_records-end-in-loop-turns c =
+    let n = c.next_block-got in
+    sym (length-take-le _ _ (omega (arith, n.ensures.0, n.auto.1.1.0)))
+
+pub shape_of-block-in_default : goal.shape_of-block-in_default
+shape_of-block-in_default c = (kept c.before.before.before.before.before.before).0
+
+pub shape_of-out-in_default : goal.shape_of-out-in_default
+shape_of-out-in_default c = (kept c.before.before.before.before.before.before).1
+
+pub loop-turns-preserved : goal.loop-turns-preserved
+loop-turns-preserved c = kept c.before.before.before.before.before.before.before
+
+pub shape_of-block : goal.shape_of-block
+shape_of-block c = c.loop-turns.invariant.0
+
+pub shape_of-out : goal.shape_of-out
+shape_of-out c = c.loop-turns.invariant.1

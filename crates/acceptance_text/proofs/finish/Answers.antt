@@ -1,0 +1,15 @@
+-- With room the end's lines are taken from the buffer's start on; without, nothing is done.
+-- Assumes nothing.
+use Rattle.acceptance_text.proofs.Ends.{no_end, at_end}
+use Rattle.acceptance_text.proofs.finish.Goals as goal
+
+pub returns-then-out-lt128 : goal.returns-then-out-lt128
+returns-then-out-lt128 c = no_end c.args.going c.args.out.now c.if-out-lt128.true
+
+pub returns : goal.returns
+returns c =
+    let p = c.before.before.before.before.before in
+    let e = p.before.before in
+    let t = e.before.before.before.before in
+    let a = t.args in
+    at_end a.going a.out.now e.end-ended.result p.take_lines-took.result _ t.if-out-lt128.false e.end-ended.ensures p.take_lines-took.ensures

@@ -1,0 +1,20 @@
+-- The word for a plan, and then its refusal.
+-- Assumes nothing.
+use mathlib.Core.Path.{ap, ◌∙◌}
+use mathlib.Core.List.{List}
+use Prim.Native.Nat.{ℕ}
+use Rattle.text.specs.Text.{codes}
+use Rattle.text.specs.Put.{put}
+use Rattle.text.proofs.Standing.{join, room_as}
+use Rattle.refusals.specs.Words.{refused}
+use Rattle.acceptance_text.proofs.Pieces.{refused_is}
+use Rattle.acceptance_text.proofs.lines.spell_refused.Goals as goal
+
+pub returns : goal.returns
+returns c =
+    let p2 = c.before.before in
+    let p1 = p2.before.before.before.before in
+    let s = p1.before.before.before.before in
+    let a = s.args in
+    join a.buf.now a.at (codes "plan ") (refused a.number) (room_as a.buf.now a.at (refused_is a.number) s.requires) p1.put-a.ensures p2.Put-refused.ensures
+    ∙ ap (λ (t : List ℕ). put t a.buf.now a.at) (refused_is a.number)

@@ -1,0 +1,21 @@
+-- By whether the ride passed.
+-- Assumes nothing.
+use Rattle.text.proofs.Standing.{by_case}
+use Rattle.acceptance_text.specs.Lines.{verdict}
+use Rattle.acceptance_text.proofs.lines.spell_verdict.Goals as goal
+
+pub returns-then-passed : goal.returns-then-passed
+unfolding verdict
+returns-then-passed c =
+    let p = c.before.before in
+    let k = p.before.before.before in
+    let a = k.args in
+    by_case verdict a.buf.now a.at k.if-passed.true p.put.ensures
+
+pub returns : goal.returns
+unfolding verdict
+returns c =
+    let p = c.before.before in
+    let k = p.before.before.before in
+    let a = k.args in
+    by_case verdict a.buf.now a.at k.if-passed.false p.put-2.ensures

@@ -1,0 +1,126 @@
+-- `over` takes the records one by one, with what is held for each: the block from each of them on
+-- is the whole block.
+use mathlib.Core.Path.{◌≡◌, sym, ap, ◌∙◌}
+use mathlib.Core.Logic.{⊎_elim}
+use Prim.Native.Nat.{◌+◌, ◌-◌, ◌/◌, ◌<◌, ◌≤◌}
+use native.Mathlib.Omega.{arith}
+use mathlib.Core.Bool.{true}
+use lib.Dec.{leb, ltb}
+use lib.ListN.{length}
+use borrow.Author.Tests.{leb-true, not-false}
+use Rattle.words.proofs.Linear.{and_parts}
+use Rattle.settings.specs.At.{gap_at}
+use Rattle.settings.proofs.Holding.{Holding, holding_at}
+use Rattle.ride.specs.Step.{Step}
+use Rattle.ride.specs.Over.{lines_for}
+use Rattle.ride.specs.Says.{says_given}
+use Rattle.ride.proofs.Under.{Turning, Turned, turned, turned_past}
+use Rattle.acceptance_text.specs.Taking.{started, take_all}
+use Rattle.acceptance_text.specs.Inside.{writes, written}
+use Rattle.acceptance_text.proofs.Way.{OnTheWay, sets_out, same_length as length-stays, goes_on, comes_to, comes_to_end, in_pieces, quiet}
+use Rattle.acceptance_text.proofs.records.over.Goals.{After-treat_at-treated, At-loop-i, In-Record-2, In-loop-i, Joined-not-is_quiet}
+use Rattle.acceptance_text.proofs.records.over.Goals as goal
+
+-- the buffer has its length
+stays : (l : At-loop-i) → length l.loop-i.out ≡ length l.args.out.now
+stays l = length-stays _ _ _ _ _ _ _ _ _ _ l.loop-i.invariant.2
+
+-- what the loop's test says: a record is left, and there is room
+test : (c : In-loop-i) →
+    let l = c.loop-i in
+    (ltb l.i (length c.args.trace.now / 8) ≡ true) × (leb 128 (length l.out - l.at) ≡ true)
+test c =
+    let l = c.loop-i in
+    and_parts (ltb l.i (length c.args.trace.now / 8)) (leb 128 (length l.out - l.at)) c.loop-i-test.true
+
+-- the turn of a record
+turn : (t : After-treat_at-treated) →
+    let h = t.before in
+    let l = h.before.before in
+    let a = l.args in
+    Turning a.store l.loop-i.held h.held_at-held.result l.loop-i.now a.trace.now l.loop-i.i t.treat_at-treated.result
+turn t =
+    let h = t.before in
+    let l = h.before.before in
+    record { good = l.requires.0; holding = l.loop-i.invariant.1; next_is = h.held_at-held.ensures; says = t.treat_at-treated.ensures }
+
+-- what the reply says of a record that is taken
+took_one : (c : In-Record-2) → Turned _ _ _ _ _ _ _ (turn c.before.before) c.in-Record.given
+took_one c = turned _ _ _ _ _ _ _ (turn c.before.before) c.in-Record.given c.in-Record.is
+
+-- what the record's lines leave
+wrote : (j : Joined-not-is_quiet) →
+    let g = j.before.before.before in
+    let l = g.loop-i in
+    written (record { run = j.if-not-is_quiet.run; troubles = j.if-not-is_quiet.troubles; next = j.if-not-is_quiet.at }) j.if-not-is_quiet.out
+    ≡ writes (take_all (started l.run l.troubles) (lines_for 0 (says_given g.in-Record.given))) l.out l.at
+wrote j =
+    let q = j.before in
+    let g = q.before.before in
+    let l = g.loop-i in
+    let given = g.in-Record.given in
+    let f = j.if-not-is_quiet in
+    ⊎_elim
+    (λ w. in_pieces w.2.result w.2.last.1.1.1.0 _ f.run f.troubles f.at f.out w.7 w.8 w.9 w.10 w.2.ensures)
+    (λ w. in_pieces (record { run = l.run; troubles = l.troubles; next = l.at }) l.out _ f.run f.troubles f.at f.out w.1 w.2 w.3 w.4
+    (quiet l.run l.troubles (says_given given) l.out l.at (sym q.is_quiet.ensures ∙ not-false q.is_quiet.result w.0.left)))
+    f.branch
+
+-- an index of the trace has a next one
+next_fits : (l : At-loop-i) → l.loop-i.i < length l.args.trace.now / 8 → l.loop-i.i + 1 < 18446744073709551616
+next_fits l h = omega arith
+
+pub loop-i-init : goal.loop-i-init
+loop-i-init c =
+    let s = c.before.before.before.before.before in
+    (omega arith, rw s.requires.1 (holding_at s.args.store 0 s.requires.0), sets_out (gap_at s.args.store) s.args.from s.args.trace.now s.args.out.now)
+
+pub overflow_sub-out : goal.overflow_sub-out
+overflow_sub-out c = omega (arith, stays c, c.loop-i.invariant.2.fits)
+
+pub enum_known-reply : goal.enum_known-reply
+enum_known-reply c = c.in-Record.in-Record-own.keys1
+
+pub take_given-took-requires : goal.take_given-took-requires
+take_given-took-requires c =
+    let n = c.before.before.before.before.before.before.before.before in
+    let l = n.loop-i in
+    omega (arith, leb-true 128 (length l.out - l.at) (test n).1)
+
+pub overflow_add-i : goal.overflow_add-i
+overflow_add-i c =
+    let g = c.before.before.before.before in
+    omega (arith, next_fits g.before.before.before.before.before (took_one g).there)
+
+pub loop-i-smaller : goal.loop-i-smaller
+loop-i-smaller c = omega (arith, (took_one c.before.before.before.before).there)
+
+pub loop-i-preserved : goal.loop-i-preserved
+loop-i-preserved c =
+    let j = c.before in
+    let g = j.before.before.before in
+    let t = g.before.before in
+    let l = t.before.before.before in
+    let s = l.before.before.before.before.before.before in
+    let one = took_one g in
+    let stepped = one.step in (
+      omega (arith, one.there),
+      one.holding,
+      goes_on (gap_at s.args.store) s.args.from s.args.trace.now s.args.out.now l.loop-i.now l.loop-i.run l.loop-i.troubles l.loop-i.i l.loop-i.at l.loop-i.out
+          l.loop-i.invariant.2 g.in-Record.given t.treat_at-treated.result.ride
+          (record { run = j.if-not-is_quiet.run; troubles = j.if-not-is_quiet.troubles; next = j.if-not-is_quiet.at }) j.if-not-is_quiet.out one.there (test t.before.before).1
+          (ap (λ (x : Step). x.lines) stepped) (ap (λ (x : Step). x.ride) stepped) (wrote j),
+    )
+
+pub shape_of-out-after-loop-i : goal.shape_of-out-after-loop-i
+shape_of-out-after-loop-i c = stays c.before
+
+pub returns-after-loop-i : goal.returns-after-loop-i
+returns-after-loop-i c = comes_to _ _ _ _ _ _ _ _ _ _ c.loop-i.invariant.2 c.loop-i-test.false
+
+pub shape_of-out-in_default : goal.shape_of-out-in_default
+shape_of-out-in_default c = stays c.before.before.before.before
+
+pub returns-in_default : goal.returns-in_default
+returns-in_default c =
+    comes_to_end _ _ _ _ _ _ _ _ _ _ c.loop-i.invariant.2 (turned_past _ _ _ _ _ _ _ (turn c.before) c.in_default.in_default-own.keys2)

@@ -1,0 +1,29 @@
+-- A refused record has no text and is counted; else its lines are taken.
+-- Assumes nothing.
+use Prim.Native.Nat.{ℕ}
+use mathlib.Core.Path.{sym, ap, ap₂, ◌∙◌}
+use Rattle.text.specs.Put.{Put}
+use Rattle.ride.specs.declared.trace.Given.{Given}
+use Rattle.ride.specs.Over.{lines_for}
+use Rattle.ride.specs.Says.{says_given}
+use Rattle.acceptance.specs.Taking.{take_line}
+use Rattle.acceptance_text.specs.Taking.{started, take_one, take_all}
+use Rattle.acceptance_text.specs.Inside.{writes}
+use Rattle.acceptance_text.proofs.Takings.{put_nothing}
+use Rattle.acceptance_text.proofs.taking.take_given.Goals as goal
+
+pub returns-in-Refused : goal.returns-in-Refused
+unfolding take_all take_one take_line
+returns-in-Refused c =
+    let k = c.before in
+    let a = k.args in
+    ap₂ (λ (n : ℕ) (p : Put). record { run = a.run; troubles = record { faults = a.troubles.faults; refused = n }; text = p }) c.one_more.ensures (put_nothing a.buf.now a.at)
+    ∙ sym (ap (λ (g : Given). writes (take_all (started a.run a.troubles) (lines_for 0 (says_given g))) a.buf.now a.at) k.in-Refused.is)
+
+pub returns-in-Lines : goal.returns-in-Lines
+returns-in-Lines c =
+    let p = c.before.before in
+    let k = p.before.before.before in
+    let a = k.args in
+    p.take_lines.ensures
+    ∙ sym (ap (λ (g : Given). writes (take_all (started a.run a.troubles) (lines_for 0 (says_given g))) a.buf.now a.at) k.in-Lines.is)

@@ -1,0 +1,74 @@
+-- Too few bits, or no sync words around the words, or the words decide.
+-- Assumes nothing.
+use Prim.Native.Nat.{ℕ, ◌-◌, ◌/◌, ◌%◌, ◌^◌, ◌≤◌, ◌<◌}
+use mathlib.Core.Path.{◌≡◌, sym, ap, ◌∙◌}
+use mathlib.Core.Bool.{true, false}
+use borrow.Author.Tests.{le-leb, lt-leb, not-true, not-false}
+use Rattle.telegram.specs.Telegram.{Received, telegram}
+use Rattle.telegram.specs.Place.{are_syncs}
+use Rattle.telegram.specs.Says.{says_telegram_read}
+use Rattle.telegram.specs.declared.TelegramRead.{TelegramRead}
+use Rattle.antenna.specs.declared.Places.{Places}
+use Rattle.antenna.specs.Places.{between, places_after}
+use Rattle.antenna.proofs.offset.after.Goals as goal
+
+module _ (places : Places) (length v s t : ℕ) where
+  too_few : length < 40 → places ≡ places_after places length v s t
+  unfolding places_after
+  too_few h = simp (lt-leb _ _ h)
+
+  module _ (enough : 40 ≤ length) where
+    no-syncs : are_syncs s t (v / 2 ^ 32) (v % 256) ≡ false → places ≡ places_after places length v s t
+    unfolding places_after
+    no-syncs e = simp (le-leb _ _ enough, e)
+
+    -- The words read r.
+    by_words : are_syncs s t (v / 2 ^ 32) (v % 256) ≡ true → (r : Received) → r ≡ telegram (v / 2 ^ 24 % 256) (v / 2 ^ 16 % 256) (v / 2 ^ 8 % 256)
+        → between r (v / 2 ^ 24 % 256) (v / 2 ^ 16 % 256) (v / 2 ^ 8 % 256) (length - 40) places ≡ places_after places length v s t
+    unfolding places_after
+    by_words e r is = simp (le-leb _ _ enough, e, is)
+
+    -- What was read is o.
+    by_answer : are_syncs s t (v / 2 ^ 32) (v % 256) ≡ true → (a o : TelegramRead)
+        → says_telegram_read a ≡ telegram (v / 2 ^ 24 % 256) (v / 2 ^ 16 % 256) (v / 2 ^ 8 % 256) → a ≡ o
+        → between (says_telegram_read o) (v / 2 ^ 24 % 256) (v / 2 ^ 16 % 256) (v / 2 ^ 8 % 256) (length - 40) places ≡ places_after places length v s t
+    by_answer e a o says is = by_words e (says_telegram_read o) (ap says_telegram_read (sym is) ∙ says)
+
+pub returns-then-length-lt40 : goal.returns-then-length-lt40
+returns-then-length-lt40 c = let a = c.args in too_few a.places a.length a.v a.s a.t c.if-length-lt40.true
+
+pub returns-then-not-are_syncs : goal.returns-then-not-are_syncs
+returns-then-not-are_syncs c =
+    let a = c.args in
+    let o = c.are_syncs in
+    no-syncs a.places a.length a.v a.s a.t c.if-length-lt40.false (sym o.ensures ∙ not-true o.result c.if-not-are_syncs.true-raw)
+
+pub returns-in-Is : goal.returns-in-Is
+returns-in-Is c =
+    let a = c.args in
+    let o = c.are_syncs in
+    let r = c.read in
+    c.another.ensures
+    ∙ by_answer a.places a.length a.v a.s a.t c.if-length-lt40.false
+    (sym o.ensures ∙ not-false o.result c.if-not-are_syncs.false-raw)
+    r.result (TelegramRead.Is c.in-Is.telegram) r.ensures c.in-Is.is
+
+pub returns-in-NotCode : goal.returns-in-NotCode
+returns-in-NotCode c =
+    let a = c.args in
+    let o = c.are_syncs in
+    let r = c.read in
+    let g = c.enum_told-1.given in
+    by_answer a.places a.length a.v a.s a.t c.if-length-lt40.false
+    (sym o.ensures ∙ not-false o.result c.if-not-are_syncs.false-raw)
+    r.result (TelegramRead.NotCode g.0.0 g.0.1.0) r.ensures g.1
+
+pub returns-in-Fifteen : goal.returns-in-Fifteen
+returns-in-Fifteen c =
+    let a = c.args in
+    let o = c.are_syncs in
+    let r = c.read in
+    let g = c.enum_told-in-Fifteen-1.given in
+    by_answer a.places a.length a.v a.s a.t c.if-length-lt40.false
+    (sym o.ensures ∙ not-false o.result c.if-not-are_syncs.false-raw)
+    r.result (TelegramRead.Fifteen g.0.0) r.ensures g.1

@@ -1,0 +1,9 @@
+-- `write_front` compacts the front of the buffer, which lies within it.
+use mathlib.Core.Path.{sym}
+use lib.Seq.{length-take-le}
+use Rattle.compact.proofs.blocks.write_front.Goals as goal
+
+pub slice_bounds-write_block-end-2 : goal.slice_bounds-write_block-end-2
+slice_bounds-write_block-end-2 c =
+    let s = c.before.before in
+    sym (length-take-le s.args.read s.args.block.now s.requires)

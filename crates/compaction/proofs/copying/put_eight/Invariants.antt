@@ -1,0 +1,13 @@
+-- What the loop keeps true.
+use mathlib.Core.Path.{◌≡◌, refl, sym, ap, ◌∙◌}
+use Prim.Native.Nat.{ℕ, ◌+◌, ◌-◌, ◌<◌, ◌≤◌}
+use lib.ListN.{length, get_or, drop, length-set}
+use Rattle.text.specs.Put.{placed}
+use Rattle.compaction.proofs.copying.put_eight.Given as goal
+
+abbrev pub invariant-loop-i : goal.invariant-loop-i
+invariant-loop-i l =
+    (l.i ≤ 8) × (length l.at ≡ 8) × (length l.bytes ≡ length l.initial.trace) × (placed (drop l.i l.at) l.bytes (l.trace + l.i) ≡ placed l.at l.initial.trace l.trace)
+
+abbrev pub decreases-loop-i : goal.decreases-loop-i
+decreases-loop-i l = 8 - l.i

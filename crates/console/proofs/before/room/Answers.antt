@@ -1,0 +1,7 @@
+-- `room` has as many bytes as its type says.
+use Rattle.std.proofs.Common.{ℕ, sym}
+use lib.ListN.{length-replicate}
+use Rattle.console.proofs.before.room.Goals as goal
+
+pub returns : goal.returns
+returns c = sym (length-replicate {A = ℕ} 1048577 0)

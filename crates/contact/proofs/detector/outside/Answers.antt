@@ -1,0 +1,79 @@
+-- What the contacts are from the first bit on, they still are from each later bit on that the walk
+-- comes to, until one opens.
+-- Assumes nothing.
+use Prim.Native.Nat.{ℕ, ◌+◌, ◌-◌, ◌≤◌, ◌<◌}
+use mathlib.Core.Path.{◌≡◌, refl, sym, ap, ◌∙◌}
+use native.Mathlib.Omega.{arith}
+use Rattle.contact.specs.Contacts.{outside, contacts, first}
+use Rattle.contact.proofs.Steps.{ends_outside, goes_in, stays_out}
+use Rattle.contact.proofs.Stays.{on}
+use Rattle.contact.proofs.Block.{Turn, by_marks, passed, all_passed, then_is}
+use Rattle.contact.proofs.detector.outside.Goals.{After-before_first-n}
+use Rattle.contact.proofs.detector.outside.Goals as goal
+
+-- a turn: what is not marked does not open
+turn : (c : After-before_first-n) → let a = c.args in
+    let l = c.loop-i in
+    Turn a.buf.now outside a.end l.h l.i c.line-w.result c.before_first-n.result
+turn c =
+    let a = c.args in
+    let l = c.loop-i in
+    let m = c.opening in
+    let n = c.before_first-n in
+    by_marks a.buf.now outside a.end (λ (z : ℕ). z < 8) (λ h i below few. stays_out a.buf.now h i a.end _ _ below refl refl few)
+    l.h l.i c.line-w.result m.result n.result l.invariant.1 c.line-w.ensures m.ensures n.ensures.0 n.ensures.1
+
+pub loop-i-init : goal.loop-i-init
+loop-i-init c = (omega arith, omega arith, refl)
+
+pub returns-then-end-i : goal.returns-then-end-i
+returns-then-end-i c =
+    let u = c.before in
+    let a = u.args in
+    let b = a.buf.now in
+    let l = u.loop-i in
+    let n = a.end - l.i in
+    sym (ap first (l.invariant.2 ∙ passed (turn u) n (omega arith) (omega arith) ∙ ends_outside b (on b l.h l.i n) (l.i + n) a.end (omega arith)))
+
+pub zeroes-requires : goal.zeroes-requires
+zeroes-requires c = omega (arith, c.latest-h.ensures)
+
+pub within-requires : goal.within-requires
+within-requires c = omega (arith, c.latest-h.ensures)
+
+pub returns-then-zeroes-ge8 : goal.returns-then-zeroes-ge8
+returns-then-zeroes-ge8 c =
+    let z = c.before.before in
+    let u = z.before.before.before.before in
+    let a = u.args in
+    let b = a.buf.now in
+    let l = u.loop-i in
+    let k = u.before_first-n.result in
+    let none = passed (turn u) k (omega arith) (omega arith) in
+    let in_it = goes_in b (on b l.h l.i k) (l.i + k) a.end z.latest-h.result z.zeroes.result (omega arith) (then_is (turn u) z.latest-h.result z.latest-h.ensures (omega arith)) z.zeroes.ensures c.if-zeroes-ge8.true in
+    c.within.ensures ∙ sym (ap first (l.invariant.2 ∙ none ∙ in_it))
+
+pub loop-i-preserved-then-n-lt48 : goal.loop-i-preserved-then-n-lt48
+loop-i-preserved-then-n-lt48 c =
+    let z = c.before in
+    let u = z.before.before.before.before in
+    let a = u.args in
+    let b = a.buf.now in
+    let l = u.loop-i in
+    let k = u.before_first-n.result in
+    let none = passed (turn u) k (omega arith) (omega arith) in
+    let stays = stays_out b (on b l.h l.i k) (l.i + k) a.end z.latest-h.result z.zeroes.result (omega arith) (then_is (turn u) z.latest-h.result z.latest-h.ensures (omega arith)) z.zeroes.ensures c.if-zeroes-ge8.false in
+    (omega arith, omega (arith, z.latest-h.ensures), l.invariant.2 ∙ none ∙ stays)
+
+pub loop-i-preserved : goal.loop-i-preserved
+loop-i-preserved c =
+    let u = c.before.before.before in
+    let l = u.loop-i in
+    let all = c.if-n-lt48.false in
+    (omega arith, omega (arith, c.latest-h-else-n-lt48.ensures), l.invariant.2 ∙ all_passed (turn u) c.latest-h-else-n-lt48.result c.latest-h-else-n-lt48.ensures (omega arith) (omega arith))
+
+pub returns : goal.returns
+returns c =
+    let a = c.args in
+    let l = c.loop-i in
+    sym (ap first (l.invariant.2 ∙ ends_outside a.buf.now l.h l.i a.end (omega arith)))

@@ -1,0 +1,11 @@
+-- What the loop keeps true.
+use Prim.Native.Nat.{suc, ◌-◌, ◌≤◌}
+use mathlib.Core.Path.{◌≡◌, refl, sym, ap, ◌∙◌}
+use Rattle.contact.specs.Judge.{all_zero}
+use Rattle.contact.proofs.marker.all_zero.Given as goal
+
+abbrev pub invariant-loop-n : goal.invariant-loop-n
+invariant-loop-n l = (l.n ≤ l.len) × (all_zero l.buf l.start l.len ≡ all_zero l.buf l.start l.n)
+
+abbrev pub decreases-loop-n : goal.decreases-loop-n
+decreases-loop-n l = l.n

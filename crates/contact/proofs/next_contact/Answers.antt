@@ -1,0 +1,38 @@
+-- A stretch that is taken is walked from outside a contact; else the answer is 5.
+-- Assumes nothing.
+use Prim.Native.Nat.{◌+◌, ◌-◌}
+use mathlib.Core.Path.{◌≡◌}
+use native.Mathlib.Omega.{arith}
+use Rattle.contact.specs.Contacts.{outside, contacts_from, next_contact}
+use Rattle.telegram.proofs.Taken.{taken, judged_inside, judged_beyond}
+use Rattle.contact.proofs.next_contact.Goals as goal
+
+pub overflow_add-next : goal.overflow_add-next
+overflow_add-next c =
+    let a = c.args in
+    let i = c.inside-reach in
+    let h = judged_inside a.buf.now a.search.next a.search.left i.result i.ensures c.in-Inside.is in
+    omega (arith, taken a.buf.now a.search.next a.search.left h)
+
+pub outside-requires : goal.outside-requires
+outside-requires c =
+    let a = c.args in
+    let i = c.inside-reach in
+    let h = judged_inside a.buf.now a.search.next a.search.left i.result i.ensures c.in-Inside.is in
+    omega (arith, taken a.buf.now a.search.next a.search.left h)
+
+pub returns-in-Inside : goal.returns-in-Inside
+unfolding next_contact contacts_from
+returns-in-Inside c =
+    let a = c.args in
+    let i = c.inside-reach in
+    let s = a.search in
+    let e : s.next + s.left - s.next ≡ s.left = omega arith in
+    simp (judged_inside a.buf.now s.next s.left i.result i.ensures c.in-Inside.is) (rw e at c.outside.ensures)
+
+pub returns-in-Beyond : goal.returns-in-Beyond
+unfolding next_contact contacts_from
+returns-in-Beyond c =
+    let a = c.args in
+    let i = c.inside-reach in
+    simp (judged_beyond a.buf.now a.search.next a.search.left i.result i.ensures c.in-Beyond.is)

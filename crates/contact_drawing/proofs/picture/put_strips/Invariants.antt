@@ -1,0 +1,14 @@
+-- What the loop keeps true.
+use Prim.Native.Nat.{ℕ, ◌-◌}
+use mathlib.Core.Path.{◌≡◌, refl, ap, ◌∙◌}
+use lib.ListN.{length}
+use Rattle.text.specs.Pieces.{puts}
+use Rattle.contact_drawing.specs.Strips.{strip, each}
+use Rattle.contact_drawing.proofs.picture.put_strips.Given as goal
+
+abbrev pub invariant-loop-k : goal.invariant-loop-k
+invariant-loop-k l =
+    (length l.at ≡ length l.initial.buf) × (puts (each (strip l.start) l.k (l.n - l.k)) l.at l.next ≡ puts (each (strip l.start) 0 (l.n - 0)) l.initial.buf l.buf)
+
+abbrev pub decreases-loop-k : goal.decreases-loop-k
+decreases-loop-k l = l.n - l.k

@@ -1,0 +1,44 @@
+-- `put_heard` puts the start, the length, what the contact is and the newline one after the other.
+use mathlib.Core.Path.{ap, ◌∙◌}
+use mathlib.Core.List.{List, ◌++◌}
+use Prim.Native.Nat.{ℕ, ◌+◌, ◌≤◌}
+use lib.ListN.{length}
+use Rattle.text.specs.Text.{codes}
+use Rattle.text.specs.Put.{put}
+use Rattle.text.proofs.Standing.{less, join, room_after, join_4, numbered, room_as}
+use Rattle.contact_text.specs.Lines.{what}
+use Rattle.contact_text.proofs.Pieces.{heard_is}
+use Rattle.contact_text.proofs.lines.put_heard.Goals.{Start}
+use Rattle.contact_text.proofs.lines.put_heard.Goals as goal
+
+-- The whole has room, and so has its beginning.
+whole : (s : Start) → let a = s.args in
+    a.at + length (numbered "" a.start ++ numbered " " a.bits ++ what a.judged ++ codes "\n") ≤ length a.buf.now
+whole s = room_as s.args.buf.now s.args.at (heard_is s.args.start s.args.bits s.args.judged) s.requires
+
+with_what : (s : Start) → let a = s.args in a.at + length (numbered "" a.start ++ numbered " " a.bits ++ what a.judged) ≤ length a.buf.now
+with_what s =
+    let a = s.args in
+    less a.buf.now a.at (numbered "" a.start ++ numbered " " a.bits ++ what a.judged) (codes "\n") (whole s)
+
+pub put_what-c-requires : goal.put_what-c-requires
+put_what-c-requires c =
+    let p2 = c.before.before.before in
+    let p1 = p2.before.before.before.before.before in
+    let s = p1.before.before.before.before in
+    let a = s.args in
+    let two = less a.buf.now a.at (numbered "" a.start ++ numbered " " a.bits) (what a.judged) (with_what s) in
+    room_after a.buf.now a.at (numbered "" a.start ++ numbered " " a.bits) (what a.judged) (with_what s)
+    (join a.buf.now a.at (numbered "" a.start) (numbered " " a.bits) two p1.put_number-a.ensures p2.put_number-b.ensures)
+
+pub returns : goal.returns
+returns c =
+    let p4 = c.before.before in
+    let p3 = p4.before.before.before.before.before in
+    let p2 = p3.before.before.before.before in
+    let p1 = p2.before.before.before.before.before in
+    let s = p1.before.before.before.before in
+    let a = s.args in
+    join_4 a.buf.now a.at (numbered "" a.start) (numbered " " a.bits) (what a.judged) (codes "\n") (whole s)
+    p1.put_number-a.ensures p2.put_number-b.ensures p3.put_what-c.ensures p4.put.ensures
+    ∙ ap (λ (t : List ℕ). put t a.buf.now a.at) (heard_is a.start a.bits a.judged)

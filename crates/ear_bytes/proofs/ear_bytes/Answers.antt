@@ -1,0 +1,23 @@
+-- The figures of the hearing are spread over the bytes, from which each reads back.
+-- Assumes nothing.
+use mathlib.Core.Path.{◌≡◌, sym, ap, ap₂, subst, ◌∙◌}
+use Prim.Native.Nat.{ℕ, ◌/◌, ◌<◌}
+use mathlib.Core.List.{List}
+use lib.ListN.{length, get_or, replicate, length-replicate}
+use Rattle.state_bytes.specs.Figures.{spread}
+use Rattle.ear_bytes.specs.Ears.{ear_bytes}
+use Rattle.ear_bytes.proofs.EarBack.{ear_back}
+use Rattle.ear_bytes.proofs.ear_bytes.Goals as goal
+
+pub returns : goal.returns
+unfolding ear_bytes
+returns c =
+    let sp = c.spread in
+    let at-figures = c.before.before.before.before in
+    let f = at-figures.of_hearing-figures in
+    let hearing = at-figures.args.hearing in
+    let long : length {A = ℕ} (replicate 184 0) ≡ 184 = length-replicate {A = ℕ} 184 0 in (
+      sp.ensures.0 ∙ ap₂ spread long f.ensures.0,
+      ear_back sp.new.1.0 hearing f.ensures.1
+          (λ i h. sp.ensures.1 i (subst (λ (m : ℕ). i < m / 8) (sym long) h) ∙ ap (λ (l : List ℕ). get_or l i 0) f.ensures.0),
+    )

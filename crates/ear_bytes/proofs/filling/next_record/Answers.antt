@@ -1,0 +1,22 @@
+-- `next_record` asks at the lead's end, or of the piece.
+-- Assumes nothing.
+use mathlib.Core.Path.{sym, ap, ◌∙◌}
+use mathlib.Core.Bool.{Bool}
+use Rattle.recording.specs.Says.{went}
+use Rattle.recording.proofs.Endings.{ended_is}
+use Rattle.ear_bytes.specs.Inside.{coming}
+use Rattle.ear_bytes.proofs.filling.next_record.Goals as goal
+
+pub returns-then-ends : goal.returns-then-ends
+returns-then-ends c =
+    let e = c.before.before in
+    let i = e.before in
+    let a = i.args in
+    ended_is a.frame a.bit e.end-ended.result _ e.end-ended.ensures
+    ∙ ap (λ (b : Bool). went (coming b a.store a.lead.now a.tape a.frame a.bit)) (sym i.if-ends.true)
+
+pub returns : goal.returns
+returns c =
+    let i = c.before in
+    let a = i.args in
+    c.go_on.ensures ∙ ap (λ (b : Bool). went (coming b a.store a.lead.now a.tape a.frame a.bit)) (sym i.if-ends.false)

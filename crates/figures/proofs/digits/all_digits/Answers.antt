@@ -1,0 +1,33 @@
+-- `all_digits` looks at one character a turn: the whole is digits exactly if what is left is.
+use mathlib.Core.Path.{◌≡◌, refl, sym, ◌∙◌}
+use Prim.Native.Nat.{◌-◌, ◌≤◌}
+use native.Mathlib.Omega.{arith}
+use Rattle.figures.proofs.Characters.{not_below, not_beyond, a_digit, digits_end}
+use Rattle.figures.proofs.digits.all_digits.Goals as goal
+
+pub loop-i-init : goal.loop-i-init
+loop-i-init c = (omega arith, refl)
+
+pub returns-then-c-lt48 : goal.returns-then-c-lt48
+returns-then-c-lt48 c =
+    let l = c.before.before.before in
+    let t = l.args.text.now in
+    sym (l.loop-i.invariant.1 ∙ not_below t l.loop-i.i (omega arith) c.if-c-lt48.true)
+
+pub returns-then-c-gt57 : goal.returns-then-c-gt57
+returns-then-c-gt57 c =
+    let l = c.before.before.before.before in
+    let t = l.args.text.now in
+    sym (l.loop-i.invariant.1 ∙ not_beyond t l.loop-i.i (omega arith) c.if-c-lt48.false c.if-c-gt57.true)
+
+pub loop-i-preserved : goal.loop-i-preserved
+loop-i-preserved c =
+    let l = c.before.before.before.before in
+    let t = l.args.text.now in
+    (omega arith, l.loop-i.invariant.1 ∙ a_digit t l.loop-i.i (omega arith) c.if-c-lt48.false c.if-c-gt57.false)
+
+pub returns : goal.returns
+returns c =
+    let l = c.before in
+    let t = l.args.text.now in
+    sym (l.loop-i.invariant.1 ∙ digits_end t l.loop-i.i (omega arith))

@@ -1,0 +1,30 @@
+-- `place_of` looks at one byte a turn: the first sign from here on is always the first from the
+-- start on.
+use mathlib.Core.Path.{◌≡◌, refl, sym, ◌∙◌}
+use Prim.Native.Nat.{◌+◌, ◌-◌}
+use native.Mathlib.Omega.{arith}
+use Rattle.figures.specs.Fields.{before, place_of}
+use Rattle.figures.proofs.Signs.{at_sign, at_other, at_end}
+use Rattle.figures.proofs.fields.place_of.Goals as goal
+
+pub loop-i-init : goal.loop-i-init
+unfolding place_of
+loop-i-init c = refl
+
+pub returns-then-text-i : goal.returns-then-text-i
+returns-then-text-i c =
+    let l = c.before.before.before in
+    let a = l.args in
+    sym (at_sign a.sign a.text.now l.loop-i.i (omega arith) c.if-text-i.true) ∙ l.loop-i.invariant
+
+pub loop-i-preserved : goal.loop-i-preserved
+loop-i-preserved c =
+    let l = c.before.before.before in
+    let a = l.args in
+    sym (at_other a.sign a.text.now l.loop-i.i (omega arith) c.if-text-i.false) ∙ l.loop-i.invariant
+
+pub returns : goal.returns
+returns c =
+    let l = c.before in
+    let a = l.args in
+    sym (at_end a.sign a.text.now l.loop-i.i (omega arith)) ∙ l.loop-i.invariant

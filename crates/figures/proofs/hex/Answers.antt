@@ -1,0 +1,35 @@
+-- `hex` reads the two digits, and refuses what is no digit.
+use mathlib.Core.Path.{ap₂, ◌∙◌, subst}
+use Prim.Native.Nat.{ℕ, ◌+◌, ◌*◌, ◌≤◌, ◌<◌}
+use borrow.Author.Tests.{ne_eqb}
+use Rattle.figures.specs.Figures.{hex}
+use Rattle.figures.specs.declared.Byte.{Byte}
+use Rattle.figures.proofs.Characters.{no_high, no_low, two_digits}
+use Rattle.figures.proofs.hex.Goals as goal
+
+pub returns-then-text-ne2 : goal.returns-then-text-ne2
+unfolding hex
+returns-then-text-ne2 c = simp (ne_eqb _ _ c.if-text-ne2.true)
+
+pub returns-then-high-ge16 : goal.returns-then-high-ge16
+returns-then-high-ge16 c =
+    let q = c.before.before.before in
+    let t = q.args.text.now in
+    no_high t q.if-text-ne2.false (subst (λ (k : ℕ). 16 ≤ k) q.hex_digit-high.ensures c.if-high-ge16.true)
+
+pub returns-then-low-ge16 : goal.returns-then-low-ge16
+returns-then-low-ge16 c =
+    let p = c.before.before in
+    let q = p.before.before in
+    let t = q.args.text.now in
+    no_low t q.if-text-ne2.false (subst (λ (k : ℕ). k < 16) q.hex_digit-high.ensures c.if-high-ge16.false)
+    (subst (λ (k : ℕ). 16 ≤ k) p.hex_digit-low.ensures c.if-low-ge16.true)
+
+pub returns : goal.returns
+returns c =
+    let p = c.before.before in
+    let q = p.before.before in
+    let t = q.args.text.now in
+    ap₂ (λ (h l : ℕ). Byte.Is (h * 16 + l)) q.hex_digit-high.ensures p.hex_digit-low.ensures
+    ∙ two_digits t q.if-text-ne2.false (subst (λ (k : ℕ). k < 16) q.hex_digit-high.ensures c.if-high-ge16.false)
+    (subst (λ (k : ℕ). k < 16) p.hex_digit-low.ensures c.if-low-ge16.false)

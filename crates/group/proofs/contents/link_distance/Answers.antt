@@ -1,0 +1,19 @@
+-- By whether there is a 14, and by BZ.
+-- Assumes nothing.
+use mathlib.Core.Path.{sym, ap, ◌∙◌}
+use borrow.Author.Tests.{eq-eqb, ne_eqb}
+use Rattle.group.specs.Distance.{distance}
+use Rattle.group.proofs.contents.link_distance.Goals as goal
+
+pub returns-then-bz-eq0 : goal.returns-then-bz-eq0
+returns-then-bz-eq0 c =
+    let s = c.before.before.before.before.before.before in
+    c.distance.ensures ∙ ap (distance s.args.by) c.y_of.ensures
+    ∙ sym (rw (c.in-Is.is, eq-eqb s.args.bz 0 c.if-bz-eq0.true))
+
+pub returns-else-bz-eq0 : goal.returns-else-bz-eq0
+returns-else-bz-eq0 c =
+    rw (c.in-Is.is, ne_eqb c.args.bz 0 c.if-bz-eq0.false)
+
+pub returns-in-Missing : goal.returns-in-Missing
+returns-in-Missing c = c.distance-in-Missing.ensures ∙ rw c.in-Missing.is

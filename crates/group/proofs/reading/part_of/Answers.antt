@@ -1,0 +1,9 @@
+-- Case by case.
+-- Assumes nothing.
+use Rattle.group.proofs.reading.part_of.Goals as goal
+
+pub returns-in-Figures : goal.returns-in-Figures
+returns-in-Figures c = rw c.in-Figures.is
+
+pub returns-in-Number : goal.returns-in-Number
+returns-in-Number c = rw c.in-Number.is

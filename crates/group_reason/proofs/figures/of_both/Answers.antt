@@ -1,0 +1,18 @@
+-- B first, then C.
+-- Assumes nothing.
+use Rattle.group_reason.proofs.figures.of_both.Goals as goal
+
+pub returns-then-barred-b_breaks : goal.returns-then-barred-b_breaks
+returns-then-barred-b_breaks c = rw (← c.b_breaks.ensures, c.if-barred-b_breaks.true)
+
+pub returns-then-c-beyond : goal.returns-then-c-beyond
+returns-then-c-beyond c =
+    let h = c.before.before in
+    let k = h.before in
+    rw (← k.b_breaks.ensures, k.if-barred-b_breaks.false, ← h.beyond.ensures, c.if-c-beyond.true)
+
+pub returns : goal.returns
+returns c =
+    let h = c.before.before in
+    let k = h.before in
+    rw (← k.b_breaks.ensures, k.if-barred-b_breaks.false, ← h.beyond.ensures, c.if-c-beyond.false)

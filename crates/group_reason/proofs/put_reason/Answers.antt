@@ -1,0 +1,27 @@
+-- The text is spelled in a space of its own, and put into the buffer if it fits there.
+-- Assumes nothing.
+use native.Mathlib.Omega.{arith}
+use Rattle.text.proofs.Standing.{Begins, begins, as_long, put_as}
+use Rattle.group_reason.specs.Says.{says_reason}
+use Rattle.group_reason.specs.Text.{reason_text}
+use Rattle.group_reason.proofs.Pieces.{reason_length}
+use Rattle.group_reason.proofs.put_reason.Goals.{After-put_text-n}
+use Rattle.group_reason.proofs.put_reason.Goals as goal
+
+-- The space begins with the text.
+line : (c : After-put_text-n) → let a = c.args in Begins (reason_text (says_reason a.reason)) c.put_text-n.new.1.0 c.put_text-n.result
+line c =
+    let a = c.args in
+    begins 96 (reason_text (says_reason a.reason)) (omega (arith, reason_length (says_reason a.reason))) c.put_text-n.ensures
+
+pub put_text-n-requires : goal.put_text-n-requires
+put_text-n-requires c = omega (arith, reason_length (says_reason c.args.reason))
+
+pub slice_bounds-space-end : goal.slice_bounds-space-end
+slice_bounds-space-end c = (line c.before).within
+
+pub slice_bounds-put-end : goal.slice_bounds-put-end
+slice_bounds-put-end c = as_long (line c.before.before)
+
+pub returns : goal.returns
+returns c = put_as _ _ (line c.before.before.before.before.before.before) c.put.ensures

@@ -1,0 +1,16 @@
+-- By the case of the stand.
+-- Assumes nothing.
+use Rattle.group_rows.proofs.running.next.Goals as goal
+
+pub returns-in-Before : goal.returns-in-Before
+returns-in-Before c = rw c.in-Before.is c.next.ensures
+
+pub returns-in-Must : goal.returns-in-Must
+returns-in-Must c =
+    let t = c.before.before in
+    rw (t.in-After.is, t.in-Must.is) c.must_next.ensures
+
+pub returns-in-May : goal.returns-in-May
+returns-in-May c =
+    let t = c.before.before in
+    rw (t.in-After.is, t.in-May.is) c.may_next.ensures

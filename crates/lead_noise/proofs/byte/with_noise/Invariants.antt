@@ -1,0 +1,12 @@
+-- What the loop keeps true.
+use Prim.Native.Nat.{ℕ, suc, ◌+◌, ◌-◌, ◌≤◌, ◌<◌}
+use mathlib.Core.Path.{◌≡◌, refl, sym, ap, ap₂, ◌∙◌}
+use Rattle.lead_noise.specs.Generator.{drawn}
+use Rattle.lead_noise.proofs.Bytes.{top, heard_bit, made_low, whole, one_more}
+use Rattle.lead_noise.proofs.byte.with_noise.Given as goal
+
+abbrev pub invariant-loop-i : goal.invariant-loop-i
+invariant-loop-i l = (l.i ≤ 8) × (l.here ≡ drawn l.x l.i) × (l.made ≡ top (heard_bit l.x l.chance l.byte) l.i)
+
+abbrev pub decreases-loop-i : goal.decreases-loop-i
+decreases-loop-i l = 8 - l.i

@@ -1,0 +1,10 @@
+-- What the loop keeps true.
+use Prim.Native.Nat.{◌+◌, ◌-◌, ◌≤◌}
+use Rattle.lead_noise.proofs.SoFar.{SoFar, at_first, alike, odometer_byte, line_byte, at_last}
+use Rattle.lead_noise.proofs.going.over.Given as goal
+
+abbrev pub invariant-loop-i : goal.invariant-loop-i
+invariant-loop-i l = (l.i ≤ l.lead) × SoFar l.x l.chance l.initial.lead l.end l.here l.i
+
+abbrev pub decreases-loop-i : goal.decreases-loop-i
+decreases-loop-i l = l.lead - l.i

@@ -1,0 +1,29 @@
+-- `list_end` asks the store for place 0, and then goes over the lead's end.
+-- Assumes nothing.
+use mathlib.Core.Path.{ap, sym, ◌∙◌}
+use Rattle.settings.specs.Says.{says_asked}
+use Rattle.settings.proofs.Holding.{held_given, store_refused}
+use Rattle.lead_text.proofs.Judged.{end_refused, end_listed}
+use Rattle.lead_text.proofs.list_end.Goals as goal
+
+pub over-requires : goal.over-requires
+over-requires c =
+    let h = c.before.before in
+    let q = h.before.before in
+    (held_given q.args.store 0 _ (sym q.at.ensures ∙ ap says_asked h.in-InForce.is)).0
+
+pub returns-in-Refused : goal.returns-in-Refused
+returns-in-Refused c =
+    let v = c.before in
+    let q = v.before.before in
+    let a = q.args in
+    end_refused a.underway a.store a.out.now _ (store_refused a.store _ (sym q.at.ensures ∙ ap says_asked v.in-Refused.is))
+
+pub returns-in-InForce : goal.returns-in-InForce
+returns-in-InForce c =
+    let o = c.before.before in
+    let h = o.before.before.before in
+    let q = h.before.before in
+    let a = q.args in
+    let held = held_given a.store 0 _ (sym q.at.ensures ∙ ap says_asked h.in-InForce.is) in
+    o.over.ensures ∙ end_listed a.underway a.store a.out.now held.0

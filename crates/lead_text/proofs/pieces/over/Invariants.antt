@@ -1,0 +1,14 @@
+-- What the loop keeps true.
+use Prim.Native.Nat.{◌≤◌}
+use mathlib.Core.Path.{◌≡◌, refl, ap, ◌∙◌}
+use lib.ListN.{length}
+use Rattle.lead_text.specs.List.{place_of}
+use Rattle.lead_text.proofs.Asked.{rest, from_either, either_is, all_used, fewer, room_used, one_taken}
+use Rattle.lead_text.proofs.pieces.over.Given as goal
+
+abbrev pub invariant-loop-out : goal.invariant-loop-out
+invariant-loop-out l =
+    (l.at ≤ length l.out) × (length l.out ≡ length l.initial.out) × (from_either l.ends l.store l.frames l.here l.at l.out ≡ from_either l.ends l.store l.frames l.initial.here 0 l.initial.out)
+
+abbrev pub decreases-loop-out : goal.decreases-loop-out
+decreases-loop-out l = length (rest l.ends l.store l.frames (place_of l.here))

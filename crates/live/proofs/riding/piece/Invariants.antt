@@ -1,0 +1,10 @@
+-- What the loop keeps true.
+use mathlib.Core.Path.{◌≡◌, sym}
+use lib.ListN.{length}
+use Rattle.live.proofs.riding.piece.Given as goal
+
+abbrev pub invariant-loop-turns : goal.invariant-loop-turns
+invariant-loop-turns l = length l.out ≡ length l.initial.out
+
+abbrev pub decreases-loop-turns : goal.decreases-loop-turns
+decreases-loop-turns l = l.turns

@@ -1,0 +1,31 @@
+-- `all` sends piece after piece, and counts its turns down. The block keeps its length.
+use mathlib.Core.Path.{◌≡◌, refl, ◌∙◌}
+use native.Mathlib.Omega.{arith}
+use lib.ListN.{length}
+use Rattle.noise.proofs.pieces.all.Goals.{After-send-sent}
+use Rattle.noise.proofs.pieces.all.Goals as goal
+
+-- the block after a piece
+kept : (s : After-send-sent) →
+    length s.send-sent.new.1.1.0 ≡ length s.args.block.now
+kept s =
+    let n = s.before.before.before.before in
+    s.send-sent.auto.1.1.0 ∙ n.next_piece-piece.auto.1.0 ∙ n.loop-turns.invariant
+
+-- what was read lies within the block
+pub send-sent-requires : goal.send-sent-requires
+send-sent-requires c =
+    let n = c.next_piece-piece in
+    omega (arith, n.ensures.0, n.auto.1.0)
+
+pub shape_of-block-then-not-sent : goal.shape_of-block-then-not-sent
+shape_of-block-then-not-sent c = kept c.before.before.before.before.before
+
+pub shape_of-block-in_default : goal.shape_of-block-in_default
+shape_of-block-in_default c = kept c.before.before.before.before.before.before.before.before
+
+pub loop-turns-preserved : goal.loop-turns-preserved
+loop-turns-preserved c = kept c.before.before.before.before.before.before.before
+
+pub shape_of-block : goal.shape_of-block
+shape_of-block c = c.loop-turns.invariant

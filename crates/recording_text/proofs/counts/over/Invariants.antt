@@ -1,0 +1,12 @@
+-- What the loop keeps true.
+use Prim.Native.Nat.{ℕ, ◌+◌, ◌-◌, ◌/◌}
+use mathlib.Core.Path.{◌≡◌, refl, sym, ap, ◌∙◌}
+use lib.ListN.{length}
+use Rattle.recording_text.specs.Counts.{judge_frame, with_frame, over_frames, count_frames}
+use Rattle.recording_text.proofs.counts.over.Given as goal
+
+abbrev pub invariant-loop-k : goal.invariant-loop-k
+invariant-loop-k l = (over_frames l.piece l.counted l.k (l.n - l.k) ≡ count_frames l.initial.counted l.piece) × (l.n ≡ length l.piece / 16)
+
+abbrev pub decreases-loop-k : goal.decreases-loop-k
+decreases-loop-k l = l.n - l.k

@@ -1,0 +1,9 @@
+-- `write_block` writes no more bytes than there are.
+use Rattle.std.proofs.Common.{sym, arith, length-take-le, rules}
+use Rattle.records.proofs.blocks.write_block.Goals as goal
+
+pub slice_bounds-write_all-end : goal.slice_bounds-write_all-end
+slice_bounds-write_all-end c =
+    let p = c.before.before.before in
+    let b = p.before.before in
+    sym (length-take-le _ _ (omega (arith, p.put_block-lines.auto.1.1.0, b.large_buffer-out.ensures)))

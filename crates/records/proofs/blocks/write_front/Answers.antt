@@ -1,0 +1,8 @@
+-- `write_front` writes the front of the buffer, which lies within it.
+use Rattle.std.proofs.Common.{sym, length-take-le, rules}
+use Rattle.records.proofs.blocks.write_front.Goals as goal
+
+pub slice_bounds-write_block-end : goal.slice_bounds-write_block-end
+slice_bounds-write_block-end c =
+    let s = c.before.before in
+    sym (length-take-le s.args.read s.args.block.now s.requires)

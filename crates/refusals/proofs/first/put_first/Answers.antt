@@ -1,0 +1,47 @@
+-- Each arm puts the refusal of its number; a number below 20 without an arm has no row in the
+-- table.
+use native.Mathlib.Omega.{arith}
+use mathlib.Core.Path.{◌≡◌, ap, ◌∙◌}
+use mathlib.Core.List.{List, []}
+use Prim.Native.Nat.{ℕ}
+use borrow.Author.Tests.{ne_eqb}
+use Rattle.text.specs.Put.{put}
+use Rattle.refusals.specs.Words.{table, worded, refused}
+use Rattle.refusals.proofs.Lengths.{bare, below}
+use Rattle.refusals.proofs.first.put_first.Goals.{In_default}
+use Rattle.refusals.proofs.first.put_first.Goals as goal
+
+no_row : (c : In_default) → worded table c.args.number ≡ []
+unfolding worded table
+no_row c =
+    let n = c.args.number in
+    let h = c.requires in
+    let m = c.in_default.in_default-own in
+    simp (
+      ne_eqb n 2 m.rest.0.0.0.0.0.0.0.0.0.0.1,
+      ne_eqb n 3 m.rest.0.0.0.0.0.0.0.0.0.1,
+      ne_eqb n 4 m.rest.0.0.0.0.0.0.0.0.1,
+      ne_eqb n 5 m.rest.0.0.0.0.0.0.0.1,
+      ne_eqb n 7 m.rest.0.0.0.0.0.0.1,
+      ne_eqb n 8 m.rest.0.0.0.0.0.1,
+      ne_eqb n 9 m.rest.0.0.0.0.1,
+      ne_eqb n 16 m.rest.0.0.0.1,
+      ne_eqb n 17 m.rest.0.0.1,
+      ne_eqb n 18 m.rest.0.1,
+      ne_eqb n 19 m.rest.1,
+      below n 20 (omega (arith, h)),
+      below n 22 (omega (arith, h)),
+      below n 23 (omega (arith, h)),
+      below n 24 (omega (arith, h)),
+      below n 25 (omega (arith, h)),
+      below n 26 (omega (arith, h)),
+      below n 27 (omega (arith, h)),
+      below n 28 (omega (arith, h)),
+    )
+
+pub returns-in_default : goal.returns-in_default
+returns-in_default c =
+    let p = c.before.before in
+    let k = p.before.before in
+    let a = k.args in
+    p.put_number_alone.ensures ∙ ap (λ (t : List ℕ). put t a.buf.now a.at) (bare a.number (no_row k))

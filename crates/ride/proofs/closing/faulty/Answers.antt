@@ -1,0 +1,11 @@
+-- `faulty` puts the fault's line and that nothing is known together.
+use mathlib.Core.Path.{refl}
+use Rattle.ride.proofs.Cases.{first_place_law, faulted}
+use Rattle.group.specs.declared.Heard.{Heard}
+use Rattle.ride.proofs.closing.faulty.Goals as goal
+
+pub returns : goal.returns
+returns c =
+    let a = c.args in
+    faulted a.t1 a.known _ _ a.number c.requires c.nothing_known-nothing.ensures
+    (first_place_law a.t1.kept (record { place = 0; heard = Heard.Words 0 0 0 }) refl)

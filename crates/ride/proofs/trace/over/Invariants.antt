@@ -1,0 +1,19 @@
+-- What the loop keeps true.
+use mathlib.Core.Path.{◌≡◌, refl, ◌∙◌}
+use Prim.Native.Nat.{◌-◌, ◌/◌, ◌≤◌}
+use lib.ListN.{length}
+use Rattle.settings.specs.At.{gap_at}
+use Rattle.settings.proofs.Holding.{Holding, holding_at}
+use Rattle.ride.specs.Over.{first_records, ride_over}
+use Rattle.ride.proofs.Turns.{from_here, from_first, from_next, from_last}
+use Rattle.ride.proofs.trace.over.Given as goal
+
+abbrev pub invariant-loop-i : goal.invariant-loop-i
+invariant-loop-i l =
+    (l.count ≡ length l.trace / 8)
+    × (l.i ≤ l.count)
+    × Holding l.store l.held
+    × (from_here (gap_at l.store) l.trace l.count l.now l.i ≡ (ride_over (gap_at l.store) l.initial.now 1 (first_records l.count l.trace)).ride)
+
+abbrev pub decreases-loop-i : goal.decreases-loop-i
+decreases-loop-i l = l.count - l.i

@@ -1,0 +1,20 @@
+-- What was heard reads back: words have eight bits.
+-- Assumes nothing.
+use mathlib.Core.Path.{sym, ap, ◌∙◌}
+use native.Mathlib.Omega.{arith}
+use Rattle.ride_bytes.specs.Things.{heard_figure, heard_of}
+use Rattle.ride_bytes.proofs.Back.{heard_back}
+use Rattle.ride_bytes.proofs.groups.heard_figure.Goals as goal
+
+pub returns-in-Words : goal.returns-in-Words
+returns-in-Words c =
+    let h = c.heard-1.given in
+    (ap heard_figure (sym h.1), heard_back h.0.0 h.0.1.0 h.0.1.1.0 (omega arith) (omega arith) (omega arith) ∙ sym h.1)
+
+pub returns-in-Marker : goal.returns-in-Marker
+unfolding heard_of
+returns-in-Marker c = (ap heard_figure (sym c.in-Marker.is), sym c.in-Marker.is)
+
+pub returns-in-Unreadable : goal.returns-in-Unreadable
+unfolding heard_of
+returns-in-Unreadable c = (ap heard_figure (sym c.in-Unreadable.is), sym c.in-Unreadable.is)

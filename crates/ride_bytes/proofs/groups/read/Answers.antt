@@ -1,0 +1,27 @@
+-- Balise after balise, the count and the last place.
+-- Assumes nothing.
+use mathlib.Core.Path.{◌≡◌, ap, ◌∙◌}
+use Prim.Native.Nat.{ℕ, ◌%◌}
+use mathlib.Core.List.{List}
+use Rattle.state_bytes.specs.Figures.{each}
+use Rattle.group.specs.declared.Balise.{Balise}
+use Rattle.group.specs.declared.Group.{Group}
+use Rattle.ride_bytes.proofs.Back.{five}
+use Rattle.ride_bytes.proofs.groups.read.Goals as goal
+
+grouped : (k k' : List Balise) (n n' l l' : ℕ) → k ≡ k' → n ≡ n' → l ≡ l'
+    → ◌≡◌ {A = Group} (record { kept = k; count = n; last = l }) (record { kept = k'; count = n'; last = l' })
+grouped k k' n n' l l' p q r = cc
+
+pub returns : goal.returns
+unfolding each
+returns c =
+    let n = c.before.before.before in
+    let b5 = n.before.before.before in
+    let b4 = b5.before in
+    let b3 = b4.before in
+    let b2 = b3.before in
+    let b1 = b2.before in
+    grouped _ _ _ _ _ _
+    (five _ _ _ _ _ _ _ _ _ _ b1.balise_at.ensures b2.balise_at-2.ensures b3.balise_at-3.ensures b4.balise_at-4.ensures b5.balise_at-5.ensures)
+    (n.low8.ensures ∙ ap (λ (m : ℕ). m % 256) n.figure_at.ensures) (c.low32.ensures ∙ ap (λ (m : ℕ). m % 4294967296) c.figure_at-2.ensures)

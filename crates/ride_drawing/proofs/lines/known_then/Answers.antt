@@ -1,0 +1,10 @@
+-- What the end of the ride leaves.
+-- Assumes nothing.
+use mathlib.Core.Path.{ap}
+use Rattle.ride.specs.Step.{End, end}
+use Rattle.ride_drawing.proofs.lines.known_then.Goals as goal
+
+pub returns : goal.returns
+returns c =
+    let p1 = c.before.before in
+    ap (λ (e : End). e.ride.known) p1.end-ended.ensures

@@ -1,0 +1,26 @@
+-- The way there, what was known up to it, and the sign.
+-- Assumes nothing.
+use mathlib.Core.Path.{ap}
+use Rattle.text.proofs.Putting.{after, all_as}
+use Rattle.ride_drawing.proofs.Elements.{pieces_append}
+use Rattle.ride_drawing.specs.Element.{pieces}
+use Rattle.ride_drawing.specs.Way.{way_past}
+use Rattle.ride_drawing.specs.Drawing.{extra_mark, known_before, on_its_strip}
+use Rattle.ride_drawing.specs.Sign.{sign}
+use Rattle.ride_drawing.specs.declared.Pen.{Pen}
+use Rattle.ride_drawing.proofs.lines.put_line.Goals as goal
+
+pub returns : goal.returns
+unfolding on_its_strip
+returns c =
+    let p0 = c.before.before in
+    let p1 = p0.before.before.before.before in
+    let p2 = p1.before.before.before.before in
+    let p3 = p2.before.before.before.before in
+    let p4 = p3.before.before in
+    let a = p4.args in
+    all_as _ _ (pieces_append (way_past a.plan a.pen a.place a.place a.known) _)
+    (after _ _ _ _ p3.put_way_past-a.ensures
+    (after _ _ _ _
+    (all_as _ _ (ap (λ (t : Pen). known_before t a.known a.line a.place) p4.arrive-there.ensures) p2.put_known-b.ensures)
+    (after _ _ _ _ (all_as _ _ (ap (λ (t : Pen). sign a.closed a.line t.edge a.place) p4.arrive-there.ensures) p1.put_sign-c.ensures) (all_as _ _ (ap (λ (t : Pen). pieces (extra_mark a.plan a.line t.edge)) p4.arrive-there.ensures) p0.put_extra.ensures))))

@@ -1,0 +1,10 @@
+-- By the order of the two.
+-- Assumes nothing.
+use borrow.Author.Tests.{le-leb, lt-leb}
+use Rattle.ride_drawing.proofs.places.greater.Goals as goal
+
+pub returns-then-a-b : goal.returns-then-a-b
+returns-then-a-b c = simp (le-leb _ _ c.if-a-b.true)
+
+pub returns-else-a-b : goal.returns-else-a-b
+returns-else-a-b c = simp (lt-leb _ _ c.if-a-b.false)

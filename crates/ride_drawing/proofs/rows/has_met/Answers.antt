@@ -1,0 +1,41 @@
+-- The entries one after the other: whether one of those passed was met so, or one of those that are
+-- left.
+-- Assumes nothing.
+use Prim.Native.Nat.{◌-◌, ◌≤◌}
+use native.Mathlib.Omega.{arith}
+use mathlib.Core.Path.{◌≡◌, refl, sym, ◌∙◌}
+use Rattle.ride_drawing.proofs.Entries.{row_of, next_entry, no_entry_law, all_passed, met_next, met_all}
+use Rattle.ride_drawing.proofs.rows.has_met.Goals as goal
+
+pub loop-i-init : goal.loop-i-init
+loop-i-init c = (omega arith, refl)
+
+pub overflow_add-i : goal.overflow_add-i
+overflow_add-i c = omega (arith, c.loop-i-test.true)
+
+pub loop-i-smaller : goal.loop-i-smaller
+loop-i-smaller c = omega (arith, c.loop-i-test.true)
+
+pub loop-i-preserved : goal.loop-i-preserved
+loop-i-preserved c =
+    let g = c.before.before in
+    let t = g.before.before in
+    let n = t.before in
+    let l = n.before in
+    let a = l.args in
+    let e = g.in-Entry.entry in
+    let next = next_entry a.plan.run l.loop-i.i e n.loop-i-test.true (sym g.in-Entry.is ∙ t.report-reported.ensures) in
+    (omega (arith, n.loop-i-test.true), met_next a.plan.run a.place l.loop-i.i e l.loop-i.found c.is_by-found.result next c.is_by-found.ensures ∙ l.loop-i.invariant.1)
+
+pub returns-after-loop-i : goal.returns-after-loop-i
+returns-after-loop-i c =
+    let l = c.before in
+    let a = l.args in
+    sym (met_all a.plan.run a.place l.loop-i.i l.loop-i.found (all_passed a.plan.run l.loop-i.i c.loop-i-test.false)) ∙ l.loop-i.invariant.1
+
+pub returns-in_default : goal.returns-in_default
+returns-in_default c =
+    let t = c.before.before in
+    let l = t.before.before in
+    let a = l.args in
+    sym (met_all a.plan.run a.place l.loop-i.i l.loop-i.found (no_entry_law a.plan.run l.loop-i.i (sym c.in_default.is ∙ t.report-reported.ensures))) ∙ l.loop-i.invariant.1

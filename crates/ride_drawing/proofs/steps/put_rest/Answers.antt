@@ -1,0 +1,19 @@
+-- Past the entries that are left, and then the end of the last strip.
+-- Assumes nothing.
+use mathlib.Core.Path.{ap}
+use Rattle.text.proofs.Putting.{none, after, all_as}
+use Rattle.ride_drawing.proofs.Elements.{pieces_append}
+use Rattle.ride_drawing.specs.Way.{past}
+use Rattle.ride_drawing.specs.Drawing.{last_strip, the_rest}
+use Rattle.ride_drawing.specs.Row.{row, furthest}
+use Rattle.ride_drawing.specs.declared.Pen.{Pen}
+use Rattle.ride_drawing.proofs.steps.put_rest.Goals as goal
+
+pub returns : goal.returns
+unfolding the_rest
+returns c =
+    let p1 = c.before.before in
+    let p2 = p1.before.before.before.before.before in
+    let a = p2.args in
+    all_as _ _ (pieces_append (past a.pen a.pen 0 (row a.plan) furthest a.ride.odometer a.ride.known).elements _)
+    (after _ _ _ _ p2.pass-went.ensures.0 (after _ _ _ _ (all_as _ _ (ap (λ (q : Pen). last_strip q a.ride) p2.pass-went.ensures.1) p1.put_last.ensures) (none _ _)))

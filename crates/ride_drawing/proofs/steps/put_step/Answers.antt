@@ -1,0 +1,30 @@
+-- By what the record gives.
+-- Assumes nothing.
+use mathlib.Core.Path.{sym, ap, ◌∙◌}
+use Prim.Native.Nat.{ℕ}
+use Rattle.ride.specs.Says.{says_given}
+use Rattle.ride.specs.declared.Line.{Line}
+use Rattle.ride.specs.declared.trace.Given.{Given}
+use Rattle.text.proofs.Putting.{after, all_as}
+use Rattle.ride_drawing.specs.Element.{pieces}
+use Rattle.ride_drawing.specs.Ticks.{draw_refused}
+use Rattle.ride_drawing.specs.Drawing.{draw_step}
+use Rattle.ride_drawing.proofs.steps.put_step.Goals as goal
+
+pub returns-in-Refused : goal.returns-in-Refused
+returns-in-Refused c =
+    let p1 = c.before.before in
+    let p2 = p1.before.before in
+    let p3 = p2.before.before in
+    let a = p3.args in
+    all_as _ _
+    (ap (λ (n : ℕ). pieces (draw_refused a.pen a.ride.odometer a.closed (Line.Record a.number n))) p2.refusal.ensures
+    ∙ ap (λ (g : Given). pieces (draw_step a.plan a.pen a.ride a.number (says_given g) a.closed a.after)) (sym p3.in-Refused.is))
+    p1.Put-refused.ensures
+
+pub returns-in-Lines : goal.returns-in-Lines
+returns-in-Lines c =
+    let p1 = c.before.before in
+    let p2 = p1.before.before.before in
+    let a = p2.args in
+    all_as _ _ (ap (λ (g : Given). pieces (draw_step a.plan a.pen a.ride a.number (says_given g) a.closed a.after)) (sym p2.in-Lines.is)) p1.put_accepted.ensures

@@ -1,0 +1,39 @@
+-- The figures one after the other: what is left to put comes to the whole.
+-- Assumes nothing.
+use Prim.Native.Nat.{◌-◌, ◌≤◌}
+use native.Mathlib.Omega.{arith}
+use mathlib.Core.Path.{◌≡◌, refl, ◌∙◌}
+use Rattle.ride_drawing.proofs.Figures.{from_tick, one_put, all_put}
+use Rattle.ride_drawing.proofs.strips.put_figures.Goals as goal
+
+pub loop-i-init : goal.loop-i-init
+loop-i-init c = (refl, omega arith, refl)
+
+pub put_figure-next-requires : goal.put_figure-next-requires
+put_figure-next-requires c = (c.requires, c.loop-i-test.true)
+
+pub overflow_add-i : goal.overflow_add-i
+overflow_add-i c = omega (arith, c.loop-i-test.true)
+
+pub loop-i-smaller : goal.loop-i-smaller
+loop-i-smaller c = omega (arith, c.loop-i-test.true)
+
+pub loop-i-preserved : goal.loop-i-preserved
+loop-i-preserved c =
+    let p = c.before.before in
+    let n = p.before.before in
+    let l = n.before in
+    let km = l.args.km in (
+      p.put_figure-next.auto.1.1.0 ∙ l.loop-i.invariant.0,
+      omega (arith, n.loop-i-test.true),
+      one_put km l.loop-i.i l.loop-i.buf l.loop-i.next n.loop-i-test.true p.put_figure-next.ensures ∙ l.loop-i.invariant.2,
+    )
+
+pub shape_of-buf : goal.shape_of-buf
+shape_of-buf c = c.loop-i.invariant.0
+
+pub returns : goal.returns
+unfolding from_tick
+returns c =
+    let l = c.before in
+    all_put l.args.km l.loop-i.i l.loop-i.buf l.loop-i.next c.loop-i-test.false ∙ l.loop-i.invariant.2

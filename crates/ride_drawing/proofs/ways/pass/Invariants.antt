@@ -1,0 +1,17 @@
+-- What the loop keeps true.
+use Prim.Native.Nat.{◌+◌, ◌-◌, ◌≤◌}
+use mathlib.Core.Path.{◌≡◌, refl, sym, ◌∙◌}
+use lib.ListN.{length, drop}
+use Rattle.ride_drawing.specs.Way.{past}
+use Rattle.ride_drawing.proofs.Entries.{row_of, next_entry, no_entry_law, all_passed, to_come, one_passed, none_left}
+use Rattle.ride_drawing.proofs.ways.pass.Given as goal
+
+abbrev pub invariant-loop-i : goal.invariant-loop-i
+invariant-loop-i l =
+    (length l.run ≡ length l.initial.buf)
+    × (l.i ≤ 64)
+    × (to_come l.pen l.place l.until l.known l.now l.i (drop l.i (row_of l.at)) l.run l.next ≡ to_come l.pen l.place l.until l.known l.pen 0 (row_of l.at) l.initial.buf l.buf)
+    × ((past l.pen l.now l.i (drop l.i (row_of l.at)) l.place l.until l.known).pen ≡ (past l.pen l.pen 0 (row_of l.at) l.place l.until l.known).pen)
+
+abbrev pub decreases-loop-i : goal.decreases-loop-i
+decreases-loop-i l = 64 - l.i

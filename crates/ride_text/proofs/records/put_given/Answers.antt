@@ -1,0 +1,38 @@
+-- `put_given` puts the lines that a record gives, or the line of its refusal.
+use mathlib.Core.Path.{sym, ap, ◌∙◌}
+use mathlib.Core.List.{List}
+use Prim.Native.Nat.{ℕ}
+use Rattle.text.specs.Put.{put}
+use Rattle.ride.specs.declared.Line.{Line}
+use Rattle.ride.specs.declared.trace.Given.{Given}
+use Rattle.ride.specs.Over.{lines_for}
+use Rattle.ride.specs.Says.{says_wrong, says_given}
+use Rattle.ride_text.specs.Text.{line_text, lines_text}
+use Rattle.ride_text.proofs.Texts.{one_is, one_fits}
+use Rattle.ride_text.proofs.records.put_given.Goals as goal
+
+pub put_text-requires : goal.put_text-requires
+put_text-requires c =
+    let s = c.before.before.before.before.before.before in
+    let a = s.args in
+    one_fits a.reasons a.closed (Line.Record a.number c.refusal.result) a.out.now a.at s.requires
+
+pub returns-in-Refused : goal.returns-in-Refused
+returns-in-Refused c =
+    let p = c.before.before in
+    let x = p.before.before in
+    let k = x.before.before in
+    let a = k.args in
+    let w = k.in-Refused.wrong in
+    p.put_text.ensures
+    ∙ ap (λ (v : ℕ). put (line_text a.reasons a.closed (Line.Record a.number v)) a.out.now a.at) x.refusal.ensures
+    ∙ ap (λ (t : List ℕ). put t a.out.now a.at) (one_is a.reasons a.closed (Line.Record a.number (says_wrong w)))
+    ∙ ap (λ (v : Given). put (lines_text a.reasons a.closed (lines_for a.number (says_given v))) a.out.now a.at) (sym k.in-Refused.is)
+
+pub returns-in-Lines : goal.returns-in-Lines
+returns-in-Lines c =
+    let p = c.before.before in
+    let k = p.before.before.before in
+    let a = k.args in
+    p.put_lines.ensures
+    ∙ ap (λ (v : Given). put (lines_text a.reasons a.closed (lines_for a.number (says_given v))) a.out.now a.at) (sym k.in-Lines.is)

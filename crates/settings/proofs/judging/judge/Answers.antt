@@ -1,0 +1,46 @@
+-- `judge` looks at the count, at the first version, and has the others looked at.
+use mathlib.Core.Path.{sym, ap, ◌∙◌}
+use Prim.Native.Nat.{◌≤◌}
+use native.Mathlib.Omega.{arith}
+use borrow.Author.Tests.{eq-eqb, ne_eqb}
+use Rattle.settings.specs.Says.{says_verdict}
+use Rattle.settings.proofs.Walking.{unmapped}
+use Rattle.settings.proofs.Counts.{too_many, empty, first_place_law, first_settings}
+use Rattle.settings.proofs.judging.judge.Goals as goal
+
+pub returns-then-count-gt32 : goal.returns-then-count-gt32
+returns-then-count-gt32 c = too_many c.args.store c.if-count-gt32.true
+
+pub returns-then-count-eq0 : goal.returns-then-count-eq0
+returns-then-count-eq0 c = empty c.args.store c.if-count-gt32.false c.if-count-eq0.true
+
+pub returns-then-first-ne0 : goal.returns-then-first-ne0
+returns-then-first-ne0 c =
+    let two = c.before.before.before.before in
+    let s = two.before.before in
+    let some : 1 ≤ s.args.store.count = omega (arith, two.if-count-eq0.false) in
+    first_place_law s.args.store two.if-count-gt32.false (unmapped _ s.args.store.versions s.well-formed.0.1.1.0.1.0.1) some
+    (ne_eqb _ _ c.if-first-ne0.true)
+
+pub returns-in-Refused : goal.returns-in-Refused
+returns-in-Refused c =
+    let v = c.before in
+    let f = v.before.before in
+    let three = f.before in
+    let two = three.before.before.before.before in
+    let s = two.before.before in
+    let some : 1 ≤ s.args.store.count = omega (arith, two.if-count-eq0.false) in
+    first_settings s.args.store two.if-count-gt32.false (unmapped _ s.args.store.versions s.well-formed.0.1.1.0.1.0.1) some
+    (eq-eqb _ _ three.if-first-ne0.false) _ (sym (ap says_verdict v.in-Refused.is) ∙ f.settings_of-verdict.ensures)
+
+pub returns-in-Kept : goal.returns-in-Kept
+returns-in-Kept c =
+    let t = c.before in
+    let f = t.before.before in
+    let three = f.before in
+    let two = three.before.before.before.before in
+    let s = two.before.before in
+    let some : 1 ≤ s.args.store.count = omega (arith, two.if-count-eq0.false) in
+    c.all_follow.ensures
+    ∙ first_settings s.args.store two.if-count-gt32.false (unmapped _ s.args.store.versions s.well-formed.0.1.1.0.1.0.1) some
+    (eq-eqb _ _ three.if-first-ne0.false) _ (sym (ap says_verdict t.in-Kept.is) ∙ f.settings_of-verdict.ensures)

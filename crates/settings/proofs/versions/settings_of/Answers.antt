@@ -1,0 +1,25 @@
+-- `settings_of` judges the pair, then the gap.
+use mathlib.Core.Path.{sym, ap, ◌∙◌}
+use Rattle.telegram.specs.Says.{says_pair}
+use Rattle.settings.specs.Versions.{settings_of}
+use Rattle.settings.proofs.versions.settings_of.Goals as goal
+
+pub returns-then-allowed : goal.returns-then-allowed
+unfolding settings_of
+returns-then-allowed c =
+    let t = c.before.before in
+    let pair = sym t.good_pair.ensures ∙ ap says_pair t.in-Good.is in
+    rw (pair, ← c.allowed.ensures, c.if-allowed.true)
+
+pub returns-in-NotSeven : goal.returns-in-NotSeven
+unfolding settings_of
+returns-in-NotSeven c =
+    let pair = sym c.good_pair.ensures ∙ ap says_pair c.in-NotSeven.is in
+    rw pair
+
+pub returns-else-allowed : goal.returns-else-allowed
+unfolding settings_of
+returns-else-allowed c =
+    let t = c.before.before in
+    let pair = sym t.good_pair.ensures ∙ ap says_pair t.in-Good.is in
+    rw (pair, ← c.allowed.ensures, c.if-allowed.false)

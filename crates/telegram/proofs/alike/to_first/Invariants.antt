@@ -1,0 +1,21 @@
+-- What the loop keeps true.
+use Prim.Native.Nat.{ℕ, ◌+◌, ◌-◌, ◌≤◌, ◌<◌}
+use mathlib.Core.Path.{◌≡◌, sym, ap, ◌∙◌}
+use mathlib.Core.List.{◌∷◌}
+use Rattle.telegram.specs.Survey.{together, alike}
+use Rattle.telegram.proofs.Places.{ahead, none_ahead}
+use Rattle.telegram.proofs.SoFar.{so_far_meant, begins, ends, word_in, turn_alike, turn_differs, turn_not_here}
+use Rattle.telegram.proofs.alike.to_first.Given as goal
+
+abbrev pub invariant-loop-k : goal.invariant-loop-k
+invariant-loop-k l = (l.k ≤ 3) × ((j : ℕ) → j < l.k → word_in l.v j ≡ word_in l.kept j)
+
+abbrev pub decreases-loop-k : goal.decreases-loop-k
+decreases-loop-k l = 3 - l.k
+
+abbrev pub invariant-scan : goal.invariant-scan
+invariant-scan l =
+    (l.p ≤ l.stop) × (l.first + l.count ≤ l.p) × (together l.buf (l.first ∷ ahead l.buf l.s l.t l.stop (l.first + 1)) ≡ so_far_meant l.buf l.first l.count (ahead l.buf l.s l.t l.stop l.p))
+
+abbrev pub decreases-scan : goal.decreases-scan
+decreases-scan l = l.stop - l.p

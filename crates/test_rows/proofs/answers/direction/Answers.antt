@@ -1,0 +1,11 @@
+-- By the direction.
+-- Assumes nothing.
+use Rattle.text.proofs.Standing.{by_case}
+use Rattle.test_rows.specs.Answers.{direction_word}
+use Rattle.test_rows.proofs.answers.direction.Goals as goal
+
+pub returns-in-Present : goal.returns-in-Present
+returns-in-Present c = by_case direction_word _ _ c.in-Present.is c.put.ensures
+
+pub returns-in-Opposite : goal.returns-in-Opposite
+returns-in-Opposite c = by_case direction_word _ _ c.in-Opposite.is c.put-in-Opposite.ensures

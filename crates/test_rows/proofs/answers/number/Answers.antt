@@ -1,0 +1,15 @@
+-- By the number.
+-- Assumes nothing.
+use Rattle.text.proofs.Putting.{none, alone}
+use Rattle.test_rows.proofs.Choosing.{by_case}
+use Rattle.test_rows.specs.Answers.{number_pieces}
+use Rattle.test_rows.proofs.answers.number.Goals as goal
+
+pub returns-in-None : goal.returns-in-None
+returns-in-None c = by_case number_pieces _ _ c.in-None.is (none _ _)
+
+pub returns-in-Figure : goal.returns-in-Figure
+returns-in-Figure c =
+    let p = c.before.before in
+    let k = p.before.before.before.before in
+    by_case number_pieces _ _ k.in-Figure.is (alone _ _ _ p.put_number.ensures)

@@ -1,0 +1,13 @@
+-- What the loop keeps true.
+use mathlib.Core.Path.{◌≡◌, refl, sym, ap, ◌∙◌}
+use Prim.Native.Nat.{ℕ, ◌+◌, ◌-◌, ◌<◌, ◌≤◌}
+use lib.ListN.{length, get_or, drop, length-set}
+use Rattle.text.specs.Put.{placed}
+use Rattle.text.proofs.pieces.copy.Given as goal
+
+abbrev pub invariant-loop-i : goal.invariant-loop-i
+invariant-loop-i l =
+    (l.i ≤ length l.bytes) × (length l.at ≡ length l.initial.buf) × (placed (drop l.i l.bytes) l.at (l.buf + l.i) ≡ placed l.bytes l.initial.buf l.buf)
+
+abbrev pub decreases-loop-i : goal.decreases-loop-i
+decreases-loop-i l = length l.bytes - l.i

@@ -1,0 +1,19 @@
+-- What the loop keeps true.
+use mathlib.Core.Path.{◌≡◌, refl, sym, ap, ◌∙◌}
+use Prim.Native.Nat.{ℕ, ◌+◌, ◌/◌, ◌%◌, ◌^◌, ◌<◌, ◌≤◌}
+use lib.ListN.{length, set, length-set, length-append}
+use Rattle.text.specs.Text.{decimal, digit}
+use Rattle.text.specs.Put.{placed}
+use Rattle.text.proofs.pieces.spell.Given as goal
+
+abbrev pub invariant-loop-rest : goal.invariant-loop-rest
+invariant-loop-rest l =
+    (l.rest ≤ l.n)
+    × (l.i + 1 ≡ l.buf + length (decimal l.rest))
+    × (l.i < l.buf + length (decimal l.n))
+    × (length l.end ≡ length l.initial.buf)
+    × (placed (decimal l.rest) l.end l.buf ≡ placed (decimal l.n) l.initial.buf l.buf)
+    × (l.at ≡ l.buf + length (decimal l.n))
+
+abbrev pub decreases-loop-rest : goal.decreases-loop-rest
+decreases-loop-rest l = l.rest

@@ -1,0 +1,31 @@
+-- `over` takes line after line, and counts its turns down. The text's block and the room keep their
+-- lengths.
+use mathlib.Core.Path.{◌≡◌, refl, ◌∙◌}
+use Rattle.track.proofs.going.over.Goals as goal
+
+pub shape_of-text-then-passed : goal.shape_of-text-then-passed
+shape_of-text-then-passed c = let n = c.before.before.before.before.before.before.before.before.before in n.next-next.auto.1.0 ∙ n.loop-turns.invariant.0
+
+pub shape_of-room-then-passed : goal.shape_of-room-then-passed
+shape_of-room-then-passed c = let a = c.before.before.before in a.after-passed.auto.1.1.1.1.0 ∙ a.loop-turns.invariant.1
+
+pub shape_of-text-then-not-is_well : goal.shape_of-text-then-not-is_well
+shape_of-text-then-not-is_well c = let n = c.before.before.before.before.before.before.before.before.before.before.before.before.before in n.next-next.auto.1.0 ∙ n.loop-turns.invariant.0
+
+pub shape_of-room-then-not-is_well : goal.shape_of-room-then-not-is_well
+shape_of-room-then-not-is_well c = let a = c.before.before.before.before.before.before.before in a.after-passed.auto.1.1.1.1.0 ∙ a.loop-turns.invariant.1
+
+pub loop-turns-preserved : goal.loop-turns-preserved
+loop-turns-preserved c =
+    let a = c.before.before.before.before.before.before in
+    let n = a.before.before.before.before.before.before in
+    (n.next-next.auto.1.0 ∙ n.loop-turns.invariant.0, a.after-passed.auto.1.1.1.1.0 ∙ a.loop-turns.invariant.1)
+
+pub loop-turns-init : goal.loop-turns-init
+loop-turns-init c = (refl, refl)
+
+pub shape_of-text : goal.shape_of-text
+shape_of-text c = c.loop-turns.invariant.0
+
+pub shape_of-room : goal.shape_of-room
+shape_of-room c = c.loop-turns.invariant.1

@@ -1,0 +1,10 @@
+-- What the loop keeps true.
+use Prim.Native.Nat.{◌-◌, ◌≤◌}
+use Rattle.track_lead.proofs.Blocks.{SoFar, frame_long, at_first, next, used_up, reached}
+use Rattle.track_lead.proofs.feeding.write.Given as goal
+
+abbrev pub invariant-loop-k : goal.invariant-loop-k
+invariant-loop-k l = (l.k ≤ l.out) × SoFar l.initial.here l.to l.initial.out l.room l.here l.k
+
+abbrev pub decreases-loop-k : goal.decreases-loop-k
+decreases-loop-k l = l.out - l.k

@@ -1,0 +1,15 @@
+-- `on` reads block after block, and counts its turns down; the block keeps its length.
+use Rattle.std.proofs.Common.{◌≡◌, length, refl, ◌∙◌, arith}
+use Rattle.typed_lines.proofs.on.Goals as goal
+
+pub shape_of-block-then-more : goal.shape_of-block-then-more
+shape_of-block-then-more c = let f = c.before.before.before.before in f.fill-more.auto.1.0 ∙ f.loop-turns.invariant
+
+pub shape_of-block-then-count-eq0 : goal.shape_of-block-then-count-eq0
+shape_of-block-then-count-eq0 c = let f = c.before.before.before.before.before.before in f.fill-more.auto.1.0 ∙ f.loop-turns.invariant
+
+pub loop-turns-preserved : goal.loop-turns-preserved
+loop-turns-preserved c = let f = c.before.before.before.before.before in f.fill-more.auto.1.0 ∙ f.loop-turns.invariant
+
+pub shape_of-block : goal.shape_of-block
+shape_of-block c = c.loop-turns.invariant

@@ -1,0 +1,24 @@
+-- What the loop keeps true.
+use mathlib.Core.Path.{◌≡◌, ap, sym, ◌∙◌}
+use Prim.Native.Nat.{ℕ, ◌+◌, ◌-◌, ◌/◌, ◌%◌, ◌<◌, ◌≤◌}
+use lib.ListN.{length, set}
+use Rattle.settings.specs.declared.Store.{Store}
+use Rattle.settings.proofs.Holding.{Holding, holding_at}
+use Rattle.ride.specs.declared.Ride.{Ride}
+use mathlib.Core.List.{List}
+use Rattle.viewer.specs.declared.Standing.{Standing}
+use Rattle.viewer.specs.Going.{Ending, all, refused, Moved, after, forwards}
+use Rattle.viewer.proofs.going.over.Given as goal
+
+-- where the loop has come
+abbrev pub here : ℕ → ℕ → Ride → List Ride → Store → Standing
+here number kept ride last store = record { number = number; kept = kept; ride = ride; last = last; settings = store }
+
+abbrev pub invariant-loop-left : goal.invariant-loop-left
+invariant-loop-left l =
+    Holding l.store l.held
+    × (l.left ≤ l.times)
+    × (after (l.times - l.left) (forwards l.left l.trace (here l.number l.kept l.now l.last l.store)) ≡ forwards l.times l.trace (here l.initial.number l.initial.kept l.initial.now l.initial.last l.store))
+
+abbrev pub decreases-loop-left : goal.decreases-loop-left
+decreases-loop-left l = l.left

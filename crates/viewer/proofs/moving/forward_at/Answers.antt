@@ -1,0 +1,55 @@
+-- `forward_at` asks whether a record is left, then whether the settings are good; the record is
+-- then treated with what is held for it.
+use mathlib.Core.Path.{◌≡◌, ap, sym, ◌∙◌}
+use Rattle.settings.specs.Says.{says_asked}
+use Rattle.settings.proofs.Holding.{Holding, held_given, store_refused, holding_at}
+use Rattle.ride.proofs.Under.{held_next, held_treats}
+use Rattle.ride.specs.Step.{treat}
+use Rattle.ride.specs.At.{record_at}
+use Rattle.viewer.specs.Viewing.{by_step, step_of}
+use Rattle.viewer.proofs.Calls.{forward_end, forward_refused, forward_step}
+use Rattle.viewer.proofs.moving.forward_at.Goals.{After-held_at-held}
+use Rattle.viewer.proofs.moving.forward_at.Goals as goal
+
+-- what is held for the record
+for_record : (c : After-held_at-held) →
+    let a = c.args in
+    Holding a.stand.settings c.held_at-held.result
+    × (treat a.stand.ride c.held_at-held.result.gap (record_at a.trace.now a.stand.number) ≡ step_of a.stand (record_at a.trace.now a.stand.number))
+for_record c =
+    let k = c.before.before in
+    let q = k.before.before in
+    let e = q.before.before in
+    let a = e.args in
+    let asked = held_given a.stand.settings 0 _ (sym q.at-asked.ensures ∙ ap says_asked k.in-InForce.is) in
+    let first : Holding a.stand.settings k.in-InForce.first = rw asked.2 (holding_at a.stand.settings 0 asked.0) in (
+      held_next a.stand.settings k.in-InForce.first c.held_at-held.result a.trace.now a.stand.number asked.0 first c.held_at-held.ensures,
+      held_treats a.stand.settings k.in-InForce.first c.held_at-held.result a.stand.ride a.trace.now a.stand.number asked.0 first c.held_at-held.ensures e.if-number-trace.false,
+    )
+
+pub returns-then-number-trace : goal.returns-then-number-trace
+returns-then-number-trace c =
+    let a = c.args in
+    c.unmoved.ensures ∙ forward_end a.trace.now a.stand c.if-number-trace.true
+
+pub step_at-requires : goal.step_at-requires
+step_at-requires c = (c.if-number-trace.false, (for_record c).0.gap)
+
+pub returns-in-Refused : goal.returns-in-Refused
+returns-in-Refused c =
+    let k = c.before.before in
+    let q = k.before.before in
+    let e = q.before.before in
+    let a = e.args in
+    c.unmoved-in-Refused.ensures
+    ∙ forward_refused a.trace.now a.stand _ e.if-number-trace.false (store_refused a.stand.settings _ (sym q.at-asked.ensures ∙ ap says_asked k.in-Refused.is))
+
+pub returns-in-InForce : goal.returns-in-InForce
+returns-in-InForce c =
+    let h = c.before in
+    let k = h.before.before in
+    let q = k.before.before in
+    let e = q.before.before in
+    let a = e.args in
+    let held = held_given a.stand.settings 0 _ (sym q.at-asked.ensures ∙ ap says_asked k.in-InForce.is) in
+    c.step_at.ensures ∙ ap (by_step a.stand) (for_record h).1 ∙ forward_step a.trace.now a.stand e.if-number-trace.false held.0

@@ -1,0 +1,31 @@
+-- `begins` judges the settings, then the length.
+use mathlib.Core.Path.{ap, sym, ◌∙◌}
+use borrow.Author.Tests.{eq-eqb, ne_eqb}
+use Rattle.settings.specs.Says.{says_asked}
+use Rattle.settings.proofs.Holding.{held_given, store_refused}
+use Rattle.viewer.specs.Viewing.{Start}
+use Rattle.viewer.proofs.Calls.{open_refused, open_length, open_done}
+use Rattle.viewer.proofs.opening.begins.Goals as goal
+
+pub returns-then-trace-ne0 : goal.returns-then-trace-ne0
+returns-then-trace-ne0 c =
+    let e = c.before in
+    let q = e.before.before in
+    let a = q.args in
+    let held = held_given a.store 0 _ (sym q.at-asked.ensures ∙ ap says_asked e.in-InForce.is) in
+    ap (λ (s : Start). s.answer) (open_length a.store a.trace.now held.0 (ne_eqb _ _ c.if-trace-ne0.true))
+
+pub returns-in-Refused : goal.returns-in-Refused
+returns-in-Refused c =
+    let k = c.before in
+    let q = k.before.before in
+    let a = q.args in
+    ap (λ (s : Start). s.answer) (open_refused a.store a.trace.now _ (store_refused a.store _ (sym q.at-asked.ensures ∙ ap says_asked k.in-Refused.is)))
+
+pub returns-else-trace-ne0 : goal.returns-else-trace-ne0
+returns-else-trace-ne0 c =
+    let e = c.before in
+    let q = e.before.before in
+    let a = q.args in
+    let held = held_given a.store 0 _ (sym q.at-asked.ensures ∙ ap says_asked e.in-InForce.is) in
+    ap (λ (s : Start). s.answer) (open_done a.store a.trace.now held.0 (eq-eqb _ _ c.if-trace-ne0.false))

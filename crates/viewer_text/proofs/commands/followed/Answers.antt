@@ -1,0 +1,62 @@
+-- `followed` passes over the blanks, of which there must be one, and reads the number after them.
+use mathlib.Core.Path.{◌≡◌, ap, sym, ◌∙◌}
+use Prim.Native.Nat.{ℕ, ◌-◌, ◌≤◌}
+use mathlib.Core.List.{List}
+use native.Mathlib.Omega.{arith}
+use lib.ListN.{length, take, drop, length-drop}
+use lib.Seq.{take_all}
+use Rattle.figures.specs.Figures.{decimal}
+use Rattle.viewer_text.specs.Commands.{largest, numbered, followed}
+use Rattle.viewer_text.proofs.Letters.{leads_within, unled_is, led_is}
+use Rattle.viewer_text.proofs.commands.followed.Goals.{After-begin-blanks, After-decimal}
+use Rattle.viewer_text.proofs.commands.followed.Goals as goal
+
+-- the blanks lie within what stands there
+within : (b : After-begin-blanks) → b.begin-blanks.result ≤ length b.args.rest.now
+within b = omega (arith, b.begin-blanks.ensures, leads_within b.args.rest.now)
+
+-- the part from a place on is the rest
+rest_is : (l : List ℕ) (k : ℕ) → take (length l - k) (drop k l) ≡ drop k l
+rest_is l k = take_all (length l - k) (drop k l) (simp length-drop (omega arith))
+
+-- blanks and a figure
+figured : (d : After-decimal) → let a = d.args in numbered a.letter d.decimal.result ≡ followed a.letter a.rest.now
+figured d =
+    let x = d.before.before in
+    let b = x.before in
+    let a = b.args in
+    ap (numbered a.letter) (d.decimal.ensures
+    ∙ ap (λ (l : List ℕ). decimal l largest) (rest_is a.rest.now b.begin-blanks.result ∙ ap (λ (k : ℕ). drop k a.rest.now) b.begin-blanks.ensures))
+    ∙ led_is a.letter a.rest.now (λ z. x.if-blanks-eq0.false (b.begin-blanks.ensures ∙ z))
+
+pub returns-then-blanks-eq0 : goal.returns-then-blanks-eq0
+returns-then-blanks-eq0 c =
+    let b = c.before in
+    let a = b.args in
+    unled_is a.letter a.rest.now (sym b.begin-blanks.ensures ∙ c.if-blanks-eq0.true)
+
+pub returns-in-Number : goal.returns-in-Number
+returns-in-Number c =
+    let n = c.before.before in
+    let d = n.before.before in
+    let a = d.args in
+    c.by.ensures ∙ ap (numbered a.letter) (sym n.in-Number.is) ∙ figured d
+
+pub returns-in-Above : goal.returns-in-Above
+returns-in-Above c =
+    let n = c.before in
+    let d = n.before.before in
+    let a = d.args in
+    c.by-in-Above.ensures ∙ ap (numbered a.letter) (sym n.in-Above.is) ∙ figured d
+
+pub returns-in-Odd : goal.returns-in-Odd
+returns-in-Odd c =
+    let d = c.before.before in
+    let a = d.args in
+    ap (numbered a.letter) (sym c.in-Odd.is) ∙ figured d
+
+pub slice_bounds-decimal-count : goal.slice_bounds-decimal-count
+slice_bounds-decimal-count c = omega (arith, within c.before)
+
+pub slice_bounds-decimal-start : goal.slice_bounds-decimal-start
+slice_bounds-decimal-start c = within c.before

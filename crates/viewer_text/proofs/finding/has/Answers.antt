@@ -1,0 +1,58 @@
+-- `has` tries the places from the last to the first: those that are left decide.
+use mathlib.Core.Path.{◌≡◌, sym, ap, ◌∙◌}
+use Prim.Native.Nat.{◌+◌, ◌-◌, ◌≤◌}
+use native.Mathlib.Omega.{arith}
+use lib.ListN.{length}
+use Rattle.viewer_text.specs.Finding.{stands_before, has}
+use Rattle.viewer_text.proofs.Scanning.{found, found_on, found_none}
+use Rattle.viewer_text.proofs.finding.has.Goals as goal
+
+pub returns-then-word-text : goal.returns-then-word-text
+unfolding has
+returns-then-word-text c =
+    let a = c.args in
+    let none : length a.text.now + 1 - length a.word.now ≤ 0 = omega (arith, c.if-word-text.true) in
+    found_none a.text.now a.word.now (length a.text.now + 1 - length a.word.now) none
+
+pub loop-n-init : goal.loop-n-init
+unfolding has
+loop-n-init c =
+    let a = c.args in
+    let fits : length a.word.now ≤ length a.text.now = c.if-word-text.false in
+    let e : length a.text.now - length a.word.now + 1 ≡ length a.text.now + 1 - length a.word.now = omega arith in
+    (omega arith, ap (stands_before a.text.now a.word.now) e)
+
+pub returns-then-stands_at : goal.returns-then-stands_at
+returns-then-stands_at c =
+    let f = c.before in
+    let l = f.before in
+    let t = l.before in
+    let a = t.args in
+    found a.text.now a.word.now t.loop-n.n l.loop-n-test.true (sym f.stands_at.ensures ∙ c.if-stands_at.true) ∙ t.loop-n.invariant.1
+
+pub loop-n-preserved : goal.loop-n-preserved
+loop-n-preserved c =
+    let f = c.before in
+    let l = f.before in
+    let t = l.before in
+    let a = t.args in
+    let on = found_on a.text.now a.word.now t.loop-n.n l.loop-n-test.true (sym f.stands_at.ensures ∙ c.if-stands_at.false) in
+    (omega (arith, t.loop-n.invariant.0), on ∙ t.loop-n.invariant.1)
+
+pub returns : goal.returns
+returns c =
+    let t = c.before in
+    let a = t.args in
+    found_none a.text.now a.word.now t.loop-n.n c.loop-n-test.false ∙ t.loop-n.invariant.1
+
+pub overflow_sub-n-in-loop-n : goal.overflow_sub-n-in-loop-n
+overflow_sub-n-in-loop-n c = omega (arith, c.loop-n-test.true)
+
+pub stands_at-requires : goal.stands_at-requires
+stands_at-requires c = omega (arith, c.loop-n-test.true, c.loop-n.invariant.0)
+
+pub overflow_sub-n-in-loop-n-2 : goal.overflow_sub-n-in-loop-n-2
+overflow_sub-n-in-loop-n-2 c = omega (arith, c.loop-n-test.true)
+
+pub loop-n-smaller : goal.loop-n-smaller
+loop-n-smaller c = omega (arith, c.loop-n-test.true)

@@ -1,0 +1,15 @@
+-- What the loop keeps true.
+use mathlib.Core.Path.{◌≡◌, refl, sym, ap, ◌∙◌}
+use mathlib.Core.List.{List, map}
+use Prim.Native.Nat.{ℕ, ◌+◌, ◌-◌, ◌<◌, ◌≤◌}
+use lib.ListN.{length, get_or, set, drop, length-set}
+use Rattle.text.specs.Put.{placed}
+use Rattle.viewer_text.specs.Missing.{visible}
+use Rattle.viewer_text.proofs.missing.copy.Given as goal
+
+abbrev pub invariant-loop-i : goal.invariant-loop-i
+invariant-loop-i l =
+    (l.i ≤ length l.word) × (length l.at ≡ length l.initial.buf) × (placed (drop l.i (map visible l.word)) l.at (l.buf + l.i) ≡ placed (map visible l.word) l.initial.buf l.buf)
+
+abbrev pub decreases-loop-i : goal.decreases-loop-i
+decreases-loop-i l = length l.word - l.i

@@ -1,0 +1,19 @@
+-- What the loop keeps true.
+use mathlib.Core.Path.{◌≡◌, sym, ap, ◌∙◌}
+use Prim.Native.Nat.{ℕ, ◌+◌, ◌-◌, ◌*◌, ◌/◌, ◌<◌, ◌≤◌}
+use lib.ListN.{length, take, drop, length-replicate}
+use Rattle.settings.specs.At.{gap_at}
+use Rattle.ride.specs.Over.{records}
+use Rattle.viewer_text.specs.Seeking.{further, seek_in}
+use Rattle.viewer_text.proofs.seeking.over.Given as goal
+
+abbrev pub invariant-loop-i : goal.invariant-loop-i
+invariant-loop-i l =
+    (l.i ≡ l.number + l.times)
+    × (l.times ≤ length l.trace / 8)
+    × (length l.text ≡ 320)
+    × (further l.times (seek_in l.word (gap_at l.store) l.now (l.i + 1) (records (drop (l.i * 8) l.trace)))
+    ≡ seek_in l.word (gap_at l.store) l.initial.now (l.number + 1) (records (drop (l.number * 8) l.trace)))
+
+abbrev pub decreases-loop-i : goal.decreases-loop-i
+decreases-loop-i l = length l.trace / 8 - l.i

@@ -1,0 +1,35 @@
+-- `begin` passes over the blanks: those so far and those from here are all of them.
+use mathlib.Core.Path.{◌≡◌, sym, ◌∙◌}
+use Prim.Native.Nat.{◌+◌, ◌-◌}
+use native.Mathlib.Omega.{arith}
+use borrow.Author.Tests.{not-true, not-false}
+use Rattle.viewer_text.proofs.Scanning.{leads_on, leads_not, leads_end}
+use Rattle.viewer_text.proofs.trimming.begin.Goals as goal
+
+pub loop-i-init : goal.loop-i-init
+loop-i-init c = omega arith
+
+pub returns-then-not-is_blank : goal.returns-then-not-is_blank
+returns-then-not-is_blank c =
+    let b = c.before in
+    let l = b.before.before in
+    let t = l.before in
+    let none = leads_not t.args.line.now t.loop-i.i l.loop-i-test.true (sym b.is_blank.ensures ∙ not-true _ c.if-not-is_blank.true-raw) in
+    omega (arith, t.loop-i.invariant)
+
+pub loop-i-preserved : goal.loop-i-preserved
+loop-i-preserved c =
+    let b = c.before in
+    let l = b.before.before in
+    let t = l.before in
+    let more = leads_on t.args.line.now t.loop-i.i l.loop-i-test.true (sym b.is_blank.ensures ∙ not-false _ c.if-not-is_blank.false-raw) in
+    omega (arith, t.loop-i.invariant)
+
+pub returns : goal.returns
+returns c =
+    let t = c.before in
+    let none = leads_end t.args.line.now t.loop-i.i c.loop-i-test.false in
+    omega (arith, t.loop-i.invariant)
+
+pub loop-i-smaller : goal.loop-i-smaller
+loop-i-smaller c = omega (arith, c.loop-i-test.true)

@@ -1,0 +1,17 @@
+-- What the loop keeps true.
+use mathlib.Core.Path.{◌≡◌, refl, sym, ap, ap₂, ◌∙◌, subst}
+use Prim.Native.Nat.{ℕ, ◌+◌, ◌-◌, ◌*◌, ◌/◌, ◌%◌, ◌^◌, ◌≤◌, ◌<◌}
+use Rattle.words.specs.Answer.{pick}
+use Rattle.words.specs.Bits.{bit, word}
+use Rattle.words.specs.Plain.{is_check, carriers, carried}
+use Rattle.words.proofs.Spelling.{Spelt, spelt_none, spelt_more, spelt_lt, worth_le}
+use Rattle.words.proofs.writing.carried.Given as goal
+
+abbrev pub from : ℕ → ℕ → ℕ
+from x i = pick (is_check i) 0 (bit x (carriers i))
+
+abbrev pub invariant-loop-i : goal.invariant-loop-i
+invariant-loop-i l = (l.i ≤ l.n) × (l.k ≡ carriers l.i) × Spelt (from l.x) l.i l.h l.one
+
+abbrev pub decreases-loop-i : goal.decreases-loop-i
+decreases-loop-i l = l.n - l.i

@@ -1,0 +1,15 @@
+-- What the loop keeps true.
+use Prim.Native.Nat.{ℕ, ◌+◌, ◌-◌, ◌*◌, ◌/◌, ◌%◌, ◌^◌, ◌≤◌, ◌<◌}
+use Rattle.words.specs.Bits.{bit, word}
+use Rattle.words.specs.Code.{other, exchanged}
+use Rattle.words.proofs.Spelling.{Spelt, spelt_none, spelt_more, spelt_lt, worth_le}
+use Rattle.words.proofs.writing.exchanged.Given as goal
+
+abbrev pub from : ℕ → ℕ → ℕ
+from w i = bit w (other i)
+
+abbrev pub invariant-loop-i : goal.invariant-loop-i
+invariant-loop-i l = (l.i ≤ l.n) × Spelt (from l.w) l.i l.e l.one
+
+abbrev pub decreases-loop-i : goal.decreases-loop-i
+decreases-loop-i l = l.n - l.i
