@@ -16,7 +16,7 @@ fn is_given(rt: &impl System, k: usize) -> bool {
 
 // How many arguments there are, the program's name among them: bit by bit, from one that no command
 // line has.
-pub fn words(rt: &impl System) -> usize {
+pub fn argument_count(rt: &impl System) -> usize {
     let mut count: usize = 0;
     for i in 0..32u32 {
         let more = (4294967295u64 >> i) / 2;

@@ -4,7 +4,7 @@ ghost use Rattle.std.specs.Prelude.{◌≡◌, ◌+◌, length};
 ghost use Rattle.settings.specs.Store.{no_store_meant};
 ghost use Rattle.console.specs.Asked.{cards_from, Ridden};
 
-use crate::arguments::{is_option, words};
+use crate::arguments::{argument_count, is_option};
 use crate::lengths::open_card;
 use crate::reading::fill;
 use crate::saying::{begin_line, cannot_write};
@@ -138,7 +138,7 @@ pub fn options_at(rt: &impl System, program: &[u8], aside: bool, at: u8) -> Aske
         };
     }
     let file = at as usize + 1;
-    if words(rt) <= file {
+    if argument_count(rt) <= file {
         return none(at, OptionsWent::Usage);
     }
     let Some(mut opened) = open_card(rt, file) else {

@@ -2,7 +2,7 @@
 // opened.
 ghost use Rattle.std.specs.Prelude.{◌+◌, ◌≤◌, length};
 
-use crate::arguments::{is_input, words};
+use crate::arguments::{argument_count, is_input};
 use crate::progress::{Far, not_begun, wipe};
 use crate::reading::length_of;
 use crate::system::{Source, System};
@@ -105,7 +105,7 @@ fn measure(rt: &impl System, number: usize, block: &mut [u8], far: Far) -> Card 
 pub fn named(rt: &impl System, first: usize, most: usize) -> usize
     ensures { (result ≤ most) × (first + result ≤ 18446744073709551615) × (result ≤ 1000000) }
 {
-    let words = words(rt);
+    let words = argument_count(rt);
     if words <= first {
         return 0;
     }
@@ -121,7 +121,7 @@ pub fn named(rt: &impl System, first: usize, most: usize) -> usize
 
 // Why no card is gone over: none is named, or too many are.
 fn none_named(rt: &impl System, first: usize) -> CardsFound {
-    if words(rt) <= first {
+    if argument_count(rt) <= first {
         return CardsFound::NoCard;
     }
     CardsFound::TooMany

@@ -58,8 +58,8 @@ mod system;
 mod telling;
 
 pub use arguments::{
-    FigureAsked, NumberAsked, PairAsked, figure, is_input, is_option, number, number_in, sync_pair,
-    words,
+    FigureAsked, NumberAsked, PairAsked, argument_count, figure, is_input, is_option, number,
+    number_in, sync_pair,
 };
 pub use before::{AskedFor, OptionsWent, options, options_at};
 pub use blocks::{CardBlock, Goes, Pass, begin, next_block};
