@@ -1,5 +1,5 @@
 // The listing of a ride from the cards that the arguments name, in their order: what `checker` and
-// `explain` do, each in its style. `list_cards(program, call, reasons)` reads the settings that
+// `explain` do, each in its style. `list_cards(rt, program, call, reasons)` reads the settings that
 // `-s` names (else document 01's gap), goes over the cards twice, once for their lengths and once
 // for the records, and writes the lines. A plain listing is document 01's lines and nothing else:
 // of what goes wrong the launcher alone is told; with reasons the program says it.

@@ -1,6 +1,6 @@
 // What is typed in a file, a line for each thing, made into bytes on standard output, for the
-// programs `trace` and `plan`. `run(program, form)` takes the file that the first argument names
-// and goes over it twice: once for what is wrong, which is said on standard error in one line
+// programs `trace` and `plan`. `run(rt, program, form)` takes the file that the first argument
+// names and goes over it twice: once for what is wrong, which is said on standard error in one line
 // (`trace: line 3 unreadable`, `trace: line 3 refused 2`, `plan: refused 26`), once for the bytes.
 // Promises: it is safe and it ends, in the same memory for a file of any size; what a line says and
 // its bytes are those of trace_text and plan_text. What is read or written stands outside

@@ -1,11 +1,11 @@
 // The lines of a text in an open file, one after the other, for the programs that take a text:
 // `trace`, `plan`, `track`.
-// 1. `begin()` is before the first line. `next(rt, file, pass, block)` answers the next line
-//    of the file with its number (`Line`), what stands after the last newline too, even if that is empty; or that no
-//    line is left (`End`), or that a read failed (`CannotRead`). `block` is any buffer of three
-//    bytes at least, and each call is lent the same one, unchanged.
-// 2. `fail_line(program, number, words)` and `refuse_line(program, number, refusal)` say what is
-//    wrong with a line: `trace: line 3 unreadable`, `trace: line 3 refused 2: WORDS`.
+// 1. `begin()` is before the first line. `next(rt, file, pass, block)` answers the next line of the
+//    file with its number (`Line`), what stands after the last newline too, even if that is empty;
+//    or that no line is left (`End`), or that a read failed (`CannotRead`). `block` is any buffer
+//    of three bytes at least, and each call is lent the same one, unchanged.
+// 2. `fail_line(rt, program, number, words)` and `refuse_line(rt, program, number, refusal)` say
+//    what is wrong with a line: `trace: line 3 unreadable`, `trace: line 3 refused 2: WORDS`.
 // Promises: it is safe and it ends, in the same memory for a file of any size. What is kept of a
 // line is what `lines` keeps; that the blocks join is crates/lines_laws/specs/Texts.antt. What is
 // read or written stands outside contracts: docs/EXCEPTIONS.md.
@@ -17,8 +17,9 @@ use console::{Source, System};
 use lines::{Got, Reader, TextLine};
 pub use telling::{fail_line, refuse_line};
 
-// Where the reading of a text stands: the line that is being read and its number, how many bytes of the text are in the block and where the line goes on there; whether the first block
-// was read, and whether the last line was handed out.
+// Where the reading of a text stands: the line that is being read and its number, how many bytes of
+// the text are in the block and where the line goes on there; whether the first block was read, and
+// whether the last line was handed out.
 #[derive(Clone, Copy)]
 pub struct TextPass {
     reader: Reader,
