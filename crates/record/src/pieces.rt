@@ -188,7 +188,7 @@ pub fn all(rt: &impl System, store: Store, first: usize) {
         from = got.leads;
         let how = got.how;
         let ReadingGoes::More = how else {
-            finish(rt, how, stand, leads::kept(from));
+            finish(rt, how, stand, leads::kept(&from));
             return;
         };
         turns -= 1;

@@ -43,7 +43,7 @@ fn is_so(rt: &impl Print, by: u8, figure: u8, means: &[u8]) -> bool {
             so
         }
         Measured::NoDistance => {
-            let so = means == b"NA";
+            let so = means == b"NA".as_slice();
             if !so {
                 begin(rt, by, figure);
                 say::text(rt, b": refused 15");

@@ -17,7 +17,7 @@ fn is_so(rt: &impl Print, figure: u8, means: &[u8]) -> bool {
             so
         }
         Told::Unknown => {
-            let so = means == b"none";
+            let so = means == b"none".as_slice();
             if !so {
                 say::number(rt, b"figure ", figure as u32);
                 say::text(rt, b": no information");
