@@ -6,8 +6,7 @@ use Rattle.console.proofs.blocks.read_on.Goals as goal
 -- what was read is no more than was wanted
 counted : (c : After-fill-got) → c.fill-got.result.count ≤ c.args.want
 counted c =
-    let s = c.before.before.before.before in
-    omega (arith, c.fill-got.ensures, length-take-le s.args.want s.args.block.now s.requires.0)
+    omega (arith, c.fill-got.ensures, length-take-le c.args.want c.args.block.now c.requires.want_in_bounds)
 
 -- and of it whole records
 whole : (n want : ℕ) → n ≤ want → (n - n % 8 ≤ want) × ((n - n % 8) % 8 ≡ 0)
@@ -18,27 +17,22 @@ handed n want r h e = (omega (arith, (whole n want h).0, e), ap (λ (k : ℕ). k
 
 pub slice_bounds-fill-end-2 : goal.slice_bounds-fill-end-2
 slice_bounds-fill-end-2 c =
-    let s = c.before.before in
-    sym (length-take-le s.args.want s.args.block.now s.requires.0)
+    sym (length-take-le c.args.want c.args.block.now c.requires.want_in_bounds)
 
 pub returns-then-got : goal.returns-then-got
 returns-then-got c =
-    let f = c.before.before.before.before.before.before in
-    handed f.fill-got.result.count f.args.want c.closed.result.read (counted f) c.closed.ensures
+    handed c.fill-got.result.count c.args.want c.closed.result.read (counted (goal.at-returns-then-got c).After-fill-got) c.closed.ensures
 
 pub returns-then-read-want : goal.returns-then-read-want
 returns-then-read-want c =
-    let f = c.before.before.before.before.before.before.before in
-    handed f.fill-got.result.count f.args.want c.closed-then-read-want.result.read (counted f) c.closed-then-read-want.ensures
+    handed c.fill-got.result.count c.args.want c.closed-then-read-want.result.read (counted (goal.at-returns-then-read-want c).After-fill-got) c.closed-then-read-want.ensures
 
 pub overflow_sub-result : goal.overflow_sub-result
 overflow_sub-result c =
-    let f = c.before.before.before.before.before.before.before.before in
-    let h = counted f in
-    let p = f.requires.1 in
+    let h = counted (goal.at-overflow_sub-result c).After-fill-got in
+    let p = c.requires.want_le_left in
     omega arith
 
 pub returns : goal.returns
 returns c =
-    let f = c.before.before.before.before.before.before.before.before.before in
-    whole f.fill-got.result.count f.args.want (counted f)
+    whole c.fill-got.result.count c.args.want (counted (goal.at-returns c).After-fill-got)

@@ -6,36 +6,32 @@ use Rattle.console.proofs.reading.fill.Goals as goal
 
 -- what is read next lies within the buffer too
 within : (c : After-read_some-got) →
-    let l = c.before.before.before in
-    l.loop-have.have + c.read_Some.result.count ≤ length l.loop-have.buf
+    c.loop-have.have + c.read_Some.result.count ≤ length c.loop-have.buf
 within c =
-    let l = c.before.before.before in
-    omega (arith, c.read_Some.ensures, mid_len l.loop-have.have (length l.loop-have.buf) l.loop-have.buf (le_refl (length l.loop-have.buf)))
+    omega (arith, c.read_Some.ensures, mid_len c.loop-have.have (length c.loop-have.buf) c.loop-have.buf (le_refl (length c.loop-have.buf)))
 
 -- the buffer keeps its length
 keeps : (c : After-read_some-got) →
-    let l = c.before.before.before in
-    length (put_mid l.loop-have.have (length l.loop-have.buf - l.loop-have.have) l.loop-have.buf c.read_Some.new.1.0) ≡ length l.loop-have.buf
+    length (put_mid c.loop-have.have (length c.loop-have.buf - c.loop-have.have) c.loop-have.buf c.read_Some.new.1.0) ≡ length c.loop-have.buf
 keeps c =
-    let l = c.before.before.before in
-    same_len_mid l.loop-have.have (length l.loop-have.buf - l.loop-have.have) l.loop-have.buf c.read_Some.new.1.0 c.read_Some.auto.1.0
+    same_len_mid c.loop-have.have (length c.loop-have.buf - c.loop-have.have) c.loop-have.buf c.read_Some.new.1.0 c.read_Some.auto.1.0
 
 pub loop-have-init : goal.loop-have-init
 loop-have-init c = (omega arith, refl)
 
 pub overflow_add-have : goal.overflow_add-have
-overflow_add-have c = omega (arith, within c.before.before.before)
+overflow_add-have c = omega (arith, within (goal.at-overflow_add-have c).After-read_some-got)
 
 pub loop-have-smaller : goal.loop-have-smaller
 loop-have-smaller c =
-    let h = within c.before.before.before in
-    let same = keeps c.before.before.before in
+    let h = within (goal.at-loop-have-smaller c).After-read_some-got in
+    let same = keeps (goal.at-loop-have-smaller c).After-read_some-got in
     omega arith
 
 pub loop-have-preserved : goal.loop-have-preserved
 loop-have-preserved c =
-    let h = within c.before.before.before in
-    let same = keeps c.before.before.before in
+    let h = within (goal.at-loop-have-preserved c).After-read_some-got in
+    let same = keeps (goal.at-loop-have-preserved c).After-read_some-got in
     (omega arith, same ∙ c.loop-have.invariant.1)
 
 pub shape_of-buf-after-loop-have : goal.shape_of-buf-after-loop-have
@@ -43,4 +39,4 @@ shape_of-buf-after-loop-have c = c.loop-have.invariant.1
 
 pub shape_of-buf-then-count-eq0 : goal.shape_of-buf-then-count-eq0
 shape_of-buf-then-count-eq0 c =
-    keeps c.before.before.before ∙ c.loop-have.invariant.1
+    keeps (goal.at-shape_of-buf-then-count-eq0 c).After-read_some-got ∙ c.loop-have.invariant.1

@@ -5,24 +5,23 @@ use Rattle.console.proofs.reading.length_of.Goals as goal
 
 -- the block keeps its length
 keeps : (c : After-fill-got) →
-    let l = c.before.before.before in
-    length c.fill-got.new.1.0 ≡ length l.args.block.now
+    length c.fill-got.new.buf.0 ≡ length c.args.block.now
 keeps c = c.fill-got.auto.1.0 ∙ c.loop-turns.invariant.1
 
 pub loop-turns-init : goal.loop-turns-init
 loop-turns-init c = (omega arith, refl)
 
 pub shape_of-block-then-count-eq0 : goal.shape_of-block-then-count-eq0
-shape_of-block-then-count-eq0 c = keeps c.before.before.before.before
+shape_of-block-then-count-eq0 c = keeps (goal.at-shape_of-block-then-count-eq0 c).After-fill-got
 
 pub loop-turns-preserved : goal.loop-turns-preserved
-loop-turns-preserved c = (omega arith, keeps c.before.before.before.before.before.before)
+loop-turns-preserved c = (omega arith, keeps (goal.at-loop-turns-preserved c).After-fill-got)
 
 pub shape_of-block-after-loop-turns : goal.shape_of-block-after-loop-turns
 shape_of-block-after-loop-turns c = c.loop-turns.invariant.1
 
 pub shape_of-block-then-got : goal.shape_of-block-then-got
-shape_of-block-then-got c = keeps c.before.before.before
+shape_of-block-then-got c = keeps (goal.at-shape_of-block-then-got c).After-fill-got
 
 pub shape_of-block-then-count-bytes : goal.shape_of-block-then-count-bytes
-shape_of-block-then-count-bytes c = keeps c.before.before.before.before.before
+shape_of-block-then-count-bytes c = keeps (goal.at-shape_of-block-then-count-bytes c).After-fill-got

@@ -8,6 +8,4 @@ use Rattle.contact_text.proofs.lines.put_what.Goals as goal
 
 pub put_read-requires : goal.put_read-requires
 put_read-requires c =
-    let k = c.before.before in
-    let s = k.before.before.before in
-    subst (λ (j : Judged). s.args.at + length (what j) ≤ length s.args.buf.now) k.in-Read.is s.requires
+    subst (λ (j : Judged). c.args.at + length (what j) ≤ length c.args.buf.now) c.in-Read.is c.requires

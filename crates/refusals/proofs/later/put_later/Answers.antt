@@ -41,7 +41,5 @@ no_row c =
 
 pub returns-in_default : goal.returns-in_default
 returns-in_default c =
-    let p = c.before.before in
-    let k = p.before.before in
-    let a = k.args in
-    p.put_number_alone.ensures ∙ ap (λ (t : List ℕ). put t a.buf.now a.at) (bare a.number (no_row k))
+    let a = c.args in
+    c.put_number_alone.ensures ∙ ap (λ (t : List ℕ). put t a.buf.now a.at) (bare a.number (no_row (goal.at-returns-in_default c).In_default))
