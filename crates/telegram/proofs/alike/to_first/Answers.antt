@@ -70,13 +70,13 @@ scan-preserved-then-p-stop c =
     let from = q.ensures in
     ⊎_elim
     (λ z.
-    let more : c.if-is_place.count ≡ l.count + 1 = z.3 in
-    let same : (j : ℕ) → j < 3 → word_in v.result j ≡ word_in kept.result j = λ j h. z.1.inv.1 j (omega (arith, z.2.left)) in
-    let so_far = turn_alike b a.s a.t a.stop a.first q.result l.count v.result kept.result v.ensures kept.ensures on c.if-is_place.count more (sym c.is_place.ensures ∙ z.0.taken) same in
+    let more : c.if-is_place.count ≡ l.count + 1 = z.count-is in
+    let same : (j : ℕ) → j < 3 → word_in v.result j ≡ word_in kept.result j = λ j h. z.loop-k.invariant.1 j (omega (arith, z.loop-k-test.false)) in
+    let so_far = turn_alike b a.s a.t a.stop a.first q.result l.count v.result kept.result v.ensures kept.ensures on c.if-is_place.count more (sym c.is_place.ensures ∙ z.if-is_place.true) same in
     (omega arith, omega arith, l.invariant.2 ∙ to_p (goal.at-scan-preserved-then-p-stop c).After-up_to-p-else-h-eq0 ∙ so_far))
     (λ z.
-    let as_before : c.if-is_place.count ≡ l.count = z.1 in
-    let so_far = turn_not_here b a.s a.t a.stop a.first q.result l.count v.result kept.result v.ensures kept.ensures on c.if-is_place.count as_before (sym c.is_place.ensures ∙ z.0.left) in
+    let as_before : c.if-is_place.count ≡ l.count = z.count-is in
+    let so_far = turn_not_here b a.s a.t a.stop a.first q.result l.count v.result kept.result v.ensures kept.ensures on c.if-is_place.count as_before (sym c.is_place.ensures ∙ z.if-is_place.false) in
     (omega arith, omega arith, l.invariant.2 ∙ to_p (goal.at-scan-preserved-then-p-stop c).After-up_to-p-else-h-eq0 ∙ so_far))
     c.if-is_place.branch-raw
 
@@ -95,16 +95,16 @@ returns-then-p-stop-2 c =
     let b = a.buf.now in
     let kept = c.forty-kept in
     ⊎_elim
-    (λ z. absurd (omega (arith, z.0.left, z.1)))
+    (λ z. absurd (omega (arith, z.scan-test.false, z.p-is)))
     (λ z.
-    let m = z.1 in
-    let n = z.3 in
-    let q = z.4 in
-    let v = z.6 in
-    let other : word_in v.result z.9.k ≡ word_in kept.result z.9.k → ⊥ = λ e. z.13.taken (z.11.ensures ∙ e ∙ sym z.12.ensures) in
+    let m = z.marks-h in
+    let n = z.before_first in
+    let q = z.up_to-p-else-h-eq0 in
+    let v = z.forty-v in
+    let other : word_in v.result z.loop-k.k ≡ word_in kept.result z.loop-k.k → ⊥ = λ e. z.if-word.true (z.word.ensures ∙ e ∙ sym z.word-in-loop-k.ensures) in
     let on = to_mark b a.s a.t a.stop l.p q.result m.result n.result (omega arith) q.ensures m.ensures.1 n.ensures.0 n.ensures.1 in
     sym (l.invariant.2 ∙ ap (so_far_meant b a.first l.count) on
-    ∙ turn_differs b a.s a.t a.stop a.first q.result l.count v.result kept.result v.ensures kept.ensures z.5.taken (sym z.7.ensures ∙ z.8.taken) z.9.k z.10.taken other))
+    ∙ turn_differs b a.s a.t a.stop a.first q.result l.count v.result kept.result v.ensures kept.ensures z.if-p-stop.true (sym z.is_place.ensures ∙ z.if-is_place.true) z.loop-k.k z.loop-k-test.true other))
     c.scan-test.branch-raw
 
 pub returns : goal.returns
@@ -115,6 +115,6 @@ returns c =
     ⊎_elim
     (λ z.
     ap (λ (m : Received). gives (alike m a.first l.count)) c.requires.1
-    ∙ sym (l.invariant.2 ∙ ap (so_far_meant b a.first l.count) (none_ahead b a.s a.t a.stop l.p z.0.left) ∙ ends b a.first l.count))
-    (λ z. absurd (omega (arith, z.5.taken, z.14)))
+    ∙ sym (l.invariant.2 ∙ ap (so_far_meant b a.first l.count) (none_ahead b a.s a.t a.stop l.p z.scan-test.false) ∙ ends b a.first l.count))
+    (λ z. absurd (omega (arith, z.if-p-stop.true, z.p-is)))
     c.scan-test.branch-raw

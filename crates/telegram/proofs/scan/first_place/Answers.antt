@@ -72,10 +72,10 @@ loop-p-preserved-then-p-stop c =
     λ e. ap (λ (x : Bool). outer && x) e ∙ and-false outer in
     let fit : fits a.s a.t v.result ≡ false =
     ⊎_elim
-    (λ z. refused (ap accepted (sym z.1.ensures ∙ ap says_telegram_read z.3.given.1)))
+    (λ z. refused (ap accepted (sym z.words_of-read.ensures ∙ ap says_telegram_read z.in-NotCode.is)))
     (⊎_elim
-    (λ z. refused (ap accepted (sym z.1.ensures ∙ ap says_telegram_read z.3.given.1)))
-    (λ z. ap (λ (x : Bool). x && accepted (inner v.result)) (sym c.outer_are_syncs.ensures ∙ z.left)))
+    (λ z. refused (ap accepted (sym z.words_of-read.ensures ∙ ap says_telegram_read z.in-Fifteen.is)))
+    (λ z. ap (λ (x : Bool). x && accepted (inner v.result)) (sym c.outer_are_syncs.ensures ∙ z.if-outer_are_syncs.false)))
     c.if-outer_are_syncs.branch-raw in
     (omega arith, to_p (goal.at-loop-p-preserved-then-p-stop c).After-up_to-p-else-h-eq0 ∙ ap (first_of b) (ahead_not_here b a.s a.t a.stop p c.if-p-stop.true (ap (fits a.s a.t) (sym v.ensures) ∙ fit)))
 
