@@ -373,7 +373,15 @@ def by_label(unit, comments, uses, body, given):
                 label[m[1]] = ("need", *old[alike(m[2])])
             else:
                 label[m[1]] = ("none", m[2], None)
-    return sorted_out(body, label, [], comments, uses, {})
+    # what is left of the goals of returns stands last, in order
+    last = [(new, e["asked_at"][i][0]) for i, (a, new) in enumerate(needs) if re.match(r"returns(-\d+)?$", a)]
+    inline = []
+    for (new, place), arg in zip(reversed(last), reversed(given)):
+        if arg.startswith("("):
+            inline.insert(0, (new, arg[1:-1], place))
+        else:
+            label[arg] = ("need", new, place) if label.get(arg, ("none",))[0] != "need" else label[arg]
+    return sorted_out(body, label, inline, comments, uses, {})
 
 
 def sorted_out(body, label, inline, comments, uses, place_of):

@@ -19,24 +19,24 @@ returns-then-by-gt14 c =
 
 pub overflow_cast-d : goal.overflow_cast-d
 overflow_cast-d c =
-    base_fits c.args.by c.args.figure (inside c).0 (inside c).1
+    base_fits c.args.by c.args.figure (inside (goal.at-overflow_cast-d c).In-1-to-14).0 (inside (goal.at-overflow_cast-d c).In-1-to-14).1
 
 pub overflow_mul-d : goal.overflow_mul-d
 overflow_mul-d c =
-    product_fits c.args.by c.args.figure (inside (goal.at-overflow_mul-d c).After-d-in-1-to-14-2-1).0 (inside (goal.at-overflow_mul-d c).After-d-in-1-to-14-2-1).1
+    product_fits c.args.by c.args.figure (inside (goal.at-overflow_mul-d c).In-1-to-14).0 (inside (goal.at-overflow_mul-d c).In-1-to-14).1
 
 pub overflow_add-d : goal.overflow_add-d
 overflow_add-d c =
-    sum_fits c.args.by c.args.figure (inside (goal.at-overflow_add-d c).After-d-in-1-to-14-2-1).0 (inside (goal.at-overflow_add-d c).After-d-in-1-to-14-2-1).1
+    sum_fits c.args.by c.args.figure (inside (goal.at-overflow_add-d c).In-1-to-14).0 (inside (goal.at-overflow_add-d c).In-1-to-14).1
 
 pub overflow_cast-result : goal.overflow_cast-result
 overflow_cast-result c =
-    natural c.args.by c.args.figure (inside (goal.at-overflow_cast-result c).After-d-in-1-to-14-2-1).0 (inside (goal.at-overflow_cast-result c).After-d-in-1-to-14-2-1).1
+    natural c.args.by c.args.figure (inside (goal.at-overflow_cast-result c).In-1-to-14).0 (inside (goal.at-overflow_cast-result c).In-1-to-14).1
 
 pub returns-in-1-to-14 : goal.returns-in-1-to-14
 returns-in-1-to-14 c =
     let h1 : 1 ≤ c.args.figure = omega arith in
-    entry_right c.args.by c.args.figure (inside (goal.at-returns-in-1-to-14 c).After-d-in-1-to-14-2-1).0 (inside (goal.at-returns-in-1-to-14 c).After-d-in-1-to-14-2-1).1 h1
+    entry_right c.args.by c.args.figure (inside (goal.at-returns-in-1-to-14 c).In-1-to-14).0 (inside (goal.at-returns-in-1-to-14 c).In-1-to-14).1 h1
 
 pub returns-in_default : goal.returns-in_default
 returns-in_default c =

@@ -17,18 +17,18 @@ returns-then-count-eq0 c = empty c.args.store c.if-count-gt32.false c.if-count-e
 pub returns-then-first-ne0 : goal.returns-then-first-ne0
 returns-then-first-ne0 c =
     let some : 1 ≤ c.args.store.count = omega (arith, c.if-count-eq0.false) in
-    first_place_law c.args.store c.if-count-gt32.false (unmapped _ c.args.store.versions c.well_formed.0.1.1.0.1.0.1) some
+    first_place_law c.args.store c.if-count-gt32.false c.well_formed.0.1.1.0.1.0.1 some
     (ne_eqb _ _ c.if-first-ne0.true)
 
 pub returns-in-Refused : goal.returns-in-Refused
 returns-in-Refused c =
     let some : 1 ≤ c.args.store.count = omega (arith, c.if-count-eq0.false) in
-    first_settings c.args.store c.if-count-gt32.false (unmapped _ c.args.store.versions c.well_formed.0.1.1.0.1.0.1) some
+    first_settings c.args.store c.if-count-gt32.false c.well_formed.0.1.1.0.1.0.1 some
     (eq-eqb _ _ c.if-first-ne0.false) _ (sym (ap says_verdict c.in-Refused.is) ∙ c.settings_of-verdict.ensures)
 
 pub returns-in-Kept : goal.returns-in-Kept
 returns-in-Kept c =
     let some : 1 ≤ c.args.store.count = omega (arith, c.if-count-eq0.false) in
     c.all_follow.ensures
-    ∙ first_settings c.args.store c.if-count-gt32.false (unmapped _ c.args.store.versions c.well_formed.0.1.1.0.1.0.1) some
+    ∙ first_settings c.args.store c.if-count-gt32.false c.well_formed.0.1.1.0.1.0.1 some
     (eq-eqb _ _ c.if-first-ne0.false) _ (sym (ap says_verdict c.in-Kept.is) ∙ c.settings_of-verdict.ensures)

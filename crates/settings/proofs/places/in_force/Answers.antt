@@ -15,7 +15,7 @@ loop-i-init c =
     let a = c.args in (
       search rules,
       search rules,
-      held_first a.store.versions a.store.count (unmapped _ a.store.versions c.well_formed.0.1.1.0.1.0.1) c.requires.1 a.place c.requires.0,
+      held_first a.store.versions a.store.count c.well_formed.0.1.1.0.1.0.1 c.requires.1 a.place c.requires.0,
     )
 
 pub returns-then-place-next : goal.returns-then-place-next
@@ -23,7 +23,7 @@ unfolding held_at versions_of
 returns-then-place-next c =
     let a = c.args in
     c.holds.ensures
-    ∙ held_here a.store.versions a.store.count (unmapped _ a.store.versions c.well_formed.0.1.1.0.1.0.1) c.requires.1 c.loop-i.now a.place c.loop-i.i
+    ∙ held_here a.store.versions a.store.count c.well_formed.0.1.1.0.1.0.1 c.requires.1 c.loop-i.now a.place c.loop-i.i
     c.loop-i-test.true (lt-leb _ _ c.if-place-next.true)
     ∙ c.loop-i.invariant.2
 
@@ -32,7 +32,7 @@ loop-i-preserved c =
     let a = c.args in (
       omega arith,
       omega arith,
-      sym (held_next a.store.versions a.store.count (unmapped _ a.store.versions c.well_formed.0.1.1.0.1.0.1) c.requires.1 c.loop-i.now a.place c.loop-i.i
+      sym (held_next a.store.versions a.store.count c.well_formed.0.1.1.0.1.0.1 c.requires.1 c.loop-i.now a.place c.loop-i.i
           c.loop-i-test.true (le-leb _ _ c.if-place-next.false))
           ∙ c.loop-i.invariant.2,
     )
@@ -42,6 +42,6 @@ unfolding held_at versions_of
 returns c =
     let a = c.args in
     c.holds-2.ensures
-    ∙ held_last a.store.versions a.store.count (unmapped _ a.store.versions c.well_formed.0.1.1.0.1.0.1) c.requires.1 c.loop-i.now a.place c.loop-i.i
+    ∙ held_last a.store.versions a.store.count c.well_formed.0.1.1.0.1.0.1 c.requires.1 c.loop-i.now a.place c.loop-i.i
     c.loop-i-test.false
     ∙ c.loop-i.invariant.2

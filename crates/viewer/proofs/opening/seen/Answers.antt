@@ -15,7 +15,7 @@ use Rattle.viewer.proofs.opening.seen.Goals as goal
 
 -- an empty part at the front of the slice
 abbrev front : Bor (List ℕ) → ℕ → Bor (List ℕ)
-front t name = record { ref_ptr = (t.ptr.0, 0 + t.ptr.1); ghost_name = name; now = [] }
+front t name = record { ref_ptr = (t.ref_ptr.0, 0 + t.ref_ptr.1); ghost_name = name; now = [] }
 
 nothing_held : (o : Outcome Done) (n : ℕ) (t : Bor (List ℕ)) (name : ℕ) → refuses n ≡ o → slice_of o (front t name) ≡ lent_to o t
 nothing_held o n t name e =
