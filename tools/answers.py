@@ -374,7 +374,11 @@ def by_label(unit, comments, uses, body, given):
             else:
                 label[m[1]] = ("none", m[2], None)
     # what is left of the goals of returns stands last, in order
-    last = [(new, e["asked_at"][i][0]) for i, (a, new) in enumerate(needs) if re.match(r"returns(-\d+)?$", a)]
+    last = []
+    for i in reversed(range(len(needs))):
+        if not re.match(r"(returns|same_length)(-\d+)?$", needs[i][0]):
+            break
+        last.insert(0, (needs[i][1], e["asked_at"][i][0]))
     inline = []
     for (new, place), arg in zip(reversed(last), reversed(given)):
         if arg.startswith("("):
@@ -517,6 +521,7 @@ def by_clause(unit, goal, text):
 
 def write(unit, folder, text):
     comments, uses, label, inline, invariants, answers, helpers, place_of = convert(unit, text)
+    opened = "".join(it + "\n" for it in re.findall(r"(?m)^unfolding [^\n]*$", next(it for it in parts(text) if "tie.close" in it)))
     base = f"Rattle.{unit.crate}.proofs.{unit.path}"
     files = {}
     own = set().union(*(defined(code) for _, code, _ in helpers)) if helpers else set()
@@ -574,11 +579,11 @@ def write(unit, folder, text):
         if m and re.fullmatch(r"search rules|omega arith|tt|refl", m[2].strip()):
             continue
         if m:
-            out.append(f"pub {new} : goal.{new}\n{new} {m[1]} = " + unit.turn(m[2], place, {m[1]: place}, new))
+            out.append(f"pub {new} : goal.{new}\n{opened}{new} {m[1]} = " + unit.turn(m[2], place, {m[1]: place}, new))
         elif arg in label:
-            out.append(f"pub {new} : goal.{new}\n{new} = {label[arg][1]}")
+            out.append(f"pub {new} : goal.{new}\n{opened}{new} = {label[arg][1]}")
         else:
-            out.append(f"pub {new} : goal.{new}\n{new} = {arg}")
+            out.append(f"pub {new} : goal.{new}\n{opened}{new} = {arg}")
     if out:
         body = "\n\n".join(out) + "\n"
         body = unit_words(unit, body)

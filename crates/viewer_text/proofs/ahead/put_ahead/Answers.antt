@@ -25,3 +25,6 @@ line c =
     let a = c.args in
     begins 96 (next_is a.place a.what) (next_length a.place a.what)
     (join_3 (replicate 96 0) 0 (codes "  next ") (thing_text a.place a.what) (codes "\n") (room a.place a.what) c.put-a.ensures c.put_thing-b.ensures c.put-n.ensures)
+
+pub returns : goal.returns
+returns c = put_as _ _ (line (goal.at-returns c).After-put-n) c.put.ensures
