@@ -66,6 +66,20 @@ def inner(text, at):
     raise ValueError("brackets")
 
 
+def in_place(text, name, value):
+    """Writes a value for a name, where the name is used and not bound."""
+
+    def one(m):
+        before, after = text[: m.start()], text[m.end() :]
+        if before.endswith(("let ", "λ ")) or re.match(r" :\s", after) and re.search(r"\((?:[\w']+ )*$", before):
+            return m[0]
+        if re.match(r" =\s", after) and re.search(r"[{;]\s*$", before):
+            return m[0]
+        return value
+
+    return re.sub(r"(?<![\w.'\\-])" + re.escape(name) + r"(?![\w'-])", one, text)
+
+
 class Unit:
     def __init__(self, crate, path, entry, source):
         self.crate, self.path, self.e, self.source = crate, path, entry, source
@@ -77,11 +91,15 @@ class Unit:
             self.step.setdefault(alike(it[2][0]), set()).add(it[2][1])
         self.words = set(re.findall(r"\b[a-z]\w*_\w+\b", source))
         self.named = set()
+        self.args = {}
+        for a, b in entry.get("args") or []:
+            if a.startswith((".args ", ".ranges ")):
+                self.args[a.split()[0][1:], a.split()[1][1:]] = b.split()[1][1:]
 
     def place(self, old):
         for a, b in zip(self.places, self.new_places):
             if alike(a) == alike(old):
-                return a, b
+                return a, self.new_name(a)
         return None, None
 
     def chain(self, place):
@@ -116,17 +134,74 @@ class Unit:
     def field(self, name):
         """A field that is a name of the source."""
         plain = name.replace("-", "_")
+        if name in ("well-formed", "type-inv"):
+            return plain
         if "-" in name and plain in self.words:
             return plain
         return name
 
+    @staticmethod
+    def clause(fields, rest):
+        """A path into a product of facts, where each fact has a name now."""
+        at = 0
+        while rest and rest[0] in ("0", "1") and at < len(fields):
+            if rest[0] == "0":
+                return [fields[at]] + rest[1:]
+            at, rest = at + 1, rest[1:]
+            if at == len(fields) - 1:
+                return [fields[at]] + rest
+        return rest
+
+    def fields_of(self, step):
+        """The names of the facts of the call with this step."""
+        for it, clauses in zip(self.e["places"], self.e["clauses"]):
+            if it[2][1] == step and it[3] and clauses:
+                return clauses.get("fields") or []
+        return []
+
+    def called(self, steps, new, place):
+        """What stands behind a call's step: its clauses and its last values by name."""
+        index = {p: i for i, p in enumerate(self.places)}
+        for it in self.e["places"]:
+            if it[2][1] != new:
+                continue
+            clauses = self.e["clauses"][index[it[0]]]
+            if steps[:1] == ["ensures"] and clauses and clauses.get("fields") and len(steps) > 1:
+                return ["ensures"] + self.clause(clauses["fields"], steps[1:])
+            if steps[:1] in (["last"], ["new"]) and len(steps) > 1 and it[3] in self.e["params"] and steps[1].isdigit():
+                given, rest, at = self.e["params"][it[3]], steps[1:], 0
+                while rest and rest[0] == "1" and at < len(given) - 1:
+                    at, rest = at + 1, rest[1:]
+                if rest and rest[0] == "0" and at < len(given) - 1:
+                    rest = rest[1:]
+                return ["new", given[at]] + rest
+        return steps
+
+    def befores(self, place, count):
+        """How many records of today a path of so many old ones goes up."""
+        index, up = {p: i for i, p in enumerate(self.places)}, 0
+        while count > 0 and place:
+            arm = self.e["arms"][index[place]]
+            deep = arm[1] if arm else 1
+            if count < deep:
+                break
+            count, up = count - deep, up + 1
+            for _ in range(deep):
+                place = self.parent.get(place)
+        return up
+
     def path_of(self, steps, place):
         """The new steps of a path whose first part is a place's record."""
         if all(it == "before" for it in steps):
-            return steps
+            return ["before"] * self.befores(place, len(steps))
         steps = [it for it in steps if it != "before"]
         if steps[0] in ("args", "ranges"):
-            return steps[:1] + [self.field(it) for it in steps[1:]]
+            rest = [self.field(it) for it in steps[1:]]
+            if rest and (steps[0], rest[0]) in self.args:
+                rest[0] = self.args[steps[0], rest[0]]
+            return steps[:1] + rest
+        if steps[0] == "requires" and self.e.get("pre"):
+            return ["requires"] + self.clause(self.e["pre"]["fields"], steps[1:])
         for (new, _, rows) in self.arms(place):
             for to, old, path in rows:
                 if alike(old) == alike(steps[0]) and path and steps[1 : 1 + len(path)] == path and not to.endswith("-own"):
@@ -154,27 +229,63 @@ class Unit:
                         break
                 else:
                     rest = ["branch-raw" if rest[0] == "branch" else rest[0]] + rest[1:]
-            return [new] + [self.field(it) for it in rest]
+            return [new] + [self.field(it) for it in self.called(rest, new, place)]
         return [self.field(it) for it in steps]
 
-    def turn(self, text, place, records):
+    def new_name(self, place):
+        """The name of a place: of the parts of an arm, the whole arm's."""
+        if place not in self.places:
+            return None
+        at = self.places.index(place)
+        arm = self.e["arms"][at]
+        while arm:
+            for i, it in enumerate(self.e["places"]):
+                more = self.e["arms"][i]
+                if it[1] == self.places[at] and more and more[0] == arm[0] and more[1] == arm[1] + 1:
+                    at, arm = i, more
+                    break
+            else:
+                break
+        return self.new_places[at]
+
+    def outer(self, place, count):
+        for _ in range(count):
+            place = self.parent.get(place)
+        return place
+
+    def turn(self, text, place, records, goal=None):
         """Turns the paths of a text. 'records' are the variables that stand for a place's record."""
         records = dict(records)
+        while True:
+            m = re.search(r"let ([a-z][\w'-]*) = ([a-z][\w'-]*(?:\.[\w'-]+)*\.given(?:\.[\w'-]+)*) in\s*", text)
+            if not m:
+                break
+            text = text[: m.start()] + in_place(text[m.end() :], m[1], m[2])
 
-        def bound(m):
-            # let v = c.before.before in
-            head, steps = m[2].split(".")[0], m[2].split(".")[1:]
-            if head in records and all(it == "before" for it in steps):
-                chain = self.chain(records[head]) or [None]
-                records[m[1]] = chain[min(len(steps), len(chain) - 1)]
-            return m[0]
-
-        re.sub(r"let ([a-z][\w'-]*) = ([a-z][\w'-]*(?:\.before)*) in", bound, text)
+        # a name for an outer record is written out
+        while True:
+            m = re.search(r"let ([a-z][\w'-]*) = ([a-z][\w'-]*(?:\.before)*) in\s*", text)
+            if not m or m[2].split(".")[0] not in records:
+                break
+            end = len(text)
+            text = text[: m.start()] + in_place(text[m.end() : end], m[1], m[2])
 
         def path(m):
             steps = m[0].split(".")
+            if steps[0] in records and len(steps) > 1 and all(it == "before" for it in steps[1:]):
+                outer = self.outer(records[steps[0]], len(steps) - 1)
+                at = goal or self.new_name(records[steps[0]])
+                if outer and self.new_name(outer) == self.new_name(records[steps[0]]):
+                    return steps[0]
+                if outer and at:
+                    return f"(goal.at-{at} {steps[0]}).{self.new_name(outer)}"
             if steps[0] in records and len(steps) > 1:
-                return ".".join([steps[0]] + self.path_of(steps[1:], records[steps[0]]))
+                made = [steps[0]] + self.path_of(steps[1:], records[steps[0]])
+                if made[-1] == "ensures" and len(made) == 3:
+                    fields = self.fields_of(made[1])
+                    if len(fields) > 1:
+                        return "(" + ", ".join(".".join(made + [it]) for it in fields) + ")"
+                return ".".join(made)
             return ".".join([steps[0]] + [self.field(it) for it in steps[1:]])
 
         text = re.sub(r"(?<![\w.'-])[A-Za-z_κ][\w'₀-]*(?:\.[\w'·-]+)+", path, text)
@@ -262,7 +373,19 @@ def by_label(unit, comments, uses, body, given):
                 label[m[1]] = ("need", *old[alike(m[2])])
             else:
                 label[m[1]] = ("none", m[2], None)
-    return sorted_out(body, label, [], comments, uses, {})
+    # what is left of the goals of returns stands last, in order
+    last = []
+    for i in reversed(range(len(needs))):
+        if not re.match(r"(returns|same_length)(-\d+)?$", needs[i][0]):
+            break
+        last.insert(0, (needs[i][1], e["asked_at"][i][0]))
+    inline = []
+    for (new, place), arg in zip(reversed(last), reversed(given)):
+        if arg.startswith("("):
+            inline.insert(0, (new, arg[1:-1], place))
+        else:
+            label[arg] = ("need", new, place) if label.get(arg, ("none",))[0] != "need" else label[arg]
+    return sorted_out(body, label, inline, comments, uses, {})
 
 
 def sorted_out(body, label, inline, comments, uses, place_of):
@@ -295,27 +418,13 @@ def invariant(unit, code, name, kind, loop, i):
     body = code[m.end() :]
     lines = code[: m.start()].split("\n")
     unfolds = [it for it in lines if it.startswith("unfolding ")]
-    # given: ghost parameters or the arguments, the initial values (with a small 0), the values
-    plain = [it for it in given if not it.endswith("₀")]
-    initial = [it for it in given if it.endswith("₀")]
-    to = {}
-    if len(plain) == len(variables):
-        for old, new in zip(plain, variables):
-            to[old] = f"l.{new}"
-    else:
-        rest = plain[-sum(changed) :] if sum(changed) else []
-        front = plain[: len(plain) - len(rest)]
-        fixed = [v for v, c in zip(variables, changed) if not c]
-        moving = [v for v, c in zip(variables, changed) if c]
-        if len(front) != len(fixed) or len(rest) != len(moving):
-            raise ValueError(f"the invariant has {given} for {variables} {changed}")
-        for old, new in list(zip(front, fixed)) + list(zip(rest, moving)):
-            to[old] = f"l.{new}"
+    # given: each variable, at the loop's start where it changes, and then those that change
     moving = [v for v, c in zip(variables, changed) if c]
-    if initial and len(initial) != len(moving):
+    if len(given) == len(variables) + len(moving):
+        to = {old: f"l.initial.{new}" if c else f"l.{new}" for old, new, c in zip(given, variables, changed)}
+        to |= {old: f"l.{new}" for old, new in zip(given[len(variables) :], moving)}
+    else:
         raise ValueError(f"the invariant has {given} for {variables} {changed}")
-    for old, new in zip(initial, moving):
-        to[old] = f"l.initial.{new}"
     to.pop("_", None)
 
     def word(m):
@@ -348,11 +457,71 @@ def params(unit, code):
         if place:
             for v in m[1].split():
                 found[v] = place
+    # an equation may name an argument otherwise than the signature
+    for m in re.finditer(r"(?m)^ *(?:abbrev |unfoldable |pub )*(" + NAME + r") : ((?:[^\n]|\n +(?:[^\n]*))*)", code):
+        sig, types = m[2], []
+        deep, word, pieces = 0, "", []
+        for k, ch in enumerate(sig):
+            deep += (ch in "([{") - (ch in ")]}")
+            if ch == "→" and not deep:
+                pieces.append(word.strip())
+                word = ""
+            else:
+                word += ch
+        for it in pieces:
+            groups = re.findall(r"\(([^():]+) : ([^()]*(?:\([^()]*\))?[^()]*)\)|(\{[^}]*\})", it)
+            if groups:
+                for names, kind, hidden in groups:
+                    if not hidden:
+                        types += [kind] * len(names.split())
+            else:
+                types.append(it)
+        for eq in re.finditer(r"(?m)^ *" + re.escape(m[1]) + r" ((?:[^\n=:](?![ ]: ))*?) =(?: |$)", code):
+            args = [it for it in arguments(eq[1]) if not it.startswith("{")]
+            for kind, arg in zip(types, args):
+                k = re.search(r"tie\.([\w-]+)", kind)
+                place = k and unit.place(k[1])[0]
+                if place and re.fullmatch(r"[a-z][\w'-]*", arg):
+                    found[arg] = place
     return found
+
+
+def by_clause(unit, goal, text):
+    """Where a goal has several facts with names: a tuple becomes a record."""
+    asked = unit.e.get("asked") or {}
+    fields = asked.get(goal) or (asked.get("returns") if goal.startswith("returns") else None)
+    if not fields or len(fields) < 2:
+        return text
+    end = len(text.rstrip())
+    if text[end - 1 : end] != ")":
+        return text
+    deep, k = 0, end - 1
+    while k >= 0:
+        deep += (text[k] == ")") - (text[k] == "(")
+        if not deep:
+            break
+        k -= 1
+    before = text[:k].rstrip()
+    if not before.endswith(("=", " in", "\nin")):
+        return text
+    held, deep, found, word = text[k + 1 : end - 1], 0, [], ""
+    for ch in held:
+        if ch == "," and not deep:
+            found.append(word)
+            word = ""
+            continue
+        deep += (ch in "([{") - (ch in ")]}")
+        word += ch
+    if word.strip():
+        found.append(word)
+    if len(found) != len(fields):
+        return text
+    return text[:k] + "record { " + "; ".join(f"{f} = {v.strip()}" for f, v in zip(fields, found)) + " }" + text[end:]
 
 
 def write(unit, folder, text):
     comments, uses, label, inline, invariants, answers, helpers, place_of = convert(unit, text)
+    opened = "".join(it + "\n" for it in re.findall(r"(?m)^unfolding [^\n]*$", next(it for it in parts(text) if "tie.close" in it)))
     base = f"Rattle.{unit.crate}.proofs.{unit.path}"
     files = {}
     own = set().union(*(defined(code) for _, code, _ in helpers)) if helpers else set()
@@ -403,18 +572,18 @@ def write(unit, folder, text):
         var = m[1] if m else "c"
         rest = re.sub(r"(?m)^" + re.escape(name) + r"(?= )", lambda _: new, rest)
         rest = re.sub(r"(?m)^(" + re.escape(new) + r" [^\s=]+) κs?(?= =)", r"\1", rest)
-        rest = unit.turn(unit.types(rest), place, {var: place})
+        rest = by_clause(unit, new, unit.turn(unit.types(rest), place, {var: place}, new))
         out.append("\n".join(said + [f"pub {new} : goal.{new}" + rest]))
     for new, arg, place in inline:
         m = re.fullmatch(r"λ ([^\s.]+)(?: [^\s.]+)?\. (.*)", arg, re.S)
         if m and re.fullmatch(r"search rules|omega arith|tt|refl", m[2].strip()):
             continue
         if m:
-            out.append(f"pub {new} : goal.{new}\n{new} {m[1]} = " + unit.turn(m[2], place, {m[1]: place}))
+            out.append(f"pub {new} : goal.{new}\n{opened}{new} {m[1]} = " + unit.turn(m[2], place, {m[1]: place}, new))
         elif arg in label:
-            out.append(f"pub {new} : goal.{new}\n{new} = {label[arg][1]}")
+            out.append(f"pub {new} : goal.{new}\n{opened}{new} = {label[arg][1]}")
         else:
-            out.append(f"pub {new} : goal.{new}\n{new} = {arg}")
+            out.append(f"pub {new} : goal.{new}\n{opened}{new} = {arg}")
     if out:
         body = "\n\n".join(out) + "\n"
         body = unit_words(unit, body)
@@ -474,7 +643,8 @@ def main():
                 left += 1
                 continue
             try:
-                write(Unit(crate, path, entry, source), folder, read(f"{folder}/Proof.antt"))
+                # (port.py took these functions for lemmas of the library)
+                write(Unit(crate, path, entry, source), folder, re.sub(r"\b(up_to|put_all|start_of)_lem\b", r"\1", read(f"{folder}/Proof.antt")))
                 done += 1
             except (ValueError, StopIteration, KeyError, IndexError) as error:
                 print(f"left: {folder}: {error!r}")

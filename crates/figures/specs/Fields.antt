@@ -46,7 +46,7 @@ lies slice = record { at = slice.ref_ptr; bytes = slice.now }
 
 -- The part of a text that begins with its byte n and holds these bytes.
 abbrev pub part : Bor (List ℕ) → ℕ → List ℕ → Lies
-part text n bytes = record { at = (text.ptr.0, n + text.ptr.1); bytes = bytes }
+part text n bytes = record { at = (text.ref_ptr.0, n + text.ref_ptr.1); bytes = bytes }
 
 -- One more than n where it holds and n is below 4,000,000,000.
 unfoldable pub more : ℕ → Bool → ℕ

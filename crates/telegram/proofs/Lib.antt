@@ -1,5 +1,5 @@
 pub mod Words
-pub mod Spelt
+pub mod Spellings
 pub mod ReadsBack
 pub mod Pairs
 pub mod Taken

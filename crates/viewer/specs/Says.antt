@@ -76,7 +76,7 @@ slice_of (refuses n) held = lies held.ref_ptr held.now
 -- place.
 abbrev pub lent_to : Outcome Done → Bor (List ℕ) → Slice
 lent_to (gives d) lent = very lent
-lent_to (refuses n) lent = lies lent.ptr []
+lent_to (refuses n) lent = lies lent.ref_ptr []
 
 -- A viewer that was opened: its slice, and what opening answered.
 pub record Holding : Type 0 where

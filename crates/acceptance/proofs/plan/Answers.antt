@@ -36,31 +36,26 @@ returns-then-tolerance-gt500 c =
 pub returns-then-not-well_formed : goal.returns-then-not-well_formed
 unfolding plan
 returns-then-not-well_formed c =
-    let e = c.before.before.before in
-    let is : well_formed e.args.bytes.now ≡ false = sym c.well_formed-2.ensures ∙ not-true _ c.if-not-well_formed.true-raw in
-    ap says_planned c.refused-then-not-well_formed.ensures ∙ simp (tolerance_good e, is)
+    let is : well_formed c.args.bytes.now ≡ false = sym c.well_formed-2.ensures ∙ not-true _ c.if-not-well_formed.true-raw in
+    ap says_planned c.refused-then-not-well_formed.ensures ∙ simp (tolerance_good (goal.at-returns-then-not-well_formed c).Else-tolerance-gt500, is)
 
 pub entries-entries-requires : goal.entries-entries-requires
 entries-entries-requires c = few c.args.bytes.now (bytes_good c)
 
 pub apart-requires : goal.apart-requires
-apart-requires c = few c.args.bytes.now (bytes_good c.before)
+apart-requires c = few c.args.bytes.now (bytes_good (goal.at-apart-requires c).Else-not-well_formed)
 
 pub returns-then-not-apart : goal.returns-then-not-apart
 unfolding plan
 returns-then-not-apart c =
-    let n = c.before.before in
-    let g = n.before.before in
-    let a = g.args in
-    let is : apart a.tolerance (entries_of a.bytes.now) ≡ false = sym (neighbours n) ∙ not-true _ c.if-not-apart.true-raw in
-    ap says_planned c.refused-then-not-apart.ensures ∙ simp (tolerance_good g.before.before, bytes_good g, is)
+    let a = c.args in
+    let is : apart a.tolerance (entries_of a.bytes.now) ≡ false = sym (neighbours (goal.at-returns-then-not-apart c).After-apart) ∙ not-true _ c.if-not-apart.true-raw in
+    ap says_planned c.refused-then-not-apart.ensures ∙ simp (tolerance_good (goal.at-returns-then-not-apart c).Else-tolerance-gt500, bytes_good (goal.at-returns-then-not-apart c).Else-not-well_formed, is)
 
 pub returns : goal.returns
 unfolding plan
 returns c =
-    let n = c.before.before in
-    let g = n.before.before in
-    let a = g.args in
-    let is : apart a.tolerance (entries_of a.bytes.now) ≡ true = sym (neighbours n) ∙ not-false _ c.if-not-apart.false-raw in
-    ap (λ (p : Acceptance). record { answer = gives good; plan = p }) (c.begun.ensures ∙ plan_is a.bytes.now a.tolerance n.entries-entries.result n.entries-entries.ensures)
-    ∙ simp (tolerance_good g.before.before, bytes_good g, is)
+    let a = c.args in
+    let is : apart a.tolerance (entries_of a.bytes.now) ≡ true = sym (neighbours (goal.at-returns c).After-apart) ∙ not-false _ c.if-not-apart.false-raw in
+    ap (λ (p : Acceptance). record { answer = gives good; plan = p }) (c.begun.ensures ∙ plan_is a.bytes.now a.tolerance c.entries-entries.result c.entries-entries.ensures)
+    ∙ simp (tolerance_good (goal.at-returns c).Else-tolerance-gt500, bytes_good (goal.at-returns c).Else-not-well_formed, is)

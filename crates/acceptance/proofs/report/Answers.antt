@@ -5,12 +5,10 @@ use Rattle.acceptance.proofs.report.Goals as goal
 
 pub returns-then-i-entries_in : goal.returns-then-i-entries_in
 returns-then-i-entries_in c =
-    let n = c.before.before in
-    let a = n.args in
-    entry_reported a.run n.entries_in.result n.entries_in.ensures.0 n.entries_in.ensures.1.0 a.i c.if-i-entries_in.true
+    let a = c.args in
+    entry_reported a.run c.entries_in.result c.entries_in.ensures.value c.entries_in.ensures.entries_value a.i c.if-i-entries_in.true
 
 pub returns : goal.returns
 returns c =
-    let n = c.before in
-    let a = n.args in
-    none_reported a.run n.entries_in.result n.entries_in.ensures.0 n.entries_in.ensures.1.0 a.i c.if-i-entries_in.false
+    let a = c.args in
+    none_reported a.run c.entries_in.result c.entries_in.ensures.value c.entries_in.ensures.entries_value a.i c.if-i-entries_in.false

@@ -5,7 +5,6 @@ use Rattle.acceptance.proofs.sum_up.Goals as goal
 
 pub returns : goal.returns
 returns c =
-    let n = c.before.before in
-    let a = n.args in
-    sums_are a.run n.entries_in-entries.result n.entries_in-entries.ensures.0 n.entries_in-entries.ensures.1.0 c.met-met.result c.together.result
-    c.met-met.ensures.0 c.together.ensures
+    let a = c.args in
+    sums_are a.run c.entries_in-entries.result c.entries_in-entries.ensures.value c.entries_in-entries.ensures.entries_value c.met-met.result c.together.result
+    c.met-met.ensures.value c.together.ensures

@@ -7,17 +7,13 @@ use Rattle.acceptance.proofs.take.Goals as goal
 
 pub returns-then-is_present : goal.returns-then-is_present
 returns-then-is_present c =
-    let p = c.before.before in
-    let k = p.before.before in
-    let a = k.args in
-    c.group.ensures ∙ present_is a.run a.line k.in-Group.seen k.in-Group.is (sym p.is_present.ensures ∙ c.if-is_present.true)
+    let a = c.args in
+    c.group.ensures ∙ present_is a.run a.line c.in-Group.seen c.in-Group.is (sym c.is_present.ensures ∙ c.if-is_present.true)
 
 pub returns-else-is_present : goal.returns-else-is_present
 returns-else-is_present c =
-    let p = c.before.before in
-    let k = p.before.before in
-    let a = k.args in
-    c.no_part.ensures ∙ opposite_is a.run a.line k.in-Group.seen k.in-Group.is (sym p.is_present.ensures ∙ c.if-is_present.false)
+    let a = c.args in
+    c.no_part.ensures ∙ opposite_is a.run a.line c.in-Group.seen c.in-Group.is (sym c.is_present.ensures ∙ c.if-is_present.false)
 
 pub returns-in-Fault : goal.returns-in-Fault
 unfolding take_line

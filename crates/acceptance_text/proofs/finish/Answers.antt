@@ -8,8 +8,5 @@ returns-then-out-lt128 c = no_end c.args.going c.args.out.now c.if-out-lt128.tru
 
 pub returns : goal.returns
 returns c =
-    let p = c.before.before.before.before.before in
-    let e = p.before.before in
-    let t = e.before.before.before.before in
-    let a = t.args in
-    at_end a.going a.out.now e.end-ended.result p.take_lines-took.result _ t.if-out-lt128.false e.end-ended.ensures p.take_lines-took.ensures
+    let a = c.args in
+    at_end a.going a.out.now c.end-ended.result c.take_lines-took.result _ c.if-out-lt128.false c.end-ended.ensures c.take_lines-took.ensures

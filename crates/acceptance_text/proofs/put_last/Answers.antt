@@ -13,26 +13,24 @@ use Rattle.acceptance_text.proofs.put_last.Goals as goal
 -- The space begins with the text.
 line : (c : After-spell_last-n) →
     let a = c.args in
-    Begins (last_lines a.sums a.faults a.records) c.spell_last-n.new.1.1.1.0 c.spell_last-n.result
+    Begins (last_lines a.sums a.faults a.records) c.spell_last-n.new.buf c.spell_last-n.result
 unfolding last_lines
 line c =
-    let k = c.before.before in
-    let a = k.args in
+    let a = c.args in
     let text = trouble_line a.faults a.records in
-    subst (λ (p : Bool). Begins (text ++ verdict p) c.spell_last-n.new.1.1.1.0 c.spell_last-n.result) k.is_passed.ensures
-    (begins 128 (text ++ verdict k.is_passed.result) (last_length k.is_passed.result a.faults a.records) c.spell_last-n.ensures)
+    subst (λ (p : Bool). Begins (text ++ verdict p) c.spell_last-n.new.buf c.spell_last-n.result) c.is_passed.ensures
+    (begins 128 (text ++ verdict c.is_passed.result) (last_length c.is_passed.result a.faults a.records) c.spell_last-n.ensures)
 
 pub spell_last-n-requires : goal.spell_last-n-requires
 spell_last-n-requires c =
-    let k = c.before in
-    let a = k.args in
-    omega (arith, last_length k.is_passed.result a.faults a.records)
+    let a = c.args in
+    omega (arith, last_length c.is_passed.result a.faults a.records)
 
 pub slice_bounds-space-end : goal.slice_bounds-space-end
-slice_bounds-space-end c = (line c.before).within
+slice_bounds-space-end c = (line (goal.at-slice_bounds-space-end c).After-spell_last-n).within
 
 pub slice_bounds-put-end : goal.slice_bounds-put-end
-slice_bounds-put-end c = as_long (line c.before.before)
+slice_bounds-put-end c = as_long (line (goal.at-slice_bounds-put-end c).After-spell_last-n)
 
 pub returns : goal.returns
-returns c = put_as _ _ (line c.before.before.before.before.before.before) c.put.ensures
+returns c = put_as _ _ (line (goal.at-returns c).After-spell_last-n) c.put.ensures

@@ -8,7 +8,7 @@ use Rattle.acceptance_text.proofs.put_refused.Goals.{After-spell_refused-n}
 use Rattle.acceptance_text.proofs.put_refused.Goals as goal
 
 -- The space begins with the text.
-line : (c : After-spell_refused-n) → let a = c.args in Begins (refused_line a.number) c.spell_refused-n.new.1.0 c.spell_refused-n.result
+line : (c : After-spell_refused-n) → let a = c.args in Begins (refused_line a.number) c.spell_refused-n.new.buf c.spell_refused-n.result
 line c =
     let a = c.args in
     begins 128 (refused_line a.number) (omega (arith, refused_length a.number)) c.spell_refused-n.ensures
@@ -17,10 +17,10 @@ pub spell_refused-n-requires : goal.spell_refused-n-requires
 spell_refused-n-requires c = omega (arith, refused_length c.args.number)
 
 pub slice_bounds-space-end : goal.slice_bounds-space-end
-slice_bounds-space-end c = (line c.before).within
+slice_bounds-space-end c = (line (goal.at-slice_bounds-space-end c).After-spell_refused-n).within
 
 pub slice_bounds-put-end : goal.slice_bounds-put-end
-slice_bounds-put-end c = as_long (line c.before.before)
+slice_bounds-put-end c = as_long (line (goal.at-slice_bounds-put-end c).After-spell_refused-n)
 
 pub returns : goal.returns
-returns c = put_as _ _ (line c.before.before.before.before.before.before) c.put.ensures
+returns c = put_as _ _ (line (goal.at-returns c).After-spell_refused-n) c.put.ensures

@@ -9,8 +9,5 @@ use Rattle.antenna_text.proofs.put_closed.Goals as goal
 
 pub returns : goal.returns
 returns c =
-    let p = c.before.before in
-    let q = p.before.before in
-    let l = q.before in
-    let a = l.args in
-    p.put_contact.ensures ∙ ap (λ (t : List ℕ). put t a.buf.now a.at) (closed_is a.end a.bits a.judged l.first_bit-start.ensures q.placed.ensures)
+    let a = c.args in
+    c.put_contact.ensures ∙ ap (λ (t : List ℕ). put t a.buf.now a.at) (closed_is a.end a.bits a.judged c.first_bit-start.ensures c.placed.ensures)

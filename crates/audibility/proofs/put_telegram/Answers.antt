@@ -9,7 +9,7 @@ use Rattle.audibility.proofs.put_telegram.Goals.{After-put_figures-n}
 use Rattle.audibility.proofs.put_telegram.Goals as goal
 
 -- The space begins with the text.
-line : (c : After-put_figures-n) → let a = c.args in Begins (telegram_line (asked a.x a.y a.z)) c.put_figures-n.new.1.1.1.0 c.put_figures-n.result
+line : (c : After-put_figures-n) → let a = c.args in Begins (telegram_line (asked a.x a.y a.z)) c.put_figures-n.new.buf c.put_figures-n.result
 line c =
     let a = c.args in
     begins 64 (telegram_line (asked a.x a.y a.z)) (omega (arith, telegram_length (asked a.x a.y a.z))) c.put_figures-n.ensures
@@ -18,10 +18,10 @@ pub put_figures-n-requires : goal.put_figures-n-requires
 put_figures-n-requires c = omega (arith, telegram_length (asked c.args.x c.args.y c.args.z))
 
 pub slice_bounds-space-end : goal.slice_bounds-space-end
-slice_bounds-space-end c = (line c.before).within
+slice_bounds-space-end c = (line (goal.at-slice_bounds-space-end c).After-put_figures-n).within
 
 pub slice_bounds-put-end : goal.slice_bounds-put-end
-slice_bounds-put-end c = as_long (line c.before.before)
+slice_bounds-put-end c = as_long (line (goal.at-slice_bounds-put-end c).After-put_figures-n)
 
 pub returns : goal.returns
-returns c = put_as _ _ (line c.before.before.before.before.before.before) c.put.ensures
+returns c = put_as _ _ (line (goal.at-returns c).After-put_figures-n) c.put.ensures

@@ -9,21 +9,17 @@ use Rattle.audibility.proofs.sound_of.Goals as goal
 pub returns-in-Words : goal.returns-in-Words
 unfolding sound_of
 returns-in-Words c =
-    let k = c.before.before in
-    let q = k.before.before in
-    let a = q.args in
-    c.sound.ensures ∙ ap (λ (o : Outcome Words). then o (sound_with a.s a.t)) (sym (ap says_spelt k.in-Words.is) ∙ q.spell-spelt.ensures)
+    let a = c.args in
+    c.sound.ensures ∙ ap (λ (o : Outcome Words). then o (sound_with a.s a.t)) (sym (ap says_spelt c.in-Words.is) ∙ c.spell-spelt.ensures)
 
 pub returns-in-TooLarge : goal.returns-in-TooLarge
 unfolding sound_of
 returns-in-TooLarge c =
-    let q = c.before.before in
-    let a = q.args in
-    ap (λ (o : Outcome Words). then o (sound_with a.s a.t)) (sym (ap says_spelt c.in-TooLarge.is) ∙ q.spell-spelt.ensures)
+    let a = c.args in
+    ap (λ (o : Outcome Words). then o (sound_with a.s a.t)) (sym (ap says_spelt c.in-TooLarge.is) ∙ c.spell-spelt.ensures)
 
 pub returns-in-Fifteen : goal.returns-in-Fifteen
 unfolding sound_of
 returns-in-Fifteen c =
-    let q = c.before.before in
-    let a = q.args in
-    ap (λ (o : Outcome Words). then o (sound_with a.s a.t)) (sym (ap says_spelt c.in-Fifteen.is) ∙ q.spell-spelt.ensures)
+    let a = c.args in
+    ap (λ (o : Outcome Words). then o (sound_with a.s a.t)) (sym (ap says_spelt c.in-Fifteen.is) ∙ c.spell-spelt.ensures)

@@ -16,23 +16,18 @@ after s t n out o = onto out (then o (bytes_of s t n (length out)))
 pub returns-in-Words : goal.returns-in-Words
 unfolding write
 returns-in-Words c =
-    let w = c.before.before in
-    let p = w.before.before.before in
-    let q = p.before.before in
-    let a = q.args in
-    w.write_words.ensures
-    ∙ ap (after a.s a.t a.n a.out.now) (sym (ap says_spelt p.in-Words.is) ∙ q.spell-spelt.ensures)
+    let a = c.args in
+    c.write_words.ensures
+    ∙ ap (after a.s a.t a.n a.out.now) (sym (ap says_spelt c.in-Words.is) ∙ c.spell-spelt.ensures)
 
 pub returns-in-TooLarge : goal.returns-in-TooLarge
 unfolding write
 returns-in-TooLarge c =
-    let q = c.before.before in
-    let a = q.args in
-    ap (after a.s a.t a.n a.out.now) (sym (ap says_spelt c.in-TooLarge.is) ∙ q.spell-spelt.ensures)
+    let a = c.args in
+    ap (after a.s a.t a.n a.out.now) (sym (ap says_spelt c.in-TooLarge.is) ∙ c.spell-spelt.ensures)
 
 pub returns-in-Fifteen : goal.returns-in-Fifteen
 unfolding write
 returns-in-Fifteen c =
-    let q = c.before.before in
-    let a = q.args in
-    ap (after a.s a.t a.n a.out.now) (sym (ap says_spelt c.in-Fifteen.is) ∙ q.spell-spelt.ensures)
+    let a = c.args in
+    ap (after a.s a.t a.n a.out.now) (sym (ap says_spelt c.in-Fifteen.is) ∙ c.spell-spelt.ensures)

@@ -44,16 +44,14 @@ pub returns-then-count-ge2 : goal.returns-then-count-ge2
 returns-then-count-ge2 c =
     let a = c.args in
     let v = c.survey-surveyed in
-    let g = c.surveyed-1.given in
     count_alike a.buf.now a.start a.len a.s a.t v.result v.ensures
-    (gives g.0.0) g.0.1.0 g.0.1.1.0 true (ap says_surveyed g.1) (le-leb _ _ c.if-count-ge2.true)
+    (gives c.in-Alike.telegram) c.in-Alike.first c.in-Alike.count true (ap says_surveyed c.in-Alike.is) (le-leb _ _ c.if-count-ge2.true)
 
 pub or_neither-requires : goal.or_neither-requires
 or_neither-requires c =
     let a = c.args in
     let v = c.survey-surveyed in
-    let g = c.surveyed-1.given in
-    let h = alike_taken a.buf.now a.start a.len a.s a.t v.result v.ensures (alike (gives g.0.0) g.0.1.0 g.0.1.1.0) (ap says_surveyed g.1) in
+    let h = alike_taken a.buf.now a.start a.len a.s a.t v.result v.ensures (alike (gives c.in-Alike.telegram) c.in-Alike.first c.in-Alike.count) (ap says_surveyed c.in-Alike.is) in
     omega (arith, taken a.buf.now a.start a.len h)
 
 pub or_neither-requires-in-NoPlace : goal.or_neither-requires-in-NoPlace
@@ -67,10 +65,9 @@ pub returns-else-count-ge2 : goal.returns-else-count-ge2
 returns-else-count-ge2 c =
     let a = c.args in
     let v = c.survey-surveyed in
-    let g = c.surveyed-1.given in
     c.or_neither.ensures
     ∙ count_alike a.buf.now a.start a.len a.s a.t v.result v.ensures
-    (gives g.0.0) g.0.1.0 g.0.1.1.0 false (ap says_surveyed g.1) (lt-leb _ _ c.if-count-ge2.false)
+    (gives c.in-Alike.telegram) c.in-Alike.first c.in-Alike.count false (ap says_surveyed c.in-Alike.is) (lt-leb _ _ c.if-count-ge2.false)
 
 pub returns-in-Differ : goal.returns-in-Differ
 returns-in-Differ c =

@@ -7,14 +7,11 @@ use Rattle.contact.proofs.judge_under.Goals as goal
 pub returns-in-Refused : goal.returns-in-Refused
 unfolding judge_under
 returns-in-Refused c =
-    let v = c.before in
-    let asked = sym v.at-asked.ensures ∙ ap says_asked v.in-Refused.is in
+    let asked = sym c.at-asked.ensures ∙ ap says_asked c.in-Refused.is in
     rw asked
 
 pub returns-in-InForce : goal.returns-in-InForce
 unfolding judge_under
 returns-in-InForce c =
-    let j = c.before in
-    let v = j.before.before in
-    let asked = sym v.at-asked.ensures ∙ ap says_asked v.in-InForce.is in
-    rw asked (c.with_pair.ensures ∙ j.judge.ensures)
+    let asked = sym c.at-asked.ensures ∙ ap says_asked c.in-InForce.is in
+    rw asked (c.with_pair.ensures ∙ c.judge.ensures)

@@ -8,7 +8,7 @@ use Rattle.contact_text.proofs.put_contact.Goals.{After-put_heard-n}
 use Rattle.contact_text.proofs.put_contact.Goals as goal
 
 -- The space begins with the text.
-line : (c : After-put_heard-n) → let a = c.args in Begins (heard a.start a.bits a.judged) c.put_heard-n.new.1.1.1.0 c.put_heard-n.result
+line : (c : After-put_heard-n) → let a = c.args in Begins (heard a.start a.bits a.judged) c.put_heard-n.new.buf c.put_heard-n.result
 line c =
     let a = c.args in
     begins 192 (heard a.start a.bits a.judged) (omega (arith, heard_length a.start a.bits a.judged)) c.put_heard-n.ensures
@@ -17,10 +17,10 @@ pub put_heard-n-requires : goal.put_heard-n-requires
 put_heard-n-requires c = omega (arith, heard_length c.args.start c.args.bits c.args.judged)
 
 pub slice_bounds-space-end : goal.slice_bounds-space-end
-slice_bounds-space-end c = (line c.before).within
+slice_bounds-space-end c = (line (goal.at-slice_bounds-space-end c).After-put_heard-n).within
 
 pub slice_bounds-put-end : goal.slice_bounds-put-end
-slice_bounds-put-end c = as_long (line c.before.before)
+slice_bounds-put-end c = as_long (line (goal.at-slice_bounds-put-end c).After-put_heard-n)
 
 pub returns : goal.returns
-returns c = put_as _ _ (line c.before.before.before.before.before.before) c.put.ensures
+returns c = put_as _ _ (line (goal.at-returns c).After-put_heard-n) c.put.ensures

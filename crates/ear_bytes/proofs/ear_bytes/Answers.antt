@@ -13,11 +13,10 @@ pub returns : goal.returns
 unfolding ear_bytes
 returns c =
     let sp = c.spread in
-    let at-figures = c.before.before.before.before in
-    let f = at-figures.of_hearing-figures in
-    let hearing = at-figures.args.hearing in
-    let long : length {A = ℕ} (replicate 184 0) ≡ 184 = length-replicate {A = ℕ} 184 0 in (
-      sp.ensures.0 ∙ ap₂ spread long f.ensures.0,
-      ear_back sp.new.1.0 hearing f.ensures.1
-          (λ i h. sp.ensures.1 i (subst (λ (m : ℕ). i < m / 8) (sym long) h) ∙ ap (λ (l : List ℕ). get_or l i 0) f.ensures.0),
-    )
+    let f = c.of_hearing-figures in
+    let hearing = c.args.hearing in
+    let long : length {A = ℕ} (replicate 184 0) ≡ 184 = length-replicate {A = ℕ} 184 0 in record {
+      value = sp.ensures.0 ∙ ap₂ spread long f.ensures.0;
+      result_value = ear_back sp.new.1.0 hearing f.ensures.1
+          (λ i h. sp.ensures.1 i (subst (λ (m : ℕ). i < m / 8) (sym long) h) ∙ ap (λ (l : List ℕ). get_or l i 0) f.ensures.0);
+    }

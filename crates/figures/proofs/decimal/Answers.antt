@@ -21,17 +21,15 @@ returns-then-text-eq0 c =
 
 pub returns-then-not-all_digits : goal.returns-then-not-all_digits
 returns-then-not-all_digits c =
-    let d = c.before in
-    let a = d.args in
+    let a = c.args in
     let some : 0 < length a.text.now = omega arith in
-    no_digits a.text.now a.most some (sym d.all_digits.ensures ∙ not-true d.all_digits.result c.if-not-all_digits.true-raw)
+    no_digits a.text.now a.most some (sym c.all_digits.ensures ∙ not-true c.all_digits.result c.if-not-all_digits.true-raw)
 
 pub up_to-requires : goal.up_to-requires
 up_to-requires c = are_digits c
 
 pub returns : goal.returns
 returns c =
-    let e = c.before in
-    let a = e.args in
+    let a = c.args in
     let some : 0 < length a.text.now = omega arith in
-    c.up_to_lem.ensures ∙ by_digits a.text.now a.most some (are_digits e)
+    c.up_to.ensures ∙ by_digits a.text.now a.most some (are_digits (goal.at-returns c).Else-not-all_digits)

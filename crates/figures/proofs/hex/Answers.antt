@@ -13,23 +13,18 @@ returns-then-text-ne2 c = simp (ne_eqb _ _ c.if-text-ne2.true)
 
 pub returns-then-high-ge16 : goal.returns-then-high-ge16
 returns-then-high-ge16 c =
-    let q = c.before.before.before in
-    let t = q.args.text.now in
-    no_high t q.if-text-ne2.false (subst (λ (k : ℕ). 16 ≤ k) q.hex_digit-high.ensures c.if-high-ge16.true)
+    let t = c.args.text.now in
+    no_high t c.if-text-ne2.false (subst (λ (k : ℕ). 16 ≤ k) c.hex_digit-high.ensures c.if-high-ge16.true)
 
 pub returns-then-low-ge16 : goal.returns-then-low-ge16
 returns-then-low-ge16 c =
-    let p = c.before.before in
-    let q = p.before.before in
-    let t = q.args.text.now in
-    no_low t q.if-text-ne2.false (subst (λ (k : ℕ). k < 16) q.hex_digit-high.ensures c.if-high-ge16.false)
-    (subst (λ (k : ℕ). 16 ≤ k) p.hex_digit-low.ensures c.if-low-ge16.true)
+    let t = c.args.text.now in
+    no_low t c.if-text-ne2.false (subst (λ (k : ℕ). k < 16) c.hex_digit-high.ensures c.if-high-ge16.false)
+    (subst (λ (k : ℕ). 16 ≤ k) c.hex_digit-low.ensures c.if-low-ge16.true)
 
 pub returns : goal.returns
 returns c =
-    let p = c.before.before in
-    let q = p.before.before in
-    let t = q.args.text.now in
-    ap₂ (λ (h l : ℕ). Byte.Is (h * 16 + l)) q.hex_digit-high.ensures p.hex_digit-low.ensures
-    ∙ two_digits t q.if-text-ne2.false (subst (λ (k : ℕ). k < 16) q.hex_digit-high.ensures c.if-high-ge16.false)
-    (subst (λ (k : ℕ). k < 16) p.hex_digit-low.ensures c.if-low-ge16.false)
+    let t = c.args.text.now in
+    ap₂ (λ (h l : ℕ). Byte.Is (h * 16 + l)) c.hex_digit-high.ensures c.hex_digit-low.ensures
+    ∙ two_digits t c.if-text-ne2.false (subst (λ (k : ℕ). k < 16) c.hex_digit-high.ensures c.if-high-ge16.false)
+    (subst (λ (k : ℕ). k < 16) c.hex_digit-low.ensures c.if-low-ge16.false)

@@ -19,42 +19,31 @@ returns-then-by-gt14 c =
 
 pub overflow_cast-d : goal.overflow_cast-d
 overflow_cast-d c =
-    let s = c.before.before.before in
-    base_fits s.args.by s.args.figure (inside c).0 (inside c).1
+    base_fits c.args.by c.args.figure (inside (goal.at-overflow_cast-d c).In-1-to-14).0 (inside (goal.at-overflow_cast-d c).In-1-to-14).1
 
 pub overflow_mul-d : goal.overflow_mul-d
 overflow_mul-d c =
-    let t = c.before in
-    let s = t.before.before.before in
-    product_fits s.args.by s.args.figure (inside t).0 (inside t).1
+    product_fits c.args.by c.args.figure (inside (goal.at-overflow_mul-d c).In-1-to-14).0 (inside (goal.at-overflow_mul-d c).In-1-to-14).1
 
 pub overflow_add-d : goal.overflow_add-d
 overflow_add-d c =
-    let t = c.before in
-    let s = t.before.before.before in
-    sum_fits s.args.by s.args.figure (inside t).0 (inside t).1
+    sum_fits c.args.by c.args.figure (inside (goal.at-overflow_add-d c).In-1-to-14).0 (inside (goal.at-overflow_add-d c).In-1-to-14).1
 
 pub overflow_cast-result : goal.overflow_cast-result
 overflow_cast-result c =
-    let t = c.before in
-    let s = t.before.before.before in
-    natural s.args.by s.args.figure (inside t).0 (inside t).1
+    natural c.args.by c.args.figure (inside (goal.at-overflow_cast-result c).In-1-to-14).0 (inside (goal.at-overflow_cast-result c).In-1-to-14).1
 
 pub returns-in-1-to-14 : goal.returns-in-1-to-14
 returns-in-1-to-14 c =
-    let t = c.before in
-    let s = t.before.before.before in
-    let h1 : 1 ≤ s.args.figure = omega arith in
-    entry_right s.args.by s.args.figure (inside t).0 (inside t).1 h1
+    let h1 : 1 ≤ c.args.figure = omega arith in
+    entry_right c.args.by c.args.figure (inside (goal.at-returns-in-1-to-14 c).In-1-to-14).0 (inside (goal.at-returns-in-1-to-14 c).In-1-to-14).1 h1
 
 pub returns-in_default : goal.returns-in_default
 returns-in_default c =
-    let s = c.before.before in
-    let h : s.args.figure < 1 = omega arith in
-    sym (figure_zero s.args.by s.args.figure h)
+    let h : c.args.figure < 1 = omega arith in
+    sym (figure_zero c.args.by c.args.figure h)
 
 pub returns-in_default-2 : goal.returns-in_default-2
 returns-in_default-2 c =
-    let s = c.before.before.before in
-    let h : 14 < s.args.figure = omega arith in
-    sym (figure_above s.args.by s.args.figure h)
+    let h : 14 < c.args.figure = omega arith in
+    sym (figure_above c.args.by c.args.figure h)

@@ -24,26 +24,24 @@ returns-then-count-gt5 c =
     rw (ne_eqb n 1 c.if-count-eq1.false, lt-ltb 5 n many)
 
 pub read-requires : goal.read-requires
-read-requires c = let r = c.before.before in (search rules, r.read_all-all.ensures.1 c.if-all.true)
+read-requires c = (search rules, c.read_all-all.ensures.number_value c.if-all.true)
 
 pub returns-then-all : goal.returns-then-all
 unfolding judge balises
 returns-then-all c =
-    let r = c.before.before.before in
-    let g = r.args.group in
+    let g = c.args.group in
     let n = g.count in
-    let e : read_all (take n g.kept) ≡ gives (take n r.read_all-all.result.parts) =
-    sym r.read_all-all.ensures.0
-    ∙ ap (λ (b : Bool). pick b (gives (take n r.read_all-all.result.parts)) (refuses 12)) c.if-all.true in
-    c.read.ensures ∙ sym (rw (ne_eqb n 1 r.if-count-eq1.false, le-ltb 5 n r.if-count-gt5.false, e))
+    let e : read_all (take n g.kept) ≡ gives (take n c.read_all-all.result.parts) =
+    sym c.read_all-all.ensures.result_value
+    ∙ ap (λ (b : Bool). pick b (gives (take n c.read_all-all.result.parts)) (refuses 12)) c.if-all.true in
+    c.read.ensures ∙ sym (rw (ne_eqb n 1 c.if-count-eq1.false, le-ltb 5 n c.if-count-gt5.false, e))
 
 pub returns-else-all : goal.returns-else-all
 unfolding judge balises
 returns-else-all c =
-    let r = c.before in
-    let g = r.args.group in
+    let g = c.args.group in
     let n = g.count in
     let e : read_all (take n g.kept) ≡ refuses 12 =
-    sym r.read_all-all.ensures.0
-    ∙ ap (λ (b : Bool). pick b (gives (take n r.read_all-all.result.parts)) (refuses 12)) c.if-all.false in
-    rw (ne_eqb n 1 r.if-count-eq1.false, le-ltb 5 n r.if-count-gt5.false, e)
+    sym c.read_all-all.ensures.result_value
+    ∙ ap (λ (b : Bool). pick b (gives (take n c.read_all-all.result.parts)) (refuses 12)) c.if-all.false in
+    rw (ne_eqb n 1 c.if-count-eq1.false, le-ltb 5 n c.if-count-gt5.false, e)

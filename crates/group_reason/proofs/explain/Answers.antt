@@ -24,24 +24,21 @@ returns-then-count-gt5 c =
 pub returns-then-all : goal.returns-then-all
 unfolding explain balises
 returns-then-all c =
-    let k = c.before in
-    let r = k.before.before in
-    let g = r.args.group in
+    let g = c.args.group in
     let n = g.count in
-    let l = r.read_all-all.result in
+    let l = c.read_all-all.result in
     let e : read_from 0 (take n g.kept) ≡ gives (take n l.parts) =
-    sym r.read_all-all.ensures
-    ∙ ap (λ (b : Bool). pick b (gives (take n l.parts)) (refuses (bad l.balise l.place (says_bad_balise l.bad)))) k.if-all.true in
-    c.why_fit.ensures ∙ sym (rw (ne_eqb n 1 r.if-count-eq1.false, le-ltb 5 n r.if-count-gt5.false, e))
+    sym c.read_all-all.ensures
+    ∙ ap (λ (b : Bool). pick b (gives (take n l.parts)) (refuses (bad l.balise l.place (says_bad_balise l.bad)))) c.if-all.true in
+    c.why_fit.ensures ∙ sym (rw (ne_eqb n 1 c.if-count-eq1.false, le-ltb 5 n c.if-count-gt5.false, e))
 
 pub returns-else-all : goal.returns-else-all
 unfolding explain balises
 returns-else-all c =
-    let r = c.before.before in
-    let g = r.args.group in
+    let g = c.args.group in
     let n = g.count in
-    let l = r.read_all-all.result in
+    let l = c.read_all-all.result in
     let e : read_from 0 (take n g.kept) ≡ refuses (bad l.balise l.place (says_bad_balise l.bad)) =
-    sym r.read_all-all.ensures
+    sym c.read_all-all.ensures
     ∙ ap (λ (b : Bool). pick b (gives (take n l.parts)) (refuses (bad l.balise l.place (says_bad_balise l.bad)))) c.if-all.false in
-    rw (ne_eqb n 1 r.if-count-eq1.false, le-ltb 5 n r.if-count-gt5.false, e)
+    rw (ne_eqb n 1 c.if-count-eq1.false, le-ltb 5 n c.if-count-gt5.false, e)

@@ -9,6 +9,5 @@ use Rattle.group_rows.proofs.after_first.Goals as goal
 
 pub returns : goal.returns
 returns c =
-    let s = c.before.before.before.before.before in
-    let five : length s.args.t1 ≡ 5 = omega (arith, s.well-formed.0.1.0.1) in
-    one_by_one s.args.t1 blank five
+    let five : length c.args.p ≡ 5 = omega (arith, c.well_formed.0.1.0.1) in
+    one_by_one c.args.p blank five

@@ -9,23 +9,19 @@ use Rattle.group_rows.proofs.fit.Goals.{Start}
 use Rattle.group_rows.proofs.fit.Goals as goal
 
 long : (s : Start) → length s.args.p ≡ 5
-long s = omega (arith, s.well-formed.0.1.0.1)
+long s = omega (arith, s.well_formed.0.1.0.1)
 
 pub follow-run-requires : goal.follow-run-requires
 follow-run-requires c =
-    most c.args.p c.args.n c.at_most_five-few.result (long c.before) c.at_most_five-few.ensures
+    most c.args.p c.args.n c.at_most_five-few.result (long (goal.at-follow-run-requires c).Start) c.at_most_five-few.ensures
 
 pub returns-then-run-few : goal.returns-then-run-few
 returns-then-run-few c =
-    let f = c.before.before in
-    let m = f.before in
-    stopped m.args.p m.args.n m.at_most_five-few.result (long m.before) m.at_most_five-few.ensures
-    f.follow-run.result f.follow-run.ensures c.if-run-few.true
+    stopped c.args.p c.args.n c.at_most_five-few.result (long (goal.at-returns-then-run-few c).Start) c.at_most_five-few.ensures
+    c.follow-run.result c.follow-run.ensures c.if-run-few.true
 
 pub returns : goal.returns
 returns c =
-    let f = c.before.before.before in
-    let m = f.before in
     ap says_fitted c.end_at.ensures
-    ∙ arrived m.args.p m.args.n m.at_most_five-few.result (long m.before) m.at_most_five-few.ensures
-    f.follow-run.result f.follow-run.ensures c.if-run-few.false
+    ∙ arrived c.args.p c.args.n c.at_most_five-few.result (long (goal.at-returns c).Start) c.at_most_five-few.ensures
+    c.follow-run.result c.follow-run.ensures c.if-run-few.false

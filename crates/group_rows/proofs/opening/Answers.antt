@@ -8,14 +8,13 @@ use Rattle.group_rows.proofs.opening.Goals.{Start}
 use Rattle.group_rows.proofs.opening.Goals as goal
 
 long : (s : Start) → length s.args.p ≡ 5
-long s = omega (arith, s.well-formed.0.1.0.1)
+long s = omega (arith, s.well_formed.0.1.0.1)
 
 pub follow-run-requires : goal.follow-run-requires
 follow-run-requires c =
-    most c.args.p c.args.n c.at_most_five-few.result (long c.before) c.at_most_five-few.ensures
+    most c.args.p c.args.n c.at_most_five-few.result (long (goal.at-follow-run-requires c).Start) c.at_most_five-few.ensures
 
 pub returns : goal.returns
 returns c =
-    let m = c.before in
-    opened m.args.p m.args.n m.at_most_five-few.result (long m.before) m.at_most_five-few.ensures
+    opened c.args.p c.args.n c.at_most_five-few.result (long (goal.at-returns c).Start) c.at_most_five-few.ensures
     c.follow-run.result c.follow-run.ensures

@@ -8,22 +8,15 @@ use Rattle.lead_text.proofs.list_end.Goals as goal
 
 pub over-requires : goal.over-requires
 over-requires c =
-    let h = c.before.before in
-    let q = h.before.before in
-    (held_given q.args.store 0 _ (sym q.at.ensures ∙ ap says_asked h.in-InForce.is)).0
+    (held_given c.args.store 0 _ (sym c.at.ensures ∙ ap says_asked c.in-InForce.is)).0
 
 pub returns-in-Refused : goal.returns-in-Refused
 returns-in-Refused c =
-    let v = c.before in
-    let q = v.before.before in
-    let a = q.args in
-    end_refused a.underway a.store a.out.now _ (store_refused a.store _ (sym q.at.ensures ∙ ap says_asked v.in-Refused.is))
+    let a = c.args in
+    end_refused a.underway a.store a.out.now _ (store_refused a.store _ (sym c.at.ensures ∙ ap says_asked c.in-Refused.is))
 
 pub returns-in-InForce : goal.returns-in-InForce
 returns-in-InForce c =
-    let o = c.before.before in
-    let h = o.before.before.before in
-    let q = h.before.before in
-    let a = q.args in
-    let held = held_given a.store 0 _ (sym q.at.ensures ∙ ap says_asked h.in-InForce.is) in
-    o.over.ensures ∙ end_listed a.underway a.store a.out.now held.0
+    let a = c.args in
+    let held = held_given a.store 0 _ (sym c.at.ensures ∙ ap says_asked c.in-InForce.is) in
+    c.over.ensures ∙ end_listed a.underway a.store a.out.now held.0

@@ -14,43 +14,32 @@ loop-i-init c = refl
 
 pub returns-then-c-eq10 : goal.returns-then-c-eq10
 returns-then-c-eq10 c =
-    let l = c.before.before.before.before in
-    let t = l.args.text.now in
-    c.whole.ensures ∙ at_newline (reader l.loop-i.line l.loop-i.word l.loop-i.comment) t l.loop-i.i (omega arith) c.if-c-eq10.true ∙ sym l.loop-i.invariant
+    let t = c.args.text.now in
+    c.whole.ensures ∙ at_newline (reader c.loop-i.line c.loop-i.word c.loop-i.comment) t c.loop-i.i (omega arith) c.if-c-eq10.true ∙ sym c.loop-i.invariant
 
 pub loop-i-preserved-then-comment : goal.loop-i-preserved-then-comment
 loop-i-preserved-then-comment c =
-    let l = c.before.before.before.before in
-    let t = l.args.text.now in
-    let n = l.loop-i in
+    let t = c.args.text.now in
+    let n = c.loop-i in
     n.invariant ∙ goes_on (reader n.line n.word n.comment) t n.i (omega arith) c.if-c-eq10.false (reader n.line n.word n.comment)
     (rw c.if-comment.true (in_comment n.line n.word _))
 
 pub loop-i-preserved-then-is_stop : goal.loop-i-preserved-then-is_stop
 loop-i-preserved-then-is_stop c =
-    let q = c.before.before in
-    let s = q.before in
-    let e = s.before.before in
-    let l = e.before.before.before in
-    let t = l.args.text.now in
-    let n = l.loop-i in
-    n.invariant ∙ goes_on (reader n.line n.word n.comment) t n.i (omega arith) e.if-c-eq10.false _
-    (rw (c.closed-line.ensures, c.no_letters-word.ensures, s.if-comment.false) (at_stop n.line n.word _ (sym s.is_stop.ensures ∙ q.if-is_stop.true)))
+    let t = c.args.text.now in
+    let n = c.loop-i in
+    n.invariant ∙ goes_on (reader n.line n.word n.comment) t n.i (omega arith) c.if-c-eq10.false _
+    (rw (c.closed-line.ensures, c.no_letters-word.ensures, c.if-comment.false) (at_stop n.line n.word _ (sym c.is_stop.ensures ∙ c.if-is_stop.true)))
 
 pub loop-i-preserved : goal.loop-i-preserved
 loop-i-preserved c =
-    let q = c.before in
-    let s = q.before in
-    let e = s.before.before in
-    let l = e.before.before.before in
-    let t = l.args.text.now in
-    let n = l.loop-i in
-    n.invariant ∙ goes_on (reader n.line n.word n.comment) t n.i (omega arith) e.if-c-eq10.false _
-    (rw (c.letter_on-word.ensures, s.if-comment.false) (at_letter n.line n.word _ (sym s.is_stop.ensures ∙ q.if-is_stop.false)))
+    let t = c.args.text.now in
+    let n = c.loop-i in
+    n.invariant ∙ goes_on (reader n.line n.word n.comment) t n.i (omega arith) c.if-c-eq10.false _
+    (rw (c.letter_on-word.ensures, c.if-comment.false) (at_letter n.line n.word _ (sym c.is_stop.ensures ∙ c.if-is_stop.false)))
 
 pub returns : goal.returns
 returns c =
-    let l = c.before.before in
-    let t = l.args.text.now in
-    let n = l.loop-i in
+    let t = c.args.text.now in
+    let n = c.loop-i in
     c.unfinished.ensures ∙ at_the_end (reader n.line n.word n.comment) t n.i c.loop-i-test.false ∙ sym n.invariant

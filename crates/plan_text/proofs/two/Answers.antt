@@ -5,9 +5,7 @@ use Rattle.plan_text.proofs.two.Goals as goal
 
 pub returns-in-Is : goal.returns-in-Is
 returns-in-Is c =
-    let w = c.before in
-    let k = w.before.before in
-    c.entered.ensures ∙ ap (entered _) w.kind_of.ensures ∙ simp k.in-Is.is
+    c.entered.ensures ∙ ap (entered _) c.kind_of.ensures ∙ simp c.in-Is.is
 
 pub returns-in-Above : goal.returns-in-Above
 returns-in-Above c = simp c.in-Above.is

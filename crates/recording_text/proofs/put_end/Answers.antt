@@ -8,7 +8,7 @@ use Rattle.recording_text.proofs.put_end.Goals.{After-spell_end-n}
 use Rattle.recording_text.proofs.put_end.Goals as goal
 
 -- The space begins with the text.
-lines : (c : After-spell_end-n) → let a = c.args in Begins (end_lines a.frames a.records a.bytes) c.spell_end-n.new.1.1.1.0 c.spell_end-n.result
+lines : (c : After-spell_end-n) → let a = c.args in Begins (end_lines a.frames a.records a.bytes) c.spell_end-n.new.buf c.spell_end-n.result
 lines c =
     let a = c.args in
     begins 384 (end_lines a.frames a.records a.bytes) (omega (arith, end_length a.frames a.records a.bytes)) c.spell_end-n.ensures
@@ -17,10 +17,10 @@ pub spell_end-n-requires : goal.spell_end-n-requires
 spell_end-n-requires c = let a = c.args in omega (arith, end_length a.frames a.records a.bytes)
 
 pub slice_bounds-space-end : goal.slice_bounds-space-end
-slice_bounds-space-end c = (lines c.before).within
+slice_bounds-space-end c = (lines (goal.at-slice_bounds-space-end c).After-spell_end-n).within
 
 pub slice_bounds-put-end : goal.slice_bounds-put-end
-slice_bounds-put-end c = as_long (lines c.before.before)
+slice_bounds-put-end c = as_long (lines (goal.at-slice_bounds-put-end c).After-spell_end-n)
 
 pub returns : goal.returns
-returns c = put_as _ _ (lines c.before.before.before.before.before.before) c.put.ensures
+returns c = put_as _ _ (lines (goal.at-returns c).After-spell_end-n) c.put.ensures

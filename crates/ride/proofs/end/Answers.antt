@@ -5,12 +5,10 @@ use Rattle.ride.proofs.end.Goals as goal
 
 pub returns-then-is_open : goal.returns-then-is_open
 returns-then-is_open c =
-    let j = c.before.before in
-    let o = j.before.before in
-    let a = o.args in
+    let a = c.args in
     c.at_end.ensures
-    ∙ end_open a.ride _ (sym o.is_open.ensures ∙ j.if-is_open.true)
-    (closed_with a.ride.group a.ride.known _ _ j.judge-verdict.ensures c.close.ensures)
+    ∙ end_open a.ride _ (sym c.is_open.ensures ∙ c.if-is_open.true)
+    (closed_with a.ride.group a.ride.known _ _ c.judge-verdict.ensures c.close.ensures)
 
 pub returns : goal.returns
 returns c = c.at_end-2.ensures ∙ end_none c.args.ride _ (sym c.is_open.ensures ∙ c.if-is_open.false) c.leave.ensures

@@ -14,15 +14,13 @@ pub returns : goal.returns
 unfolding ride_bytes known_figures
 returns c =
     let sp = c.spread in
-    let at-group = c.before.before.before.before in
-    let g = at-group.figures-g in
-    let at-known = at-group.before.before.before in
-    let k = at-known.known_figures-k in
-    let ride = at-known.args.ride in
+    let g = c.figures-g in
+    let k = c.known_figures-k in
+    let ride = c.args.ride in
     let long : length {A = ℕ} (replicate 144 0) ≡ 144 = length-replicate {A = ℕ} 144 0 in
     let six : length k.result ≡ 6 = ap length k.ensures.0 in
-    let twelve : length g.result ≡ 12 = search rules in (
-      sp.ensures.0 ∙ ap₂ spread long (joined k.result g.result six twelve ∙ ap₂ ◌++◌ k.ensures.0 g.ensures.0),
-      alike (figure_at_meant sp.new.1.0) (λ (i : ℕ). get_or (eighteen k.result g.result) i 0) (λ i h. sp.ensures.1 i (subst (λ (m : ℕ). i < m / 8) (sym long) h))
-          ∙ ride_back ride k.result g.result (ap (λ (l : List ℕ). get_or l 0 0) k.ensures.0) k.ensures.1.0 k.ensures.1.1 g.ensures.1,
-    )
+    let twelve : length g.result ≡ 12 = search rules in record {
+      value = sp.ensures.0 ∙ ap₂ spread long (joined k.result g.result six twelve ∙ ap₂ ◌++◌ k.ensures.0 g.ensures.0);
+      result_value = alike (figure_at_meant sp.new.1.0) (λ (i : ℕ). get_or (eighteen k.result g.result) i 0) (λ i h. sp.ensures.1 i (subst (λ (m : ℕ). i < m / 8) (sym long) h))
+          ∙ ride_back ride k.result g.result (ap (λ (l : List ℕ). get_or l 0 0) k.ensures.0) k.ensures.1.0 k.ensures.1.1 g.ensures.1;
+    }

@@ -15,5 +15,4 @@ ridden o o' g g' k k' p q r = cc
 pub returns : goal.returns
 unfolding ride_of
 returns c =
-    let o = c.before.before in
-    ridden _ _ _ _ _ _ (o.low32.ensures ∙ ap (λ (n : ℕ). n % 4294967296) o.figure_at.ensures) c.read.ensures c.read-2.ensures
+    ridden _ _ _ _ _ _ (c.low32.ensures ∙ ap (λ (n : ℕ). n % 4294967296) c.figure_at.ensures) c.read.ensures c.read-2.ensures

@@ -12,17 +12,13 @@ use Rattle.ride_drawing.proofs.draw_end.Goals as goal
 pub returns : goal.returns
 unfolding draw_end
 returns c =
-    let p1 = c.before.before in
-    let p2 = p1.before.before in
-    let p3 = p2.before.before.before in
-    let p4 = p3.before.before.before.before in
-    let a = p4.args in
+    let a = c.args in
     let e = end a.ride in
     let lines = draw_lines a.plan a.pen a.ride.known e.ride.known e.closed e.lines a.ride.odometer in
     all_as _ _ (pieces_append lines _)
     (after _ _ _ _
-    (all_as _ _ (ap (λ (x : End). pieces (draw_lines a.plan a.pen a.ride.known e.ride.known x.closed x.lines a.ride.odometer)) p4.end-ended.ensures) p3.put_lines-next.ensures)
+    (all_as _ _ (ap (λ (x : End). pieces (draw_lines a.plan a.pen a.ride.known e.ride.known x.closed x.lines a.ride.odometer)) c.end-ended.ensures) c.put_lines-next.ensures)
     (all_as _ _
-    (ap (λ (p : Pen). pieces (the_rest a.plan p p4.end-ended.result.ride)) p2.after_lines-last.ensures
-    ∙ ap (λ (x : End). pieces (the_rest a.plan (after_lines a.pen x.lines a.ride.odometer) x.ride)) p4.end-ended.ensures)
-    p1.put_rest.ensures))
+    (ap (λ (p : Pen). pieces (the_rest a.plan p c.end-ended.result.ride)) c.after_lines-last.ensures
+    ∙ ap (λ (x : End). pieces (the_rest a.plan (after_lines a.pen x.lines a.ride.odometer) x.ride)) c.end-ended.ensures)
+    c.put_rest.ensures))

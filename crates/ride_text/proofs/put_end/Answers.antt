@@ -25,25 +25,24 @@ room_within true = omega arith
 -- The space begins with the text.
 spelled : (c : After-put_lines-n) →
     let a = c.args in
-    Begins (end_text a.reasons a.ride) c.put_lines-n.new.1.1.1.0 c.put_lines-n.result
+    Begins (end_text a.reasons a.ride) c.put_lines-n.new.out c.put_lines-n.result
 unfolding end_text
 spelled c =
-    let e = c.before.before.before in
-    let a = e.args in
-    let r = e.end-ended.result in
-    let is = ap₂ (lines_text a.reasons) (ap (λ (x : End). x.closed) e.end-ended.ensures) (ap (λ (x : End). x.lines) e.end-ended.ensures) in
+    let a = c.args in
+    let r = c.end-ended.result in
+    let is = ap₂ (lines_text a.reasons) (ap (λ (x : End). x.closed) c.end-ended.ensures) (ap (λ (x : End). x.lines) c.end-ended.ensures) in
     let t = lines_text a.reasons r.closed (says_lines r.lines) in
     begins 320 (end_text a.reasons a.ride) (omega (arith, ap length is, lines_short a.reasons r.closed r.lines, room_within a.reasons))
     (c.put_lines-n.ensures ∙ ap (λ (u : List ℕ). put u (replicate 320 0) 0) is)
 
 pub returns : goal.returns
-returns c = put_as _ _ (spelled c.before.before.before.before.before.before) c.put.ensures
+returns c = put_as _ _ (spelled (goal.at-returns c).After-put_lines-n) c.put.ensures
 
 pub put_lines-n-requires : goal.put_lines-n-requires
 put_lines-n-requires c = omega (arith, room_within c.args.reasons)
 
 pub slice_bounds-lines-end : goal.slice_bounds-lines-end
-slice_bounds-lines-end c = (spelled c.before).within
+slice_bounds-lines-end c = (spelled (goal.at-slice_bounds-lines-end c).After-put_lines-n).within
 
 pub slice_bounds-put-end : goal.slice_bounds-put-end
-slice_bounds-put-end c = as_long (spelled c.before.before)
+slice_bounds-put-end c = as_long (spelled (goal.at-slice_bounds-put-end c).After-put_lines-n)

@@ -7,19 +7,19 @@ use Rattle.ride_text.proofs.put_styled.Goals.{After-put_text-n}
 use Rattle.ride_text.proofs.put_styled.Goals as goal
 
 -- The space begins with the line's text.
-spelled : (c : After-put_text-n) → let a = c.args in Begins (line_text a.reasons a.closed a.line) c.put_text-n.new.1.1.1.0 c.put_text-n.result
+spelled : (c : After-put_text-n) → let a = c.args in Begins (line_text a.reasons a.closed a.line) c.put_text-n.new.buf c.put_text-n.result
 spelled c =
     let a = c.args in
     begins 160 (line_text a.reasons a.closed a.line) (line_within a.reasons a.closed a.line) c.put_text-n.ensures
 
 pub returns : goal.returns
-returns c = put_as _ _ (spelled c.before.before.before.before.before.before) c.put.ensures
+returns c = put_as _ _ (spelled (goal.at-returns c).After-put_text-n) c.put.ensures
 
 pub put_text-n-requires : goal.put_text-n-requires
 put_text-n-requires c = let a = c.args in omega (arith, line_within a.reasons a.closed a.line)
 
 pub slice_bounds-space-end : goal.slice_bounds-space-end
-slice_bounds-space-end c = (spelled c.before).within
+slice_bounds-space-end c = (spelled (goal.at-slice_bounds-space-end c).After-put_text-n).within
 
 pub slice_bounds-put-end : goal.slice_bounds-put-end
-slice_bounds-put-end c = as_long (spelled c.before.before)
+slice_bounds-put-end c = as_long (spelled (goal.at-slice_bounds-put-end c).After-put_text-n)

@@ -7,19 +7,16 @@ use Rattle.settings.proofs.add.Goals as goal
 
 pub with_one-requires : goal.with_one-requires
 with_one-requires c =
-    let m = c.before.before in
-    room m.args.store _ (sym m.may_add-verdict.ensures ∙ ap says_verdict c.in-Kept.is)
+    room c.args.store _ (sym c.may_add-verdict.ensures ∙ ap says_verdict c.in-Kept.is)
 
 pub returns-in-Kept : goal.returns-in-Kept
 unfolding add
 returns-in-Kept c =
-    let t = c.before in
-    let may = sym t.may_add-verdict.ensures ∙ ap says_verdict t.in-Kept.is in
+    let may = sym c.may_add-verdict.ensures ∙ ap says_verdict c.in-Kept.is in
     rw (may, c.with_one.ensures)
 
 pub returns-in-Refused : goal.returns-in-Refused
 unfolding add
 returns-in-Refused c =
-    let v = c.before in
-    let may = sym v.may_add-verdict.ensures ∙ ap says_verdict v.in-Refused.is in
+    let may = sym c.may_add-verdict.ensures ∙ ap says_verdict c.in-Refused.is in
     rw may

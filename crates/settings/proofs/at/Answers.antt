@@ -9,27 +9,22 @@ use Rattle.settings.proofs.at.Goals as goal
 pub returns-then-place-gt4000000000 : goal.returns-then-place-gt4000000000
 unfolding asked
 returns-then-place-gt4000000000 c =
-    let t = c.before in
-    let own = sym t.judge-own.ensures ∙ ap says_verdict t.in-Kept.is in
+    let own = sym c.judge-own.ensures ∙ ap says_verdict c.in-Kept.is in
     rw (own, lt-ltb _ _ c.if-place-gt4000000000.true)
 
 pub in_force-requires : goal.in_force-requires
 in_force-requires c =
-    let t = c.before in
-    let j = t.before.before in
-    let own = sym j.judge-own.ensures ∙ ap says_verdict t.in-Kept.is in
-    (at_least j.args.store own, at_most j.args.store own)
+    let own = sym c.judge-own.ensures ∙ ap says_verdict c.in-Kept.is in
+    (at_least c.args.store own, at_most c.args.store own)
 
 pub returns-in-Refused : goal.returns-in-Refused
 unfolding asked
 returns-in-Refused c =
-    let v = c.before in
-    let own = sym v.judge-own.ensures ∙ ap says_verdict v.in-Refused.is in
+    let own = sym c.judge-own.ensures ∙ ap says_verdict c.in-Refused.is in
     rw own
 
 pub returns-else-place-gt4000000000 : goal.returns-else-place-gt4000000000
 unfolding asked
 returns-else-place-gt4000000000 c =
-    let t = c.before.before in
-    let own = sym t.judge-own.ensures ∙ ap says_verdict t.in-Kept.is in
+    let own = sym c.judge-own.ensures ∙ ap says_verdict c.in-Kept.is in
     rw (own, le-ltb _ _ c.if-place-gt4000000000.false, c.in_force.ensures)

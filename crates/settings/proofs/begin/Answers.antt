@@ -7,13 +7,11 @@ use Rattle.settings.proofs.begin.Goals as goal
 pub returns-in-Kept : goal.returns-in-Kept
 unfolding begin
 returns-in-Kept c =
-    let t = c.before in
-    let settings = sym t.settings_of-verdict.ensures ∙ ap says_verdict t.in-Kept.is in
+    let settings = sym c.settings_of-verdict.ensures ∙ ap says_verdict c.in-Kept.is in
     rw (settings, c.opened.ensures)
 
 pub returns-in-Refused : goal.returns-in-Refused
 unfolding begin
 returns-in-Refused c =
-    let t = c.before.before in
-    let settings = sym t.settings_of-verdict.ensures ∙ ap says_verdict t.in-Refused.is in
+    let settings = sym c.settings_of-verdict.ensures ∙ ap says_verdict c.in-Refused.is in
     rw (settings, c.no_store.ensures)

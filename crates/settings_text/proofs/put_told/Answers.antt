@@ -7,7 +7,7 @@ use Rattle.settings_text.proofs.put_told.Goals.{After-put_how-n}
 use Rattle.settings_text.proofs.put_told.Goals as goal
 
 -- The space begins with the text.
-line : (c : After-put_how-n) → let a = c.args in Begins (told a.line a.how) c.put_how-n.new.1.1.0 c.put_how-n.result
+line : (c : After-put_how-n) → let a = c.args in Begins (told a.line a.how) c.put_how-n.new.buf c.put_how-n.result
 line c =
     let a = c.args in
     begins 128 (told a.line a.how) (omega (arith, told_length a.line a.how)) c.put_how-n.ensures
@@ -16,10 +16,10 @@ pub put_how-n-requires : goal.put_how-n-requires
 put_how-n-requires c = omega (arith, told_length c.args.line c.args.how)
 
 pub slice_bounds-space-end : goal.slice_bounds-space-end
-slice_bounds-space-end c = (line c.before).within
+slice_bounds-space-end c = (line (goal.at-slice_bounds-space-end c).After-put_how-n).within
 
 pub slice_bounds-put-end : goal.slice_bounds-put-end
-slice_bounds-put-end c = as_long (line c.before.before)
+slice_bounds-put-end c = as_long (line (goal.at-slice_bounds-put-end c).After-put_how-n)
 
 pub returns : goal.returns
-returns c = put_as _ _ (line c.before.before.before.before.before.before) c.put.ensures
+returns c = put_as _ _ (line (goal.at-returns c).After-put_how-n) c.put.ensures

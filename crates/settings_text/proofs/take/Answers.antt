@@ -6,21 +6,17 @@ use Rattle.settings_text.proofs.take.Goals as goal
 pub returns-in-Nothing : goal.returns-in-Nothing
 unfolding take_line
 returns-in-Nothing c =
-    let l = c.before.before in
-    let s = l.args.store in
-    ap (stated_to s) (sym c.in-Nothing.is) ∙ ap (stated_to s) l.read_line-stated.ensures
+    let s = c.args.store in
+    ap (stated_to s) (sym c.in-Nothing.is) ∙ ap (stated_to s) c.read_line-stated.ensures
 
 pub returns-in-Version : goal.returns-in-Version
 unfolding take_line
 returns-in-Version c =
-    let k = c.before.before in
-    let l = k.before.before in
-    let s = l.args.store in
-    c.give.ensures ∙ ap (stated_to s) (sym k.in-Version.is) ∙ ap (stated_to s) l.read_line-stated.ensures
+    let s = c.args.store in
+    c.give.ensures ∙ ap (stated_to s) (sym c.in-Version.is) ∙ ap (stated_to s) c.read_line-stated.ensures
 
 pub returns-in-Unreadable : goal.returns-in-Unreadable
 unfolding take_line
 returns-in-Unreadable c =
-    let l = c.before.before in
-    let s = l.args.store in
-    ap (stated_to s) (sym c.in-Unreadable.is) ∙ ap (stated_to s) l.read_line-stated.ensures
+    let s = c.args.store in
+    ap (stated_to s) (sym c.in-Unreadable.is) ∙ ap (stated_to s) c.read_line-stated.ensures

@@ -48,13 +48,12 @@ pub returns-in-At : goal.returns-in-At
 unfolding survey
 returns-in-At c =
     let a = c.args in
-    let h = at_first c.before in
+    let h = at_first (goal.at-returns-in-At c).In-At in
     let f = h.first in
-    let p = c.in-At.place in
-    let e : a.start + (a.len - 39) - (p + 1) + 39 ≡ a.start + a.len - (p + 1) = omega arith in
-    let ps : places a.buf.now (p + 1) (a.start + (a.len - 39) - (p + 1) + 39) a.s a.t ≡ h.rest =
-    ap (λ (l : ℕ). places a.buf.now (p + 1) l a.s a.t) e ∙ sym f.others in
-    c.to_first.ensures ∙ ap (λ (qs : List ℕ). together a.buf.now (p ∷ qs)) ps ∙ ap (together a.buf.now) (sym h.list)
+    let e : a.start + (a.len - 39) - (c.in-At.place + 1) + 39 ≡ a.start + a.len - (c.in-At.place + 1) = omega arith in
+    let ps : places a.buf.now (c.in-At.place + 1) (a.start + (a.len - 39) - (c.in-At.place + 1) + 39) a.s a.t ≡ h.rest =
+    ap (λ (l : ℕ). places a.buf.now (c.in-At.place + 1) l a.s a.t) e ∙ sym f.others in
+    c.to_first.ensures ∙ ap (λ (qs : List ℕ). together a.buf.now (c.in-At.place ∷ qs)) ps ∙ ap (together a.buf.now) (sym h.list)
     ∙ simp (h.good, h.taken)
 
 pub returns-in-NotSeven : goal.returns-in-NotSeven

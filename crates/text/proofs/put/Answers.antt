@@ -17,7 +17,6 @@ returns-then-bytes-buf c =
 
 pub returns : goal.returns
 returns c =
-    let p = c.before.before in
-    let a = p.args in
+    let a = c.args in
     let fits : a.at + length a.bytes.now ≤ length a.buf.now = omega arith in
-    was_put (record { put = p.copy.ensures; fits = fits })
+    was_put (record { put = (c.copy.ensures.value, c.copy.ensures.buf_after); fits = fits })

@@ -17,11 +17,11 @@ fits c =
 -- The words stand.
 words_stand : (c : After-copy-next) →
     let a = c.args in
-    Stands a.buf.now c.copy-next.new.1.0 a.at c.copy-next.result a.words.now
+    Stands a.buf.now c.copy-next.new.buf a.at c.copy-next.result a.words.now
 words_stand c =
     let a = c.args in
-    let room_for : a.at + length a.words.now ≤ length a.buf.now = omega (arith, fits c.before.before, length-append a.words.now (decimal a.n)) in
-    record { put = c.copy-next.ensures; fits = room_for }
+    let room_for : a.at + length a.words.now ≤ length a.buf.now = omega (arith, fits (goal.at-After-copy-next c).Else-count-buf, length-append a.words.now (decimal a.n)) in
+    record { put = (c.copy-next.ensures.value, c.copy-next.ensures.buf_after); fits = room_for }
 
 pub returns-then-at-buf : goal.returns-then-at-buf
 returns-then-at-buf c =
@@ -40,19 +40,15 @@ returns-then-count-buf c =
 
 pub overflow_add-next : goal.overflow_add-next
 overflow_add-next c =
-    let q = c.before.before.before in
-    let a = q.args in
-    omega (arith, room (decimal a.n) (words_stand q) (fits q.before.before))
+    let a = c.args in
+    omega (arith, room (decimal a.n) (words_stand (goal.at-overflow_add-next c).After-copy-next) (fits (goal.at-overflow_add-next c).Else-count-buf))
 
 pub spell-requires : goal.spell-requires
 spell-requires c =
-    let q = c.before.before.before in
-    let a = q.args in
-    (omega arith, omega (arith, room (decimal a.n) (words_stand q) (fits q.before.before)))
+    let a = c.args in
+    (omega arith, omega (arith, room (decimal a.n) (words_stand (goal.at-spell-requires c).After-copy-next) (fits (goal.at-spell-requires c).Else-count-buf)))
 
 pub returns : goal.returns
 returns c =
-    let p = c.before.before in
-    let q = p.before.before.before.before in
-    let a = q.args in
-    was_put (behind (decimal a.n) (words_stand q) (fits q.before.before) p.spell.ensures)
+    let a = c.args in
+    was_put (behind (decimal a.n) (words_stand (goal.at-returns c).After-copy-next) (fits (goal.at-returns c).Else-count-buf) (c.spell.ensures.value, c.spell.ensures.buf_after))

@@ -7,7 +7,7 @@ use Rattle.trace_text.proofs.put_record.Goals.{After-put_line-n}
 use Rattle.trace_text.proofs.put_record.Goals as goal
 
 -- The space begins with the text.
-line : (c : After-put_line-n) → let a = c.args in Begins (record_line a.number a.place a.what) c.put_line-n.new.1.1.1.0 c.put_line-n.result
+line : (c : After-put_line-n) → let a = c.args in Begins (record_line a.number a.place a.what) c.put_line-n.new.buf c.put_line-n.result
 line c =
     let a = c.args in
     begins 128 (record_line a.number a.place a.what) (omega (arith, line_length a.number a.place a.what)) c.put_line-n.ensures
@@ -16,10 +16,10 @@ pub put_line-n-requires : goal.put_line-n-requires
 put_line-n-requires c = omega (arith, line_length c.args.number c.args.place c.args.what)
 
 pub slice_bounds-space-end : goal.slice_bounds-space-end
-slice_bounds-space-end c = (line c.before).within
+slice_bounds-space-end c = (line (goal.at-slice_bounds-space-end c).After-put_line-n).within
 
 pub slice_bounds-put-end : goal.slice_bounds-put-end
-slice_bounds-put-end c = as_long (line c.before.before)
+slice_bounds-put-end c = as_long (line (goal.at-slice_bounds-put-end c).After-put_line-n)
 
 pub returns : goal.returns
-returns c = put_as _ _ (line c.before.before.before.before.before.before) c.put.ensures
+returns c = put_as _ _ (line (goal.at-returns c).After-put_line-n) c.put.ensures

@@ -10,7 +10,7 @@ returns-then-line-eq0 c = simp (eq-eqb _ _ c.if-line-eq0.true)
 
 pub returns-in-Is : goal.returns-in-Is
 unfolding said
-returns-in-Is c = let w = c.before in let k = w.before.before in c.thing.ensures ∙ ap (thing _) w.what_of.ensures ∙ simp (ne_eqb _ _ k.if-line-eq0.false, k.in-Is.is)
+returns-in-Is c = c.thing.ensures ∙ ap (thing _) c.what_of.ensures ∙ simp (ne_eqb _ _ c.if-line-eq0.false, c.in-Is.is)
 
 pub returns-in-Above : goal.returns-in-Above
 unfolding said

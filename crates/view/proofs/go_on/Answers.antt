@@ -5,7 +5,5 @@ use Rattle.view.proofs.go_on.Goals as goal
 
 pub after_settings-requires : goal.after_settings-requires
 after_settings-requires c =
-    let o = c.before.before.before in
-    let s = o.before.before in
-    let is : o.options_at-asked.result.first ≡ s.args.at + 2 = o.options_at-asked.ensures.0 ∙ ap (cards_from s.args.at) c.in-Settings.is in
-    omega (arith, is, s.ranges.at.fits)
+    let is : c.options_at-asked.result.first ≡ c.args.at + 2 = c.options_at-asked.ensures.0 ∙ ap (cards_from c.args.at) c.in-Settings.is in
+    omega (arith, is, c.ranges.at.fits)

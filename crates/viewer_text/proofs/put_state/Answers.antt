@@ -16,10 +16,10 @@ use Rattle.viewer_text.proofs.put_state.Goals as goal
 -- The space begins with the lines.
 begins : (c : After-put_all-n) →
     let a = c.args in
-    (take c.put_all_lem.result c.put_all_lem.new.1.1.1.1.0 ≡ state a.number a.count a.kept a.ride) × (c.put_all_lem.result ≤ length c.put_all_lem.new.1.1.1.1.0)
+    (take c.put_all-n.result c.put_all-n.new.buf ≡ state a.number a.count a.kept a.ride) × (c.put_all-n.result ≤ length c.put_all-n.new.buf)
 begins c =
     let a = c.args in
-    spelled (replicate 384 0) (state a.number a.count a.kept a.ride) (omega (arith, state_length a.number a.count a.kept a.ride, length-replicate {A = ℕ} 384 0)) c.put_all_lem.ensures
+    spelled (replicate 384 0) (state a.number a.count a.kept a.ride) (omega (arith, state_length a.number a.count a.kept a.ride, length-replicate {A = ℕ} 384 0)) c.put_all-n.ensures
 
 pub put_all-n-requires : goal.put_all-n-requires
 put_all-n-requires c =
@@ -27,16 +27,13 @@ put_all-n-requires c =
     omega (arith, state_length a.number a.count a.kept a.ride)
 
 pub slice_bounds-space-end : goal.slice_bounds-space-end
-slice_bounds-space-end c = (begins c.before).1
+slice_bounds-space-end c = (begins (goal.at-slice_bounds-space-end c).After-put_all-n).1
 
 pub slice_bounds-put-end : goal.slice_bounds-put-end
 slice_bounds-put-end c =
-    let p = c.before.before in
-    sym (length-take-le p.put_all_lem.result p.put_all_lem.new.1.1.1.1.0 (begins p).1)
+    sym (length-take-le c.put_all-n.result c.put_all-n.new.buf (begins (goal.at-slice_bounds-put-end c).After-put_all-n).1)
 
 pub returns : goal.returns
 returns c =
-    let p = c.before.before in
-    let q = p.before.before.before.before in
-    let a = q.args in
-    p.put.ensures ∙ ap (λ (t : List ℕ). put t a.buf.now a.at) (begins q).0
+    let a = c.args in
+    c.put.ensures ∙ ap (λ (t : List ℕ). put t a.buf.now a.at) (begins (goal.at-returns c).After-put_all-n).0

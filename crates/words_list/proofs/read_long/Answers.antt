@@ -16,17 +16,15 @@ use Rattle.words_list.proofs.read_long.Goals as goal
 
 pub returns-then-words-figure : goal.returns-then-words-figure
 returns-then-words-figure c =
-    let at = c.before.before in
-    let x : ℕ = at.loop-figure.figure in
-    let here : get_or list x 0 ≡ at.args.word = ap (λ (l : List ℕ). get_or l x 0) (sym at.list-words.ensures) ∙ c.if-words-figure.true in
-    sym (listed_reads x at.args.word (omega (arith, c.loop-figure-test.true)) here)
+    let x : ℕ = c.loop-figure.figure in
+    let here : get_or list x 0 ≡ c.args.word = ap (λ (l : List ℕ). get_or l x 0) (sym c.list-words.ensures) ∙ c.if-words-figure.true in
+    sym (listed_reads x c.args.word (omega (arith, c.loop-figure-test.true)) here)
 
 pub loop-figure-preserved : goal.loop-figure-preserved
 loop-figure-preserved c = (search rules, below_more _ _ c.loop-figure.invariant.1 c.if-words-figure.false)
 
 pub returns : goal.returns
 returns c =
-    let at = c.before.before in
-    let none : (x : ℕ) → x < 2048 → get_or list x 0 ≡ at.args.word → ⊥ =
-    λ x l e. at.loop-figure.invariant.1 x (omega (arith, c.loop-figure-test.false)) (ap (λ (l : List ℕ). get_or l x 0) at.list-words.ensures ∙ e) in
-    refused 16 at.args.word false (sym (not_listed at.args.word (search rules) none)) c.parity.result c.parity.ensures refl
+    let none : (x : ℕ) → x < 2048 → get_or list x 0 ≡ c.args.word → ⊥ =
+    λ x l e. c.loop-figure.invariant.1 x (omega (arith, c.loop-figure-test.false)) (ap (λ (l : List ℕ). get_or l x 0) c.list-words.ensures ∙ e) in
+    refused 16 c.args.word false (sym (not_listed c.args.word (search rules) none)) c.parity.result c.parity.ensures refl

@@ -8,11 +8,8 @@ use Rattle.abi.proofs.contacts.atc2_begin.Goals as goal
 
 pub returns-in-Search : goal.returns-in-Search
 returns-in-Search c =
-    let at-begun = c.before.before.before in
-    let at-begin = at-begun.before.before in
-    faced says_search_begun begun_number begun_put at-begin.args.search.now at-begun.in-Search.is at-begin.begin.ensures
+    faced says_search_begun begun_number begun_put c.args.search.now c.in-Search.is c.begin.ensures
 
 pub returns-in-Beyond : goal.returns-in-Beyond
 returns-in-Beyond c =
-    let at-begin = c.before.before in
-    faced says_search_begun begun_number begun_put at-begin.args.search.now c.in-Beyond.is at-begin.begin.ensures
+    faced says_search_begun begun_number begun_put c.args.search.now c.in-Beyond.is c.begin.ensures

@@ -11,35 +11,26 @@ use Rattle.abi.proofs.contacts.atc2_judge.Goals as goal
 
 pub returns-in-Read : goal.returns-in-Read
 returns-in-Read c =
-    let at-telegram = c.before.before.before in
-    let at-judge = at-telegram.before.before in
-    let first = at-telegram.in-Read.first in
-    let count = at-telegram.in-Read.count in
     let (status, out) =
-    faced says_judged judged_number judged_put at-judge.args.out.now at-telegram.in-Read.is at-judge.judge.ensures in
-    (status, ap (λ (n : ℕ). n ∷ first ∷ count ∷ []) c.as_one.ensures.0 ∙ out)
+    faced says_judged judged_number judged_put c.args.out.now c.in-Read.is c.judge.ensures in
+    record { value = status; out_after = ap (λ (n : ℕ). n ∷ c.in-Read.first ∷ c.in-Read.count ∷ []) c.as_one.ensures.0 ∙ out }
 
 pub returns-in-Marker : goal.returns-in-Marker
 returns-in-Marker c =
-    let at-judge = c.before.before in
-    faced says_judged judged_number judged_put at-judge.args.out.now c.in-Marker.is at-judge.judge.ensures
+    faced says_judged judged_number judged_put c.args.out.now c.in-Marker.is c.judge.ensures
 
 pub returns-in-NotSeven : goal.returns-in-NotSeven
 returns-in-NotSeven c =
-    let at-judge = c.before.before in
-    faced says_judged judged_number judged_put at-judge.args.out.now c.in-NotSeven.is at-judge.judge.ensures
+    faced says_judged judged_number judged_put c.args.out.now c.in-NotSeven.is c.judge.ensures
 
 pub returns-in-Beyond : goal.returns-in-Beyond
 returns-in-Beyond c =
-    let at-judge = c.before.before in
-    faced says_judged judged_number judged_put at-judge.args.out.now c.in-Beyond.is at-judge.judge.ensures
+    faced says_judged judged_number judged_put c.args.out.now c.in-Beyond.is c.judge.ensures
 
 pub returns-in-Differ : goal.returns-in-Differ
 returns-in-Differ c =
-    let at-judge = c.before.before in
-    faced says_judged judged_number judged_put at-judge.args.out.now c.in-Differ.is at-judge.judge.ensures
+    faced says_judged judged_number judged_put c.args.out.now c.in-Differ.is c.judge.ensures
 
 pub returns-in-Neither : goal.returns-in-Neither
 returns-in-Neither c =
-    let at-judge = c.before.before in
-    faced says_judged judged_number judged_put at-judge.args.out.now c.in-Neither.is at-judge.judge.ensures
+    faced says_judged judged_number judged_put c.args.out.now c.in-Neither.is c.judge.ensures

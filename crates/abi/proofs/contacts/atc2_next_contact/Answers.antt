@@ -23,25 +23,20 @@ all search out is said =
 
 pub returns-in-Contact : goal.returns-in-Contact
 returns-in-Contact c =
-    let at_start = c.before.before.before.before in
-    let at_next = at_start.before.before in
-    let args = at_next.args in
-    all args.search.now args.out.now at_start.in-Contact.is at_next.next_contact.ensures
+    let args = c.args in
+    all args.search.now args.out.now c.in-Contact.is c.next_contact.ensures
 
 pub returns-in-NoFurther : goal.returns-in-NoFurther
 returns-in-NoFurther c =
-    let at_next = c.before.before in
-    let args = at_next.args in
-    all args.search.now args.out.now c.in-NoFurther.is at_next.next_contact.ensures
+    let args = c.args in
+    all args.search.now args.out.now c.in-NoFurther.is c.next_contact.ensures
 
 pub returns-in-Cut : goal.returns-in-Cut
 returns-in-Cut c =
-    let at_next = c.before.before in
-    let args = at_next.args in
-    all args.search.now args.out.now c.in-Cut.is at_next.next_contact.ensures
+    let args = c.args in
+    all args.search.now args.out.now c.in-Cut.is c.next_contact.ensures
 
 pub returns-in-Beyond : goal.returns-in-Beyond
 returns-in-Beyond c =
-    let at_next = c.before.before in
-    let args = at_next.args in
-    all args.search.now args.out.now c.in-Beyond.is at_next.next_contact.ensures
+    let args = c.args in
+    all args.search.now args.out.now c.in-Beyond.is c.next_contact.ensures

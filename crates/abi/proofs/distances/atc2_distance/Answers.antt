@@ -13,10 +13,8 @@ use Rattle.abi.proofs.distances.atc2_distance.Goals as goal
 -- The distance found is one of the table's.
 in_table_law : (c : In-Dm) → c.in-Dm.d < 2 ^ 31
 in_table_law c =
-    let at-d = c.before in
-    let at-distance = at-d.before.before in
-    let args = at-distance.args in
-    small args.by args.figure at-d.in-Dm.d (sym at-distance.distance.ensures ∙ ap says_measured at-d.in-Dm.is)
+    let args = c.args in
+    small args.by args.figure c.in-Dm.d (sym c.distance.ensures ∙ ap says_measured c.in-Dm.is)
 
 pub overflow_cast-result : goal.overflow_cast-result
 overflow_cast-result c = record { sfits = in_table_law c }

@@ -5,4 +5,4 @@ use Rattle.ride_bytes.specs.Rides.{known_figures}
 use Rattle.abi.proofs.rides.atc2_ride_known.Goals as goal
 
 pub returns : goal.returns
-returns c = (refl, c.known_figures-figures.ensures.0 ∙ ap known_figures c.ride_in-held.ensures)
+returns c = record { value = refl; out_after = c.known_figures-figures.ensures.value ∙ ap known_figures c.ride_in-held.ensures }

@@ -19,20 +19,17 @@ use Rattle.abi.proofs.rides.atc2_ride_list.Goals as goal
 -- What is specified.
 all : After-list-listed → Listing
 all w =
-    let a = w.before.before.before.before.before.before.before.before.before.args in
+    let a = w.args in
     listed a.state.now a.store.now a.trace.now a.number a.style a.text.now
 
 -- What `list` came to.
-came : (w : After-list-listed) → says_listed w.list-listed.result w.list-listed.new.1.1.1.1.1.0 ≡ all w
+came : (w : After-list-listed) → says_listed w.list-listed.result w.list-listed.new.out.0 ≡ all w
 unfolding all
 came w =
-    let at-style = w.before.before in
-    let at_store = at-style.before in
-    let at-ride = at_store.before in
-    let a = at-ride.args in
+    let a = w.args in
     w.list-listed.ensures
-    ∙ ap₂ (λ (s : Style) (r : Ride). list s r at_store.store_in-versions.result a.number a.trace.now a.text.now) at-style.with_reasons-reasons.ensures at-ride.ride_in-held.ensures
-    ∙ ap (λ (v : Store). list (style_of a.style) (ride_in a.state.now) v a.number a.trace.now a.text.now) at_store.store_in-versions.ensures
+    ∙ ap₂ (λ (s : Style) (r : Ride). list s r w.store_in-versions.result a.number a.trace.now a.text.now) w.with_reasons-reasons.ensures w.ride_in-held.ensures
+    ∙ ap (λ (v : Store). list (style_of a.style) (ride_in a.state.now) v a.number a.trace.now a.text.now) w.store_in-versions.ensures
 
 -- Its answer, by the case at hand.
 went : (w : After-list-listed) {d : Done} → w.list-listed.result.done ≡ d → says_done d ≡ (all w).answer
@@ -41,27 +38,22 @@ went w e = ap says_done (sym e) ∙ ap (λ (x : Listing). x.answer) (came w)
 pub returns-in-Took : goal.returns-in-Took
 unfolding all
 returns-in-Took c =
-    let w = c.before.before.before.before.before.before.before.before in
-    let a = w.args in
-    let d = c.done-1.given in
+    let a = c.args in
     took a.state.now a.store.now a.trace.now a.number a.style a.text.now a.out.now
-    (record { records = d.0.0; bytes = d.0.1.0 }) w.list-listed.result.ride c.ride_bytes-made.result w.list-listed.new.1.1.1.1.1.0
-    (went w d.1) (ap (λ (x : Listing). x.ride) (came w)) (ap (λ (x : Listing). x.out) (came w)) c.ride_bytes-made.ensures.0 c.ride_bytes-made.ensures.1
+    (record { records = c.in-Took.records; bytes = c.in-Took.bytes }) c.list-listed.result.ride c.ride_bytes-made.result c.list-listed.new.out.0
+    (went (goal.at-returns-in-Took c).After-list-listed c.in-Took.is) (ap (λ (x : Listing). x.ride) (came (goal.at-returns-in-Took c).After-list-listed)) (ap (λ (x : Listing). x.out) (came (goal.at-returns-in-Took c).After-list-listed)) c.ride_bytes-made.ensures.value c.ride_bytes-made.ensures.result_value
 
 pub returns-in-Settings : goal.returns-in-Settings
 unfolding all
 returns-in-Settings c =
-    let w = c.before.before.before.before.before.before.before in
-    let a = w.args in
-    let d = c.done-in-Settings-1.given in
+    let a = c.args in
     let s = c.of_settings in
     untaken a.state.now a.store.now a.trace.now a.number a.style a.text.now a.out.now
-    (says_bad d.0.0) _ w.list-listed.new.1.1.1.1.1.0 (went w d.1) (back s.result (says_bad d.0.0) s.ensures.0 s.ensures.1) (ap (λ (x : Listing). x.out) (came w))
+    (says_bad c.in-Settings.bad) _ c.list-listed.new.out.0 (went (goal.at-returns-in-Settings c).After-list-listed c.in-Settings.is) (back s.result (says_bad c.in-Settings.bad) s.ensures.0 s.ensures.1) (ap (λ (x : Listing). x.out) (came (goal.at-returns-in-Settings c).After-list-listed))
 
 pub returns-in-Length : goal.returns-in-Length
 unfolding all
 returns-in-Length c =
-    let w = c.before.before.before.before.before in
-    let a = w.args in
+    let a = c.args in
     untaken a.state.now a.store.now a.trace.now a.number a.style a.text.now a.out.now
-    16 _ w.list-listed.new.1.1.1.1.1.0 (went w c.in-Length.is) refl (ap (λ (x : Listing). x.out) (came w))
+    16 _ c.list-listed.new.out.0 (went (goal.at-returns-in-Length c).After-list-listed c.in-Length.is) refl (ap (λ (x : Listing). x.out) (came (goal.at-returns-in-Length c).After-list-listed))

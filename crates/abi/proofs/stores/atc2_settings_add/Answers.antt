@@ -19,31 +19,27 @@ version : Start → Version
 version s = record { place = s.args.place; gap = s.args.gap; s = s.args.s; t = s.args.t }
 
 -- What `add` came to.
-came : (w : After-add-added) → says_added w.add-added.result ≡ add (store_in w.args.store.now) (version w.before.before.before.before)
+came : (w : After-add-added) → says_added w.add-added.result ≡ add (store_in w.args.store.now) (version (goal.at-After-add-added w).Start)
 unfolding version
 came w =
-    let s = w.before.before.before.before in
-    w.add-added.ensures ∙ ap (λ (held : Store). add held (record { place = s.args.place; gap = s.args.gap; s = s.args.s; t = s.args.t })) w.store_in-held.ensures
+    w.add-added.ensures ∙ ap (λ (held : Store). add held (record { place = w.args.place; gap = w.args.gap; s = w.args.s; t = w.args.t })) w.store_in-held.ensures
 
 -- What is specified.
 change : After-add-added → Change
-change w = add (store_in w.before.before.before.before.args.store.now) (version w.before.before.before.before)
+change w = add (store_in w.args.store.now) (version (goal.at-After-add-added w).Start)
 
 pub returns-in-Kept : goal.returns-in-Kept
 unfolding version change
 returns-in-Kept c =
-    let w = c.before.before.before.before in
-    let a = w.args in
-    let went : gives kept ≡ (change w).answer = ap says_verdict (sym c.in-Kept.is) ∙ ap (λ (x : Change). x.answer) (came w) in
-    let made : w.add-added.result.store ≡ (change w).store = ap (λ (x : Change). x.store) (came w) in
-    stored (change w).answer (change w).store a.store.now w.add-added.result.store c.store_Bytes.result went made
+    let a = c.args in
+    let went : gives kept ≡ (change (goal.at-returns-in-Kept c).After-add-added).answer = ap says_verdict (sym c.in-Kept.is) ∙ ap (λ (x : Change). x.answer) (came (goal.at-returns-in-Kept c).After-add-added) in
+    let made : c.add-added.result.store ≡ (change (goal.at-returns-in-Kept c).After-add-added).store = ap (λ (x : Change). x.store) (came (goal.at-returns-in-Kept c).After-add-added) in
+    stored (change (goal.at-returns-in-Kept c).After-add-added).answer (change (goal.at-returns-in-Kept c).After-add-added).store a.store.now c.add-added.result.store c.store_Bytes.result went made
     c.store_Bytes.ensures.0 c.store_Bytes.ensures.1
 
 pub returns-in-Refused : goal.returns-in-Refused
 unfolding version change
 returns-in-Refused c =
-    let w = c.before.before.before.before.before in
-    let a = w.args in
-    let bad = c.in-Refused.bad in
-    let went : refuses (says_bad bad) ≡ (change w).answer = ap says_verdict (sym c.in-Refused.is) ∙ ap (λ (x : Change). x.answer) (came w) in
-    unstored (change w).answer (change w).store a.store.now (says_bad bad) _ went (back c.of_settings.result (says_bad bad) c.of_settings.ensures.0 c.of_settings.ensures.1)
+    let a = c.args in
+    let went : refuses (says_bad c.in-Refused.bad) ≡ (change (goal.at-returns-in-Refused c).After-add-added).answer = ap says_verdict (sym c.in-Refused.is) ∙ ap (λ (x : Change). x.answer) (came (goal.at-returns-in-Refused c).After-add-added) in
+    unstored (change (goal.at-returns-in-Refused c).After-add-added).answer (change (goal.at-returns-in-Refused c).After-add-added).store a.store.now (says_bad c.in-Refused.bad) _ went (back c.of_settings.result (says_bad c.in-Refused.bad) c.of_settings.ensures.0 c.of_settings.ensures.1)

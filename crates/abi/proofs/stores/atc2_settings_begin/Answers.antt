@@ -17,19 +17,16 @@ came w = w.begin-begun.ensures
 
 pub returns-in-Kept : goal.returns-in-Kept
 returns-in-Kept c =
-    let w = c.before.before.before.before in
-    let a = w.args in
+    let a = c.args in
     let went : gives kept ≡ (begin a.gap a.s a.t).answer =
-    ap says_verdict (sym c.in-Kept.is) ∙ ap (λ (x : Change). x.answer) (came w) in
-    let made : w.begin-begun.result.store ≡ (begin a.gap a.s a.t).store = ap (λ (x : Change). x.store) (came w) in
-    stored (begin a.gap a.s a.t).answer (begin a.gap a.s a.t).store a.store.now w.begin-begun.result.store c.store_Bytes.result went made
+    ap says_verdict (sym c.in-Kept.is) ∙ ap (λ (x : Change). x.answer) (came (goal.at-returns-in-Kept c).After-begin-begun) in
+    let made : c.begin-begun.result.store ≡ (begin a.gap a.s a.t).store = ap (λ (x : Change). x.store) (came (goal.at-returns-in-Kept c).After-begin-begun) in
+    stored (begin a.gap a.s a.t).answer (begin a.gap a.s a.t).store a.store.now c.begin-begun.result.store c.store_Bytes.result went made
     c.store_Bytes.ensures.0 c.store_Bytes.ensures.1
 
 pub returns-in-Refused : goal.returns-in-Refused
 returns-in-Refused c =
-    let w = c.before.before.before.before.before in
-    let a = w.args in
-    let bad = c.in-Refused.bad in
-    let went : refuses (says_bad bad) ≡ (begin a.gap a.s a.t).answer =
-    ap says_verdict (sym c.in-Refused.is) ∙ ap (λ (x : Change). x.answer) (came w) in
-    unstored (begin a.gap a.s a.t).answer (begin a.gap a.s a.t).store a.store.now (says_bad bad) _ went (back c.of_settings.result (says_bad bad) c.of_settings.ensures.0 c.of_settings.ensures.1)
+    let a = c.args in
+    let went : refuses (says_bad c.in-Refused.bad) ≡ (begin a.gap a.s a.t).answer =
+    ap says_verdict (sym c.in-Refused.is) ∙ ap (λ (x : Change). x.answer) (came (goal.at-returns-in-Refused c).After-begin-begun) in
+    unstored (begin a.gap a.s a.t).answer (begin a.gap a.s a.t).store a.store.now (says_bad c.in-Refused.bad) _ went (back c.of_settings.result (says_bad c.in-Refused.bad) c.of_settings.ensures.0 c.of_settings.ensures.1)

@@ -17,37 +17,32 @@ answered w e = ap how_answer (sym e) ∙ ap (λ (x : Sheet). how_answer x.how) w
 
 pub returns-in-Fine : goal.returns-in-Fine
 returns-in-Fine c =
-    let w = c.before.before.before.before in
-    let a = w.args in
+    let a = c.args in
     let x = sheet a.text.now in
-    let made : w.read-read.result.store ≡ x.store = ap (λ (x : Sheet). x.store) w.read-read.ensures in
-    stored (how_answer x.how) x.store a.store.now w.read-read.result.store c.store_Bytes.result (answered w c.in-Fine.is) made
+    let made : c.read-read.result.store ≡ x.store = ap (λ (x : Sheet). x.store) c.read-read.ensures in
+    stored (how_answer x.how) x.store a.store.now c.read-read.result.store c.store_Bytes.result (answered (goal.at-returns-in-Fine c).After-read-read c.in-Fine.is) made
     c.store_Bytes.ensures.0 c.store_Bytes.ensures.1
 
 pub returns-in-Refused : goal.returns-in-Refused
 returns-in-Refused c =
-    let w = c.before.before.before.before.before in
-    let a = w.args in
+    let a = c.args in
     let x = sheet a.text.now in
-    unstored (how_answer x.how) x.store a.store.now c.in-Refused.number _ (answered w c.in-Refused.is) (back c.below_zero.result c.in-Refused.number c.below_zero.ensures.0 c.below_zero.ensures.1)
+    unstored (how_answer x.how) x.store a.store.now c.in-Refused.number _ (answered (goal.at-returns-in-Refused c).After-read-read c.in-Refused.is) (back c.below_zero.result c.in-Refused.number c.below_zero.ensures.0 c.below_zero.ensures.1)
 
 pub returns-in-Unreadable : goal.returns-in-Unreadable
 returns-in-Unreadable c =
-    let w = c.before.before.before in
-    let a = w.args in
+    let a = c.args in
     let x = sheet a.text.now in
-    unstored (how_answer x.how) x.store a.store.now 100 _ (answered w c.in-Unreadable.is) refl
+    unstored (how_answer x.how) x.store a.store.now 100 _ (answered (goal.at-returns-in-Unreadable c).After-read-read c.in-Unreadable.is) refl
 
 pub returns-in-TooLong : goal.returns-in-TooLong
 returns-in-TooLong c =
-    let w = c.before.before.before in
-    let a = w.args in
+    let a = c.args in
     let x = sheet a.text.now in
-    unstored (how_answer x.how) x.store a.store.now 101 _ (answered w c.in-TooLong.is) refl
+    unstored (how_answer x.how) x.store a.store.now 101 _ (answered (goal.at-returns-in-TooLong c).After-read-read c.in-TooLong.is) refl
 
 pub returns-in-FirstPlace : goal.returns-in-FirstPlace
 returns-in-FirstPlace c =
-    let w = c.before.before.before in
-    let a = w.args in
+    let a = c.args in
     let x = sheet a.text.now in
-    unstored (how_answer x.how) x.store a.store.now 102 _ (answered w c.in-FirstPlace.is) refl
+    unstored (how_answer x.how) x.store a.store.now 102 _ (answered (goal.at-returns-in-FirstPlace c).After-read-read c.in-FirstPlace.is) refl

@@ -11,23 +11,17 @@ use Rattle.abi.proofs.telegrams.atc2_find.Goals as goal
 
 pub returns-in-At : goal.returns-in-At
 returns-in-At c =
-    let at_place = c.before.before.before in
-    let at-find = at_place.before.before in
-    let place = at_place.in-At.place in
-    let (status, out) = faced says_found found_number found_put at-find.args.out.now at_place.in-At.is at-find.find.ensures in
-    (status, ap (λ (n : ℕ). place ∷ n ∷ []) c.as_one.ensures.0 ∙ out)
+    let (status, out) = faced says_found found_number found_put c.args.out.now c.in-At.is c.find.ensures in
+    record { value = status; out_after = ap (λ (n : ℕ). c.in-At.place ∷ n ∷ []) c.as_one.ensures.0 ∙ out }
 
 pub returns-in-NotSeven : goal.returns-in-NotSeven
 returns-in-NotSeven c =
-    let at-find = c.before.before in
-    faced says_found found_number found_put at-find.args.out.now c.in-NotSeven.is at-find.find.ensures
+    faced says_found found_number found_put c.args.out.now c.in-NotSeven.is c.find.ensures
 
 pub returns-in-Beyond : goal.returns-in-Beyond
 returns-in-Beyond c =
-    let at-find = c.before.before in
-    faced says_found found_number found_put at-find.args.out.now c.in-Beyond.is at-find.find.ensures
+    faced says_found found_number found_put c.args.out.now c.in-Beyond.is c.find.ensures
 
 pub returns-in-NoPlace : goal.returns-in-NoPlace
 returns-in-NoPlace c =
-    let at-find = c.before.before in
-    faced says_found found_number found_put at-find.args.out.now c.in-NoPlace.is at-find.find.ensures
+    faced says_found found_number found_put c.args.out.now c.in-NoPlace.is c.find.ensures

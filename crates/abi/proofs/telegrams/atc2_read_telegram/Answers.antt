@@ -16,10 +16,9 @@ face reading = returned as_one (told reading)
 
 pub returns-in-Is : goal.returns-in-Is
 returns-in-Is c =
-    let t = c.before.before in
     as_i32 (search rules)
     ∙ ap pos c.as_one.ensures.0
-    ∙ carried face says_telegram_read t.in-Is.is t.read.ensures
+    ∙ carried face says_telegram_read c.in-Is.is c.read.ensures
 
 pub returns-in-NotCode : goal.returns-in-NotCode
 returns-in-NotCode c = carried face says_telegram_read c.in-NotCode.is c.read.ensures

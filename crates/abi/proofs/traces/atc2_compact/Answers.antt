@@ -22,33 +22,29 @@ use Rattle.abi.proofs.traces.atc2_compact.Goals as goal
 -- What the call of `compact` came to.
 came : After-compact-compacted → Compaction
 came w =
-    let a = w.before.before.before.before.before.before.args in
+    let a = w.args in
     compact fresh_ride (plain a.gap) a.trace.now
 
-called : (w : After-compact-compacted) → says_compacted w.compact-compacted.result w.compact-compacted.new.1.1.0 ≡ came w
+called : (w : After-compact-compacted) → says_compacted w.compact-compacted.result w.compact-compacted.new.trace.0 ≡ came w
 unfolding came
 called w =
-    let f = w.before.before in
-    let b = f.before.before in
-    let a = b.args in
-    w.compact-compacted.ensures ∙ ap (λ (r : Ride). compact r b.begin-begun.result.store a.trace.now) f.fresh.ensures
-    ∙ ap (λ (x : Change). compact fresh_ride x.store a.trace.now) b.begin-begun.ensures
+    let a = w.args in
+    w.compact-compacted.ensures ∙ ap (λ (r : Ride). compact r w.begin-begun.result.store a.trace.now) w.fresh.ensures
+    ∙ ap (λ (x : Change). compact fresh_ride x.store a.trace.now) w.begin-begun.ensures
 
 answered : (w : After-compact-compacted) → says_size w.compact-compacted.result.size ≡ (came w).answer
 answered w = ap (λ (v : Compaction). v.answer) (called w)
 
-left_there : (w : After-compact-compacted) → w.compact-compacted.new.1.1.0 ≡ (came w).buffer
+left_there : (w : After-compact-compacted) → w.compact-compacted.new.trace.0 ≡ (came w).buffer
 left_there w = ap (λ (v : Compaction). v.buffer) (called w)
 
 -- not above the trace's own length, which is below 2 ^ 63
 small : (c : In-Bytes) → c.in-Bytes.bytes < 2 ^ 63
 unfolding came
 small c =
-    let w = c.before.before.before.before.before in
-    let s = w.before.before.before.before.before.before in
-    let few : c.in-Bytes.bytes ≤ length s.args.trace.now =
-    few_bytes fresh_ride (plain s.args.gap) s.args.trace.now c.in-Bytes.bytes (ap says_size (sym c.in-Bytes.is) ∙ answered w) in
-    let big : length s.args.trace.now < 2 ^ 63 = subst (λ (k : ℕ). k < 2 ^ 63) (mul-one (length s.args.trace.now)) s.well-formed.1.0.1 in
+    let few : c.in-Bytes.bytes ≤ length c.args.trace.now =
+    few_bytes fresh_ride (plain c.args.gap) c.args.trace.now c.in-Bytes.bytes (ap says_size (sym c.in-Bytes.is) ∙ answered (goal.at-In-Bytes c).After-compact-compacted) in
+    let big : length c.args.trace.now < 2 ^ 63 = subst (λ (k : ℕ). k < 2 ^ 63) (mul-one (length c.args.trace.now)) c.well_formed.1.0.1 in
     omega arith
 
 pub overflow_cast-result : goal.overflow_cast-result
@@ -57,20 +53,16 @@ overflow_cast-result c = let below : c.in-Bytes.bytes < 2 ^ 63 = small c in sear
 pub returns-in-Bytes : goal.returns-in-Bytes
 unfolding came
 returns-in-Bytes c =
-    let w = c.before.before.before.before.before in
-    (as_i64 (small c) ∙ carried (returned itself) says_size c.in-Bytes.is (answered w), left_there w)
+    record { value = as_i64 (small c) ∙ carried (returned itself) says_size c.in-Bytes.is (answered (goal.at-returns-in-Bytes c).After-compact-compacted); trace_after = left_there (goal.at-returns-in-Bytes c).After-compact-compacted }
 
 pub returns-in-Settings : goal.returns-in-Settings
 unfolding came
 returns-in-Settings c =
-    let w = c.before.before.before.before in
-    let a = w.args in
-    let bad = c.in-Settings.field-0 in
-    let is-19 = only_19 fresh_ride a.gap a.trace.now bad (ap says_size (sym c.in-Settings.is) ∙ answered w) in
-    (ap (λ (n : ℕ). returned itself (refuses n)) (sym is-19) ∙ carried (returned itself) says_size c.in-Settings.is (answered w), left_there w)
+    let a = c.args in
+    let is-19 = only_19 fresh_ride a.gap a.trace.now c.in-Settings.field-0 (ap says_size (sym c.in-Settings.is) ∙ answered (goal.at-returns-in-Settings c).After-compact-compacted) in
+    record { value = ap (λ (n : ℕ). returned itself (refuses n)) (sym is-19) ∙ carried (returned itself) says_size c.in-Settings.is (answered (goal.at-returns-in-Settings c).After-compact-compacted); trace_after = left_there (goal.at-returns-in-Settings c).After-compact-compacted }
 
 pub returns-in-Length : goal.returns-in-Length
 unfolding came
 returns-in-Length c =
-    let w = c.before.before.before.before in
-    (carried (returned itself) says_size c.in-Length.is (answered w), left_there w)
+    record { value = carried (returned itself) says_size c.in-Length.is (answered (goal.at-returns-in-Length c).After-compact-compacted); trace_after = left_there (goal.at-returns-in-Length c).After-compact-compacted }

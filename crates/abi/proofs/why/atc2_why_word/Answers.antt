@@ -14,16 +14,14 @@ use Rattle.abi.proofs.why.atc2_why_word.Goals as goal
 
 pub returns-then-wide-eq0 : goal.returns-then-wide-eq0
 returns-then-wide-eq0 c =
-    let s = c.before.before in
-    let word = s.args.word in
+    let word = c.args.word in
     as_i32 (search rules)
     ∙ ap pos (c.of_short.ensures.0 ∙ ap word_number c.read_short.ensures)
-    ∙ ap (λ (b : Bool). pos (word_number (pick b (read_short (word % 256)) (read_long word)))) (sym (eq-eqb s.args.wide 0 s.if-wide-eq0.true))
+    ∙ ap (λ (b : Bool). pos (word_number (pick b (read_short (word % 256)) (read_long word)))) (sym (eq-eqb c.args.wide 0 c.if-wide-eq0.true))
 
 pub returns : goal.returns
 returns c =
-    let s = c.before.before in
-    let word = s.args.word in
+    let word = c.args.word in
     as_i32 (search rules)
     ∙ ap pos (c.of_long.ensures.0 ∙ ap word_number c.read_long.ensures)
-    ∙ ap (λ (b : Bool). pos (word_number (pick b (read_short (word % 256)) (read_long word)))) (sym (ne_eqb s.args.wide 0 s.if-wide-eq0.false))
+    ∙ ap (λ (b : Bool). pos (word_number (pick b (read_short (word % 256)) (read_long word)))) (sym (ne_eqb c.args.wide 0 c.if-wide-eq0.false))

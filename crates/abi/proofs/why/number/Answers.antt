@@ -15,8 +15,7 @@ said e = ap (λ (r : TelegramRead). why_number (says_telegram_read r)) (sym e)
 
 pub returns-in-NotCode : goal.returns-in-NotCode
 returns-in-NotCode c =
-    let l = c.before in
-    (ap₂ (λ (k o : ℕ). 1 + 16 * k + 256 * o) l.letter.ensures.0 c.ones.ensures.0 ∙ said l.in-NotCode.is, omega arith)
+    (ap₂ (λ (k o : ℕ). 1 + 16 * k + 256 * o) c.letter.ensures.0 c.ones.ensures.0 ∙ said c.in-NotCode.is, omega arith)
 
 pub returns-in-Fifteen : goal.returns-in-Fifteen
 returns-in-Fifteen c =

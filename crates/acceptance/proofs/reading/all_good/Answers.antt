@@ -18,22 +18,19 @@ loop-i-init c =
 
 pub returns-then-not-is_good : goal.returns-then-not-is_good
 returns-then-not-is_good c =
-    let t = c.before.before.before in
-    let b = t.args.bytes.now in
-    let e = t.loop-i.invariant.2 ∙ good_not b _ t.loop-i.i c.loop-i-test.true (sym c.is_good.ensures ∙ not-true _ c.if-not-is_good.true-raw) in
+    let b = c.args.bytes.now in
+    let e = c.loop-i.invariant.2 ∙ good_not b _ c.loop-i.i c.loop-i-test.true (sym c.is_good.ensures ∙ not-true _ c.if-not-is_good.true-raw) in
     sym e
 
 pub loop-i-preserved : goal.loop-i-preserved
 loop-i-preserved c =
-    let t = c.before.before.before in
-    let b = t.args.bytes.now in (
+    let b = c.args.bytes.now in (
       omega arith,
-      t.loop-i.invariant.1,
-      t.loop-i.invariant.2 ∙ good_on b _ t.loop-i.i c.loop-i-test.true (sym c.is_good.ensures ∙ not-false _ c.if-not-is_good.false-raw),
+      c.loop-i.invariant.1,
+      c.loop-i.invariant.2 ∙ good_on b _ c.loop-i.i c.loop-i-test.true (sym c.is_good.ensures ∙ not-false _ c.if-not-is_good.false-raw),
     )
 
 pub returns : goal.returns
 returns c =
-    let t = c.before in
-    let b = t.args.bytes.now in
-    sym (t.loop-i.invariant.2 ∙ good_end b _ t.loop-i.i c.loop-i-test.false)
+    let b = c.args.bytes.now in
+    sym (c.loop-i.invariant.2 ∙ good_end b _ c.loop-i.i c.loop-i-test.false)

@@ -13,27 +13,24 @@ loop-i-init c = (omega arith, omega arith, refl)
 
 pub returns-then-next-one : goal.returns-then-next-one
 returns-then-next-one c =
-    let t = c.before.before.before.before.before.before in
-    let a = t.args in
+    let a = c.args in
     let k : a.n ≤ length a.t1 = omega arith in
-    sym (t.loop-i.invariant.2 ∙ near a.tolerance a.t1 a.n t.loop-i.i k t.loop-i.invariant.0 (omega arith) c.if-next-one.true)
+    sym (c.loop-i.invariant.2 ∙ near a.tolerance a.t1 a.n c.loop-i.i k c.loop-i.invariant.0 (omega arith) c.if-next-one.true)
 
 pub loop-i-preserved : goal.loop-i-preserved
 loop-i-preserved c =
-    let t = c.before.before.before.before.before.before in
-    let a = t.args in
+    let a = c.args in
     let k : a.n ≤ length a.t1 = omega arith in
-    let back : t.loop-i.i ≡ t.loop-i.i + 1 - 1 = omega arith in (
+    let back : c.loop-i.i ≡ c.loop-i.i + 1 - 1 = omega arith in (
       omega arith,
       omega arith,
-      t.loop-i.invariant.2
-          ∙ beyond a.tolerance a.t1 a.n t.loop-i.i k t.loop-i.invariant.0 (omega arith) c.if-next-one.false
+      c.loop-i.invariant.2
+          ∙ beyond a.tolerance a.t1 a.n c.loop-i.i k c.loop-i.invariant.0 (omega arith) c.if-next-one.false
           ∙ ap (λ (j : ℕ). apart a.tolerance (drop j (take a.n a.t1))) back,
     )
 
 pub returns : goal.returns
 returns c =
-    let t = c.before in
-    let a = t.args in
+    let a = c.args in
     let k : a.n ≤ length a.t1 = omega arith in
-    sym (t.loop-i.invariant.2 ∙ no_neighbour a.tolerance a.t1 a.n t.loop-i.i k t.loop-i.invariant.0 c.loop-i-test.false)
+    sym (c.loop-i.invariant.2 ∙ no_neighbour a.tolerance a.t1 a.n c.loop-i.i k c.loop-i.invariant.0 c.loop-i-test.false)

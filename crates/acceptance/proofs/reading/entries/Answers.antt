@@ -16,19 +16,17 @@ loop-i-init c = (omega arith, refl, ap length c.no_entries-entries.ensures, c.no
 
 pub loop-i-preserved : goal.loop-i-preserved
 loop-i-preserved c =
-    let t = c.before.before in
-    let b = t.args.bytes.now in
-    let i = t.loop-i.i in
-    let room : i < 64 = omega (arith, t.requires) in (
+    let b = c.args.bytes.now in
+    let i = c.loop-i.i in
+    let room : i < 64 = omega (arith, c.requires) in (
       omega arith,
-      t.loop-i.invariant.1,
-      simp length-set t.loop-i.invariant.2,
-      ap (λ (es : List Entry). set es i c.entry_at.result) t.loop-i.invariant.3 ∙ ap (set (filled b i) i) c.entry_at.ensures ∙ fill_next b i room,
+      c.loop-i.invariant.1,
+      simp length-set c.loop-i.invariant.2,
+      ap (λ (es : List Entry). set es i c.entry_at.result) c.loop-i.invariant.3 ∙ ap (set (filled b i) i) c.entry_at.ensures ∙ fill_next b i room,
     )
 
 pub returns : goal.returns
 returns c =
-    let t = c.before in
-    let b = t.args.bytes.now in
-    let last : t.loop-i.i ≡ length b / 8 = omega arith in
-    t.loop-i.invariant.3 ∙ ap (filled b) last ∙ fill_end b
+    let b = c.args.bytes.now in
+    let last : c.loop-i.i ≡ length b / 8 = omega arith in
+    c.loop-i.invariant.3 ∙ ap (filled b) last ∙ fill_end b

@@ -16,24 +16,21 @@ loop-i-init c =
 
 pub returns-then-waits : goal.returns-then-waits
 returns-then-waits c =
-    let t = c.before.before.before.before in
-    let a = t.args in
+    let a = c.args in
     let k : a.n ≤ length a.t4 = omega arith in
-    omega (arith, t.loop-i.invariant.1, wait_here a.tolerance a.place a.kind a.t4 a.n t.loop-i.i c.loop-i-test.true k (sym c.waits.ensures ∙ c.if-waits.true))
+    omega (arith, c.loop-i.invariant.1, wait_here a.tolerance a.place a.kind a.t4 a.n c.loop-i.i c.loop-i-test.true k (sym c.waits.ensures ∙ c.if-waits.true))
 
 pub loop-i-preserved : goal.loop-i-preserved
 loop-i-preserved c =
-    let t = c.before.before.before.before in
-    let a = t.args in
+    let a = c.args in
     let k : a.n ≤ length a.t4 = omega arith in
-    (omega arith, omega (arith, t.loop-i.invariant.1, wait_on a.tolerance a.place a.kind a.t4 a.n t.loop-i.i c.loop-i-test.true k (sym c.waits.ensures ∙ c.if-waits.false)))
+    (omega arith, omega (arith, c.loop-i.invariant.1, wait_on a.tolerance a.place a.kind a.t4 a.n c.loop-i.i c.loop-i-test.true k (sym c.waits.ensures ∙ c.if-waits.false)))
 
 pub returns : goal.returns
 returns c =
-    let t = c.before in
-    let a = t.args in
+    let a = c.args in
     let k : a.n ≤ length a.t4 = omega arith in
-    let last : t.loop-i.i ≡ a.n = omega arith in
-    let is : waiting a.tolerance a.place a.kind (drop t.loop-i.i (take a.n a.t4)) ≡ 0 =
+    let last : c.loop-i.i ≡ a.n = omega arith in
+    let is : waiting a.tolerance a.place a.kind (drop c.loop-i.i (take a.n a.t4)) ≡ 0 =
     ap (λ (j : ℕ). waiting a.tolerance a.place a.kind (drop j (take a.n a.t4))) last ∙ wait_none a.tolerance a.place a.kind a.t4 a.n k in
-    omega (arith, t.loop-i.invariant.1)
+    omega (arith, c.loop-i.invariant.1)

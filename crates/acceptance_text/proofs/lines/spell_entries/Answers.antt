@@ -5,10 +5,6 @@ use Rattle.acceptance_text.proofs.lines.spell_entries.Goals as goal
 
 pub returns : goal.returns
 returns c =
-    let p3 = c.before.before in
-    let p2 = p3.before.before.before.before.before in
-    let p1 = p2.before.before.before.before.before in
-    let s = p1.before.before.before.before in
-    let a = s.args in
-    join_3 a.buf.now a.at (numbered "" a.entries) (numbered " entries: " a.met) (numbered " met, " a.absent) s.requires p1.put_number-a.ensures p2.put_number-b.ensures
-    p3.put_number.ensures
+    let a = c.args in
+    join_3 a.buf.now a.at (numbered "" a.entries) (numbered " entries: " a.met) (numbered " met, " a.absent) c.requires c.put_number-a.ensures c.put_number-b.ensures
+    c.put_number.ensures

@@ -31,27 +31,16 @@ with_place s =
 
 pub spell_met-requires : goal.spell_met-requires
 spell_met-requires c =
-    let p3 = c.before.before.before in
-    let p2 = p3.before.before.before.before in
-    let p1 = p2.before.before.before.before.before.before in
-    let n = p1.before.before in
-    let s = n.before.before.before in
-    let a = s.args in
-    let first = p1.put_number-a.ensures ∙ ap (λ (m : ℕ). put (numbered "entry " m) a.buf.now a.at) n.one_more.ensures in
-    room_after a.buf.now a.at (numbered "entry " (one_more a.i) ++ numbered " at " a.entry.place ++ kind_word a.entry.kind) (met_words a.entry.met) (whole s)
-    (join_3 a.buf.now a.at (numbered "entry " (one_more a.i)) (numbered " at " a.entry.place) (kind_word a.entry.kind) (with_kind s) first p2.put_number-b.ensures
-    p3.put_kind-c.ensures)
+    let a = c.args in
+    let first = c.put_number-a.ensures ∙ ap (λ (m : ℕ). put (numbered "entry " m) a.buf.now a.at) c.one_more.ensures in
+    room_after a.buf.now a.at (numbered "entry " (one_more a.i) ++ numbered " at " a.entry.place ++ kind_word a.entry.kind) (met_words a.entry.met) (whole (goal.at-spell_met-requires c).After-put_number-arg-1)
+    (join_3 a.buf.now a.at (numbered "entry " (one_more a.i)) (numbered " at " a.entry.place) (kind_word a.entry.kind) (with_kind (goal.at-spell_met-requires c).After-put_number-arg-1) first c.put_number-b.ensures
+    c.put_kind-c.ensures)
 
 pub returns : goal.returns
 returns c =
-    let p4 = c.before.before in
-    let p3 = p4.before.before.before.before in
-    let p2 = p3.before.before.before.before in
-    let p1 = p2.before.before.before.before.before.before in
-    let n = p1.before.before in
-    let s = n.before.before.before in
-    let a = s.args in
-    let first = p1.put_number-a.ensures ∙ ap (λ (m : ℕ). put (numbered "entry " m) a.buf.now a.at) n.one_more.ensures in
-    join_4 a.buf.now a.at (numbered "entry " (one_more a.i)) (numbered " at " a.entry.place) (kind_word a.entry.kind) (met_words a.entry.met) (whole s) first
-    p2.put_number-b.ensures p3.put_kind-c.ensures p4.spell_met.ensures
+    let a = c.args in
+    let first = c.put_number-a.ensures ∙ ap (λ (m : ℕ). put (numbered "entry " m) a.buf.now a.at) c.one_more.ensures in
+    join_4 a.buf.now a.at (numbered "entry " (one_more a.i)) (numbered " at " a.entry.place) (kind_word a.entry.kind) (met_words a.entry.met) (whole (goal.at-returns c).After-put_number-arg-1) first
+    c.put_number-b.ensures c.put_kind-c.ensures c.spell_met.ensures
     ∙ ap (λ (t : List ℕ). put t a.buf.now a.at) (entry_is a.i a.entry)

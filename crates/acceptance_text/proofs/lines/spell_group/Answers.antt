@@ -21,19 +21,12 @@ with_kind s = let a = s.args in less a.buf.now a.at (numbered "" a.place ++ kind
 
 pub spell_part-requires : goal.spell_part-requires
 spell_part-requires c =
-    let p2 = c.before.before.before in
-    let p1 = p2.before.before.before.before in
-    let s = p1.before.before.before.before in
-    let a = s.args in
-    room_after a.buf.now a.at (numbered "" a.place ++ kind_word a.kind) (part_words a.part) (whole s)
-    (join a.buf.now a.at (numbered "" a.place) (kind_word a.kind) (with_kind s) p1.put_number-a.ensures p2.put_kind-b.ensures)
+    let a = c.args in
+    room_after a.buf.now a.at (numbered "" a.place ++ kind_word a.kind) (part_words a.part) (whole (goal.at-spell_part-requires c).After-slice_known-1)
+    (join a.buf.now a.at (numbered "" a.place) (kind_word a.kind) (with_kind (goal.at-spell_part-requires c).After-slice_known-1) c.put_number-a.ensures c.put_kind-b.ensures)
 
 pub returns : goal.returns
 returns c =
-    let p3 = c.before.before in
-    let p2 = p3.before.before.before.before in
-    let p1 = p2.before.before.before.before in
-    let s = p1.before.before.before.before in
-    let a = s.args in
-    join_3 a.buf.now a.at (numbered "" a.place) (kind_word a.kind) (part_words a.part) (whole s) p1.put_number-a.ensures p2.put_kind-b.ensures p3.spell_part.ensures
+    let a = c.args in
+    join_3 a.buf.now a.at (numbered "" a.place) (kind_word a.kind) (part_words a.part) (whole (goal.at-returns c).After-slice_known-1) c.put_number-a.ensures c.put_kind-b.ensures c.spell_part.ensures
     ∙ ap (λ (t : List ℕ). put t a.buf.now a.at) (group_is a.place a.kind a.part)

@@ -14,30 +14,20 @@ use Rattle.acceptance_text.proofs.lines.spell_part.Goals as goal
 
 pub returns-in-Wanted : goal.returns-in-Wanted
 returns-in-Wanted c =
-    let p2 = c.before.before in
-    let p1 = p2.before.before.before.before.before in
-    let n = p1.before.before in
-    let k = n.before.before.before in
-    let s = k.before.before.before in
-    let a = s.args in
-    let i = k.in-Wanted.i in
-    let is = wanted_is i ∙ ap part_words (sym k.in-Wanted.is) in
-    join a.buf.now a.at (numbered " wanted " (one_more i)) (codes "\n") (room_as a.buf.now a.at is s.requires)
-    (p1.put_number-a.ensures ∙ ap (λ (m : ℕ). put (numbered " wanted " m) a.buf.now a.at) n.one_more.ensures) p2.put.ensures
+    let a = c.args in
+    let is = wanted_is c.in-Wanted.i ∙ ap part_words (sym c.in-Wanted.is) in
+    join a.buf.now a.at (numbered " wanted " (one_more c.in-Wanted.i)) (codes "\n") (room_as a.buf.now a.at is c.requires)
+    (c.put_number-a.ensures ∙ ap (λ (m : ℕ). put (numbered " wanted " m) a.buf.now a.at) c.one_more.ensures) c.put.ensures
     ∙ ap (λ (t : List ℕ). put t a.buf.now a.at) is
 
 pub returns-in-Extra : goal.returns-in-Extra
 unfolding part_words
 returns-in-Extra c =
-    let p = c.before.before in
-    let k = p.before.before.before in
-    let a = k.args in
-    p.put-in-Extra.ensures ∙ ap (λ (j : Role). put (part_words j) a.buf.now a.at) (sym k.in-Extra.is)
+    let a = c.args in
+    c.put-in-Extra.ensures ∙ ap (λ (j : Role). put (part_words j) a.buf.now a.at) (sym c.in-Extra.is)
 
 pub returns-in-NoPart : goal.returns-in-NoPart
 unfolding part_words
 returns-in-NoPart c =
-    let p = c.before.before in
-    let k = p.before.before.before in
-    let a = k.args in
-    p.put-in-NoPart.ensures ∙ ap (λ (j : Role). put (part_words j) a.buf.now a.at) (sym k.in-NoPart.is)
+    let a = c.args in
+    c.put-in-NoPart.ensures ∙ ap (λ (j : Role). put (part_words j) a.buf.now a.at) (sym c.in-NoPart.is)

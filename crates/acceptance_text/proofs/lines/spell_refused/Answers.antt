@@ -12,9 +12,6 @@ use Rattle.acceptance_text.proofs.lines.spell_refused.Goals as goal
 
 pub returns : goal.returns
 returns c =
-    let p2 = c.before.before in
-    let p1 = p2.before.before.before.before in
-    let s = p1.before.before.before.before in
-    let a = s.args in
-    join a.buf.now a.at (codes "plan ") (refused a.number) (room_as a.buf.now a.at (refused_is a.number) s.requires) p1.put-a.ensures p2.Put-refused.ensures
+    let a = c.args in
+    join a.buf.now a.at (codes "plan ") (refused a.number) (room_as a.buf.now a.at (refused_is a.number) c.requires) c.put-a.ensures c.Put-refused.ensures
     ∙ ap (λ (t : List ℕ). put t a.buf.now a.at) (refused_is a.number)

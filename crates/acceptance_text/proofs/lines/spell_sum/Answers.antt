@@ -17,24 +17,18 @@ whole s = room_as s.args.buf.now s.args.at (sum_is s.args.sums) s.requires
 
 pub spell_entries-a-requires : goal.spell_entries-a-requires
 spell_entries-a-requires c =
-    let s = c.before.before in
-    let a = s.args in
-    less a.buf.now a.at (entries_part a.sums.entries a.sums.met a.sums.absent) (groups_part a.sums.present a.sums.met a.sums.extra) (whole s)
+    let a = c.args in
+    less a.buf.now a.at (entries_part a.sums.entries a.sums.met a.sums.absent) (groups_part a.sums.present a.sums.met a.sums.extra) (whole (goal.at-spell_entries-a-requires c).Start)
 
 pub spell_groups-requires : goal.spell_groups-requires
 spell_groups-requires c =
-    let p1 = c.before.before.before in
-    let s = p1.before.before.before in
-    let a = s.args in
-    room_after a.buf.now a.at (entries_part a.sums.entries a.sums.met a.sums.absent) (groups_part a.sums.present a.sums.met a.sums.extra) (whole s)
-    p1.spell_entries-a.ensures
+    let a = c.args in
+    room_after a.buf.now a.at (entries_part a.sums.entries a.sums.met a.sums.absent) (groups_part a.sums.present a.sums.met a.sums.extra) (whole (goal.at-spell_groups-requires c).Start)
+    c.spell_entries-a.ensures
 
 pub returns : goal.returns
 returns c =
-    let p2 = c.before.before in
-    let p1 = p2.before.before.before.before in
-    let s = p1.before.before.before in
-    let a = s.args in
-    join a.buf.now a.at (entries_part a.sums.entries a.sums.met a.sums.absent) (groups_part a.sums.present a.sums.met a.sums.extra) (whole s)
-    p1.spell_entries-a.ensures p2.spell_groups.ensures
+    let a = c.args in
+    join a.buf.now a.at (entries_part a.sums.entries a.sums.met a.sums.absent) (groups_part a.sums.present a.sums.met a.sums.extra) (whole (goal.at-returns c).Start)
+    c.spell_entries-a.ensures c.spell_groups.ensures
     ∙ ap (λ (t : List ℕ). put t a.buf.now a.at) (sum_is a.sums)

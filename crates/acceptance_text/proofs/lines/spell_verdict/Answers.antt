@@ -7,15 +7,11 @@ use Rattle.acceptance_text.proofs.lines.spell_verdict.Goals as goal
 pub returns-then-passed : goal.returns-then-passed
 unfolding verdict
 returns-then-passed c =
-    let p = c.before.before in
-    let k = p.before.before.before in
-    let a = k.args in
-    by_case verdict a.buf.now a.at k.if-passed.true p.put.ensures
+    let a = c.args in
+    by_case verdict a.buf.now a.at c.if-passed.true c.put.ensures
 
 pub returns : goal.returns
 unfolding verdict
 returns c =
-    let p = c.before.before in
-    let k = p.before.before.before in
-    let a = k.args in
-    by_case verdict a.buf.now a.at k.if-passed.false p.put-2.ensures
+    let a = c.args in
+    by_case verdict a.buf.now a.at c.if-passed.false c.put-2.ensures

@@ -18,7 +18,7 @@ use Rattle.ride.proofs.Under.{Turning, Turned, turned, turned_past}
 use Rattle.acceptance_text.specs.Taking.{started, take_all}
 use Rattle.acceptance_text.specs.Inside.{writes, written}
 use Rattle.acceptance_text.proofs.Way.{OnTheWay, sets_out, same_length as length-stays, goes_on, comes_to, comes_to_end, in_pieces, quiet}
-use Rattle.acceptance_text.proofs.records.over.Goals.{After-treat_at-treated, At-loop-i, In-Record-2, In-loop-i, Joined-not-is_quiet}
+use Rattle.acceptance_text.proofs.records.over.Goals.{After-treat_at-treated, At-loop-i, In-Record, In-loop-i, Joined-not-is_quiet}
 use Rattle.acceptance_text.proofs.records.over.Goals as goal
 
 -- the buffer has its length
@@ -35,35 +35,27 @@ test c =
 
 -- the turn of a record
 turn : (t : After-treat_at-treated) →
-    let h = t.before in
-    let l = h.before.before in
-    let a = l.args in
-    Turning a.store l.loop-i.held h.held_at-held.result l.loop-i.now a.trace.now l.loop-i.i t.treat_at-treated.result
+    let a = t.args in
+    Turning a.store t.loop-i.held t.held_at-held.result t.loop-i.now a.trace.now t.loop-i.i t.treat_at-treated.result
 turn t =
-    let h = t.before in
-    let l = h.before.before in
-    record { good = l.requires.0; holding = l.loop-i.invariant.1; next_is = h.held_at-held.ensures; says = t.treat_at-treated.ensures }
+    record { good = t.requires.0; holding = t.loop-i.invariant.1; next_is = t.held_at-held.ensures; says = t.treat_at-treated.ensures }
 
 -- what the reply says of a record that is taken
-took_one : (c : In-Record-2) → Turned _ _ _ _ _ _ _ (turn c.before.before) c.in-Record.given
-took_one c = turned _ _ _ _ _ _ _ (turn c.before.before) c.in-Record.given c.in-Record.is
+took_one : (c : In-Record) → Turned _ _ _ _ _ _ _ (turn (goal.at-In-Record c).After-treat_at-treated) c.in-Record.given
+took_one c = turned _ _ _ _ _ _ _ (turn (goal.at-In-Record c).After-treat_at-treated) c.in-Record.given c.in-Record.is
 
 -- what the record's lines leave
 wrote : (j : Joined-not-is_quiet) →
-    let g = j.before.before.before in
-    let l = g.loop-i in
+    let l = j.loop-i in
     written (record { run = j.if-not-is_quiet.run; troubles = j.if-not-is_quiet.troubles; next = j.if-not-is_quiet.at }) j.if-not-is_quiet.out
-    ≡ writes (take_all (started l.run l.troubles) (lines_for 0 (says_given g.in-Record.given))) l.out l.at
+    ≡ writes (take_all (started l.run l.troubles) (lines_for 0 (says_given j.in-Record.given))) l.out l.at
 wrote j =
-    let q = j.before in
-    let g = q.before.before in
-    let l = g.loop-i in
-    let given = g.in-Record.given in
+    let l = j.loop-i in
     let f = j.if-not-is_quiet in
     ⊎_elim
     (λ w. in_pieces w.2.result w.2.last.1.1.1.0 _ f.run f.troubles f.at f.out w.7 w.8 w.9 w.10 w.2.ensures)
     (λ w. in_pieces (record { run = l.run; troubles = l.troubles; next = l.at }) l.out _ f.run f.troubles f.at f.out w.1 w.2 w.3 w.4
-    (quiet l.run l.troubles (says_given given) l.out l.at (sym q.is_quiet.ensures ∙ not-false q.is_quiet.result w.0.left)))
+    (quiet l.run l.troubles (says_given j.in-Record.given) l.out l.at (sym j.is_quiet.ensures ∙ not-false j.is_quiet.result w.0.left)))
     f.branch
 
 -- an index of the trace has a next one
@@ -72,8 +64,7 @@ next_fits l h = omega arith
 
 pub loop-i-init : goal.loop-i-init
 loop-i-init c =
-    let s = c.before.before.before.before.before in
-    (omega arith, rw s.requires.1 (holding_at s.args.store 0 s.requires.0), sets_out (gap_at s.args.store) s.args.from s.args.trace.now s.args.out.now)
+    (omega arith, rw c.requires.1 (holding_at c.args.store 0 c.requires.0), sets_out (gap_at c.args.store) c.args.from c.args.trace.now c.args.out.now)
 
 pub overflow_sub-out : goal.overflow_sub-out
 overflow_sub-out c = omega (arith, stays c, c.loop-i.invariant.2.fits)
@@ -83,44 +74,37 @@ enum_known-reply c = c.in-Record.in-Record-own.keys1
 
 pub take_given-took-requires : goal.take_given-took-requires
 take_given-took-requires c =
-    let n = c.before.before.before.before.before.before.before.before in
-    let l = n.loop-i in
-    omega (arith, leb-true 128 (length l.out - l.at) (test n).1)
+    let l = c.loop-i in
+    omega (arith, leb-true 128 (length l.out - l.at) (test (goal.at-take_given-took-requires c).In-loop-i).1)
 
 pub overflow_add-i : goal.overflow_add-i
 overflow_add-i c =
-    let g = c.before.before.before.before in
-    omega (arith, next_fits g.before.before.before.before.before (took_one g).there)
+    omega (arith, next_fits (goal.at-overflow_add-i c).At-loop-i (took_one (goal.at-overflow_add-i c).In-Record).there)
 
 pub loop-i-smaller : goal.loop-i-smaller
-loop-i-smaller c = omega (arith, (took_one c.before.before.before.before).there)
+loop-i-smaller c = omega (arith, (took_one (goal.at-loop-i-smaller c).In-Record).there)
 
 pub loop-i-preserved : goal.loop-i-preserved
 loop-i-preserved c =
-    let j = c.before in
-    let g = j.before.before.before in
-    let t = g.before.before in
-    let l = t.before.before.before in
-    let s = l.before.before.before.before.before.before in
-    let one = took_one g in
+    let one = took_one (goal.at-loop-i-preserved c).In-Record in
     let stepped = one.step in (
       omega (arith, one.there),
       one.holding,
-      goes_on (gap_at s.args.store) s.args.from s.args.trace.now s.args.out.now l.loop-i.now l.loop-i.run l.loop-i.troubles l.loop-i.i l.loop-i.at l.loop-i.out
-          l.loop-i.invariant.2 g.in-Record.given t.treat_at-treated.result.ride
-          (record { run = j.if-not-is_quiet.run; troubles = j.if-not-is_quiet.troubles; next = j.if-not-is_quiet.at }) j.if-not-is_quiet.out one.there (test t.before.before).1
-          (ap (λ (x : Step). x.lines) stepped) (ap (λ (x : Step). x.ride) stepped) (wrote j),
+      goes_on (gap_at c.args.store) c.args.from c.args.trace.now c.args.out.now c.loop-i.now c.loop-i.run c.loop-i.troubles c.loop-i.i c.loop-i.at c.loop-i.out
+          c.loop-i.invariant.2 c.in-Record.given c.treat_at-treated.result.ride
+          (record { run = c.if-not-is_quiet.run; troubles = c.if-not-is_quiet.troubles; next = c.if-not-is_quiet.at }) c.if-not-is_quiet.out one.there (test (goal.at-loop-i-preserved c).In-loop-i).1
+          (ap (λ (x : Step). x.lines) stepped) (ap (λ (x : Step). x.ride) stepped) (wrote (goal.at-loop-i-preserved c).Joined-not-is_quiet),
     )
 
 pub shape_of-out-after-loop-i : goal.shape_of-out-after-loop-i
-shape_of-out-after-loop-i c = stays c.before
+shape_of-out-after-loop-i c = stays (goal.at-shape_of-out-after-loop-i c).At-loop-i
 
 pub returns-after-loop-i : goal.returns-after-loop-i
 returns-after-loop-i c = comes_to _ _ _ _ _ _ _ _ _ _ c.loop-i.invariant.2 c.loop-i-test.false
 
 pub shape_of-out-in_default : goal.shape_of-out-in_default
-shape_of-out-in_default c = stays c.before.before.before.before
+shape_of-out-in_default c = stays (goal.at-shape_of-out-in_default c).At-loop-i
 
 pub returns-in_default : goal.returns-in_default
 returns-in_default c =
-    comes_to_end _ _ _ _ _ _ _ _ _ _ c.loop-i.invariant.2 (turned_past _ _ _ _ _ _ _ (turn c.before) c.in_default.in_default-own.keys2)
+    comes_to_end _ _ _ _ _ _ _ _ _ _ c.loop-i.invariant.2 (turned_past _ _ _ _ _ _ _ (turn (goal.at-returns-in_default c).After-treat_at-treated) c.in_default.in_default-own.keys2)

@@ -15,15 +15,12 @@ use Rattle.acceptance_text.proofs.taking.take_given.Goals as goal
 pub returns-in-Refused : goal.returns-in-Refused
 unfolding take_all take_one take_line
 returns-in-Refused c =
-    let k = c.before in
-    let a = k.args in
+    let a = c.args in
     ap₂ (λ (n : ℕ) (p : Put). record { run = a.run; troubles = record { faults = a.troubles.faults; refused = n }; text = p }) c.one_more.ensures (put_nothing a.buf.now a.at)
-    ∙ sym (ap (λ (g : Given). writes (take_all (started a.run a.troubles) (lines_for 0 (says_given g))) a.buf.now a.at) k.in-Refused.is)
+    ∙ sym (ap (λ (g : Given). writes (take_all (started a.run a.troubles) (lines_for 0 (says_given g))) a.buf.now a.at) c.in-Refused.is)
 
 pub returns-in-Lines : goal.returns-in-Lines
 returns-in-Lines c =
-    let p = c.before.before in
-    let k = p.before.before.before in
-    let a = k.args in
-    p.take_lines.ensures
-    ∙ sym (ap (λ (g : Given). writes (take_all (started a.run a.troubles) (lines_for 0 (says_given g))) a.buf.now a.at) k.in-Lines.is)
+    let a = c.args in
+    c.take_lines.ensures
+    ∙ sym (ap (λ (g : Given). writes (take_all (started a.run a.troubles) (lines_for 0 (says_given g))) a.buf.now a.at) c.in-Lines.is)

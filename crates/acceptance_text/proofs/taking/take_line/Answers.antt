@@ -11,9 +11,7 @@ use Rattle.acceptance_text.proofs.taking.take_line.Goals as goal
 pub returns : goal.returns
 unfolding take_one take_all
 returns c =
-    let p = c.before.before.before.before in
-    let t = p.before.before in
-    let a = t.args in
-    ap (λ (x : Put). record { run = t.take-took.result.state; troubles = c.troubled_by.result; text = x }) p.put_part-next.ensures
-    ∙ ap (λ (x : Took). record { run = x.state; troubles = c.troubled_by.result; text = put (part_line a.line x.answer) a.buf.now a.at }) t.take-took.ensures
+    let a = c.args in
+    ap (λ (x : Put). record { run = c.take-took.result.state; troubles = c.troubled_by.result; text = x }) c.put_part-next.ensures
+    ∙ ap (λ (x : Took). record { run = x.state; troubles = c.troubled_by.result; text = put (part_line a.line x.answer) a.buf.now a.at }) c.take-took.ensures
     ∙ ap (λ (x : Troubles). record { run = (take_line a.run a.line).state; troubles = x; text = put (part_line a.line (take_line a.run a.line).answer) a.buf.now a.at }) c.troubled_by.ensures

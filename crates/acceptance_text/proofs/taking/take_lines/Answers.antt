@@ -11,9 +11,7 @@ use Rattle.acceptance_text.proofs.taking.take_lines.Goals as goal
 
 pub take_line-requires-in-Two : goal.take_line-requires-in-Two
 take_line-requires-in-Two c =
-    let p1 = c.before.before.before.before.before in
-    let s = p1.before.before.before.before.before.before in
-    room_for_one s.args.run s.args.troubles _ _ s.args.buf.now _ s.args.at s.requires p1.take_line-first.ensures
+    room_for_one c.args.run c.args.troubles _ _ c.args.buf.now _ c.args.at c.requires c.take_line-first.ensures
 
 pub returns-in-None : goal.returns-in-None
 unfolding take_all
@@ -24,18 +22,12 @@ returns-in-None c =
 
 pub returns-in-One : goal.returns-in-One
 returns-in-One c =
-    let p = c.before.before in
-    let k = p.before.before.before in
-    let a = k.args in
-    p.take_line.ensures
-    ∙ sym (ap (λ (ls : Lines). writes (take_all (started a.run a.troubles) (says_lines ls)) a.buf.now a.at) k.in-One.is)
+    let a = c.args in
+    c.take_line.ensures
+    ∙ sym (ap (λ (ls : Lines). writes (take_all (started a.run a.troubles) (says_lines ls)) a.buf.now a.at) c.in-One.is)
 
 pub returns-in-Two : goal.returns-in-Two
 returns-in-Two c =
-    let p2 = c.before.before in
-    let p1 = p2.before.before.before.before.before.before in
-    let k = p1.before.before.before in
-    let s = k.before.before.before in
-    let a = s.args in
-    one_then_one a.run a.troubles k.in-Two.one k.in-Two.two _ _ a.buf.now _ _ a.at s.requires p1.take_line-first.ensures p2.take_line-in-Two.ensures
-    ∙ sym (ap (λ (ls : Lines). writes (take_all (started a.run a.troubles) (says_lines ls)) a.buf.now a.at) k.in-Two.is)
+    let a = c.args in
+    one_then_one a.run a.troubles c.in-Two.one c.in-Two.two _ _ a.buf.now _ _ a.at c.requires c.take_line-first.ensures c.take_line-in-Two.ensures
+    ∙ sym (ap (λ (ls : Lines). writes (take_all (started a.run a.troubles) (says_lines ls)) a.buf.now a.at) c.in-Two.is)

@@ -7,14 +7,12 @@ use Rattle.acceptance_text.proofs.taking.troubled_by.Goals as goal
 
 pub returns-in-Fault : goal.returns-in-Fault
 returns-in-Fault c =
-    let k = c.before in
-    let a = k.args in
+    let a = c.args in
     ap (λ (n : ℕ). record { faults = n; refused = a.troubles.refused }) c.one_more.ensures
-    ∙ ap (troubled_by a.troubles) (sym k.in-Fault.is)
+    ∙ ap (troubled_by a.troubles) (sym c.in-Fault.is)
 
 pub returns-in-Record : goal.returns-in-Record
 returns-in-Record c =
-    let k = c.before in
-    let a = k.args in
+    let a = c.args in
     ap (λ (n : ℕ). record { faults = a.troubles.faults; refused = n }) c.one_more-in-Record.ensures
-    ∙ ap (troubled_by a.troubles) (sym k.in-Record.is)
+    ∙ ap (troubled_by a.troubles) (sym c.in-Record.is)

@@ -58,17 +58,15 @@ returns-in-NotCode c =
     let a = c.args in
     let o = c.are_syncs in
     let r = c.read in
-    let g = c.enum_told-1.given in
     by_answer a.places a.length a.v a.s a.t c.if-length-lt40.false
     (sym o.ensures ∙ not-false o.result c.if-not-are_syncs.false-raw)
-    r.result (TelegramRead.NotCode g.0.0 g.0.1.0) r.ensures g.1
+    r.result (TelegramRead.NotCode c.in-NotCode.field-0 c.in-NotCode.field-1) r.ensures c.in-NotCode.is
 
 pub returns-in-Fifteen : goal.returns-in-Fifteen
 returns-in-Fifteen c =
     let a = c.args in
     let o = c.are_syncs in
     let r = c.read in
-    let g = c.enum_told-in-Fifteen-1.given in
     by_answer a.places a.length a.v a.s a.t c.if-length-lt40.false
     (sym o.ensures ∙ not-false o.result c.if-not-are_syncs.false-raw)
-    r.result (TelegramRead.Fifteen g.0.0) r.ensures g.1
+    r.result (TelegramRead.Fifteen c.in-Fifteen.field-0) r.ensures c.in-Fifteen.is

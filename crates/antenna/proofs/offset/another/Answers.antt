@@ -23,14 +23,12 @@ returns-in-NoPlace c = rw c.in-NoPlace.is
 pub returns-then-a-x : goal.returns-then-a-x
 returns-then-a-x c =
     let a = c.args in
-    let g = c.places-1.given in
-    ap (Places.Alike g.0.0 g.0.1.0 g.0.1.1.0 g.0.1.1.1.0 g.0.1.1.1.1.0) c.more.ensures
-    ∙ compared a.telegram a.x a.y a.z a.place a.places g.0.0 g.0.1.0 g.0.1.1.0 g.0.1.1.1.0 g.0.1.1.1.1.0 g.0.1.1.1.1.1.0
-    true g.1 c.if-a-x.true
+    ap (Places.Alike c.in-Alike.kept c.in-Alike.a c.in-Alike.b c.in-Alike.c c.in-Alike.first) c.more.ensures
+    ∙ compared a.telegram a.x a.y a.z a.place a.places c.in-Alike.kept c.in-Alike.a c.in-Alike.b c.in-Alike.c c.in-Alike.first c.in-Alike.count
+    true c.in-Alike.is c.if-a-x.true
 
 pub returns-else-a-x : goal.returns-else-a-x
 returns-else-a-x c =
     let a = c.args in
-    let g = c.places-1.given in
-    compared a.telegram a.x a.y a.z a.place a.places g.0.0 g.0.1.0 g.0.1.1.0 g.0.1.1.1.0 g.0.1.1.1.1.0 g.0.1.1.1.1.1.0
-    false g.1 c.if-a-x.false
+    compared a.telegram a.x a.y a.z a.place a.places c.in-Alike.kept c.in-Alike.a c.in-Alike.b c.in-Alike.c c.in-Alike.first c.in-Alike.count
+    false c.in-Alike.is c.if-a-x.false

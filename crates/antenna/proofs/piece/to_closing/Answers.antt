@@ -32,52 +32,39 @@ closes-requires c = c.zeroes_after-count.ensures ∙ ap zeroes (sym c.after-h.en
 
 pub returns-then-closes : goal.returns-then-closes
 returns-then-closes c p q =
-    let d = c.before in
-    let z = d.before.before in
-    let n = z.before in
-    let g = n.before.before in
-    let a = g.args in
-    let l = g.loop-i in
+    let a = c.args in
+    let l = c.loop-i in
     let sound = parts a.sound.s a.sound.t l.bits l.forty l.ones l.plain l.places in
-    let here = closes_here a.buf.now p q l.h l.i a.end g.bit-b.result n.after-h.result (zeroes n.after-h.result) g.loop-i-test.true
-    g.bit-b.ensures n.after-h.ensures refl sound (closes_few n.after-h.result (sym z.closes.ensures ∙ d.if-closes.true)) in
+    let here = closes_here a.buf.now p q l.h l.i a.end c.bit-b.result c.after-h.result (zeroes c.after-h.result) c.loop-i-test.true
+    c.bit-b.ensures c.after-h.ensures refl sound (closes_few c.after-h.result (sym c.closes.ensures ∙ c.if-closes.true)) in
     c.closed.ensures
-    ∙ ap (λ (k : Sound). gives (closed_at (ear n.after-h.result Stand.Outside) l.i k.length (judged k))) d.so_far.ensures
+    ∙ ap (λ (k : Sound). gives (closed_at (ear c.after-h.result Stand.Outside) l.i k.length (judged k))) c.so_far.ensures
     ∙ sym (ap gives (l.invariant.2 p q ∙ here))
 
 pub loop-i-preserved : goal.loop-i-preserved
 loop-i-preserved c =
-    let e = c.before in
-    let o = e.before in
-    let y = o.before in
-    let f = y.before in
-    let m = f.before in
-    let z = m.before.before in
-    let n = z.before in
-    let g = n.before.before in
-    let a = g.args in
-    let l = g.loop-i in
-    let bits = m.more-bits.result in
-    let forty = f.forty_after-forty.result in
-    let counted = n.zeroes_after-count.ensures ∙ ap zeroes (sym n.after-h.ensures) in
-    let low : l.i < a.end = g.loop-i-test.true in
+    let a = c.args in
+    let l = c.loop-i in
+    let bits = c.more-bits.result in
+    let forty = c.forty_after-forty.result in
+    let counted = c.zeroes_after-count.ensures ∙ ap zeroes (sym c.after-h.ensures) in
+    let low : l.i < a.end = c.loop-i-test.true in
     let places_are : c.if-ends_with_sync.places ≡ places_after l.places bits forty a.sound.s a.sound.t =
-    ⊎_elim (λ w. w.2 ∙ w.1.ensures) (λ w. w.1 ∙ none_ends a.sound.s a.sound.t bits forty l.places (sym e.ends_with_sync.ensures ∙ w.0.left)) c.if-ends_with_sync.branch-raw in (
+    ⊎_elim (λ w. w.2 ∙ w.1.ensures) (λ w. w.1 ∙ none_ends a.sound.s a.sound.t bits forty l.places (sym c.ends_with_sync.ensures ∙ w.0.left)) c.if-ends_with_sync.branch-raw in (
       omega arith,
       counted,
       λ p q. l.invariant.2 p q
-          ∙ goes_on a.buf.now l.h l.i a.end g.bit-b.result n.after-h.result (zeroes n.after-h.result) low g.bit-b.ensures n.after-h.ensures refl (stays_many n.after-h.result (sym z.closes.ensures ∙ m.if-closes.false))
-          a.sound.s a.sound.t l.bits l.forty l.ones l.plain l.places bits forty o.ones_after-ones.result y.plain_after-plain.result
-          m.more-bits.ensures f.forty_after-forty.ensures y.plain_after-plain.ensures o.ones_after-ones.ensures c.if-ends_with_sync.places places_are p q,
+          ∙ goes_on a.buf.now l.h l.i a.end c.bit-b.result c.after-h.result (zeroes c.after-h.result) low c.bit-b.ensures c.after-h.ensures refl (stays_many c.after-h.result (sym c.closes.ensures ∙ c.if-closes.false))
+          a.sound.s a.sound.t l.bits l.forty l.ones l.plain l.places bits forty c.ones_after-ones.result c.plain_after-plain.result
+          c.more-bits.ensures c.forty_after-forty.ensures c.plain_after-plain.ensures c.ones_after-ones.ensures c.if-ends_with_sync.places places_are p q,
     )
 
 pub returns : goal.returns
 returns c p q =
-    let d = c.before in
-    let a = d.args in
-    let l = d.loop-i in
+    let a = c.args in
+    let l = c.loop-i in
     let over = over_at a.buf.now p q (ear l.h (Stand.Inside (parts a.sound.s a.sound.t l.bits l.forty l.ones l.plain l.places))) l.i a.end (omega arith) in
     let last = l.invariant.2 p q in
     let told = c.inside.ensures in
-    let made = d.so_far-2.ensures in
+    let made = c.so_far-2.ensures in
     cc

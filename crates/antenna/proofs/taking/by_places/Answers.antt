@@ -22,17 +22,15 @@ counted left places m a b c first count x e test =
 pub returns-then-count-ge2 : goal.returns-then-count-ge2
 returns-then-count-ge2 c =
     let a = c.args in
-    let g = c.places-1.given in
-    counted (marker_or a.length a.ones a.plain) a.places g.0.0 g.0.1.0 g.0.1.1.0 g.0.1.1.1.0 g.0.1.1.1.1.0 g.0.1.1.1.1.1.0
-    true g.1 (le-leb _ _ c.if-count-ge2.true)
+    counted (marker_or a.length a.ones a.plain) a.places c.in-Alike.telegram c.in-Alike.x c.in-Alike.y c.in-Alike.z c.in-Alike.first c.in-Alike.count
+    true c.in-Alike.is (le-leb _ _ c.if-count-ge2.true)
 
 pub returns-else-count-ge2 : goal.returns-else-count-ge2
 returns-else-count-ge2 c =
     let a = c.args in
-    let g = c.places-1.given in
     c.marker_or.ensures
-    ∙ counted (marker_or a.length a.ones a.plain) a.places g.0.0 g.0.1.0 g.0.1.1.0 g.0.1.1.1.0 g.0.1.1.1.1.0 g.0.1.1.1.1.1.0
-    false g.1 (lt-leb _ _ c.if-count-ge2.false)
+    ∙ counted (marker_or a.length a.ones a.plain) a.places c.in-Alike.telegram c.in-Alike.x c.in-Alike.y c.in-Alike.z c.in-Alike.first c.in-Alike.count
+    false c.in-Alike.is (lt-leb _ _ c.if-count-ge2.false)
 
 pub returns-in-NoPlace : goal.returns-in-NoPlace
 returns-in-NoPlace c = rw c.in-NoPlace.is c.marker_or-in-NoPlace.ensures

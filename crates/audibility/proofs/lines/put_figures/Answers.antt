@@ -17,26 +17,16 @@ use Rattle.audibility.proofs.lines.put_figures.Goals as goal
 pub returns-then-x-eq12 : goal.returns-then-x-eq12
 unfolding asked
 returns-then-x-eq12 c =
-    let p2 = c.before.before in
-    let p1 = p2.before.before.before.before.before in
-    let k = p1.before.before.before in
-    let s = k.before.before in
-    let a = s.args in
-    let is = number_is a.y ∙ ap (λ (t : Bool). telegram_line (pick t (Telegram.Number a.y) (Telegram.Figures a.x a.y a.z))) (sym (eq-eqb a.x 12 k.if-x-eq12.true)) in
-    join a.buf.now a.at (numbered "12 " a.y) (codes "\n") (room_as a.buf.now a.at is s.requires) p1.put_number-a.ensures p2.put.ensures
+    let a = c.args in
+    let is = number_is a.y ∙ ap (λ (t : Bool). telegram_line (pick t (Telegram.Number a.y) (Telegram.Figures a.x a.y a.z))) (sym (eq-eqb a.x 12 c.if-x-eq12.true)) in
+    join a.buf.now a.at (numbered "12 " a.y) (codes "\n") (room_as a.buf.now a.at is c.requires) c.put_number-a.ensures c.put.ensures
     ∙ ap (λ (t : List ℕ). put t a.buf.now a.at) is
 
 pub returns : goal.returns
 unfolding asked
 returns c =
-    let p4 = c.before.before in
-    let p3 = p4.before.before.before.before.before in
-    let p2 = p3.before.before.before.before.before in
-    let p1 = p2.before.before.before.before.before in
-    let k = p1.before.before.before in
-    let s = k.before.before in
-    let a = s.args in
-    let is = figures_are a.x a.y a.z ∙ ap (λ (t : Bool). telegram_line (pick t (Telegram.Number a.y) (Telegram.Figures a.x a.y a.z))) (sym (ne_eqb a.x 12 k.if-x-eq12.false)) in
-    join_4 a.buf.now a.at (numbered "" a.x) (numbered " " a.y) (numbered " " a.z) (codes "\n") (room_as a.buf.now a.at is s.requires)
-    p1.put_number-a-2.ensures p2.put_number-b.ensures p3.put_number-c.ensures p4.put-2.ensures
+    let a = c.args in
+    let is = figures_are a.x a.y a.z ∙ ap (λ (t : Bool). telegram_line (pick t (Telegram.Number a.y) (Telegram.Figures a.x a.y a.z))) (sym (ne_eqb a.x 12 c.if-x-eq12.false)) in
+    join_4 a.buf.now a.at (numbered "" a.x) (numbered " " a.y) (numbered " " a.z) (codes "\n") (room_as a.buf.now a.at is c.requires)
+    c.put_number-a-2.ensures c.put_number-b.ensures c.put_number-c.ensures c.put-2.ensures
     ∙ ap (λ (t : List ℕ). put t a.buf.now a.at) is

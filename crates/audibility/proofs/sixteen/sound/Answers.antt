@@ -16,30 +16,25 @@ picked g b = pick g (gives (pick b broken audible)) (refuses 4)
 pub returns-in_default : goal.returns-in_default
 unfolding sound_with
 returns-in_default c =
-    let g = c.before.before in
-    let a = g.args in
+    let a = c.args in
     let w : Words = record { x = a.x; y = a.y; z = a.z } in
-    let bad = not_good a.s a.t (sym (ap says_pair c.in_default.is) ∙ g.good_pair.ensures) in
+    let bad = not_good a.s a.t (sym (ap says_pair c.in_default.is) ∙ c.good_pair.ensures) in
     ap (λ (t : Bool). picked t (is_broken (sending a.s a.t w))) (sym bad)
 
 pub returns-then-some_few : goal.returns-then-some_few
 unfolding sound_with
 returns-then-some_few c =
-    let told = c.before.before.before in
-    let g = told.before.before in
-    let a = g.args in
+    let a = c.args in
     let w : Words = record { x = a.x; y = a.y; z = a.z } in
-    let good = is_good_law a.s a.t (sym (ap says_pair told.in-Good.is) ∙ g.good_pair.ensures) in
+    let good = is_good_law a.s a.t (sym (ap says_pair c.in-Good.is) ∙ c.good_pair.ensures) in
     let so : is_broken (sending a.s a.t w) ≡ true = sym (ten_broken a.s a.t w) ∙ sym c.some_few.ensures ∙ c.if-some_few.true in
     ap₂ picked (sym good) (sym so)
 
 pub returns-else-some_few : goal.returns-else-some_few
 unfolding sound_with
 returns-else-some_few c =
-    let told = c.before.before.before in
-    let g = told.before.before in
-    let a = g.args in
+    let a = c.args in
     let w : Words = record { x = a.x; y = a.y; z = a.z } in
-    let good = is_good_law a.s a.t (sym (ap says_pair told.in-Good.is) ∙ g.good_pair.ensures) in
+    let good = is_good_law a.s a.t (sym (ap says_pair c.in-Good.is) ∙ c.good_pair.ensures) in
     let so : is_broken (sending a.s a.t w) ≡ false = sym (ten_broken a.s a.t w) ∙ sym c.some_few.ensures ∙ c.if-some_few.false in
     ap₂ picked (sym good) (sym so)

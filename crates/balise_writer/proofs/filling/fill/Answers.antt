@@ -12,13 +12,12 @@ loop-i-init c = (omega arith, refl, λ k l. absurd (omega arith), λ k l. refl)
 
 pub loop-i-preserved : goal.loop-i-preserved
 loop-i-preserved c =
-    let l = c.before.before in
-    let a = l.args in
-    let room : l.loop-i.i < length l.loop-i.out = omega arith in (
+    let a = c.args in
+    let room : c.loop-i.i < length c.loop-i.out = omega arith in (
       omega arith,
-      length-set l.loop-i.out l.loop-i.i (get_or a.eight.now (l.loop-i.i % 8) 0) ∙ l.loop-i.invariant.1,
-      first_more a.eight.now a.out.now l.loop-i.out l.loop-i.i room l.loop-i.invariant.2 l.loop-i.invariant.3,
-      others_less a.eight.now a.out.now l.loop-i.out l.loop-i.i room l.loop-i.invariant.2 l.loop-i.invariant.3,
+      length-set c.loop-i.out c.loop-i.i (get_or a.eight.now (c.loop-i.i % 8) 0) ∙ c.loop-i.invariant.1,
+      first_more a.eight.now a.out.now c.loop-i.out c.loop-i.i room c.loop-i.invariant.2 c.loop-i.invariant.3,
+      others_less a.eight.now a.out.now c.loop-i.out c.loop-i.i room c.loop-i.invariant.2 c.loop-i.invariant.3,
     )
 
 pub shape_of-out : goal.shape_of-out
@@ -26,5 +25,4 @@ shape_of-out c = c.loop-i.invariant.1
 
 pub returns : goal.returns
 returns c =
-    let l = c.before in
-    (λ i h. l.loop-i.invariant.2 i (omega arith), λ i h. l.loop-i.invariant.3 i (omega arith))
+    record { by_index = λ i h. c.loop-i.invariant.2 i (omega arith); by_index_2 = λ i h. c.loop-i.invariant.3 i (omega arith) }

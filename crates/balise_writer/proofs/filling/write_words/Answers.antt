@@ -21,42 +21,35 @@ words c = record { x = c.args.x; y = c.args.y; z = c.args.z }
 
 is_pair : (c : In-Good) → let a = c.args in is_good a.s a.t ≡ true
 is_pair c =
-    let p = c.before.before in
-    let a = p.args in
-    is_good_law a.s a.t (ap says_pair (sym c.in-Good.is) ∙ p.good_pair-pair.ensures)
+    let a = c.args in
+    is_good_law a.s a.t (ap says_pair (sym c.in-Good.is) ∙ c.good_pair-pair.ensures)
 
 in_range_law : (c : Else-n) → in_range c.args.n ≡ true
 in_range_law c = range c.args.n ∙ ap not c.if-n.false
 
 pub returns-in_default : goal.returns-in_default
 returns-in_default c =
-    let p = c.before.before in
-    let a = p.args in
-    answers_4 a.s a.t a.n (words p.before.before) a.out.now
-    (not_good a.s a.t (ap says_pair (sym c.in_default.is) ∙ p.good_pair-pair.ensures))
+    let a = c.args in
+    answers_4 a.s a.t a.n (words (goal.at-returns-in_default c).Start) a.out.now
+    (not_good a.s a.t (ap says_pair (sym c.in_default.is) ∙ c.good_pair-pair.ensures))
 
 pub returns-then-n : goal.returns-then-n
 returns-then-n c =
-    let p = c.before.before.before.before.before in
-    let a = p.args in
-    answers_20 a.s a.t a.n (words p) a.out.now (is_pair c.before) (range a.n ∙ ap not c.if-n.true)
+    let a = c.args in
+    answers_20 a.s a.t a.n (words (goal.at-returns-then-n c).Start) a.out.now (is_pair (goal.at-returns-then-n c).In-Good) (range a.n ∙ ap not c.if-n.true)
 
 pub returns-then-out-end : goal.returns-then-out-end
 returns-then-out-end c =
-    let p = c.before.before.before.before.before.before in
-    let a = p.args in
+    let a = c.args in
     let short : length a.out.now < 4 * a.n + 1 = omega arith in
-    answers_21 a.s a.t a.n (words p) a.out.now (is_pair c.before.before) (in_range_law c.before) short
+    answers_21 a.s a.t a.n (words (goal.at-returns-then-out-end c).Start) a.out.now (is_pair (goal.at-returns-then-out-end c).In-Good) (in_range_law (goal.at-returns-then-out-end c).Else-n) short
 
 pub returns : goal.returns
 returns c =
-    let f = c.before.before in
-    let e = f.before.before.before in
-    let p = e.before.before.before.before.before.before in
-    let a = p.args in
+    let a = c.args in
     let room : 4 * a.n + 1 ≤ length a.out.now = omega arith in
-    let kept : length f.fill.new.1.1.0 ≡ length a.out.now = search rules in
+    let kept : length c.fill.new.out.0 ≡ length a.out.now = search rules in
     let end : a.n * 4 + 1 ≡ 4 * a.n + 1 = omega arith in
-    answers_bytes a.s a.t a.n (words p) a.out.now (is_pair e.before.before) (in_range_law e.before) room (a.n * 4 + 1) end f.fill.new.1.1.0
-    (is_onto a.s a.t (words p) a.n a.out.now f.fill.new.1.1.0 kept room
-    (λ i h. f.fill.ensures.0 i (omega arith)) (λ i h. f.fill.ensures.1 i (omega arith)))
+    answers_bytes a.s a.t a.n (words (goal.at-returns c).Start) a.out.now (is_pair (goal.at-returns c).In-Good) (in_range_law (goal.at-returns c).Else-n) room (a.n * 4 + 1) end c.fill.new.out.0
+    (is_onto a.s a.t (words (goal.at-returns c).Start) a.n a.out.now c.fill.new.out.0 kept room
+    (λ i h. c.fill.ensures.by_index i (omega arith)) (λ i h. c.fill.ensures.by_index_2 i (omega arith)))

@@ -5,5 +5,4 @@ use Rattle.compact.proofs.blocks.write_front.Goals as goal
 
 pub slice_bounds-write_block-end-2 : goal.slice_bounds-write_block-end-2
 slice_bounds-write_block-end-2 c =
-    let s = c.before.before in
-    sym (length-take-le s.args.read s.args.block.now s.requires)
+    sym (length-take-le c.args.read c.args.block.now c.requires)

@@ -12,19 +12,18 @@ use Rattle.text.proofs.Placing.{placed_none, placed_next}
 use Rattle.compaction.proofs.copying.put_eight.Goals as goal
 
 pub loop-i-init : goal.loop-i-init
-loop-i-init c = (omega arith, c.well-formed.0.1.0.1, refl, ap (placed c.args.t1 c.args.trace.now) (add-zero c.args.at))
+loop-i-init c = (omega arith, c.well_formed.0.1.0.1, refl, ap (placed c.args.bytes c.args.trace.now) (add-zero c.args.at))
 
 pub loop-i-preserved : goal.loop-i-preserved
 loop-i-preserved c =
-    let l = c.before in
-    let a = l.args in
-    let i = l.loop-i.i in
+    let a = c.args in
+    let i = c.loop-i.i in
     let there : i < length a.t1 = omega arith in
-    let room : a.at + i < length l.loop-i.trace = omega arith in (
+    let room : a.at + i < length c.loop-i.trace = omega arith in (
       omega arith,
-      l.loop-i.invariant.1,
-      length-set l.loop-i.trace (a.at + i) (get_or a.t1 i 0) ∙ l.loop-i.invariant.2,
-      placed_next a.t1 l.loop-i.trace a.at i there room ∙ l.loop-i.invariant.3,
+      c.loop-i.invariant.1,
+      length-set c.loop-i.trace (a.at + i) (get_or a.t1 i 0) ∙ c.loop-i.invariant.2,
+      placed_next a.t1 c.loop-i.trace a.at i there room ∙ c.loop-i.invariant.3,
     )
 
 pub shape_of-trace : goal.shape_of-trace
@@ -32,12 +31,11 @@ shape_of-trace c = c.loop-i.invariant.2
 
 pub returns : goal.returns
 returns c =
-    let l = c.before in
-    let a = l.args in
-    let all : l.loop-i.i ≡ length a.t1 = omega arith in (
-      l.loop-i.invariant.1,
-      sym (placed_none l.loop-i.trace (a.at + l.loop-i.i))
-          ∙ ap (λ (s : List ℕ). placed s l.loop-i.trace (a.at + l.loop-i.i))
+    let a = c.args in
+    let all : c.loop-i.i ≡ length a.t1 = omega arith in record {
+      bytes_len = c.loop-i.invariant.1;
+      trace_after = sym (placed_none c.loop-i.trace (a.at + c.loop-i.i))
+          ∙ ap (λ (s : List ℕ). placed s c.loop-i.trace (a.at + c.loop-i.i))
           (sym (ap (λ (k : ℕ). drop k a.t1) all ∙ drop-length a.t1))
-          ∙ l.loop-i.invariant.3,
-    )
+          ∙ c.loop-i.invariant.3;
+    }

@@ -7,7 +7,7 @@ use Rattle.compaction.proofs.copying.put_eight.Given as goal
 
 abbrev pub invariant-loop-i : goal.invariant-loop-i
 invariant-loop-i l =
-    (l.i ≤ 8) × (length l.at ≡ 8) × (length l.bytes ≡ length l.initial.trace) × (placed (drop l.i l.at) l.bytes (l.trace + l.i) ≡ placed l.at l.initial.trace l.trace)
+    (l.i ≤ 8) × (length l.bytes ≡ 8) × (length l.trace ≡ length l.initial.trace) × (placed (drop l.i l.bytes) l.trace (l.at + l.i) ≡ placed l.bytes l.initial.trace l.at)
 
 abbrev pub decreases-loop-i : goal.decreases-loop-i
 decreases-loop-i l = 8 - l.i

@@ -6,5 +6,4 @@ use Rattle.compaction.proofs.deciding.held_for.Goals as goal
 
 pub returns : goal.returns
 returns c =
-    let s = c.before.before in
-    c.held_at.ensures ∙ ap (held_for s.args.store s.args.held) (odometer_whole s.args.t3 s.well-formed.1.1.0.1.0.1)
+    c.held_at.ensures ∙ ap (held_for c.args.store c.args.held) (odometer_whole c.args.bytes c.well_formed.1.1.0.1.0.1)

@@ -8,6 +8,4 @@ use Rattle.compaction.proofs.deciding.is_dropped.Goals as goal
 
 pub returns : goal.returns
 returns c =
-    let k = c.before in
-    let q = k.before in
-    ap₂ (λ (x y : Bool). eqb (kind_of q.args.t2) 3 && (x && y)) q.is_quiet.ensures (c.is_accepted.ensures ∙ ap is_accepted k.check_record.ensures)
+    ap₂ (λ (x y : Bool). eqb (kind_of c.args.bytes) 3 && (x && y)) c.is_quiet.ensures (c.is_accepted.ensures ∙ ap is_accepted c.check_record.ensures)

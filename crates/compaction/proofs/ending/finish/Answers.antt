@@ -17,26 +17,18 @@ returns-then-not-waiting c =
 
 pub put_eight-requires : goal.put_eight-requires
 put_eight-requires c =
-    let e = c.before.before in
-    let s = e.before.before.before.before in
-    s.requires.1 (not-false s.args.waiting.waits e.if-not-waiting.false)
+    c.requires.1 (not-false c.args.waiting.waits c.if-not-waiting.false)
 
 pub overflow_add-result : goal.overflow_add-result
 overflow_add-result c =
-    let e = c.before.before.before.before.before.before.before in
-    let s = e.before.before.before.before in
-    let h : s.args.at + 8 ≤ length s.args.trace.now = s.requires.1 (not-false s.args.waiting.waits e.if-not-waiting.false) in
+    let h : c.args.at + 8 ≤ length c.args.trace.now = c.requires.1 (not-false c.args.waiting.waits c.if-not-waiting.false) in
     omega arith
 
 pub returns : goal.returns
 returns c =
-    let t = c.before in
-    let p = t.before.before.before in
-    let e = p.before.before.before in
-    let s = e.before.before.before.before in
-    let a = s.args in
-    let f = finish_one (λ o. a.gap) a.waiting a.at a.trace.now t.step-stepped.result.ride p.put_eight.new.1.0
-    (not-false a.waiting.waits e.if-not-waiting.false) p.put_eight.ensures.0
-    (ap (λ (x : Step). x.ride) (t.step-stepped.ensures ∙ step_allowed a.waiting.ride a.gap a.waiting.bytes s.requires.0))
-    p.put_eight.ensures.1 in
+    let a = c.args in
+    let f = finish_one (λ o. a.gap) a.waiting a.at a.trace.now c.step-stepped.result.ride c.put_eight.new.trace
+    (not-false a.waiting.waits c.if-not-waiting.false) c.put_eight.ensures.bytes_len
+    (ap (λ (x : Step). x.ride) (c.step-stepped.ensures ∙ step_allowed a.waiting.ride a.gap a.waiting.bytes c.requires.0))
+    c.put_eight.ensures.trace_after in
     (f.ride-is, (f.size_is, f.buffer-is))

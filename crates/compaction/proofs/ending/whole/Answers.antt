@@ -12,24 +12,19 @@ over-walked-requires c = c.requires
 
 pub finish-requires : goal.finish-requires
 finish-requires c =
-    let o = c.before.before.before.before in
-    let s = o.before.before.before in
-    let same : length o.over-walked.new.1.1.1.0 ≡ length s.args.trace.now = search rules in (
-      o.over-walked.ensures.serves.good,
+    let same : length c.over-walked.new.block.0 ≡ length c.args.trace.now = search rules in (
+      c.over-walked.ensures.serves.good,
       λ h.
-          let room = there_is_room (gap_at s.args.store) s.args.ride _ s.args.trace.now o.over-walked.result.waiting o.over-walked.result.bytes o.over-walked.ensures.waits
-          o.over-walked.ensures.bytes-are h in
+          let room = there_is_room (gap_at c.args.store) c.args.ride _ c.args.trace.now c.over-walked.result.waiting c.over-walked.result.bytes c.over-walked.ensures.waits
+          c.over-walked.ensures.bytes-are h in
           omega arith,
     )
 
 pub returns : goal.returns
 returns c =
-    let f = c.before.before in
-    let o = f.before.before.before.before.before in
-    let s = o.before.before.before in
-    let w = o.over-walked.result.waiting in
-    is_whole (gap_at s.args.store) s.args.ride _ s.args.trace.now w o.over-walked.result.bytes o.over-walked.new.1.1.1.0
-    f.finish.new.1.1.1.0 f.finish.result.ride f.finish.result.size o.over-walked.ensures.waits o.over-walked.ensures.bytes-are o.over-walked.ensures.buffer
-    (finished_so (gap_at s.args.store) o.over-walked.result.gap w o.over-walked.result.bytes o.over-walked.new.1.1.1.0 f.finish.result.ride f.finish.result.size
-    f.finish.new.1.1.1.0 o.over-walked.ensures.serves
-    (record { ride_is = f.finish.ensures.0; size_is = f.finish.ensures.1.0; buffer_is = f.finish.ensures.1.1 }))
+    let w = c.over-walked.result.waiting in
+    is_whole (gap_at c.args.store) c.args.ride _ c.args.trace.now w c.over-walked.result.bytes c.over-walked.new.block.0
+    c.finish.new.trace.0 c.finish.result.ride c.finish.result.size c.over-walked.ensures.waits c.over-walked.ensures.bytes-are c.over-walked.ensures.buffer
+    (finished_so (gap_at c.args.store) c.over-walked.result.gap w c.over-walked.result.bytes c.over-walked.new.block.0 c.finish.result.ride c.finish.result.size
+    c.finish.new.trace.0 c.over-walked.ensures.serves
+    (record { ride_is = c.finish.ensures.ride_value; size_is = c.finish.ensures.size_value; buffer_is = c.finish.ensures.trace_after }))

@@ -29,36 +29,32 @@ fits c = (omega arith, c.loop-i.invariant.3.below, omega arith)
 
 -- what the record that was read leaves of the one that waited
 walked : (j : Joined-waits) →
-    let e = j.before in
-    let l = e.before.before.before in
-    let a = l.args in
-    Walk (gap_at a.store) a.waiting a.block.now (l.loop-i.i + 1) (from j.if-waits.ride e.eight-next.result true) j.if-waits.at j.if-waits.block
+    let a = j.args in
+    Walk (gap_at a.store) a.waiting a.block.now (j.loop-i.i + 1) (from j.if-waits.ride j.eight-next.result true) j.if-waits.at j.if-waits.block
 walked j =
-    let e = j.before in
-    let l = e.before.before.before in
-    let a = l.args in
+    let a = j.args in
     let gaps : ℕ → ℕ = gap_at a.store in
-    let w : Waiting = from l.loop-i.ride l.loop-i.bytes l.loop-i.waits in
-    let next = e.eight-next.result in
+    let w : Waiting = from j.loop-i.ride j.loop-i.bytes j.loop-i.waits in
+    let next = j.eight-next.result in
     let w' : Waiting = from j.if-waits.ride next true in
-    let there : l.loop-i.i < length a.block.now / 8 = omega arith in
-    let one_kept = walk_kept gaps a.waiting a.block.now l.loop-i.i w l.loop-i.at l.loop-i.block l.loop-i.invariant.3 there next w' e.eight-next.ensures in
-    let one-dropped = walk_dropped gaps a.waiting a.block.now l.loop-i.i w l.loop-i.at l.loop-i.block l.loop-i.invariant.3 there next w' e.eight-next.ensures in
-    let stays = walk_same gaps a.waiting a.block.now (l.loop-i.i + 1) w' l.loop-i.at j.if-waits.at l.loop-i.block j.if-waits.block in
+    let there : j.loop-i.i < length a.block.now / 8 = omega arith in
+    let one_kept = walk_kept gaps a.waiting a.block.now j.loop-i.i w j.loop-i.at j.loop-i.block j.loop-i.invariant.3 there next w' j.eight-next.ensures in
+    let one-dropped = walk_dropped gaps a.waiting a.block.now j.loop-i.i w j.loop-i.at j.loop-i.block j.loop-i.invariant.3 there next w' j.eight-next.ensures in
+    let stays = walk_same gaps a.waiting a.block.now (j.loop-i.i + 1) w' j.loop-i.at j.if-waits.at j.loop-i.block j.if-waits.block in
     ⊎_elim
     (λ k.
-    let s = settles gaps l.loop-i.held.gap w next k.1.result k.3.result l.loop-i.invariant.5 k.0.taken k.1.ensures k.3.ensures in
-    walk_same gaps a.waiting a.block.now (l.loop-i.i + 1) w' (l.loop-i.at + 8) j.if-waits.at
-    (placed l.loop-i.bytes l.loop-i.block l.loop-i.at) j.if-waits.block
+    let s = settles gaps j.loop-i.held.gap w next k.1.result k.3.result j.loop-i.invariant.5 k.0.taken k.1.ensures k.3.ensures in
+    walk_same gaps a.waiting a.block.now (j.loop-i.i + 1) w' (j.loop-i.at + 8) j.if-waits.at
+    (placed j.loop-i.bytes j.loop-i.block j.loop-i.at) j.if-waits.block
     (one_kept (ap (λ (r : Ride). from r next true) k.10 ∙ s.0) k.6.ensures.0
-    (ap (λ (d : Bool). pick (not d) (l.loop-i.bytes ∷ []) []) (sym (not-true k.3.result k.4.taken)) ∙ s.1))
+    (ap (λ (d : Bool). pick (not d) (j.loop-i.bytes ∷ []) []) (sym (not-true k.3.result k.4.taken)) ∙ s.1))
     k.11 (k.9 ∙ k.6.ensures.1))
     (λ v. ⊎_elim
     (λ k.
-    let s = settles gaps l.loop-i.held.gap w next k.1.result k.3.result l.loop-i.invariant.5 k.0.taken k.1.ensures k.3.ensures in
+    let s = settles gaps j.loop-i.held.gap w next k.1.result k.3.result j.loop-i.invariant.5 k.0.taken k.1.ensures k.3.ensures in
     stays
     (one-dropped (ap (λ (r : Ride). from r next true) k.6 ∙ s.0)
-    (ap (λ (d : Bool). pick (not d) (l.loop-i.bytes ∷ []) []) (sym (not-false k.3.result k.4.left)) ∙ s.1))
+    (ap (λ (d : Bool). pick (not d) (j.loop-i.bytes ∷ []) []) (sym (not-false k.3.result k.4.left)) ∙ s.1))
     k.7 k.5)
     (λ k.
     let s = none_waits gaps w next k.0.left in
@@ -68,38 +64,33 @@ walked j =
 
 pub loop-i-init : goal.loop-i-init
 loop-i-init c =
-    let s = c.before.before.before.before in
-    let a = s.args in
-    let first : Holding a.store a.first = rw s.requires.1 (holding_at a.store 0 s.requires.0) in
-    let held = held_serves a.store a.first c.held_for-held.result a.waiting.bytes s.requires.0 first c.held_for-held.ensures in
+    let a = c.args in
+    let first : Holding a.store a.first = rw c.requires.1 (holding_at a.store 0 c.requires.0) in
+    let held = held_serves a.store a.first c.held_for-held.result a.waiting.bytes c.requires.0 first c.held_for-held.ensures in
     (refl, omega arith, refl, walk_first (gap_at a.store) a.waiting a.block.now, held.0, held.1)
 
 pub treat-treated-requires : goal.treat-treated-requires
 treat-treated-requires c = c.loop-i.invariant.5.good
 
 pub put_eight-requires : goal.put_eight-requires
-put_eight-requires c = omega (arith, fits c.before.before.before.before.before.before.before.before)
+put_eight-requires c = omega (arith, fits (goal.at-put_eight-requires c).At-loop-i)
 
 pub overflow_add-at : goal.overflow_add-at
-overflow_add-at c = omega (arith, fits c.before.before.before.before.before.before.before.before.before.before.before)
+overflow_add-at c = omega (arith, fits (goal.at-overflow_add-at c).At-loop-i)
 
 pub overflow_add-i : goal.overflow_add-i
-overflow_add-i c = omega (arith, fits c.before.before.before.before)
+overflow_add-i c = omega (arith, fits (goal.at-overflow_add-i c).At-loop-i)
 
 pub loop-i-preserved : goal.loop-i-preserved
 loop-i-preserved c =
-    let j = c.before in
-    let e = j.before in
-    let l = e.before.before.before in
-    let f = l.before.before.before.before.before in
-    let a = f.args in
+    let a = c.args in
     let gaps : ℕ → ℕ = gap_at a.store in
-    let on : l.loop-i.i + 1 ≤ length a.block.now / 8 = omega arith in
-    let held = held_serves a.store l.loop-i.held c.held_for-held-in-loop-i.result e.eight-next.result f.requires.0 l.loop-i.invariant.4 c.held_for-held-in-loop-i.ensures in (
+    let on : c.loop-i.i + 1 ≤ length a.block.now / 8 = omega arith in
+    let held = held_serves a.store c.loop-i.held c.held_for-held-in-loop-i.result c.eight-next.result c.requires.0 c.loop-i.invariant.4 c.held_for-held-in-loop-i.ensures in (
       refl,
       on,
-      walk_length gaps a.waiting a.block.now (l.loop-i.i + 1) (from j.if-waits.ride e.eight-next.result true) j.if-waits.at j.if-waits.block (walked j) on,
-      walked j,
+      walk_length gaps a.waiting a.block.now (c.loop-i.i + 1) (from c.if-waits.ride c.eight-next.result true) c.if-waits.at c.if-waits.block (walked (goal.at-loop-i-preserved c).Joined-waits) on,
+      walked (goal.at-loop-i-preserved c).Joined-waits,
       held.0,
       held.1,
     )
@@ -109,11 +100,10 @@ shape_of-block c = c.loop-i.invariant.2
 
 pub returns : goal.returns
 returns c =
-    let l = c.before in
-    let a = l.args in
+    let a = c.args in
     let gaps : ℕ → ℕ = gap_at a.store in
-    let w : Waiting = from l.loop-i.ride l.loop-i.bytes l.loop-i.waits in
-    let all : l.loop-i.i ≡ length a.block.now / 8 = omega arith in
-    let so : Walk gaps a.waiting a.block.now (length a.block.now / 8) w l.loop-i.at l.loop-i.block =
-    subst (λ (n : ℕ). Walk gaps a.waiting a.block.now n w l.loop-i.at l.loop-i.block) all l.loop-i.invariant.3 in
-    record { waits = so.waits; serves = l.loop-i.invariant.5; bytes_are = so.bytes; buffer = so.buffer }
+    let w : Waiting = from c.loop-i.ride c.loop-i.bytes c.loop-i.waits in
+    let all : c.loop-i.i ≡ length a.block.now / 8 = omega arith in
+    let so : Walk gaps a.waiting a.block.now (length a.block.now / 8) w c.loop-i.at c.loop-i.block =
+    subst (λ (n : ℕ). Walk gaps a.waiting a.block.now n w c.loop-i.at c.loop-i.block) all c.loop-i.invariant.3 in
+    record { waits = so.waits; serves = c.loop-i.invariant.5; bytes_are = so.bytes; buffer = so.buffer }

@@ -23,4 +23,4 @@ returns c =
     four.ensures.0 four.ensures.1)
     eight.ensures.0 eight.ensures.1)
     all.ensures.0 all.ensures.1 in
-    (λ k room. (tells k room).0, λ k room. (tells k room).1)
+    record { by_index = λ k room. (tells k room).0; by_index_2 = λ k room. (tells k room).1 }

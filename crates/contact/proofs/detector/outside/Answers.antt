@@ -28,12 +28,11 @@ loop-i-init c = (omega arith, omega arith, refl)
 
 pub returns-then-end-i : goal.returns-then-end-i
 returns-then-end-i c =
-    let u = c.before in
-    let a = u.args in
+    let a = c.args in
     let b = a.buf.now in
-    let l = u.loop-i in
+    let l = c.loop-i in
     let n = a.end - l.i in
-    sym (ap first (l.invariant.2 ∙ passed (turn u) n (omega arith) (omega arith) ∙ ends_outside b (on b l.h l.i n) (l.i + n) a.end (omega arith)))
+    sym (ap first (l.invariant.2 ∙ passed (turn (goal.at-returns-then-end-i c).After-before_first-n) n (omega arith) (omega arith) ∙ ends_outside b (on b l.h l.i n) (l.i + n) a.end (omega arith)))
 
 pub zeroes-requires : goal.zeroes-requires
 zeroes-requires c = omega (arith, c.latest-h.ensures)
@@ -43,34 +42,29 @@ within-requires c = omega (arith, c.latest-h.ensures)
 
 pub returns-then-zeroes-ge8 : goal.returns-then-zeroes-ge8
 returns-then-zeroes-ge8 c =
-    let z = c.before.before in
-    let u = z.before.before.before.before in
-    let a = u.args in
+    let a = c.args in
     let b = a.buf.now in
-    let l = u.loop-i in
-    let k = u.before_first-n.result in
-    let none = passed (turn u) k (omega arith) (omega arith) in
-    let in_it = goes_in b (on b l.h l.i k) (l.i + k) a.end z.latest-h.result z.zeroes.result (omega arith) (then_is (turn u) z.latest-h.result z.latest-h.ensures (omega arith)) z.zeroes.ensures c.if-zeroes-ge8.true in
+    let l = c.loop-i in
+    let k = c.before_first-n.result in
+    let none = passed (turn (goal.at-returns-then-zeroes-ge8 c).After-before_first-n) k (omega arith) (omega arith) in
+    let in_it = goes_in b (on b l.h l.i k) (l.i + k) a.end c.latest-h.result c.zeroes.result (omega arith) (then_is (turn (goal.at-returns-then-zeroes-ge8 c).After-before_first-n) c.latest-h.result c.latest-h.ensures (omega arith)) c.zeroes.ensures c.if-zeroes-ge8.true in
     c.within.ensures ∙ sym (ap first (l.invariant.2 ∙ none ∙ in_it))
 
 pub loop-i-preserved-then-n-lt48 : goal.loop-i-preserved-then-n-lt48
 loop-i-preserved-then-n-lt48 c =
-    let z = c.before in
-    let u = z.before.before.before.before in
-    let a = u.args in
+    let a = c.args in
     let b = a.buf.now in
-    let l = u.loop-i in
-    let k = u.before_first-n.result in
-    let none = passed (turn u) k (omega arith) (omega arith) in
-    let stays = stays_out b (on b l.h l.i k) (l.i + k) a.end z.latest-h.result z.zeroes.result (omega arith) (then_is (turn u) z.latest-h.result z.latest-h.ensures (omega arith)) z.zeroes.ensures c.if-zeroes-ge8.false in
-    (omega arith, omega (arith, z.latest-h.ensures), l.invariant.2 ∙ none ∙ stays)
+    let l = c.loop-i in
+    let k = c.before_first-n.result in
+    let none = passed (turn (goal.at-loop-i-preserved-then-n-lt48 c).After-before_first-n) k (omega arith) (omega arith) in
+    let stays = stays_out b (on b l.h l.i k) (l.i + k) a.end c.latest-h.result c.zeroes.result (omega arith) (then_is (turn (goal.at-loop-i-preserved-then-n-lt48 c).After-before_first-n) c.latest-h.result c.latest-h.ensures (omega arith)) c.zeroes.ensures c.if-zeroes-ge8.false in
+    (omega arith, omega (arith, c.latest-h.ensures), l.invariant.2 ∙ none ∙ stays)
 
 pub loop-i-preserved : goal.loop-i-preserved
 loop-i-preserved c =
-    let u = c.before.before.before in
-    let l = u.loop-i in
+    let l = c.loop-i in
     let all = c.if-n-lt48.false in
-    (omega arith, omega (arith, c.latest-h-else-n-lt48.ensures), l.invariant.2 ∙ all_passed (turn u) c.latest-h-else-n-lt48.result c.latest-h-else-n-lt48.ensures (omega arith) (omega arith))
+    (omega arith, omega (arith, c.latest-h-else-n-lt48.ensures), l.invariant.2 ∙ all_passed (turn (goal.at-loop-i-preserved c).After-before_first-n) c.latest-h-else-n-lt48.result c.latest-h-else-n-lt48.ensures (omega arith) (omega arith))
 
 pub returns : goal.returns
 returns c =

@@ -11,17 +11,11 @@ use Rattle.contact_drawing.proofs.boxes.put_telegram.Goals as goal
 pub returns-then-is_telegram : goal.returns-then-is_telegram
 unfolding telegram_of boxed
 returns-then-is_telegram c =
-    let p1 = c.before.before in
-    let p2 = p1.before.before.before.before.before in
-    let u = p2.before.before in
-    let p3 = u.before.before.before.before in
-    let p4 = p3.before.before.before.before.before in
-    let q = p4.before.before in
-    simp (sym q.is_telegram.ensures ∙ q.if-is_telegram.true)
-    (then _ _ _ _ p4.put_boxes-a.ensures
-    (then _ _ _ _ p3.put_number-b.ensures
-    (then _ _ _ _ (word_as _ _ (ap (λ (v : ℕ). codes "'>" ++ decimal v) u.number_at.ensures) p2.put_number-c.ensures)
-    (alone _ _ _ p1.put.ensures))))
+    simp (sym c.is_telegram.ensures ∙ c.if-is_telegram.true)
+    (then _ _ _ _ c.put_boxes-a.ensures
+    (then _ _ _ _ c.put_number-b.ensures
+    (then _ _ _ _ (word_as _ _ (ap (λ (v : ℕ). codes "'>" ++ decimal v) c.number_at.ensures) c.put_number-c.ensures)
+    (alone _ _ _ c.put.ensures))))
 
 pub returns : goal.returns
 unfolding telegram_of

@@ -14,25 +14,21 @@ loop-i-init c = (refl, refl)
 
 pub put_telegram-next-requires : goal.put_telegram-next-requires
 put_telegram-next-requires c =
-    let t = c.before in
-    omega (arith, t.loop-i-test.true, t.requires)
+    omega (arith, c.loop-i-test.true, c.requires)
 
 pub overflow_add-i : goal.overflow_add-i
 overflow_add-i c =
-    let t = c.before.before.before.before in
-    omega (arith, t.loop-i-test.true, t.requires)
+    omega (arith, c.loop-i-test.true, c.requires)
 
 pub loop-i-smaller : goal.loop-i-smaller
 loop-i-smaller c = omega (arith, c.loop-i-test.true)
 
 pub loop-i-preserved : goal.loop-i-preserved
 loop-i-preserved c =
-    let p = c.before.before in
-    let t = p.before.before in
-    let l = t.loop-i in
-    let a = t.args in (
+    let l = c.loop-i in
+    let a = c.args in (
       search rules,
-      turn (telegram_of a.bits.now a.first a.start a.s a.t) l.buf l.next l.i a.n t.loop-i-test.true p.put_telegram-next.ensures
+      turn (telegram_of a.bits.now a.first a.start a.s a.t) l.buf l.next l.i a.n c.loop-i-test.true c.put_telegram-next.ensures
           ∙ l.invariant.1,
     )
 

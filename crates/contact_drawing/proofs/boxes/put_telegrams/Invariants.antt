@@ -8,8 +8,8 @@ use Rattle.contact_drawing.proofs.boxes.put_telegrams.Given as goal
 
 abbrev pub invariant-loop-i : goal.invariant-loop-i
 invariant-loop-i l =
-    (length l.at ≡ length l.initial.buf)
-    × (puts (each (telegram_of l.bits l.first l.start l.s l.t) l.i (l.n - l.i)) l.at l.next ≡ puts (each (telegram_of l.bits l.first l.start l.s l.t) 0 (l.n - 0)) l.initial.buf l.buf)
+    (length l.buf ≡ length l.initial.buf)
+    × (puts (each (telegram_of l.bits l.first l.start l.s l.t) l.i (l.n - l.i)) l.buf l.next ≡ puts (each (telegram_of l.bits l.first l.start l.s l.t) 0 (l.n - 0)) l.initial.buf l.at)
 
 abbrev pub decreases-loop-i : goal.decreases-loop-i
 decreases-loop-i l = l.n - l.i

@@ -12,6 +12,4 @@ returns-then-length-le2000 c = simp (le-ltb _ _ c.if-length-le2000.true) (none _
 pub returns : goal.returns
 unfolding cut_at
 returns c =
-    let p1 = c.before.before in
-    let p2 = p1.before.before.before.before.before in
-    simp (lt-ltb _ _ p2.if-length-le2000.false) (then _ _ _ _ p2.put_number-a.ensures (alone _ _ _ p1.put.ensures))
+    simp (lt-ltb _ _ c.if-length-le2000.false) (then _ _ _ _ c.put_number-a.ensures (alone _ _ _ c.put.ensures))

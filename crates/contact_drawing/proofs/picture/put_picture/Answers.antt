@@ -18,12 +18,7 @@ put_strips-requires c = omega (arith, c.requires)
 pub returns : goal.returns
 unfolding picture_with telegrams
 returns c =
-    let p1 = c.before.before in
-    let p2 = p1.before.before.before.before in
-    let p3 = p2.before.before.before.before.before in
-    let u = p3.before.before in
-    let p4 = u.before.before.before in
-    let a = p4.args in
-    after _ _ _ _ p4.put_waveform-a.ensures
-    (after _ _ _ _ (all_as _ _ (ap (each (telegram_of a.bits.now a.first a.start a.s a.t) 0) u.beginnings.ensures) p3.put_telegrams-b.ensures)
-    (then _ _ _ _ p2.put-c.ensures p1.put_strips.ensures))
+    let a = c.args in
+    after _ _ _ _ c.put_waveform-a.ensures
+    (after _ _ _ _ (all_as _ _ (ap (each (telegram_of a.bits.now a.first a.start a.s a.t) 0) c.beginnings.ensures) c.put_telegrams-b.ensures)
+    (then _ _ _ _ c.put-c.ensures c.put_strips.ensures))

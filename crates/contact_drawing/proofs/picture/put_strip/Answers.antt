@@ -11,22 +11,14 @@ use Rattle.contact_drawing.proofs.picture.put_strip.Goals as goal
 
 pub overflow_mul-k : goal.overflow_mul-k
 overflow_mul-k c =
-    let q = c.before.before.before.before.before.before.before in
-    omega (arith, q.requires)
+    omega (arith, c.requires)
 
 pub returns : goal.returns
 unfolding strip
 returns c =
-    let p1 = c.before.before in
-    let p2 = p1.before.before.before.before.before in
-    let u = p2.before.before in
-    let p3 = u.before.before.before.before in
-    let p4 = p3.before.before.before.before.before in
-    let p5 = p4.before.before.before.before.before in
-    let p6 = p5.before.before.before.before.before in
-    then _ _ _ _ p6.put_number-a.ensures
-    (then _ _ _ _ p5.put_number-b.ensures
-    (then _ _ _ _ p4.put_number-c.ensures
-    (then _ _ _ _ p3.put_number-d.ensures
-    (then _ _ _ _ (word_as _ _ (ap (λ (v : ℕ). codes "'>" ++ decimal v) u.number_at.ensures) p2.put_number-e.ensures)
-    (alone _ _ _ p1.put.ensures)))))
+    then _ _ _ _ c.put_number-a.ensures
+    (then _ _ _ _ c.put_number-b.ensures
+    (then _ _ _ _ c.put_number-c.ensures
+    (then _ _ _ _ c.put_number-d.ensures
+    (then _ _ _ _ (word_as _ _ (ap (λ (v : ℕ). codes "'>" ++ decimal v) c.number_at.ensures) c.put_number-e.ensures)
+    (alone _ _ _ c.put.ensures)))))

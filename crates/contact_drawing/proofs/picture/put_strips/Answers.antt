@@ -14,25 +14,21 @@ loop-k-init c = (refl, refl)
 
 pub put_strip-next-requires : goal.put_strip-next-requires
 put_strip-next-requires c =
-    let t = c.before in
-    omega (arith, t.loop-k-test.true, t.requires)
+    omega (arith, c.loop-k-test.true, c.requires)
 
 pub overflow_add-k : goal.overflow_add-k
 overflow_add-k c =
-    let t = c.before.before.before.before in
-    omega (arith, t.loop-k-test.true, t.requires)
+    omega (arith, c.loop-k-test.true, c.requires)
 
 pub loop-k-smaller : goal.loop-k-smaller
 loop-k-smaller c = omega (arith, c.loop-k-test.true)
 
 pub loop-k-preserved : goal.loop-k-preserved
 loop-k-preserved c =
-    let p = c.before.before in
-    let t = p.before.before in
-    let l = t.loop-k in
-    let a = t.args in (
+    let l = c.loop-k in
+    let a = c.args in (
       search rules,
-      turn (strip a.start) l.buf l.next l.k a.n t.loop-k-test.true p.put_strip-next.ensures
+      turn (strip a.start) l.buf l.next l.k a.n c.loop-k-test.true c.put_strip-next.ensures
           ∙ l.invariant.1,
     )
 

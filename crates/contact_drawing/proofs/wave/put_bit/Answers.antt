@@ -7,11 +7,9 @@ use Rattle.contact_drawing.proofs.wave.put_bit.Goals as goal
 pub returns-then-bit-eq0 : goal.returns-then-bit-eq0
 unfolding level
 returns-then-bit-eq0 c =
-    let p = c.before.before in
-    simp (eq-eqb _ _ p.if-bit-eq0.true) p.put.ensures
+    simp (eq-eqb _ _ c.if-bit-eq0.true) c.put.ensures
 
 pub returns : goal.returns
 unfolding level
 returns c =
-    let p = c.before.before in
-    simp (ne_eqb _ _ p.if-bit-eq0.false) p.put-2.ensures
+    simp (ne_eqb _ _ c.if-bit-eq0.false) c.put-2.ensures

@@ -18,22 +18,18 @@ overflow_add-first c = omega (arith, c.loop-i-test.true, c.requires)
 
 pub overflow_add-i : goal.overflow_add-i
 overflow_add-i c =
-    let t = c.before.before.before.before.before in
-    omega (arith, t.loop-i-test.true, t.requires)
+    omega (arith, c.loop-i-test.true, c.requires)
 
 pub loop-i-smaller : goal.loop-i-smaller
 loop-i-smaller c = omega (arith, c.loop-i-test.true)
 
 pub loop-i-preserved : goal.loop-i-preserved
 loop-i-preserved c =
-    let p = c.before.before in
-    let b = p.before.before in
-    let t = b.before in
-    let l = t.loop-i in
-    let a = t.args in (
+    let l = c.loop-i in
+    let a = c.args in (
       search rules,
-      turn (bit_of a.bits.now a.first) l.buf l.next l.i a.n t.loop-i-test.true
-          (alone _ _ _ (word_as _ _ (ap level b.bit.ensures) p.put_bit-next.ensures))
+      turn (bit_of a.bits.now a.first) l.buf l.next l.i a.n c.loop-i-test.true
+          (alone _ _ _ (word_as _ _ (ap level c.bit.ensures) c.put_bit-next.ensures))
           ∙ l.invariant.1,
     )
 

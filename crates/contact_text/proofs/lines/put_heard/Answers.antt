@@ -23,22 +23,14 @@ with_what s =
 
 pub put_what-c-requires : goal.put_what-c-requires
 put_what-c-requires c =
-    let p2 = c.before.before.before in
-    let p1 = p2.before.before.before.before.before in
-    let s = p1.before.before.before.before in
-    let a = s.args in
-    let two = less a.buf.now a.at (numbered "" a.start ++ numbered " " a.bits) (what a.judged) (with_what s) in
-    room_after a.buf.now a.at (numbered "" a.start ++ numbered " " a.bits) (what a.judged) (with_what s)
-    (join a.buf.now a.at (numbered "" a.start) (numbered " " a.bits) two p1.put_number-a.ensures p2.put_number-b.ensures)
+    let a = c.args in
+    let two = less a.buf.now a.at (numbered "" a.start ++ numbered " " a.bits) (what a.judged) (with_what (goal.at-put_what-c-requires c).After-put_number-arg-1) in
+    room_after a.buf.now a.at (numbered "" a.start ++ numbered " " a.bits) (what a.judged) (with_what (goal.at-put_what-c-requires c).After-put_number-arg-1)
+    (join a.buf.now a.at (numbered "" a.start) (numbered " " a.bits) two c.put_number-a.ensures c.put_number-b.ensures)
 
 pub returns : goal.returns
 returns c =
-    let p4 = c.before.before in
-    let p3 = p4.before.before.before.before.before in
-    let p2 = p3.before.before.before.before in
-    let p1 = p2.before.before.before.before.before in
-    let s = p1.before.before.before.before in
-    let a = s.args in
-    join_4 a.buf.now a.at (numbered "" a.start) (numbered " " a.bits) (what a.judged) (codes "\n") (whole s)
-    p1.put_number-a.ensures p2.put_number-b.ensures p3.put_what-c.ensures p4.put.ensures
+    let a = c.args in
+    join_4 a.buf.now a.at (numbered "" a.start) (numbered " " a.bits) (what a.judged) (codes "\n") (whole (goal.at-returns c).After-put_number-arg-2-1)
+    c.put_number-a.ensures c.put_number-b.ensures c.put_what-c.ensures c.put.ensures
     ∙ ap (λ (t : List ℕ). put t a.buf.now a.at) (heard_is a.start a.bits a.judged)

@@ -25,19 +25,12 @@ with_figures s =
 
 pub put_figures-b-requires : goal.put_figures-b-requires
 put_figures-b-requires c =
-    let p1 = c.before.before.before in
-    let s = p1.before.before.before.before in
-    let a = s.args in
-    room_after a.buf.now a.at (codes " telegram") (figures a.telegram) (with_figures s) p1.put-a.ensures
+    let a = c.args in
+    room_after a.buf.now a.at (codes " telegram") (figures a.telegram) (with_figures (goal.at-put_figures-b-requires c).After-slice_known-1) c.put-a.ensures
 
 pub returns : goal.returns
 returns c =
-    let p4 = c.before.before in
-    let p3 = p4.before.before.before.before.before in
-    let p2 = p3.before.before.before.before.before in
-    let p1 = p2.before.before.before.before in
-    let s = p1.before.before.before.before in
-    let a = s.args in
-    join_4 a.buf.now a.at (codes " telegram") (figures a.telegram) (numbered " places " a.count) (numbered " from " a.first) (whole s)
-    p1.put-a.ensures p2.put_figures-b.ensures p3.put_number-c.ensures p4.put_number.ensures
+    let a = c.args in
+    join_4 a.buf.now a.at (codes " telegram") (figures a.telegram) (numbered " places " a.count) (numbered " from " a.first) (whole (goal.at-returns c).After-put-arg-2-1)
+    c.put-a.ensures c.put_figures-b.ensures c.put_number-c.ensures c.put_number.ensures
     ∙ ap (λ (t : List ℕ). put t a.buf.now a.at) (read_is a.telegram a.first a.count)

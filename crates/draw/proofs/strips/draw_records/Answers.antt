@@ -6,16 +6,14 @@ use Rattle.draw.proofs.strips.draw_records.Goals.{After-draw-drawn, At-loop-i, E
 use Rattle.draw.proofs.strips.draw_records.Goals as goal
 
 -- after a call the buffer has the length that it had
-kept : (c : After-draw-drawn) → length c.draw-drawn.new.1.1.1.1.0 ≡ length c.args.out.now
+kept : (c : After-draw-drawn) → length c.draw-drawn.new.out.0 ≡ length c.args.out.now
 kept c = c.draw-drawn.auto.1.1.1.1.0 ∙ c.loop-i.invariant.0
 
 -- no more was drawn than was left
 within : (c : Else-took-eq0) →
-    let l = c.before.before.before.before.before.before.before.before.before.before in
-    l.loop-i.i + c.written-took.result ≤ length l.args.records.now / 8
+    c.loop-i.i + c.written-took.result ≤ length c.args.records.now / 8
 within c =
-    let l = c.before.before.before.before.before.before.before.before.before.before in
-    omega (arith, c.written-took.ensures, l.loop-i.invariant.1)
+    omega (arith, c.written-took.ensures, c.loop-i.invariant.1)
 
 -- a count of the block's records fits
 fits : (l : At-loop-i) (k : ℕ) → k ≤ length l.args.records.now / 8 → k < 18446744073709551616
@@ -23,8 +21,7 @@ fits l k h = omega arith
 
 pub overflow_add-i : goal.overflow_add-i
 overflow_add-i c =
-    let l = c.before.before.before.before.before.before.before.before.before.before in
-    omega (arith, fits l (l.loop-i.i + c.written-took.result) (within c))
+    omega (arith, fits (goal.at-overflow_add-i c).After-drawing-1 (c.loop-i.i + c.written-took.result) (within c))
 
 pub loop-i-init : goal.loop-i-init
 loop-i-init c = (refl, omega arith)
@@ -45,13 +42,13 @@ pub overflow_sub-records : goal.overflow_sub-records
 overflow_sub-records c = omega (arith, c.loop-i.invariant.1)
 
 pub shape_of-out-then-took-eq0 : goal.shape_of-out-then-took-eq0
-shape_of-out-then-took-eq0 c = kept c.before.before.before.before.before.before
+shape_of-out-then-took-eq0 c = kept (goal.at-shape_of-out-then-took-eq0 c).After-draw-arg-in-loop-i-1
 
 pub loop-i-smaller : goal.loop-i-smaller
 loop-i-smaller c = omega (arith, within c, c.if-took-eq0.false)
 
 pub loop-i-preserved : goal.loop-i-preserved
-loop-i-preserved c = (kept c.before.before.before.before.before.before, within c)
+loop-i-preserved c = (kept (goal.at-loop-i-preserved c).After-draw-arg-in-loop-i-1, within c)
 
 pub shape_of-out : goal.shape_of-out
 shape_of-out c = c.loop-i.invariant.0

@@ -7,7 +7,7 @@ use borrow.Author.Rules.{rules}
 use Rattle.ear_bytes.proofs.figures.last_place.Goals as goal
 
 pub returns-in-Never : goal.returns-in-Never
-returns-in-Never c = (ap last_place (sym c.in-Never.is), subst LastFits (sym c.in-Never.is) tt)
+returns-in-Never c = record { value = ap last_place (sym c.in-Never.is); last_fits = subst LastFits (sym c.in-Never.is) tt }
 
 pub returns-in-At : goal.returns-in-At
-returns-in-At c = (ap last_place (sym c.in-At.is), subst LastFits (sym c.in-At.is) (search rules))
+returns-in-At c = record { value = ap last_place (sym c.in-At.is); last_fits = subst LastFits (sym c.in-At.is) (search rules) }

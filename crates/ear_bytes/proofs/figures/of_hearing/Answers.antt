@@ -6,10 +6,4 @@ use Rattle.ear_bytes.proofs.figures.of_hearing.Goals as goal
 
 pub returns : goal.returns
 returns c =
-    let at_place = c.before.before.before in
-    let at-kind = at_place.before in
-    let at-stand = at-kind.before in
-    let hearing = at-stand.args.hearing in (
-      of_all _ _ _ hearing at-stand.of_stand-f.ensures.0 at-kind.last_kind-kind.ensures at_place.last_place-place.ensures.0,
-      (search rules, search rules, search rules, at_place.last_place-place.ensures.1, at-stand.of_stand-f.ensures.1),
-    )
+    let hearing = c.args.hearing in record { value = of_all _ _ _ hearing c.of_stand-f.ensures.value c.last_kind-kind.ensures c.last_place-place.ensures.value; hearing_fits = (search rules, search rules, search rules, c.last_place-place.ensures.last_fits, c.of_stand-f.ensures.stand_fits) }

@@ -8,13 +8,8 @@ use borrow.Author.Rules.{rules}
 use Rattle.ear_bytes.proofs.figures.of_stand.Goals as goal
 
 pub returns-in-Outside : goal.returns-in-Outside
-returns-in-Outside c = (ap stand_figures (sym c.in-Outside.is), subst StandFits (sym c.in-Outside.is) tt)
+returns-in-Outside c = record { value = ap stand_figures (sym c.in-Outside.is); stand_fits = subst StandFits (sym c.in-Outside.is) tt }
 
 pub returns-in-Inside : goal.returns-in-Inside
 returns-in-Inside c =
-    let at_plain = c.before.before in
-    let at_places = at_plain.before in
-    let is = at_places.in-Inside.is in (
-      of_inside _ _ at_places.in-Inside.sound at_places.of_places-p.ensures.0 at_plain.as_figure-plain.ensures ∙ ap stand_figures (sym is),
-      subst StandFits (sym is) (search rules, search rules, at_places.of_places-p.ensures.1),
-    )
+    record { value = of_inside _ _ c.in-Inside.sound c.of_places-p.ensures.value c.as_figure-plain.ensures ∙ ap stand_figures (sym c.in-Inside.is); stand_fits = subst StandFits (sym c.in-Inside.is) (search rules, search rules, c.of_places-p.ensures.places_fit) }

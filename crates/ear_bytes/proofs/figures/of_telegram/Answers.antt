@@ -8,10 +8,8 @@ use Rattle.ear_bytes.proofs.figures.of_telegram.Goals as goal
 
 pub returns-in-Figures : goal.returns-in-Figures
 returns-in-Figures c =
-    let is = c.in-Figures.is in
-    (ap telegram_figures (sym is), subst TelegramFits (sym is) (search rules, search rules, search rules))
+    record { value = ap telegram_figures (sym c.in-Figures.is); telegram_fits = subst TelegramFits (sym c.in-Figures.is) (search rules, search rules, search rules) }
 
 pub returns-in-Number : goal.returns-in-Number
 returns-in-Number c =
-    let is = c.in-Number.is in
-    (ap telegram_figures (sym is), subst TelegramFits (sym is) (search rules))
+    record { value = ap telegram_figures (sym c.in-Number.is); telegram_fits = subst TelegramFits (sym c.in-Number.is) (search rules) }

@@ -27,38 +27,28 @@ shape_of-buffer-in_default c = c.loop-buffer.invariant.1
 
 pub returns-in_default : goal.returns-in_default
 returns-in_default c =
-    let e = c.before in
-    let g = e.before.before.before.before in
-    let l = g.before.before in
-    let a = l.args in
-    ap (λ (w : Wrote). says w l.loop-buffer.buffer) c.wrote.ensures
-    ∙ over (coming a.ends a.store a.lead.now) l.loop-buffer.tape l.loop-buffer.frame l.loop-buffer.bit l.loop-buffer.at l.loop-buffer.buffer g.next_record-taken.result g.next_record-taken.ensures g.loop-buffer-test.true
-    e.in_default.is
-    ∙ comes_to l
+    let a = c.args in
+    ap (λ (w : Wrote). says w c.loop-buffer.buffer) c.wrote.ensures
+    ∙ over (coming a.ends a.store a.lead.now) c.loop-buffer.tape c.loop-buffer.frame c.loop-buffer.bit c.loop-buffer.at c.loop-buffer.buffer c.next_record-taken.result c.next_record-taken.ensures c.loop-buffer-test.true
+    c.in_default.is
+    ∙ comes_to (goal.at-returns-in_default c).At-loop-buffer
 
 pub loop-buffer-smaller : goal.loop-buffer-smaller
 loop-buffer-smaller c =
-    let o = c.before.before in
-    let g = o.before.before.before.before.before.before in
-    let l = g.before.before in
-    room_less g.next_record-taken.result.bytes l.loop-buffer.buffer o.put_one-at.new.1.0 l.loop-buffer.at o.put_one-at.result o.put_one-at.ensures.1 g.loop-buffer-test.true o.put_one-at.ensures.0
+    room_less c.next_record-taken.result.bytes c.loop-buffer.buffer c.put_one-at.new.buffer c.loop-buffer.at c.put_one-at.result c.put_one-at.ensures.bytes_len c.loop-buffer-test.true c.put_one-at.ensures.buffer_after
 
 pub loop-buffer-preserved : goal.loop-buffer-preserved
 loop-buffer-preserved c =
-    let o = c.before.before in
-    let e = o.before.before in
-    let g = e.before.before.before.before in
-    let l = g.before.before in
-    let a = l.args in
-    let room = g.loop-buffer-test.true in
-    let then = o.put_one-at.new.1.0 in
-    let puts = o.put_one-at.ensures.0 in
-    let long = o.put_one-at.ensures.1 in (
-      next_place g.next_record-taken.result.bytes l.loop-buffer.buffer then l.loop-buffer.at o.put_one-at.result long room puts,
-      keeps_length g.next_record-taken.result.bytes l.loop-buffer.buffer then l.loop-buffer.at o.put_one-at.result long room puts ∙ l.loop-buffer.invariant.1,
-      on (coming a.ends a.store a.lead.now) l.loop-buffer.tape l.loop-buffer.frame l.loop-buffer.bit l.loop-buffer.at l.loop-buffer.buffer g.next_record-taken.result g.next_record-taken.ensures room
-          e.in-Record.is long o.put_one-at.result then puts
-          ∙ l.loop-buffer.invariant.2,
+    let a = c.args in
+    let room = c.loop-buffer-test.true in
+    let then = c.put_one-at.new.buffer in
+    let puts = c.put_one-at.ensures.buffer_after in
+    let long = c.put_one-at.ensures.bytes_len in (
+      next_place c.next_record-taken.result.bytes c.loop-buffer.buffer then c.loop-buffer.at c.put_one-at.result long room puts,
+      keeps_length c.next_record-taken.result.bytes c.loop-buffer.buffer then c.loop-buffer.at c.put_one-at.result long room puts ∙ c.loop-buffer.invariant.1,
+      on (coming a.ends a.store a.lead.now) c.loop-buffer.tape c.loop-buffer.frame c.loop-buffer.bit c.loop-buffer.at c.loop-buffer.buffer c.next_record-taken.result c.next_record-taken.ensures room
+          c.in-Record.is long c.put_one-at.result then puts
+          ∙ c.loop-buffer.invariant.2,
     )
 
 pub shape_of-buffer : goal.shape_of-buffer
@@ -66,8 +56,7 @@ shape_of-buffer c = c.loop-buffer.invariant.1
 
 pub returns : goal.returns
 returns c =
-    let l = c.before.before in
-    let a = l.args in
-    ap (λ (w : Wrote). says w l.loop-buffer.buffer) c.wrote-2.ensures
-    ∙ full (coming a.ends a.store a.lead.now) l.loop-buffer.tape l.loop-buffer.frame l.loop-buffer.bit l.loop-buffer.at l.loop-buffer.buffer c.loop-buffer-test.false
-    ∙ comes_to l
+    let a = c.args in
+    ap (λ (w : Wrote). says w c.loop-buffer.buffer) c.wrote-2.ensures
+    ∙ full (coming a.ends a.store a.lead.now) c.loop-buffer.tape c.loop-buffer.frame c.loop-buffer.bit c.loop-buffer.at c.loop-buffer.buffer c.loop-buffer-test.false
+    ∙ comes_to (goal.at-returns c).At-loop-buffer

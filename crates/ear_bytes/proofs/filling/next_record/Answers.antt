@@ -9,14 +9,11 @@ use Rattle.ear_bytes.proofs.filling.next_record.Goals as goal
 
 pub returns-then-ends : goal.returns-then-ends
 returns-then-ends c =
-    let e = c.before.before in
-    let i = e.before in
-    let a = i.args in
-    ended_is a.frame a.bit e.end-ended.result _ e.end-ended.ensures
-    ∙ ap (λ (b : Bool). went (coming b a.store a.lead.now a.tape a.frame a.bit)) (sym i.if-ends.true)
+    let a = c.args in
+    ended_is a.frame a.bit c.end-ended.result _ c.end-ended.ensures
+    ∙ ap (λ (b : Bool). went (coming b a.store a.lead.now a.tape a.frame a.bit)) (sym c.if-ends.true)
 
 pub returns : goal.returns
 returns c =
-    let i = c.before in
-    let a = i.args in
-    c.go_on.ensures ∙ ap (λ (b : Bool). went (coming b a.store a.lead.now a.tape a.frame a.bit)) (sym i.if-ends.false)
+    let a = c.args in
+    c.go_on.ensures ∙ ap (λ (b : Bool). went (coming b a.store a.lead.now a.tape a.frame a.bit)) (sym c.if-ends.false)

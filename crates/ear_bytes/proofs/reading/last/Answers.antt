@@ -8,7 +8,4 @@ returns-then-figure_at-eq0 c = never_read c.args.bytes.now _ c.figure_at.ensures
 
 pub returns : goal.returns
 returns c =
-    let at_place = c.before in
-    let test = at_place.before.before in
-    let at-kind = test.before in
-    at_read at-kind.args.bytes.now _ _ _ at-kind.figure_at.ensures test.if-figure_at-eq0.false at_place.figure_at-place.ensures c.low32.ensures
+    at_read c.args.bytes.now _ _ _ c.figure_at.ensures c.if-figure_at-eq0.false c.figure_at-place.ensures c.low32.ensures

@@ -8,5 +8,4 @@ returns-then-figure_at-eq0 c = outside_read c.args.bytes.now _ c.figure_at.ensur
 
 pub returns : goal.returns
 returns c =
-    let at-kind = c.before.before in
-    inside_read at-kind.args.bytes.now _ _ at-kind.figure_at.ensures c.if-figure_at-eq0.false c.sound.ensures
+    inside_read c.args.bytes.now _ _ c.figure_at.ensures c.if-figure_at-eq0.false c.sound.ensures

@@ -10,24 +10,20 @@ loop-i-init c = (omega arith, refl)
 
 pub returns-then-c-lt48 : goal.returns-then-c-lt48
 returns-then-c-lt48 c =
-    let l = c.before.before.before in
-    let t = l.args.text.now in
-    sym (l.loop-i.invariant.1 ∙ not_below t l.loop-i.i (omega arith) c.if-c-lt48.true)
+    let t = c.args.text.now in
+    sym (c.loop-i.invariant.1 ∙ not_below t c.loop-i.i (omega arith) c.if-c-lt48.true)
 
 pub returns-then-c-gt57 : goal.returns-then-c-gt57
 returns-then-c-gt57 c =
-    let l = c.before.before.before.before in
-    let t = l.args.text.now in
-    sym (l.loop-i.invariant.1 ∙ not_beyond t l.loop-i.i (omega arith) c.if-c-lt48.false c.if-c-gt57.true)
+    let t = c.args.text.now in
+    sym (c.loop-i.invariant.1 ∙ not_beyond t c.loop-i.i (omega arith) c.if-c-lt48.false c.if-c-gt57.true)
 
 pub loop-i-preserved : goal.loop-i-preserved
 loop-i-preserved c =
-    let l = c.before.before.before.before in
-    let t = l.args.text.now in
-    (omega arith, l.loop-i.invariant.1 ∙ a_digit t l.loop-i.i (omega arith) c.if-c-lt48.false c.if-c-gt57.false)
+    let t = c.args.text.now in
+    (omega arith, c.loop-i.invariant.1 ∙ a_digit t c.loop-i.i (omega arith) c.if-c-lt48.false c.if-c-gt57.false)
 
 pub returns : goal.returns
 returns c =
-    let l = c.before in
-    let t = l.args.text.now in
-    sym (l.loop-i.invariant.1 ∙ digits_end t l.loop-i.i (omega arith))
+    let t = c.args.text.now in
+    sym (c.loop-i.invariant.1 ∙ digits_end t c.loop-i.i (omega arith))

@@ -30,33 +30,29 @@ loop-i-init c = (omega arith, omega arith, refl, c.requires)
 
 pub overflow_sub-digit : goal.overflow_sub-digit
 overflow_sub-digit c =
-    let l = c.before.before in
-    (is_digit l.args.text.now l.loop-i.i (omega arith) l.loop-i.invariant.3).0
+    (is_digit c.args.text.now c.loop-i.i (omega arith) c.loop-i.invariant.3).0
 
 pub overflow_cast-digit : goal.overflow_cast-digit
 overflow_cast-digit c =
-    let l = c.before.before in
-    let d = is_digit l.args.text.now l.loop-i.i (omega arith) l.loop-i.invariant.3 in
+    let d = is_digit c.args.text.now c.loop-i.i (omega arith) c.loop-i.invariant.3 in
     omega (arith, d.1)
 
 pub returns-then-digit-most : goal.returns-then-digit-most
-returns-then-digit-most c = over c.before.before.before (omega arith) (omega arith)
+returns-then-digit-most c = over (goal.at-returns-then-digit-most c).At-loop-i (omega arith) (omega arith)
 
 pub returns-then-sum-most : goal.returns-then-sum-most
-returns-then-sum-most c = over c.before.before.before.before (omega arith) (omega arith)
+returns-then-sum-most c = over (goal.at-returns-then-sum-most c).At-loop-i (omega arith) (omega arith)
 
 pub loop-i-preserved : goal.loop-i-preserved
 loop-i-preserved c =
-    let l = c.before.before.before.before in
-    let t = l.args.text.now in
-    let i = l.loop-i.i in
+    let t = c.args.text.now in
+    let i = c.loop-i.i in
     let in-text : i < length t = omega arith in
-    let d = is_digit t i in-text l.loop-i.invariant.3 in
-    (omega arith, omega arith, sym (number_on_law t i in-text l.loop-i.sum) ∙ l.loop-i.invariant.2, d.2)
+    let d = is_digit t i in-text c.loop-i.invariant.3 in
+    (omega arith, omega arith, sym (number_on_law t i in-text c.loop-i.sum) ∙ c.loop-i.invariant.2, d.2)
 
 pub returns : goal.returns
 returns c =
-    let l = c.before in
-    let t = l.args.text.now in
-    let same : l.loop-i.sum ≡ continued 0 t = sym (number_end t l.loop-i.i l.loop-i.sum (omega arith)) ∙ l.loop-i.invariant.2 in
-    is_number l.loop-i.sum (continued 0 t) l.args.most same (omega arith)
+    let t = c.args.text.now in
+    let same : c.loop-i.sum ≡ continued 0 t = sym (number_end t c.loop-i.i c.loop-i.sum (omega arith)) ∙ c.loop-i.invariant.2 in
+    is_number c.loop-i.sum (continued 0 t) c.args.most same (omega arith)

@@ -13,18 +13,15 @@ loop-i-init c = refl
 
 pub returns-then-text-i : goal.returns-then-text-i
 returns-then-text-i c =
-    let l = c.before.before.before in
-    let a = l.args in
-    sym (at_sign a.sign a.text.now l.loop-i.i (omega arith) c.if-text-i.true) ∙ l.loop-i.invariant
+    let a = c.args in
+    sym (at_sign a.sign a.text.now c.loop-i.i (omega arith) c.if-text-i.true) ∙ c.loop-i.invariant
 
 pub loop-i-preserved : goal.loop-i-preserved
 loop-i-preserved c =
-    let l = c.before.before.before in
-    let a = l.args in
-    sym (at_other a.sign a.text.now l.loop-i.i (omega arith) c.if-text-i.false) ∙ l.loop-i.invariant
+    let a = c.args in
+    sym (at_other a.sign a.text.now c.loop-i.i (omega arith) c.if-text-i.false) ∙ c.loop-i.invariant
 
 pub returns : goal.returns
 returns c =
-    let l = c.before in
-    let a = l.args in
-    sym (at_end a.sign a.text.now l.loop-i.i (omega arith)) ∙ l.loop-i.invariant
+    let a = c.args in
+    sym (at_end a.sign a.text.now c.loop-i.i (omega arith)) ∙ c.loop-i.invariant

@@ -7,9 +7,8 @@ use Rattle.group.proofs.contents.link_distance.Goals as goal
 
 pub returns-then-bz-eq0 : goal.returns-then-bz-eq0
 returns-then-bz-eq0 c =
-    let s = c.before.before.before.before.before.before in
-    c.distance.ensures ∙ ap (distance s.args.by) c.y_of.ensures
-    ∙ sym (rw (c.in-Is.is, eq-eqb s.args.bz 0 c.if-bz-eq0.true))
+    c.distance.ensures ∙ ap (distance c.args.by) c.y_of.ensures
+    ∙ sym (rw (c.in-Is.is, eq-eqb c.args.bz 0 c.if-bz-eq0.true))
 
 pub returns-else-bz-eq0 : goal.returns-else-bz-eq0
 returns-else-bz-eq0 c =

@@ -6,9 +6,7 @@ use Rattle.group.proofs.contents.of_signal.Goals as goal
 
 pub returns-in-Dm : goal.returns-in-Dm
 returns-in-Dm c =
-    let k = c.before.before.before.before.before.before.before in
-    let m = k.before.before.before in
-    let d = sym m.signal_distance.ensures ∙ ap says_measured k.in-Dm.is in
+    let d = sym c.signal_distance.ensures ∙ ap says_measured c.in-Dm.is in
     rw (
       d,
       c.speed-in-Dm.ensures,
@@ -18,7 +16,7 @@ returns-in-Dm c =
       c.z_sought.ensures,
       c.y_sought.ensures,
       c.first_of-prefix.ensures,
-      m.first_of-b.ensures,
+      c.first_of-b.ensures,
     )
 
 pub returns-in-NoDistance : goal.returns-in-NoDistance

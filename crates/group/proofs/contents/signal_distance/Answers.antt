@@ -10,22 +10,14 @@ use Rattle.group.proofs.contents.signal_distance.Goals as goal
 pub returns-then-by-no_increase : goal.returns-then-by-no_increase
 unfolding signal_distance
 returns-then-by-no_increase c =
-    let i = c.before in
-    let y = i.before.before in
-    let s = y.before in
-    let by = y.y_sought-by.ensures ∙ ap y_of s.requires.1 in
-    let test : is_preset (y_of (B (take s.args.n s.args.p))) && no_increase s.args.az ≡ true = rw (← by, ← i.no_increase.ensures) c.if-by-no_increase.true in
+    let by = c.y_sought-by.ensures ∙ ap y_of c.requires.1 in
+    let test : is_preset (y_of (B (take c.args.n c.args.p))) && no_increase c.args.az ≡ true = rw (← by, ← c.no_increase.ensures) c.if-by-no_increase.true in
     rw test
 
 pub returns : goal.returns
 unfolding signal_distance distance_of
 returns c =
-    let t = c.before.before in
-    let i = t.before in
-    let z = i.before in
-    let y = z.before in
-    let s = y.before in
-    let by = y.y_sought-by.ensures ∙ ap y_of s.requires.1 in
-    let bz = z.z_sought-bz.ensures ∙ ap z_of s.requires.1 in
-    let test : is_preset (y_of (B (take s.args.n s.args.p))) && no_increase s.args.az ≡ false = rw (← by, ← i.no_increase.ensures) t.if-by-no_increase.false in
+    let by = c.y_sought-by.ensures ∙ ap y_of c.requires.1 in
+    let bz = c.z_sought-bz.ensures ∙ ap z_of c.requires.1 in
+    let test : is_preset (y_of (B (take c.args.n c.args.p))) && no_increase c.args.az ≡ false = rw (← by, ← c.no_increase.ensures) c.if-by-no_increase.false in
     c.link_distance.ensures ∙ rw (test, by, bz, c.first_of-c.ensures)

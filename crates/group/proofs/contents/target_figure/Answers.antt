@@ -13,26 +13,23 @@ returns-in-14 c = rw (c.if-py-pz.true, c.in-14.is)
 pub returns-in-1-to-12 : goal.returns-in-1-to-12
 unfolding target_figure
 returns-in-1-to-12 c =
-    let s = c.before.before.before in
-    let low : 1 ≤ s.args.ay = c.in-1-to-12.if-ay-lt1-own.false in
-    let high : s.args.ay ≤ 12 = omega arith in
-    rw (s.if-py-pz.true, le-leb 1 s.args.ay low, le-leb s.args.ay 12 high)
+    let low : 1 ≤ c.args.ay = c.in-1-to-12.if-ay-lt1-own.false in
+    let high : c.args.ay ≤ 12 = omega arith in
+    rw (c.if-py-pz.true, le-leb 1 c.args.ay low, le-leb c.args.ay 12 high)
 
 pub returns-in_default : goal.returns-in_default
 unfolding target_figure
 returns-in_default c =
-    let s = c.before.before in
-    rw (s.if-py-pz.true, lt-leb 1 s.args.ay c.in_default.if-ay-lt1-own.true, ne_eqb s.args.ay 14 c.in_default.in_default-own.rest.1)
+    rw (c.if-py-pz.true, lt-leb 1 c.args.ay c.in_default.if-ay-lt1-own.true, ne_eqb c.args.ay 14 c.in_default.in_default-own.rest.1)
 
 pub returns-in_default-2 : goal.returns-in_default-2
 unfolding target_figure
 returns-in_default-2 c =
-    let s = c.before.before.before in
     rw (
-      s.if-py-pz.true,
-      le-leb 1 s.args.ay c.in_default.if-ay-lt1-own.false,
-      lt-leb s.args.ay 12 c.in_default.if-ay-lt13-own.false,
-      ne_eqb s.args.ay 14 c.in_default.in_default-own.rest.1,
+      c.if-py-pz.true,
+      le-leb 1 c.args.ay c.in_default.if-ay-lt1-own.false,
+      lt-leb c.args.ay 12 c.in_default.if-ay-lt13-own.false,
+      ne_eqb c.args.ay 14 c.in_default.in_default-own.rest.1,
     )
 
 pub returns-else-py-pz : goal.returns-else-py-pz

@@ -11,19 +11,14 @@ use Rattle.group.proofs.judging.as_present.Goals as goal
 
 pub returns-in-Is : goal.returns-in-Is
 returns-in-Is c =
-    let m = c.before.before in
-    let f = m.before.before in
-    let s = f.before.before.before.before in
-    let row = s.args.row in
-    let e : content_of row.kind row.speed (Y row.a.part) (Z row.a.part) (take s.args.n s.args.p) ≡ gives m.in-Is.more =
-    rw (← f.y_of.ensures, ← f.z_of.ensures) (sym f.of_present.ensures ∙ ap says_contained m.in-Is.is) in
-    rw e (ap gives (c.message.ensures ∙ ap (λ (n : Number). message_of row n m.in-Is.more) s.requires.1))
+    let row = c.args.row in
+    let e : content_of row.kind row.speed (Y row.a.part) (Z row.a.part) (take c.args.n c.args.p) ≡ gives c.in-Is.more =
+    rw (← c.y_of.ensures, ← c.z_of.ensures) (sym c.of_present.ensures ∙ ap says_contained c.in-Is.is) in
+    rw e (ap gives (c.message.ensures ∙ ap (λ (n : Number). message_of row n c.in-Is.more) c.requires.1))
 
 pub returns-in-NoDistance : goal.returns-in-NoDistance
 returns-in-NoDistance c =
-    let f = c.before.before in
-    let s = f.before.before.before.before in
-    let row = s.args.row in
-    let e : content_of row.kind row.speed (Y row.a.part) (Z row.a.part) (take s.args.n s.args.p) ≡ refuses 15 =
-    rw (← f.y_of.ensures, ← f.z_of.ensures) (sym f.of_present.ensures ∙ ap says_contained c.in-NoDistance.is) in
+    let row = c.args.row in
+    let e : content_of row.kind row.speed (Y row.a.part) (Z row.a.part) (take c.args.n c.args.p) ≡ refuses 15 =
+    rw (← c.y_of.ensures, ← c.z_of.ensures) (sym c.of_present.ensures ∙ ap says_contained c.in-NoDistance.is) in
     rw e

@@ -13,7 +13,7 @@ use Rattle.group.specs.declared.Number.{Number}
 use Rattle.group.specs.declared.Content.{Content}
 use Rattle.group.specs.Balise.{then}
 use Rattle.group.specs.Judge.{message_of, judge_as, judge_read}
-use Rattle.group.proofs.judging.read.Goals.{In-Is-2, Start}
+use Rattle.group.proofs.judging.read.Goals.{In-Is, Start}
 use Rattle.group.proofs.judging.read.Goals as goal
 
 -- The judgement, from how the balises fit.
@@ -26,23 +26,20 @@ abbrev bs : Start → List Placed
 bs s = take s.args.n s.args.p
 
 -- The direction of the row that was found, and the judgement by it.
-in_direction : (k : In-Is-2) {d : Direction} → k.in-Is.row.direction ≡ d
-    → judge_as d k.in-Is.row (bs k.before.before.before) ≡ judge_read (bs k.before.before.before)
+in_direction : (k : In-Is) {d : Direction} → k.in-Is.row.direction ≡ d
+    → judge_as d k.in-Is.row (bs (goal.at-In-Is k).Start) ≡ judge_read (bs (goal.at-In-Is k).Start)
 in_direction k e =
-    let f = k.before.before in
-    ap (λ (d : Direction). judge_as d k.in-Is.row (bs f.before)) (sym e)
-    ∙ by_fit (bs f.before) f.fit.ensures k.in-Is.is
+    ap (λ (d : Direction). judge_as d k.in-Is.row (bs (goal.at-In-Is k).Start)) (sym e)
+    ∙ by_fit (bs (goal.at-In-Is k).Start) k.fit.ensures k.in-Is.is
 
 pub returns-in-Present : goal.returns-in-Present
-returns-in-Present c = c.as_present.ensures ∙ in_direction c.before.before.before.before c.in-Present.is
+returns-in-Present c = c.as_present.ensures ∙ in_direction (goal.at-returns-in-Present c).In-Is c.in-Present.is
 
 pub returns-in-Opposite : goal.returns-in-Opposite
 returns-in-Opposite c =
-    let k = c.before.before.before.before in
-    ap gives (c.message.ensures ∙ ap (λ (n : Number). message_of k.in-Is.row n Content.Nothing) k.requires.1)
-    ∙ in_direction k c.in-Opposite.is
+    ap gives (c.message.ensures ∙ ap (λ (n : Number). message_of c.in-Is.row n Content.Nothing) c.requires.1)
+    ∙ in_direction (goal.at-returns-in-Opposite c).In-Is c.in-Opposite.is
 
 pub returns-in-NoRow : goal.returns-in-NoRow
 returns-in-NoRow c =
-    let f = c.before.before in
-    by_fit (bs f.before) f.fit.ensures c.in-NoRow.is
+    by_fit (bs (goal.at-returns-in-NoRow c).Start) c.fit.ensures c.in-NoRow.is

@@ -6,22 +6,18 @@ use Rattle.group.proofs.reading.part_heard.Goals as goal
 
 pub returns-in-Is : goal.returns-in-Is
 returns-in-Is c =
-    let t = c.before.before in
-    let w = t.before.before in
-    let e = sym w.read.ensures ∙ ap says_telegram_read t.in-Is.is in
-    rw (w.in-Words.is, e, c.part_of.ensures)
+    let e = sym c.read.ensures ∙ ap says_telegram_read c.in-Is.is in
+    rw (c.in-Words.is, e, c.part_of.ensures)
 
 pub returns-in-NotCode : goal.returns-in-NotCode
 returns-in-NotCode c =
-    let w = c.before.before in
-    let e = sym w.read.ensures ∙ ap says_telegram_read c.in-NotCode.is in
-    rw (w.in-Words.is, e)
+    let e = sym c.read.ensures ∙ ap says_telegram_read c.in-NotCode.is in
+    rw (c.in-Words.is, e)
 
 pub returns-in-Fifteen : goal.returns-in-Fifteen
 returns-in-Fifteen c =
-    let w = c.before.before in
-    let e = sym w.read.ensures ∙ ap says_telegram_read c.in-Fifteen.is in
-    rw (w.in-Words.is, e)
+    let e = sym c.read.ensures ∙ ap says_telegram_read c.in-Fifteen.is in
+    rw (c.in-Words.is, e)
 
 pub returns-in-Marker : goal.returns-in-Marker
 returns-in-Marker c = rw c.in-Marker.is

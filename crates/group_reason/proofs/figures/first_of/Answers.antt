@@ -12,27 +12,20 @@ loop-i-init c = (search rules, refl)
 
 pub returns-then-is_category : goal.returns-then-is_category
 returns-then-is_category c =
-    let k = c.before in
-    let t = k.before.before.before.before in
-    let s = t.before in
-    let is = sym k.is_category.ensures ∙ k.if-is_category.true in
+    let is = sym c.is_category.ensures ∙ c.if-is_category.true in
     c.found_at.ensures
-    ∙ sym (sought_yes s.args.c s.args.t1 s.args.n s.well-formed.0.1.0.1 s.requires t.loop-i.i k.loop-i-test.true is)
-    ∙ t.loop-i.invariant.1
+    ∙ sym (sought_yes c.args.c c.args.p c.args.n c.well_formed.0.1.0.1 c.requires c.loop-i.i c.loop-i-test.true is)
+    ∙ c.loop-i.invariant.1
 
 pub loop-i-preserved : goal.loop-i-preserved
 loop-i-preserved c =
-    let t = c.before.before.before.before in
-    let s = t.before in
     let is = sym c.is_category.ensures ∙ c.if-is_category.false in (
       omega arith,
-      sym (sought_no s.args.c s.args.t1 s.args.n s.well-formed.0.1.0.1 s.requires t.loop-i.i c.loop-i-test.true is)
-          ∙ t.loop-i.invariant.1,
+      sym (sought_no c.args.c c.args.p c.args.n c.well_formed.0.1.0.1 c.requires c.loop-i.i c.loop-i-test.true is)
+          ∙ c.loop-i.invariant.1,
     )
 
 pub returns : goal.returns
 returns c =
-    let t = c.before in
-    let s = t.before in
-    sym (sought_none s.args.c s.args.t1 s.args.n s.well-formed.0.1.0.1 s.requires t.loop-i.i c.loop-i-test.false)
-    ∙ t.loop-i.invariant.1
+    sym (sought_none c.args.c c.args.p c.args.n c.well_formed.0.1.0.1 c.requires c.loop-i.i c.loop-i-test.false)
+    ∙ c.loop-i.invariant.1

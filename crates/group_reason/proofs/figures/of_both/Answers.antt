@@ -7,12 +7,8 @@ returns-then-barred-b_breaks c = rw (← c.b_breaks.ensures, c.if-barred-b_break
 
 pub returns-then-c-beyond : goal.returns-then-c-beyond
 returns-then-c-beyond c =
-    let h = c.before.before in
-    let k = h.before in
-    rw (← k.b_breaks.ensures, k.if-barred-b_breaks.false, ← h.beyond.ensures, c.if-c-beyond.true)
+    rw (← c.b_breaks.ensures, c.if-barred-b_breaks.false, ← c.beyond.ensures, c.if-c-beyond.true)
 
 pub returns : goal.returns
 returns c =
-    let h = c.before.before in
-    let k = h.before in
-    rw (← k.b_breaks.ensures, k.if-barred-b_breaks.false, ← h.beyond.ensures, c.if-c-beyond.false)
+    rw (← c.b_breaks.ensures, c.if-barred-b_breaks.false, ← c.beyond.ensures, c.if-c-beyond.false)

@@ -9,21 +9,14 @@ use Rattle.group_reason.proofs.figures.why_present.Goals as goal
 
 pub returns-in-Signal : goal.returns-in-Signal
 returns-in-Signal c =
-    let q2 = c.before in
-    let q1 = q2.before in
-    let q0 = q1.before in
-    let k = q0.before in
-    let a = k.args in
+    let a = c.args in
     c.of_both.ensures
-    ∙ rw (q1.is_barred.ensures, q0.first_of-b.ensures, q2.first_of.ensures) (of_signal a.az (take a.n a.p))
-    ∙ sym (ap (λ (v : Kind). why_present v a.az (take a.n a.p)) k.in-Signal.is)
+    ∙ rw (c.is_barred.ensures, c.first_of-b.ensures, c.first_of.ensures) (of_signal a.az (take a.n a.p))
+    ∙ sym (ap (λ (v : Kind). why_present v a.az (take a.n a.p)) c.in-Signal.is)
 
 pub returns-in-Warning : goal.returns-in-Warning
 returns-in-Warning c =
-    let q1 = c.before in
-    let q0 = q1.before in
-    let k = q0.before in
-    let a = k.args in
+    let a = c.args in
     c.of_both-in-Warning.ensures
-    ∙ rw (q0.first_of-in-Warning.ensures, q1.first_of-in-Warning-2.ensures) (of_warning (take a.n a.p))
-    ∙ sym (ap (λ (v : Kind). why_present v a.az (take a.n a.p)) k.in-Warning.is)
+    ∙ rw (c.first_of-in-Warning.ensures, c.first_of-in-Warning-2.ensures) (of_warning (take a.n a.p))
+    ∙ sym (ap (λ (v : Kind). why_present v a.az (take a.n a.p)) c.in-Warning.is)

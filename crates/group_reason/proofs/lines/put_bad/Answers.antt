@@ -16,32 +16,19 @@ use Rattle.group_reason.proofs.lines.put_bad.Goals as goal
 pub returns-in-Unreadable : goal.returns-in-Unreadable
 unfolding badly
 returns-in-Unreadable c =
-    let p = c.before.before in
-    let k = p.before.before.before in
-    let a = k.args in
-    p.put.ensures ∙ ap (λ (v : BadBalise). put (badly (says_bad_balise v)) a.buf.now a.at) (sym k.in-Unreadable.is)
+    let a = c.args in
+    c.put.ensures ∙ ap (λ (v : BadBalise). put (badly (says_bad_balise v)) a.buf.now a.at) (sym c.in-Unreadable.is)
 
 pub returns-in-NotCode : goal.returns-in-NotCode
 returns-in-NotCode c =
-    let p2 = c.before.before in
-    let p1 = p2.before.before.before.before in
-    let k = p1.before.before.before in
-    let s = k.before.before.before in
-    let a = s.args in
-    let w = k.in-NotCode.word in
-    let q = k.in-NotCode.parity in
-    let is = not_code_is w q ∙ ap (λ (v : BadBalise). badly (says_bad_balise v)) (sym k.in-NotCode.is) in
-    join a.buf.now a.at (letter w) (refused_as (why 1 (are q))) (room_as a.buf.now a.at is s.requires) p1.put_letter-a.ensures p2.put_parity.ensures
+    let a = c.args in
+    let is = not_code_is c.in-NotCode.word c.in-NotCode.parity ∙ ap (λ (v : BadBalise). badly (says_bad_balise v)) (sym c.in-NotCode.is) in
+    join a.buf.now a.at (letter c.in-NotCode.word) (refused_as (why 1 (are c.in-NotCode.parity))) (room_as a.buf.now a.at is c.requires) c.put_letter-a.ensures c.put_parity.ensures
     ∙ ap (λ (t : List ℕ). put t a.buf.now a.at) is
 
 pub returns-in-Fifteen : goal.returns-in-Fifteen
 returns-in-Fifteen c =
-    let p2 = c.before.before in
-    let p1 = p2.before.before.before.before.before in
-    let k = p1.before.before.before in
-    let s = k.before.before.before in
-    let a = s.args in
-    let w = k.in-Fifteen.word in
-    let is = fifteen_is w ∙ ap (λ (v : BadBalise). badly (says_bad_balise v)) (sym k.in-Fifteen.is) in
-    join a.buf.now a.at (letter w) (codes " refused 3") (room_as a.buf.now a.at is s.requires) p1.put_letter-a-in-Fifteen.ensures p2.put-in-Fifteen.ensures
+    let a = c.args in
+    let is = fifteen_is c.in-Fifteen.word ∙ ap (λ (v : BadBalise). badly (says_bad_balise v)) (sym c.in-Fifteen.is) in
+    join a.buf.now a.at (letter c.in-Fifteen.word) (codes " refused 3") (room_as a.buf.now a.at is c.requires) c.put_letter-a-in-Fifteen.ensures c.put-in-Fifteen.ensures
     ∙ ap (λ (t : List ℕ). put t a.buf.now a.at) is

@@ -14,19 +14,13 @@ use Rattle.group_reason.proofs.lines.put_many.Goals as goal
 pub returns-then-n-eq255 : goal.returns-then-n-eq255
 unfolding so_many
 returns-then-n-eq255 c =
-    let p = c.before.before in
-    let k = p.before.before.before in
-    let a = k.args in
-    let is : codes "255 or more balises" ≡ so_many a.n = rw (eq-eqb a.n 255 k.if-n-eq255.true) in
-    p.put.ensures ∙ ap (λ (t : List ℕ). put t a.buf.now a.at) is
+    let a = c.args in
+    let is : codes "255 or more balises" ≡ so_many a.n = rw (eq-eqb a.n 255 c.if-n-eq255.true) in
+    c.put.ensures ∙ ap (λ (t : List ℕ). put t a.buf.now a.at) is
 
 pub returns : goal.returns
 returns c =
-    let p2 = c.before.before in
-    let p1 = p2.before.before.before.before.before in
-    let k = p1.before.before.before in
-    let s = k.before.before in
-    let a = s.args in
-    let is = many_is a.n (ne_eqb a.n 255 k.if-n-eq255.false) in
-    join a.buf.now a.at (numbered "" a.n) (codes " balises") (room_as a.buf.now a.at is s.requires) p1.put_number-a.ensures p2.put-2.ensures
+    let a = c.args in
+    let is = many_is a.n (ne_eqb a.n 255 c.if-n-eq255.false) in
+    join a.buf.now a.at (numbered "" a.n) (codes " balises") (room_as a.buf.now a.at is c.requires) c.put_number-a.ensures c.put-2.ensures
     ∙ ap (λ (t : List ℕ). put t a.buf.now a.at) is

@@ -9,9 +9,7 @@ use Rattle.group_reason.proofs.rows.why_row.Goals as goal
 
 pub returns-in-Present : goal.returns-in-Present
 returns-in-Present c =
-    let z = c.before in
-    let k = z.before in
-    let a = k.args in
+    let a = c.args in
     c.why_present.ensures
-    ∙ ap (λ (v : ℕ). why_present a.row.kind v (take a.n a.p)) z.z_of.ensures
-    ∙ sym (ap (λ (v : Direction). why_row v a.row (take a.n a.p)) k.in-Present.is)
+    ∙ ap (λ (v : ℕ). why_present a.row.kind v (take a.n a.p)) c.z_of.ensures
+    ∙ sym (ap (λ (v : Direction). why_row v a.row (take a.n a.p)) c.in-Present.is)

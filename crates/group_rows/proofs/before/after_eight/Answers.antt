@@ -9,22 +9,14 @@ use Rattle.group_rows.proofs.before.after_eight.Goals as goal
 
 pub returns-in-0-to-13 : goal.returns-in-0-to-13
 returns-in-0-to-13 c =
-    let k = c.before.before in
-    let g = k.part-1.given in
-    let z = g.0.1.1.0 in
-    let h : z ≤ 13 = omega arith in
-    c.present.ensures ∙ rw (g.1, k.in-2.is) (simp (le-leb z 13 h, leb-zero))
+    let h : c.in-Figures.z ≤ 13 = omega arith in
+    c.present.ensures ∙ rw (c.in-Figures.is, c.in-2.is) (simp (le-leb c.in-Figures.z 13 h, leb-zero))
 
 pub returns-in_default-z : goal.returns-in_default-z
 returns-in_default-z c =
-    let k = c.before in
-    let g = k.part-1.given in
-    let z = g.0.1.1.0 in
-    let h : 13 < z = omega arith in
-    rw (g.1, k.in-2.is) (simp (lt-leb z 13 h, leb-zero))
+    let h : 13 < c.in-Figures.z = omega arith in
+    rw (c.in-Figures.is, c.in-2.is) (simp (lt-leb c.in-Figures.z 13 h, leb-zero))
 
 pub returns-in_default : goal.returns-in_default
 returns-in_default c =
-    let k = c.before in
-    let g = k.part-1.given in
-    simp (g.1, ne_eqb g.0.0 2 k.in_default.in_default-own.rest.1) (simp g.1 at c.after_both.ensures)
+    simp (c.in-Figures.is, ne_eqb c.in-Figures.x 2 c.in_default.in_default-own.rest.1) (simp c.in-Figures.is at c.after_both.ensures)

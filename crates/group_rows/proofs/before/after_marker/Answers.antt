@@ -11,31 +11,21 @@ returns-in-2 c = c.opposite.ensures ∙ rw (c.in-Figures.is, c.in-2.is)
 
 pub returns-in-9-to-14 : goal.returns-in-9-to-14
 returns-in-9-to-14 c =
-    let k = c.before.before.before in
-    let g = k.part-1.given in
-    let y = g.0.1.0 in
-    let h : y ≤ 14 = omega arith in
-    let l : 9 ≤ y = omega arith in
-    c.opposite-in-9-to-14.ensures ∙ rw (g.1, k.in-3.is) (simp (le-leb 9 y l, le-leb y 14 h))
+    let h : c.in-Figures.y ≤ 14 = omega arith in
+    let l : 9 ≤ c.in-Figures.y = omega arith in
+    c.opposite-in-9-to-14.ensures ∙ rw (c.in-Figures.is, c.in-3.is) (simp (le-leb 9 c.in-Figures.y l, le-leb c.in-Figures.y 14 h))
 
 pub returns-in_default-y : goal.returns-in_default-y
 returns-in_default-y c =
-    let k = c.before in
-    let g = k.part-1.given in
-    let y = g.0.1.0 in
-    let h : y < 9 = omega arith in
-    rw (g.1, k.in-3.is) (simp (lt-leb 9 y h))
+    let h : c.in-Figures.y < 9 = omega arith in
+    rw (c.in-Figures.is, c.in-3.is) (simp (lt-leb 9 c.in-Figures.y h))
 
 pub returns-in_default-y-2 : goal.returns-in_default-y-2
 returns-in_default-y-2 c =
-    let k = c.before.before in
-    let g = k.part-1.given in
-    let y = g.0.1.0 in
-    let h : 14 < y = omega arith in
-    let l : 9 ≤ y = omega arith in
-    rw (g.1, k.in-3.is) (simp (le-leb 9 y l, lt-leb y 14 h))
+    let h : 14 < c.in-Figures.y = omega arith in
+    let l : 9 ≤ c.in-Figures.y = omega arith in
+    rw (c.in-Figures.is, c.in-3.is) (simp (le-leb 9 c.in-Figures.y l, lt-leb c.in-Figures.y 14 h))
 
 pub returns-in_default : goal.returns-in_default
 returns-in_default c =
-    let g = c.part-1.given in
-    simp (g.1, ne_eqb g.0.0 3 c.in_default.in_default-own.rest.1, ne_eqb g.0.0 2 c.in_default.in_default-own.rest.0.1)
+    simp (c.in-Figures.is, ne_eqb c.in-Figures.x 3 c.in_default.in_default-own.rest.1, ne_eqb c.in-Figures.x 2 c.in_default.in_default-own.rest.0.1)

@@ -15,11 +15,8 @@ returns-in-9 c = c.to-in-9.ensures ∙ rw (c.in-Figures.is, c.in-9.is)
 
 pub returns-in_default : goal.returns-in_default
 returns-in_default c =
-    let k = c.before in
-    let g = k.part-1.given in
-    let x = g.0.0 in
-    let r = k.in_default.in_default-own.rest in
-    simp (g.1, ne_eqb x 9 r.1, ne_eqb x 14 r.0.1, ne_eqb x 8 r.0.0.1) (simp g.1 at c.after_both.ensures)
+    let r = c.in_default.in_default-own.rest in
+    simp (c.in-Figures.is, ne_eqb c.in-Figures.x 9 r.1, ne_eqb c.in-Figures.x 14 r.0.1, ne_eqb c.in-Figures.x 8 r.0.0.1) (simp c.in-Figures.is at c.after_both.ensures)
 
 pub returns-in-Marker : goal.returns-in-Marker
 returns-in-Marker c = c.to-in-Marker.ensures ∙ rw c.in-Marker.is

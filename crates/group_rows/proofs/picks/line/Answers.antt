@@ -9,9 +9,8 @@ use Rattle.group_rows.proofs.picks.line.Goals as goal
 
 pub returns-in-0-to-13 : goal.returns-in-0-to-13
 returns-in-0-to-13 c e =
-    let s = c.before.before.before in
-    let y = s.args.y in
-    let z = s.args.z in
+    let y = c.args.y in
+    let z = c.args.z in
     let h : z ≤ 13 = omega arith in
     let g : y ≤ 8 = omega arith in
     let l : y < 9 = omega arith in
@@ -19,9 +18,8 @@ returns-in-0-to-13 c e =
 
 pub returns-in_default-z : goal.returns-in_default-z
 returns-in_default-z c e =
-    let s = c.before.before in
-    let y = s.args.y in
-    let z = s.args.z in
+    let y = c.args.y in
+    let z = c.args.z in
     let h : 13 < z = omega arith in
     let g : y ≤ 8 = omega arith in
     let l : y < 9 = omega arith in
@@ -29,9 +27,8 @@ returns-in_default-z c e =
 
 pub returns-in-0-to-13-z : goal.returns-in-0-to-13-z
 returns-in-0-to-13-z c e =
-    let s = c.before.before.before.before in
-    let y = s.args.y in
-    let z = s.args.z in
+    let y = c.args.y in
+    let z = c.args.z in
     let h : z ≤ 13 = omega arith in
     let g : y ≤ 14 = omega arith in
     let l : 9 ≤ y = omega arith in
@@ -40,9 +37,8 @@ returns-in-0-to-13-z c e =
 
 pub returns-in_default-z-2 : goal.returns-in_default-z-2
 returns-in_default-z-2 c e =
-    let s = c.before.before.before in
-    let y = s.args.y in
-    let z = s.args.z in
+    let y = c.args.y in
+    let z = c.args.z in
     let h : 13 < z = omega arith in
     let g : y ≤ 14 = omega arith in
     let l : 9 ≤ y = omega arith in

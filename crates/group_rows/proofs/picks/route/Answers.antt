@@ -12,17 +12,15 @@ use Rattle.group_rows.proofs.picks.route.Goals as goal
 pub returns-in-0-to-13 : goal.returns-in-0-to-13
 unfolding route_speed
 returns-in-0-to-13 c e =
-    let s = c.before.before.before in
-    let y = s.args.y in
-    let z = s.args.z in
+    let y = c.args.y in
+    let z = c.args.z in
     let h : z ≤ 13 = omega arith in
     c.present.ensures ∙ rw (e, c.in-2.is) (simp (le-leb z 13 h, leb-zero))
 
 pub returns-in_default-z : goal.returns-in_default-z
 returns-in_default-z c e =
-    let s = c.before.before in
-    let y = s.args.y in
-    let z = s.args.z in
+    let y = c.args.y in
+    let z = c.args.z in
     let h : 13 < z = omega arith in
     rw (e, c.in-2.is) (simp (lt-leb z 13 h, leb-zero))
 

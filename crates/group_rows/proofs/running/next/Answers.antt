@@ -7,10 +7,8 @@ returns-in-Before c = rw c.in-Before.is c.next.ensures
 
 pub returns-in-Must : goal.returns-in-Must
 returns-in-Must c =
-    let t = c.before.before in
-    rw (t.in-After.is, t.in-Must.is) c.must_next.ensures
+    rw (c.in-After.is, c.in-Must.is) c.must_next.ensures
 
 pub returns-in-May : goal.returns-in-May
 returns-in-May c =
-    let t = c.before.before in
-    rw (t.in-After.is, t.in-May.is) c.may_next.ensures
+    rw (c.in-After.is, c.in-May.is) c.may_next.ensures

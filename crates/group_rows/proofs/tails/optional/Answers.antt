@@ -10,15 +10,13 @@ use Rattle.group_rows.proofs.tails.optional.Goals as goal
 
 pub returns-then-is_category : goal.returns-then-is_category
 returns-then-is_category c =
-    let s = c.before.before in
     let is = sym c.is_category.ensures ∙ c.if-is_category.true in
-    rw (is, not_number s.args.c s.args.b.part s.requires is)
+    rw (is, not_number c.args.c c.args.b.part c.requires is)
 
 pub returns : goal.returns
 returns c =
-    let f = c.before.before.before in
-    let s = f.args in
+    let s = c.args in
     c.to_if.ensures
-    ∙ rw (sym f.is_category.ensures ∙ c.if-is_category.false)
+    ∙ rw (sym c.is_category.ensures ∙ c.if-is_category.false)
     (left_if c.is_category-2.result (meets (any 12) s.b.part) (with_rest s.picked (may_be May.Nothing))
     (c.is_category-2.ensures ∙ sym (meets_any 12 s.b.part)))

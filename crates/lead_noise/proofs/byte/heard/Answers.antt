@@ -5,7 +5,7 @@ use native.Mathlib.Omega.{arith}
 use Rattle.lead_noise.proofs.byte.heard.Goals as goal
 
 pub returns-then-x-chance : goal.returns-then-x-chance
-returns-then-x-chance c = (simp (lt-ltb _ _ c.if-x-chance.true), omega arith)
+returns-then-x-chance c = record { value = simp (lt-ltb _ _ c.if-x-chance.true); upper_bound = omega arith }
 
 pub returns : goal.returns
-returns c = (simp (le-ltb _ _ c.if-x-chance.false), search rules)
+returns c = record { value = simp (le-ltb _ _ c.if-x-chance.false); upper_bound = search rules }

@@ -22,25 +22,25 @@ unfolding drawn top
 loop-i-init c = (omega arith, refl, refl)
 
 pub overflow_mul-made : goal.overflow_mul-made
-overflow_mul-made c = omega (arith, low c.before.before)
+overflow_mul-made c = omega (arith, low (goal.at-overflow_mul-made c).At-loop-i)
 
 pub heard-requires : goal.heard-requires
 heard-requires c = search rules
 
 pub overflow_add-made : goal.overflow_add-made
-overflow_add-made c = omega (arith, low c.before.before.before)
+overflow_add-made c = omega (arith, low (goal.at-overflow_add-made c).At-loop-i)
 
 pub loop-i-preserved : goal.loop-i-preserved
 loop-i-preserved c =
     let a = c.args in
     let l = c.loop-i in
     let more = one_more a.x a.chance a.byte l.i l.made l.here c.next-here.result c.heard.result l.invariant.2 l.invariant.1 c.next-here.ensures
-    c.heard.ensures.0 in
+    c.heard.ensures.value in
     let e : suc l.i ≡ l.i + 1 = sym (add-one l.i) in
     (omega arith, more.1 ∙ ap (drawn a.x) e, more.0 ∙ ap (top (heard_bit a.x a.chance a.byte)) e)
 
 pub overflow_cast-result : goal.overflow_cast-result
-overflow_cast-result c = omega (arith, low c.before)
+overflow_cast-result c = omega (arith, low (goal.at-overflow_cast-result c).At-loop-i)
 
 pub returns : goal.returns
 returns c =

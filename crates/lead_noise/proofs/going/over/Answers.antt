@@ -22,10 +22,10 @@ loop-i-preserved c =
       omega arith,
       ⊎_elim
           (λ w. so-too _ c.if-i-ge4.lead _ c.if-i-ge4.here (l.i + 1)
-          (w.3 ∙ ap (λ (n : Noisy). set l.lead l.i n.byte) w.2.ensures) (w.4 ∙ ap (λ (n : Noisy). n.x) w.2.ensures)
-          (line_byte a.x a.chance a.lead.now l.lead l.here l.i so inside w.0.taken))
-          (λ w. so-too l.lead c.if-i-ge4.lead l.here c.if-i-ge4.here (l.i + 1) w.1 w.2
-          (odometer_byte a.x a.chance a.lead.now l.lead l.here l.i so inside w.0.left))
+          (w.lead-is ∙ ap (λ (n : Noisy). set l.lead l.i n.byte) w.with_noise-noisy.ensures) (w.here-is ∙ ap (λ (n : Noisy). n.x) w.with_noise-noisy.ensures)
+          (line_byte a.x a.chance a.lead.now l.lead l.here l.i so inside w.if-i-ge4.true))
+          (λ w. so-too l.lead c.if-i-ge4.lead l.here c.if-i-ge4.here (l.i + 1) w.lead-is w.here-is
+          (odometer_byte a.x a.chance a.lead.now l.lead l.here l.i so inside w.if-i-ge4.false))
           c.if-i-ge4.branch-raw,
     )
 

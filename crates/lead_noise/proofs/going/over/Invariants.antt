@@ -4,7 +4,7 @@ use Rattle.lead_noise.proofs.SoFar.{SoFar, at_first, alike, odometer_byte, line_
 use Rattle.lead_noise.proofs.going.over.Given as goal
 
 abbrev pub invariant-loop-i : goal.invariant-loop-i
-invariant-loop-i l = (l.i ≤ l.lead) × SoFar l.x l.chance l.initial.lead l.end l.here l.i
+invariant-loop-i l = (l.i ≤ l.end) × SoFar l.x l.chance l.initial.lead l.lead l.here l.i
 
 abbrev pub decreases-loop-i : goal.decreases-loop-i
-decreases-loop-i l = l.lead - l.i
+decreases-loop-i l = l.end - l.i

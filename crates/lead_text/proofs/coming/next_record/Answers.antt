@@ -8,12 +8,10 @@ use Rattle.lead_text.proofs.coming.next_record.Goals as goal
 
 pub returns-then-ends : goal.returns-then-ends
 returns-then-ends c =
-    let i = c.before in
-    let a = i.args in
-    c.of_end.ensures ∙ ap went (at_end a.ends a.store a.frames.now (place_of a.here) i.if-ends.true)
+    let a = c.args in
+    c.of_end.ensures ∙ ap went (at_end a.ends a.store a.frames.now (place_of a.here) c.if-ends.true)
 
 pub returns : goal.returns
 returns c =
-    let i = c.before in
-    let a = i.args in
-    c.of_piece.ensures ∙ ap went (in_piece a.ends a.store a.frames.now (place_of a.here) i.if-ends.false)
+    let a = c.args in
+    c.of_piece.ensures ∙ ap went (in_piece a.ends a.store a.frames.now (place_of a.here) c.if-ends.false)

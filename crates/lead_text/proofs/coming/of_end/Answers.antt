@@ -5,6 +5,5 @@ use Rattle.lead_text.proofs.coming.of_end.Goals as goal
 
 pub returns : goal.returns
 returns c =
-    let e = c.before.before in
-    let h = e.args.here in
-    ended_is h.frame h.bit e.end-ended.result _ e.end-ended.ensures
+    let h = c.args.here in
+    ended_is h.frame h.bit c.end-ended.result _ c.end-ended.ensures

@@ -5,10 +5,8 @@ use Rattle.lead_text.proofs.coming.of_piece.Goals as goal
 
 pub returns-in_default : goal.returns-in_default
 returns-in_default c =
-    let g = c.before.before.before.before in
-    piece_gave g.go_on-taken.result _ g.go_on-taken.ensures c.in_default.is
+    piece_gave c.go_on-taken.result _ c.go_on-taken.ensures c.in_default.is
 
 pub returns : goal.returns
 returns c =
-    let g = c.before.before.before.before in
-    piece_used g.go_on-taken.result _ g.go_on-taken.ensures c.in-Nothing.is
+    piece_used c.go_on-taken.result _ c.go_on-taken.ensures c.in-Nothing.is

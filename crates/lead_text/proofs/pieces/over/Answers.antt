@@ -29,60 +29,41 @@ shape_of-out-in_default c = c.loop-out.invariant.1
 
 pub returns-in_default : goal.returns-in_default
 returns-in_default c =
-    let e = c.before in
-    let g = e.before.before.before in
-    let l = g.before.before in
-    let a = l.args in
-    let h = l.loop-out.here in
-    ap (λ (u : Underway). says_written (record { underway = u; how = HowFar.Over l.loop-out.at }) l.loop-out.out) c.standing.ensures
-    ∙ all_used a.ends a.store a.frames.now h l.loop-out.at l.loop-out.out g.next_record-taken.result g.next_record-taken.ensures e.in_default.is
-    ∙ whole l
+    let a = c.args in
+    let h = c.loop-out.here in
+    ap (λ (u : Underway). says_written (record { underway = u; how = HowFar.Over c.loop-out.at }) c.loop-out.out) c.standing.ensures
+    ∙ all_used a.ends a.store a.frames.now h c.loop-out.at c.loop-out.out c.next_record-taken.result c.next_record-taken.ensures c.in_default.is
+    ∙ whole (goal.at-returns-in_default c).At-loop-out
 
 pub list_one-one-requires : goal.list_one-one-requires
 list_one-one-requires c =
-    let l = c.before.before.before.before.before.before in
-    (l.requires, l.loop-out.invariant.0)
+    (c.requires, c.loop-out.invariant.0)
 
 pub shape_of-out-then-not-one : goal.shape_of-out-then-not-one
 shape_of-out-then-not-one c =
-    let o = c.before.before.before.before in
-    o.list_one-one.auto.1.1.1.1.0 ∙ o.loop-out.invariant.1
+    c.list_one-one.auto.1.1.1.1.0 ∙ c.loop-out.invariant.1
 
 pub returns-then-not-one : goal.returns-then-not-one
 returns-then-not-one c =
-    let o = c.before.before.before.before in
-    let e = o.before.before in
-    let g = e.before.before.before in
-    let l = g.before.before in
-    let a = l.args in
-    room_used a.ends a.store a.frames.now l.loop-out.here l.loop-out.at l.loop-out.out g.next_record-taken.result g.next_record-taken.ensures
-    o.list_one-one.result o.list_one-one.new.1.1.1.1.0 o.list_one-one.ensures e.in-Record.is (not-true o.list_one-one.result.taken c.if-not-one.true)
-    ∙ whole l
+    let a = c.args in
+    room_used a.ends a.store a.frames.now c.loop-out.here c.loop-out.at c.loop-out.out c.next_record-taken.result c.next_record-taken.ensures
+    c.list_one-one.result c.list_one-one.new.out c.list_one-one.ensures c.in-Record.is (not-true c.list_one-one.result.taken c.if-not-one.true)
+    ∙ whole (goal.at-returns-then-not-one c).At-loop-out
 
 pub loop-out-smaller : goal.loop-out-smaller
 loop-out-smaller c =
-    let x = c.before.before in
-    let o = x.before.before.before.before in
-    let e = o.before.before in
-    let g = e.before.before.before in
-    let l = g.before.before in
-    let a = l.args in
-    let few = fewer a.ends a.store a.frames.now l.loop-out.here l.loop-out.at l.loop-out.out g.next_record-taken.result g.next_record-taken.ensures e.in-Record.is in
+    let a = c.args in
+    let few = fewer a.ends a.store a.frames.now c.loop-out.here c.loop-out.at c.loop-out.out c.next_record-taken.result c.next_record-taken.ensures c.in-Record.is in
     rw c.standing-here.ensures few
 
 pub loop-out-preserved : goal.loop-out-preserved
 loop-out-preserved c =
-    let x = c.before.before in
-    let o = x.before.before.before.before in
-    let e = o.before.before in
-    let g = e.before.before.before in
-    let l = g.before.before in
-    let a = l.args in
-    let same = o.list_one-one.auto.1.1.1.1.0 in
-    let out = o.list_one-one.new.1.1.1.1.0 in
-    let on = one_taken a.ends a.store a.frames.now l.loop-out.here l.loop-out.at l.loop-out.out g.next_record-taken.result g.next_record-taken.ensures
-    o.list_one-one.result out o.list_one-one.ensures e.in-Record.is (not-false o.list_one-one.result.taken x.if-not-one.false) l.loop-out.invariant.0 same in (
+    let a = c.args in
+    let same = c.list_one-one.auto.1.1.1.1.0 in
+    let out = c.list_one-one.new.out in
+    let on = one_taken a.ends a.store a.frames.now c.loop-out.here c.loop-out.at c.loop-out.out c.next_record-taken.result c.next_record-taken.ensures
+    c.list_one-one.result out c.list_one-one.ensures c.in-Record.is (not-false c.list_one-one.result.taken c.if-not-one.false) c.loop-out.invariant.0 same in (
       on.0,
-      same ∙ l.loop-out.invariant.1,
-      ap (λ (u : Underway). from_either a.ends a.store a.frames.now u o.list_one-one.result.at out) c.standing-here.ensures ∙ on.1 ∙ l.loop-out.invariant.2,
+      same ∙ c.loop-out.invariant.1,
+      ap (λ (u : Underway). from_either a.ends a.store a.frames.now u c.list_one-one.result.at out) c.standing-here.ensures ∙ on.1 ∙ c.loop-out.invariant.2,
     )

@@ -30,25 +30,23 @@ loop-i-init c = (omega arith, refl, omega arith, refl, refl)
 
 pub loop-i-preserved : goal.loop-i-preserved
 loop-i-preserved c =
-    let l = c.before.before in
-    let a = l.args in
-    let b = l.loop-i.block in
-    let i = l.loop-i.i in
+    let a = c.args in
+    let b = c.loop-i.block in
+    let i = c.loop-i.i in
     let there : a.from + i < length a.block.now = omega arith in
     let long : length (set b i (get_or b (a.from + i) 0)) ≡ length b = length-set b i (get_or b (a.from + i) 0) in (
       omega arith,
-      long ∙ l.loop-i.invariant.1,
+      long ∙ c.loop-i.invariant.1,
       omega arith,
-      front b a.block.now a.from i there l.loop-i.invariant.1 l.loop-i.invariant.3 l.loop-i.invariant.4,
-      back b a.block.now a.from i there l.loop-i.invariant.1 (get_or b (a.from + i) 0) l.loop-i.invariant.4,
+      front b a.block.now a.from i there c.loop-i.invariant.1 c.loop-i.invariant.3 c.loop-i.invariant.4,
+      back b a.block.now a.from i there c.loop-i.invariant.1 (get_or b (a.from + i) 0) c.loop-i.invariant.4,
     )
 
 pub returns : goal.returns
 returns c =
-    let l = c.before in
-    let a = l.args in
-    let all : l.loop-i.i ≡ a.count = omega arith in
-    (omega arith, rw all at l.loop-i.invariant.3)
+    let a = c.args in
+    let all : c.loop-i.i ≡ a.count = omega arith in
+    (omega arith, rw all at c.loop-i.invariant.3)
 
 pub returns-then-from-block : goal.returns-then-from-block
 returns-then-from-block c = (omega arith, refl)

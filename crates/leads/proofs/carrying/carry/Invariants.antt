@@ -4,7 +4,7 @@ use Rattle.leads.proofs.carrying.carry.Given as goal
 
 abbrev pub invariant-loop-i : goal.invariant-loop-i
 invariant-loop-i l =
-    (l.block + l.from ≤ length l.count) × (length l.count ≡ length l.initial.block) × (l.i ≤ l.from) × (take l.i l.count ≡ take l.i (drop l.block l.initial.block)) × (drop l.i l.count ≡ drop l.i l.initial.block)
+    (l.from + l.count ≤ length l.block) × (length l.block ≡ length l.initial.block) × (l.i ≤ l.count) × (take l.i l.block ≡ take l.i (drop l.from l.initial.block)) × (drop l.i l.block ≡ drop l.i l.initial.block)
 
 abbrev pub decreases-loop-i : goal.decreases-loop-i
-decreases-loop-i l = l.from - l.i
+decreases-loop-i l = l.count - l.i

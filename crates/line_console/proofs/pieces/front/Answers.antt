@@ -8,5 +8,4 @@ slice_bounds-over-end c = sym (length-take-le _ _ c.requires.0)
 
 pub over-requires : goal.over-requires
 over-requires c =
-    let s = c.before.before.before.before.before.before in
-    (omega (arith, length-take-le s.args.count s.args.block.now s.requires.0, s.requires.0, s.requires.1), s.requires.2)
+    (omega (arith, length-take-le c.args.count c.args.block.now c.requires.0, c.requires.0, c.requires.1), c.requires.2)

@@ -7,7 +7,7 @@ use Rattle.line_console.proofs.pieces.over.Goals.{After-hear_piece}
 use Rattle.line_console.proofs.pieces.over.Goals as goal
 
 -- How many bits a piece has at most.
-few : (c : After-hear_piece) → let s = c.before.before.before.before.before.before.before.before.before.before.before.before in length s.args.piece.now * 8 ≤ 524288
+few : (c : After-hear_piece) → length c.args.piece.now * 8 ≤ 524288
 few c = omega (arith, c.requires.0)
 
 pub overflow_mul-bits : goal.overflow_mul-bits
@@ -15,30 +15,25 @@ overflow_mul-bits c = omega (arith, c.requires.0)
 
 pub overflow_add-i : goal.overflow_add-i
 overflow_add-i c =
-    let h = c.before.before.before.before.before.before.before in
-    omega (arith, (opened_on _ _ _ _ _ _ h.hear_piece.result h.hear_piece.ensures h.loop-i-test.true c.in-Opened.is).0, few h)
+    omega (arith, (opened_on _ _ _ _ _ _ c.hear_piece.result c.hear_piece.ensures c.loop-i-test.true c.in-Opened.is).0, few (goal.at-overflow_add-i c).After-hear_piece)
 
 pub loop-i-smaller-in-Opened : goal.loop-i-smaller-in-Opened
 loop-i-smaller-in-Opened c =
-    let h = c.before.before.before.before.before.before.before in
-    (opened_on _ _ _ _ _ _ h.hear_piece.result h.hear_piece.ensures h.loop-i-test.true c.in-Opened.is).1
+    (opened_on _ _ _ _ _ _ c.hear_piece.result c.hear_piece.ensures c.loop-i-test.true c.in-Opened.is).1
 
 -- At most 32,767 bytes of the buffer are used: there is room for one more contact.
 pub add-text-requires : goal.add-text-requires
 add-text-requires c =
-    let h = c.before.before.before.before.before.before in
-    let l = h.loop-i in
-    (l.invariant.2, l.invariant.1 ∙ h.requires.1)
+    let l = c.loop-i in
+    (l.invariant.2, l.invariant.1 ∙ c.requires.1)
 
 pub overflow_add-i-in-Closed : goal.overflow_add-i-in-Closed
 overflow_add-i-in-Closed c =
-    let h = c.before.before.before.before.before.before.before.before.before in
-    omega (arith, (closed_on _ _ _ _ _ _ h.hear_piece.result h.hear_piece.ensures h.loop-i-test.true c.in-Closed.is).0, few h)
+    omega (arith, (closed_on _ _ _ _ _ _ c.hear_piece.result c.hear_piece.ensures c.loop-i-test.true c.in-Closed.is).0, few (goal.at-overflow_add-i-in-Closed c).In-loop-i)
 
 pub loop-i-smaller-in-Closed : goal.loop-i-smaller-in-Closed
 loop-i-smaller-in-Closed c =
-    let h = c.before.before.before.before.before.before.before.before.before in
-    (closed_on _ _ _ _ _ _ h.hear_piece.result h.hear_piece.ensures h.loop-i-test.true c.in-Closed.is).1
+    (closed_on _ _ _ _ _ _ c.hear_piece.result c.hear_piece.ensures c.loop-i-test.true c.in-Closed.is).1
 
 pub loop-i-smaller-in-Over : goal.loop-i-smaller-in-Over
 loop-i-smaller-in-Over c = omega (arith, c.loop-i-test.true)

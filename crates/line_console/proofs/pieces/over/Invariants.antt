@@ -4,7 +4,7 @@ use Rattle.line_console.proofs.pieces.over.Given as goal
 
 abbrev pub invariant-loop-i : goal.invariant-loop-i
 invariant-loop-i l =
-    (length l.buf ≡ length l.initial.kept) × (length l.bits ≡ length l.initial.buf) × (l.text.length < 32768)
+    (length l.kept ≡ length l.initial.kept) × (length l.buf ≡ length l.initial.buf) × (l.text.length < 32768)
 
 abbrev pub decreases-loop-i : goal.decreases-loop-i
-decreases-loop-i l = l.kept - l.i
+decreases-loop-i l = l.bits - l.i

@@ -17,4 +17,4 @@ returns-then-letters-ge1125899906842624 c = simp (le-leb _ _ c.if-c-lt97.false, 
 
 pub returns : goal.returns
 unfolding letters_on
-returns c = let t = c in simp (le-leb _ _ t.if-c-lt97.false, le-leb _ _ t.if-c-gt122.false, lt-ltb _ _ t.if-letters-ge1125899906842624.false)
+returns c = simp (le-leb _ _ c.if-c-lt97.false, le-leb _ _ c.if-c-gt122.false, lt-ltb _ _ c.if-letters-ge1125899906842624.false)

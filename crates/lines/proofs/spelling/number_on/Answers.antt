@@ -13,7 +13,7 @@ returns-then-c-gt57 c = simp (le-leb _ _ c.if-c-lt48.false, lt-leb _ _ c.if-c-gt
 
 pub returns-in-Is : goal.returns-in-Is
 unfolding number_on
-returns-in-Is c = let k = c.before.before in simp (le-leb _ _ k.if-c-lt48.false, le-leb _ _ k.if-c-gt57.false, c.digit_on.ensures, k.in-Is.is)
+returns-in-Is c = simp (le-leb _ _ c.if-c-lt48.false, le-leb _ _ c.if-c-gt57.false, c.digit_on.ensures, c.in-Is.is)
 
 pub returns-in-Above : goal.returns-in-Above
 unfolding number_on

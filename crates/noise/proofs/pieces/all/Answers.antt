@@ -7,10 +7,9 @@ use Rattle.noise.proofs.pieces.all.Goals as goal
 
 -- the block after a piece
 kept : (s : After-send-sent) →
-    length s.send-sent.new.1.1.0 ≡ length s.args.block.now
+    length s.send-sent.new.block ≡ length s.args.block.now
 kept s =
-    let n = s.before.before.before.before in
-    s.send-sent.auto.1.1.0 ∙ n.next_piece-piece.auto.1.0 ∙ n.loop-turns.invariant
+    s.send-sent.auto.1.1.0 ∙ s.next_piece-piece.auto.1.0 ∙ s.loop-turns.invariant
 
 -- what was read lies within the block
 pub send-sent-requires : goal.send-sent-requires
@@ -19,13 +18,13 @@ send-sent-requires c =
     omega (arith, n.ensures.0, n.auto.1.0)
 
 pub shape_of-block-then-not-sent : goal.shape_of-block-then-not-sent
-shape_of-block-then-not-sent c = kept c.before.before.before.before.before
+shape_of-block-then-not-sent c = kept (goal.at-shape_of-block-then-not-sent c).After-send-sent
 
 pub shape_of-block-in_default : goal.shape_of-block-in_default
-shape_of-block-in_default c = kept c.before.before.before.before.before.before.before.before
+shape_of-block-in_default c = kept (goal.at-shape_of-block-in_default c).After-send-arg-1
 
 pub loop-turns-preserved : goal.loop-turns-preserved
-loop-turns-preserved c = kept c.before.before.before.before.before.before.before
+loop-turns-preserved c = kept (goal.at-loop-turns-preserved c).After-send-sent
 
 pub shape_of-block : goal.shape_of-block
 shape_of-block c = c.loop-turns.invariant

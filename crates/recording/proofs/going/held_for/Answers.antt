@@ -8,9 +8,8 @@ use Rattle.recording.proofs.going.held_for.Goals as goal
 
 pub returns-then-leaves : goal.returns-then-leaves
 returns-then-leaves c =
-    let l = c.before.before in
-    let a = l.args in
-    c.in_force.ensures ∙ ap (λ (b : Bool). pick b (held_at a.store a.odometer) a.held) (sym (sym l.leaves.ensures ∙ c.if-leaves.true))
+    let a = c.args in
+    c.in_force.ensures ∙ ap (λ (b : Bool). pick b (held_at a.store a.odometer) a.held) (sym (sym c.leaves.ensures ∙ c.if-leaves.true))
 
 pub returns : goal.returns
 returns c =

@@ -9,13 +9,11 @@ use Rattle.recording.proofs.going.in_force.Goals as goal
 pub returns-in-InForce : goal.returns-in-InForce
 unfolding held_at hold
 returns-in-InForce c =
-    let v = c.before in
-    let answer = sym v.at-asked.ensures ∙ ap says_asked v.in-InForce.is in
+    let answer = sym c.at-asked.ensures ∙ ap says_asked c.in-InForce.is in
     rw answer
 
 pub returns-in-Refused : goal.returns-in-Refused
 unfolding held_at hold
 returns-in-Refused c =
-    let v = c.before in
-    let answer = sym v.at-asked.ensures ∙ ap says_asked v.in-Refused.is in
+    let answer = sym c.at-asked.ensures ∙ ap says_asked c.in-Refused.is in
     rw answer c.none_held.ensures

@@ -17,56 +17,51 @@ pub overflow_add-i : goal.overflow_add-i
 overflow_add-i c =
     let a = c.args in
     let l = c.loop-k in
-    let h = c.before.before.before.before in
     omega (
       arith,
-      within_opened a.store a.frames.now _ _ l.held l.here l.k l.i l.invariant h.loop-k-test.true
-          h.odometer-given.result h.accepted_after-odometer.result h.with_odometer-here.result h.held_for-held.result
-          h.odometer-given.ensures h.accepted_after-odometer.ensures h.with_odometer-here.ensures h.held_for-held.ensures h.hear.result h.hear.ensures _ _ c.in-Opened.is,
+      within_opened a.store a.frames.now _ _ l.held l.here l.k l.i l.invariant c.loop-k-test.true
+          c.odometer-given.result c.accepted_after-odometer.result c.with_odometer-here.result c.held_for-held.result
+          c.odometer-given.ensures c.accepted_after-odometer.ensures c.with_odometer-here.ensures c.held_for-held.ensures c.hear.result c.hear.ensures _ _ c.in-Opened.is,
     )
 
 pub loop-k-smaller-in-Opened : goal.loop-k-smaller-in-Opened
 loop-k-smaller-in-Opened c =
     let a = c.args in
     let l = c.loop-k in
-    let h = c.before.before.before.before in
     omega (
       arith,
-      within_opened a.store a.frames.now _ _ l.held l.here l.k l.i l.invariant h.loop-k-test.true
-          h.odometer-given.result h.accepted_after-odometer.result h.with_odometer-here.result h.held_for-held.result
-          h.odometer-given.ensures h.accepted_after-odometer.ensures h.with_odometer-here.ensures h.held_for-held.ensures h.hear.result h.hear.ensures _ _ c.in-Opened.is,
+      within_opened a.store a.frames.now _ _ l.held l.here l.k l.i l.invariant c.loop-k-test.true
+          c.odometer-given.result c.accepted_after-odometer.result c.with_odometer-here.result c.held_for-held.result
+          c.odometer-given.ensures c.accepted_after-odometer.ensures c.with_odometer-here.ensures c.held_for-held.ensures c.hear.result c.hear.ensures _ _ c.in-Opened.is,
     )
 
 pub loop-k-preserved-in-Opened : goal.loop-k-preserved-in-Opened
 loop-k-preserved-in-Opened c =
     let a = c.args in
     let l = c.loop-k in
-    let h = c.before.before.before.before in
-    opened a.store a.frames.now _ _ l.held l.here l.k l.i l.invariant h.loop-k-test.true
-    h.odometer-given.result h.accepted_after-odometer.result h.with_odometer-here.result h.held_for-held.result
-    h.odometer-given.ensures h.accepted_after-odometer.ensures h.with_odometer-here.ensures h.held_for-held.ensures h.hear.result h.hear.ensures
+    opened a.store a.frames.now _ _ l.held l.here l.k l.i l.invariant c.loop-k-test.true
+    c.odometer-given.result c.accepted_after-odometer.result c.with_odometer-here.result c.held_for-held.result
+    c.odometer-given.ensures c.accepted_after-odometer.ensures c.with_odometer-here.ensures c.held_for-held.ensures c.hear.result c.hear.ensures
     _ _ c.in-Opened.is c.opens-here.result c.opens-here.ensures
 
 pub overflow_add-at : goal.overflow_add-at
 overflow_add-at c =
     let a = c.args in
     let l = c.loop-k in
-    let h = c.before.before.before in
     omega (
       arith,
-      within_closed a.store a.frames.now _ _ l.held l.here l.k l.i l.invariant h.loop-k-test.true
-          h.odometer-given.result h.accepted_after-odometer.result h.with_odometer-here.result h.held_for-held.result
-          h.odometer-given.ensures h.accepted_after-odometer.ensures h.with_odometer-here.ensures h.held_for-held.ensures h.hear.result h.hear.ensures _ _ _ _ c.in-Closed.is,
+      within_closed a.store a.frames.now _ _ l.held l.here l.k l.i l.invariant c.loop-k-test.true
+          c.odometer-given.result c.accepted_after-odometer.result c.with_odometer-here.result c.held_for-held.result
+          c.odometer-given.ensures c.accepted_after-odometer.ensures c.with_odometer-here.ensures c.held_for-held.ensures c.hear.result c.hear.ensures _ _ _ _ c.in-Closed.is,
     )
 
 pub returns-in-Closed : goal.returns-in-Closed
 returns-in-Closed c =
     let a = c.args in
     let l = c.loop-k in
-    let h = c.before.before.before.before in
-    let t = closed a.store a.frames.now _ _ l.held l.here l.k l.i l.invariant h.loop-k-test.true
-    h.odometer-given.result h.accepted_after-odometer.result h.with_odometer-here.result h.held_for-held.result
-    h.odometer-given.ensures h.accepted_after-odometer.ensures h.with_odometer-here.ensures h.held_for-held.ensures h.hear.result h.hear.ensures
+    let t = closed a.store a.frames.now _ _ l.held l.here l.k l.i l.invariant c.loop-k-test.true
+    c.odometer-given.result c.accepted_after-odometer.result c.with_odometer-here.result c.held_for-held.result
+    c.odometer-given.ensures c.accepted_after-odometer.ensures c.with_odometer-here.ensures c.held_for-held.ensures c.hear.result c.hear.ensures
     _ _ _ _ c.in-Closed.is _ _ refl refl in
     ap says_taken c.of_contact.ensures ∙ ap went t
 
@@ -77,10 +72,9 @@ pub returns-then-is_due : goal.returns-then-is_due
 returns-then-is_due c =
     let a = c.args in
     let l = c.loop-k in
-    let h = c.before.before.before.before.before.before.before in
-    let t = position a.store a.frames.now _ _ l.held l.here l.k l.i l.invariant h.loop-k-test.true
-    h.odometer-given.result h.accepted_after-odometer.result h.with_odometer-here.result h.held_for-held.result
-    h.odometer-given.ensures h.accepted_after-odometer.ensures h.with_odometer-here.ensures h.held_for-held.ensures h.hear.result h.hear.ensures
+    let t = position a.store a.frames.now _ _ l.held l.here l.k l.i l.invariant c.loop-k-test.true
+    c.odometer-given.result c.accepted_after-odometer.result c.with_odometer-here.result c.held_for-held.result
+    c.odometer-given.ensures c.accepted_after-odometer.ensures c.with_odometer-here.ensures c.held_for-held.ensures c.hear.result c.hear.ensures
     _ c.in-Over.is c.hears_on-here.result c.is_due.result c.hears_on-here.ensures c.is_due.ensures c.if-is_due.true
     _ _ refl refl in
     ap says_taken c.of_position.ensures ∙ ap went t
@@ -95,20 +89,18 @@ pub loop-k-preserved : goal.loop-k-preserved
 loop-k-preserved c =
     let a = c.args in
     let l = c.loop-k in
-    let h = c.before.before.before.before.before.before in
-    on a.store a.frames.now _ _ l.held l.here l.k l.i l.invariant h.loop-k-test.true
-    h.odometer-given.result h.accepted_after-odometer.result h.with_odometer-here.result h.held_for-held.result
-    h.odometer-given.ensures h.accepted_after-odometer.ensures h.with_odometer-here.ensures h.held_for-held.ensures h.hear.result h.hear.ensures
+    on a.store a.frames.now _ _ l.held l.here l.k l.i l.invariant c.loop-k-test.true
+    c.odometer-given.result c.accepted_after-odometer.result c.with_odometer-here.result c.held_for-held.result
+    c.odometer-given.ensures c.accepted_after-odometer.ensures c.with_odometer-here.ensures c.held_for-held.ensures c.hear.result c.hear.ensures
     _ c.in-Over.is c.hears_on-here.result c.is_due.result c.hears_on-here.ensures c.is_due.ensures c.if-is_due.false
 
 pub returns-in-Beyond : goal.returns-in-Beyond
 returns-in-Beyond c =
     let a = c.args in
     let l = c.loop-k in
-    let h = c.before.before.before in
-    never a.store a.frames.now _ _ l.held l.here l.k l.i l.invariant h.loop-k-test.true
-    h.odometer-given.result h.accepted_after-odometer.result h.with_odometer-here.result h.held_for-held.result
-    h.odometer-given.ensures h.accepted_after-odometer.ensures h.with_odometer-here.ensures h.held_for-held.ensures h.hear.result h.hear.ensures c.in-Beyond.is
+    never a.store a.frames.now _ _ l.held l.here l.k l.i l.invariant c.loop-k-test.true
+    c.odometer-given.result c.accepted_after-odometer.result c.with_odometer-here.result c.held_for-held.result
+    c.odometer-given.ensures c.accepted_after-odometer.ensures c.with_odometer-here.ensures c.held_for-held.ensures c.hear.result c.hear.ensures c.in-Beyond.is
 
 pub returns : goal.returns
 returns c =

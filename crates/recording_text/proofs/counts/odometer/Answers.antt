@@ -6,5 +6,4 @@ use Rattle.recording_text.proofs.counts.odometer.Goals as goal
 
 pub returns : goal.returns
 returns c =
-    let s = c.before.before in
-    c.odometer_at.ensures ∙ odometer_is s.args.piece.now s.args.k s.requires
+    c.odometer_at.ensures ∙ odometer_is c.args.piece.now c.args.k c.requires

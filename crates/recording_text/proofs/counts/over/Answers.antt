@@ -21,13 +21,11 @@ odometer-requires c = omega (arith, c.loop-k-test.true, c.loop-k.invariant.1)
 
 pub loop-k-preserved : goal.loop-k-preserved
 loop-k-preserved c =
-    let o = c.before in
-    let i = o.before in
-    let l = i.loop-k in
-    let p = i.args.piece.now in
+    let l = c.loop-k in
+    let p = c.args.piece.now in
     let n = length p / 16 in
-    let took = c.with_frame-counted.ensures ∙ ap (λ (z : ℕ). with_frame l.counted (judge_frame l.counted.odometer z)) o.odometer.ensures in
-    (ap (λ (f : Frames). over_frames p f (l.k + 1) (n - (l.k + 1))) took ∙ sym (one_turn p l.counted l.k n i.loop-k-test.true) ∙ l.invariant.0, l.invariant.1)
+    let took = c.with_frame-counted.ensures ∙ ap (λ (z : ℕ). with_frame l.counted (judge_frame l.counted.odometer z)) c.odometer.ensures in
+    (ap (λ (f : Frames). over_frames p f (l.k + 1) (n - (l.k + 1))) took ∙ sym (one_turn p l.counted l.k n c.loop-k-test.true) ∙ l.invariant.0, l.invariant.1)
 
 pub returns : goal.returns
 returns c = sym (no_turn _ _ _ _ c.loop-k-test.false) ∙ c.loop-k.invariant.0

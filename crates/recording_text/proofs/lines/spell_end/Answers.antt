@@ -30,28 +30,18 @@ most s = less s.args.buf.now s.args.at (one s ++ two s) (three s) (whole s)
 
 pub spell_where_any-a-requires : goal.spell_where_any-a-requires
 spell_where_any-a-requires c =
-    let s = c.before.before.before in
-    less s.args.buf.now s.args.at (one s) (two s) (most s)
+    less c.args.buf.now c.args.at (one (goal.at-spell_where_any-a-requires c).After-slice_known-1) (two (goal.at-spell_where_any-a-requires c).After-slice_known-1) (most (goal.at-spell_where_any-a-requires c).After-slice_known-1)
 
 pub spell_where_any-b-requires : goal.spell_where_any-b-requires
 spell_where_any-b-requires c =
-    let p1 = c.before.before.before.before in
-    let s = p1.before.before.before.before in
-    room_after s.args.buf.now s.args.at (one s) (two s) (most s) p1.spell_where_any-a.ensures
+    room_after c.args.buf.now c.args.at (one (goal.at-spell_where_any-b-requires c).After-spell_where_any-arg-1) (two (goal.at-spell_where_any-b-requires c).After-spell_where_any-arg-1) (most (goal.at-spell_where_any-b-requires c).After-spell_where_any-arg-1) c.spell_where_any-a.ensures
 
 pub spell_sum-requires : goal.spell_sum-requires
 spell_sum-requires c =
-    let p2 = c.before.before.before in
-    let p1 = p2.before.before.before.before.before in
-    let s = p1.before.before.before.before in
-    room_after s.args.buf.now s.args.at (one s ++ two s) (three s) (whole s)
-    (join s.args.buf.now s.args.at (one s) (two s) (most s) p1.spell_where_any-a.ensures p2.spell_where_any-b.ensures)
+    room_after c.args.buf.now c.args.at (one (goal.at-spell_sum-requires c).After-spell_where_any-arg-1 ++ two (goal.at-spell_sum-requires c).After-spell_where_any-arg-1) (three (goal.at-spell_sum-requires c).After-spell_where_any-arg-1) (whole (goal.at-spell_sum-requires c).After-spell_where_any-arg-1)
+    (join c.args.buf.now c.args.at (one (goal.at-spell_sum-requires c).After-spell_where_any-arg-1) (two (goal.at-spell_sum-requires c).After-spell_where_any-arg-1) (most (goal.at-spell_sum-requires c).After-spell_where_any-arg-1) c.spell_where_any-a.ensures c.spell_where_any-b.ensures)
 
 pub returns : goal.returns
 returns c =
-    let p3 = c.before.before in
-    let p2 = p3.before.before.before.before in
-    let p1 = p2.before.before.before.before.before in
-    let s = p1.before.before.before.before in
-    join_3 s.args.buf.now s.args.at (one s) (two s) (three s) (whole s) p1.spell_where_any-a.ensures p2.spell_where_any-b.ensures p3.spell_sum.ensures
-    ∙ ap (λ (t : List ℕ). put t s.args.buf.now s.args.at) (end_is s.args.frames s.args.records s.args.bytes)
+    join_3 c.args.buf.now c.args.at (one (goal.at-returns c).After-spell_where_any-arg-1) (two (goal.at-returns c).After-spell_where_any-arg-1) (three (goal.at-returns c).After-spell_where_any-arg-1) (whole (goal.at-returns c).After-spell_where_any-arg-1) c.spell_where_any-a.ensures c.spell_where_any-b.ensures c.spell_sum.ensures
+    ∙ ap (λ (t : List ℕ). put t c.args.buf.now c.args.at) (end_is c.args.frames c.args.records c.args.bytes)

@@ -12,34 +12,23 @@ use Rattle.recording_text.proofs.lines.spell_first.Goals as goal
 
 pub spell_refused-requires : goal.spell_refused-requires
 spell_refused-requires c =
-    let k = c.before.before in
-    let o = k.before.before in
-    let s = o.before.before.before in
-    room_as s.args.buf.now s.args.at (first_is o.in-NotYet.is k.in-Frame-after.is) s.requires
+    room_as c.args.buf.now c.args.at (first_is c.in-NotYet.is c.in-Frame-after.is) c.requires
 
 pub returns-in-Frame : goal.returns-in-Frame
 unfolding first_line
 returns-in-Frame c =
-    let p = c.before.before in
-    let k = p.before.before.before in
-    let a = k.args in
-    p.put.ensures ∙ ap (λ (f : First). put (first_line f a.after) a.buf.now a.at) (sym k.in-Frame.is)
+    let a = c.args in
+    c.put.ensures ∙ ap (λ (f : First). put (first_line f a.after) a.buf.now a.at) (sym c.in-Frame.is)
 
 pub returns-in-NotYet-after : goal.returns-in-NotYet-after
 unfolding first_line
 returns-in-NotYet-after c =
-    let p = c.before.before in
-    let k = p.before.before.before in
-    let o = k.before.before in
-    let a = o.args in
-    p.put-in-NotYet-after.ensures
-    ∙ ap (λ (f : First). put (first_line f First.NotYet) a.buf.now a.at) (sym o.in-NotYet.is)
-    ∙ ap (λ (g : First). put (first_line a.before g) a.buf.now a.at) (sym k.in-NotYet-after.is)
+    let a = c.args in
+    c.put-in-NotYet-after.ensures
+    ∙ ap (λ (f : First). put (first_line f First.NotYet) a.buf.now a.at) (sym c.in-NotYet.is)
+    ∙ ap (λ (g : First). put (first_line a.before g) a.buf.now a.at) (sym c.in-NotYet-after.is)
 
 pub returns-in-Frame-after : goal.returns-in-Frame-after
 returns-in-Frame-after c =
-    let p = c.before.before in
-    let k = p.before.before.before in
-    let o = k.before.before in
-    let a = o.args in
-    p.spell_refused.ensures ∙ ap (λ (t : List ℕ). put t a.buf.now a.at) (first_is o.in-NotYet.is k.in-Frame-after.is)
+    let a = c.args in
+    c.spell_refused.ensures ∙ ap (λ (t : List ℕ). put t a.buf.now a.at) (first_is c.in-NotYet.is c.in-Frame-after.is)

@@ -6,11 +6,6 @@ use Rattle.recording_text.proofs.lines.spell_others.Goals as goal
 
 pub returns : goal.returns
 returns c =
-    let p4 = c.before.before in
-    let p3 = p4.before.before.before.before.before in
-    let p2 = p3.before.before.before.before.before in
-    let p1 = p2.before.before.before.before.before in
-    let s = p1.before.before.before.before in
-    let a = s.args in
-    join_4 a.buf.now a.at (numbered ", markers " a.markers) (numbered ", unreadable " a.unreadable) (numbered ", records " a.records) (codes "\n") s.requires
-    p1.put_number-a.ensures p2.put_number-b.ensures p3.put_number-c.ensures p4.put.ensures
+    let a = c.args in
+    join_4 a.buf.now a.at (numbered ", markers " a.markers) (numbered ", unreadable " a.unreadable) (numbered ", records " a.records) (codes "\n") c.requires
+    c.put_number-a.ensures c.put_number-b.ensures c.put_number-c.ensures c.put.ensures

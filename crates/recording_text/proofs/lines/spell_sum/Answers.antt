@@ -17,27 +17,21 @@ whole s = room_as s.args.buf.now s.args.at (sum_is s.args.frames s.args.records)
 
 pub spell_contacts-a-requires : goal.spell_contacts-a-requires
 spell_contacts-a-requires c =
-    let s = c.before.before in
-    let a = s.args in
+    let a = c.args in
     let r = a.records in
-    less a.buf.now a.at (contacts_part a.frames r.contacts r.read) (others_part r.markers r.unreadable r.records) (whole s)
+    less a.buf.now a.at (contacts_part a.frames r.contacts r.read) (others_part r.markers r.unreadable r.records) (whole (goal.at-spell_contacts-a-requires c).Start)
 
 pub spell_others-requires : goal.spell_others-requires
 spell_others-requires c =
-    let p1 = c.before.before.before in
-    let s = p1.before.before.before in
-    let a = s.args in
+    let a = c.args in
     let r = a.records in
-    room_after a.buf.now a.at (contacts_part a.frames r.contacts r.read) (others_part r.markers r.unreadable r.records) (whole s)
-    p1.spell_contacts-a.ensures
+    room_after a.buf.now a.at (contacts_part a.frames r.contacts r.read) (others_part r.markers r.unreadable r.records) (whole (goal.at-spell_others-requires c).Start)
+    c.spell_contacts-a.ensures
 
 pub returns : goal.returns
 returns c =
-    let p2 = c.before.before in
-    let p1 = p2.before.before.before.before in
-    let s = p1.before.before.before in
-    let a = s.args in
+    let a = c.args in
     let r = a.records in
-    join a.buf.now a.at (contacts_part a.frames r.contacts r.read) (others_part r.markers r.unreadable r.records) (whole s)
-    p1.spell_contacts-a.ensures p2.spell_others.ensures
+    join a.buf.now a.at (contacts_part a.frames r.contacts r.read) (others_part r.markers r.unreadable r.records) (whole (goal.at-returns c).Start)
+    c.spell_contacts-a.ensures c.spell_others.ensures
     ∙ ap (λ (t : List ℕ). put t a.buf.now a.at) (sum_is a.frames a.records)

@@ -5,15 +5,14 @@ use Rattle.records.proofs.blocks.put_block.Goals as goal
 
 -- the buffer keeps its length
 keeps : (c : After-put_at-lines) →
-    let l = c.before.before.before in
-    length c.put_at-lines.new.1.1.1.0 ≡ length l.args.out.now
+    length c.put_at-lines.new.out.0 ≡ length c.args.out.now
 keeps c = c.put_at-lines.auto.1.1.1.0 ∙ c.loop-at.invariant
 
 pub shape_of-out-then-block-at-lt8 : goal.shape_of-out-then-block-at-lt8
-shape_of-out-then-block-at-lt8 c = keeps c.before.before.before
+shape_of-out-then-block-at-lt8 c = keeps (goal.at-shape_of-out-then-block-at-lt8 c).After-put_at-lines
 
 pub loop-at-preserved : goal.loop-at-preserved
-loop-at-preserved c = keeps c.before.before.before
+loop-at-preserved c = keeps (goal.at-loop-at-preserved c).After-put_at-lines
 
 pub shape_of-out : goal.shape_of-out
 shape_of-out c = c.loop-at.invariant

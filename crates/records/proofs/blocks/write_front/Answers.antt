@@ -4,5 +4,4 @@ use Rattle.records.proofs.blocks.write_front.Goals as goal
 
 pub slice_bounds-write_block-end : goal.slice_bounds-write_block-end
 slice_bounds-write_block-end c =
-    let s = c.before.before in
-    sym (length-take-le s.args.read s.args.block.now s.requires)
+    sym (length-take-le c.args.read c.args.block.now c.requires)

@@ -8,7 +8,7 @@ use Rattle.refusals.proofs.bare.put_number_alone.Goals.{After-spell-n}
 use Rattle.refusals.proofs.bare.put_number_alone.Goals as goal
 
 -- The space begins with the text.
-line : (c : After-spell-n) → let a = c.args in Begins (alone a.number) c.spell-n.new.1.0 c.spell-n.result
+line : (c : After-spell-n) → let a = c.args in Begins (alone a.number) c.spell-n.new.buf c.spell-n.result
 line c =
     let a = c.args in
     begins 64 (alone a.number) (omega (arith, alone_length a.number)) c.spell-n.ensures
@@ -17,10 +17,10 @@ pub spell-n-requires : goal.spell-n-requires
 spell-n-requires c = omega (arith, alone_length c.args.number)
 
 pub slice_bounds-space-end : goal.slice_bounds-space-end
-slice_bounds-space-end c = (line c.before).within
+slice_bounds-space-end c = (line (goal.at-slice_bounds-space-end c).After-spell-n).within
 
 pub slice_bounds-put-end : goal.slice_bounds-put-end
-slice_bounds-put-end c = as_long (line c.before.before)
+slice_bounds-put-end c = as_long (line (goal.at-slice_bounds-put-end c).After-spell-n)
 
 pub returns : goal.returns
-returns c = put_as _ _ (line c.before.before.before.before.before.before) c.put.ensures
+returns c = put_as _ _ (line (goal.at-returns c).After-spell-n) c.put.ensures

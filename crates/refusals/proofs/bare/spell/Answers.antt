@@ -10,9 +10,6 @@ use Rattle.refusals.proofs.bare.spell.Goals as goal
 
 pub returns : goal.returns
 returns c =
-    let p2 = c.before.before in
-    let p1 = p2.before.before.before.before.before in
-    let s = p1.before.before.before.before in
-    let a = s.args in
-    join a.buf.now a.at (numbered "refused " a.number) (codes "\n") (room_as a.buf.now a.at (alone_is a.number) s.requires) p1.put_number-a.ensures p2.put.ensures
+    let a = c.args in
+    join a.buf.now a.at (numbered "refused " a.number) (codes "\n") (room_as a.buf.now a.at (alone_is a.number) c.requires) c.put_number-a.ensures c.put.ensures
     ∙ ap (λ (t : List ℕ). put t a.buf.now a.at) (alone_is a.number)

@@ -6,36 +6,30 @@ use Rattle.ride.proofs.closing.judge.Goals as goal
 
 pub returns-in-Accepted : goal.returns-in-Accepted
 returns-in-Accepted c =
-    let s = c.before.before.before.before in
-    let a = s.args in
-    c.accepted.ensures ∙ ap (verdict_on a.group a.known) (sym (ap says_group_judged c.in-Accepted.is) ∙ s.judge.ensures)
+    let a = c.args in
+    c.accepted.ensures ∙ ap (verdict_on a.group a.known) (sym (ap says_group_judged c.in-Accepted.is) ∙ c.judge.ensures)
 
 pub returns-in-One : goal.returns-in-One
 returns-in-One c =
-    let s = c.before.before.before in
-    let a = s.args in
-    c.faulty.ensures ∙ ap (verdict_on a.group a.known) (sym (ap says_group_judged c.in-One.is) ∙ s.judge.ensures)
+    let a = c.args in
+    c.faulty.ensures ∙ ap (verdict_on a.group a.known) (sym (ap says_group_judged c.in-One.is) ∙ c.judge.ensures)
 
 pub returns-in-Many : goal.returns-in-Many
 returns-in-Many c =
-    let s = c.before.before.before in
-    let a = s.args in
-    c.faulty-in-Many.ensures ∙ ap (verdict_on a.group a.known) (sym (ap says_group_judged c.in-Many.is) ∙ s.judge.ensures)
+    let a = c.args in
+    c.faulty-in-Many.ensures ∙ ap (verdict_on a.group a.known) (sym (ap says_group_judged c.in-Many.is) ∙ c.judge.ensures)
 
 pub returns-in-Unread : goal.returns-in-Unread
 returns-in-Unread c =
-    let s = c.before.before.before in
-    let a = s.args in
-    c.faulty-in-Unread.ensures ∙ ap (verdict_on a.group a.known) (sym (ap says_group_judged c.in-Unread.is) ∙ s.judge.ensures)
+    let a = c.args in
+    c.faulty-in-Unread.ensures ∙ ap (verdict_on a.group a.known) (sym (ap says_group_judged c.in-Unread.is) ∙ c.judge.ensures)
 
 pub returns-in-NoRow : goal.returns-in-NoRow
 returns-in-NoRow c =
-    let s = c.before.before.before in
-    let a = s.args in
-    c.faulty-in-NoRow.ensures ∙ ap (verdict_on a.group a.known) (sym (ap says_group_judged c.in-NoRow.is) ∙ s.judge.ensures)
+    let a = c.args in
+    c.faulty-in-NoRow.ensures ∙ ap (verdict_on a.group a.known) (sym (ap says_group_judged c.in-NoRow.is) ∙ c.judge.ensures)
 
 pub returns-in-NoDistance : goal.returns-in-NoDistance
 returns-in-NoDistance c =
-    let s = c.before.before.before in
-    let a = s.args in
-    c.faulty-in-NoDistance.ensures ∙ ap (verdict_on a.group a.known) (sym (ap says_group_judged c.in-NoDistance.is) ∙ s.judge.ensures)
+    let a = c.args in
+    c.faulty-in-NoDistance.ensures ∙ ap (verdict_on a.group a.known) (sym (ap says_group_judged c.in-NoDistance.is) ∙ c.judge.ensures)

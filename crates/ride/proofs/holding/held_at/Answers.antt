@@ -6,17 +6,12 @@ use Rattle.ride.proofs.holding.held_at.Goals as goal
 
 pub returns-then-leaves : goal.returns-then-leaves
 returns-then-leaves c =
-    let t = c.before in
-    let v = t.before in
-    let o = v.before in
-    let a = o.args in
-    asked_for a.store a.held c.hold.result o.odometer_at-odometer.result (sym v.leaves.ensures ∙ t.if-leaves.true) c.hold.ensures
-    ∙ ap (held_for a.store a.held) o.odometer_at-odometer.ensures
+    let a = c.args in
+    asked_for a.store a.held c.hold.result c.odometer_at-odometer.result (sym c.leaves.ensures ∙ c.if-leaves.true) c.hold.ensures
+    ∙ ap (held_for a.store a.held) c.odometer_at-odometer.ensures
 
 pub returns : goal.returns
 returns c =
-    let v = c.before in
-    let o = v.before in
-    let a = o.args in
-    stays_for a.store a.held a.held o.odometer_at-odometer.result (sym v.leaves.ensures ∙ c.if-leaves.false) refl
-    ∙ ap (held_for a.store a.held) o.odometer_at-odometer.ensures
+    let a = c.args in
+    stays_for a.store a.held a.held c.odometer_at-odometer.result (sym c.leaves.ensures ∙ c.if-leaves.false) refl
+    ∙ ap (held_for a.store a.held) c.odometer_at-odometer.ensures

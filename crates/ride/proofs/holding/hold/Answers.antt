@@ -7,8 +7,7 @@ use Rattle.ride.proofs.holding.hold.Goals as goal
 pub returns-in-InForce : goal.returns-in-InForce
 unfolding hold
 returns-in-InForce c =
-    let v = c.before in
-    let answer = sym v.at-asked.ensures ∙ ap says_asked v.in-InForce.is in
+    let answer = sym c.at-asked.ensures ∙ ap says_asked c.in-InForce.is in
     rw answer
 
 pub returns-in-Refused : goal.returns-in-Refused

@@ -11,15 +11,13 @@ returns-in-Position c =
 
 pub returns-then-is_open : goal.returns-then-is_open
 returns-then-is_open c =
-    let s = c.before.before in
-    let a = s.args in
+    let a = c.args in
     c.join.ensures
-    ∙ take_open a.group a.odometer a.passed _ s.in-Balise.is (sym s.is_open.ensures ∙ c.if-is_open.true)
+    ∙ take_open a.group a.odometer a.passed _ c.in-Balise.is (sym c.is_open.ensures ∙ c.if-is_open.true)
 
 pub returns-else-is_open : goal.returns-else-is_open
 returns-else-is_open c =
-    let s = c.before.before.before in
-    let a = s.args in
+    let a = c.args in
     c.join-else-is_open.ensures
-    ∙ take_none a.group _ a.odometer a.passed _ s.in-Balise.is (sym s.is_open.ensures ∙ c.if-is_open.false)
+    ∙ take_none a.group _ a.odometer a.passed _ c.in-Balise.is (sym c.is_open.ensures ∙ c.if-is_open.false)
     c.no_group.ensures

@@ -18,6 +18,4 @@ returns-then-odometer-ride c = simp (← c.in_order.ensures, not-false c.in_orde
 pub returns : goal.returns
 unfolding check_record
 returns c =
-    let o = c.before.before.before in
-    let i = o.before.before in
-    simp (← i.in_order.ensures, not-false i.in_order.result o.if-not-in_order.false-raw, ← o.odometer_of-odometer.ensures, le-ltb _ _ c.if-odometer-gt4000000000.false, le-ltb _ _ c.if-odometer-ride.false, ← i.what_passed-passed.ensures)
+    simp (← c.in_order.ensures, not-false c.in_order.result c.if-not-in_order.false-raw, ← c.odometer_of-odometer.ensures, le-ltb _ _ c.if-odometer-gt4000000000.false, le-ltb _ _ c.if-odometer-ride.false, ← c.what_passed-passed.ensures)

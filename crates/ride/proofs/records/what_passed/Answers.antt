@@ -18,5 +18,5 @@ returns-in-2 c = rw c.in-2.is
 pub returns-in_default : goal.returns-in_default
 unfolding passed_of
 returns-in_default c =
-    let kind = kind_of c.args.t1 in
+    let kind = kind_of c.args.bytes in
     simp (ne_eqb kind 0 c.in_default.in_default-own.rest.0.0.1, ne_eqb kind 1 c.in_default.in_default-own.rest.0.1, ne_eqb kind 2 c.in_default.in_default-own.rest.1)

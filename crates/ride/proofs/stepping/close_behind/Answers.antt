@@ -6,14 +6,11 @@ use Rattle.ride.proofs.stepping.close_behind.Goals as goal
 
 pub returns-then-is_behind : goal.returns-then-is_behind
 returns-then-is_behind c =
-    let j = c.before in
-    let s = j.before.before in
-    let a = s.args in
-    behind a.gap a.odometer a.ride.group a.ride.known _ (sym s.is_behind.ensures ∙ j.if-is_behind.true)
-    (closed_with a.ride.group a.ride.known _ _ j.judge.ensures c.close.ensures)
+    let a = c.args in
+    behind a.gap a.odometer a.ride.group a.ride.known _ (sym c.is_behind.ensures ∙ c.if-is_behind.true)
+    (closed_with a.ride.group a.ride.known _ _ c.judge.ensures c.close.ensures)
 
 pub returns : goal.returns
 returns c =
-    let s = c.before.before in
-    let a = s.args in
-    not_behind a.gap a.odometer a.ride.group a.ride.known _ (sym s.is_behind.ensures ∙ c.if-is_behind.false) c.leave.ensures
+    let a = c.args in
+    not_behind a.gap a.odometer a.ride.group a.ride.known _ (sym c.is_behind.ensures ∙ c.if-is_behind.false) c.leave.ensures

@@ -11,13 +11,11 @@ use Rattle.ride.proofs.stepping.go_on.Goals as goal
 
 pub returns-then-is_quiet : goal.returns-then-is_quiet
 returns-then-is_quiet c =
-    let t = c.before in
-    let q = t.before.before in
-    let a = q.args in
-    let none = neither _ _ (sym q.is_quiet.ensures ∙ t.if-is_quiet.true) in
+    let a = c.args in
+    let none = neither _ _ (sym c.is_quiet.ensures ∙ c.if-is_quiet.true) in
     c.nothing_closed.ensures
     ∙ ap {B = Step}
     (λ (g : Group).
     record { lines = gives []; closed = no_group; ride = record { odometer = a.odometer; group = g; known = a.ride.known } })
-    t.take_up-group.ensures
+    c.take_up-group.ensures
     ∙ quiet a.ride a.gap (record { odometer = a.odometer; passed = a.passed }) none.0 none.1

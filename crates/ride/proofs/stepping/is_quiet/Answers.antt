@@ -6,14 +6,12 @@ use Rattle.ride.proofs.stepping.is_quiet.Goals as goal
 
 pub returns-then-is_open : goal.returns-then-is_open
 returns-then-is_open c =
-    let o = c.before.before in
-    let a = o.args in
+    let a = c.args in
     rw c.is_behind.ensures
-    (quiet_open a.gap a.odometer a.ride.group a.ride.known (sym o.is_open.ensures ∙ c.if-is_open.true))
+    (quiet_open a.gap a.odometer a.ride.group a.ride.known (sym c.is_open.ensures ∙ c.if-is_open.true))
 
 pub returns : goal.returns
 returns c =
-    let o = c.before.before.before in
-    let a = o.args in
+    let a = c.args in
     rw c.is_overdue.ensures
-    (quiet_none a.gap a.odometer a.ride.group a.ride.known (sym o.is_open.ensures ∙ c.if-is_open.false))
+    (quiet_none a.gap a.odometer a.ride.group a.ride.known (sym c.is_open.ensures ∙ c.if-is_open.false))

@@ -9,16 +9,13 @@ use Rattle.ride.proofs.stepping.treat.Goals as goal
 
 pub returns-in_default : goal.returns-in_default
 returns-in_default c =
-    let s = c.before.before.before.before in
-    let a = s.args in
-    let e = c.in_default.is in
+    let a = c.args in
     c.nothing_closed.ensures
     ∙ treat_not a.ride a.gap a.bytes _
-    (ap {B = Outcome Entry} (λ (w : Wrong). refuses (says_wrong w)) (c.why.ensures _ e) ∙ sym (ap says_checked e) ∙ s.check_record-checked.ensures)
+    (ap {B = Outcome Entry} (λ (w : Wrong). refuses (says_wrong w)) (c.why.ensures _ c.in_default.is) ∙ sym (ap says_checked c.in_default.is) ∙ c.check_record-checked.ensures)
 
 pub returns : goal.returns
 returns c =
-    let s = c.before.before.before.before in
-    let a = s.args in
+    let a = c.args in
     c.go_on.ensures
-    ∙ treat_on a.ride a.gap a.bytes _ (sym (ap says_checked c.in-Accepted.is) ∙ s.check_record-checked.ensures)
+    ∙ treat_on a.ride a.gap a.bytes _ (sym (ap says_checked c.in-Accepted.is) ∙ c.check_record-checked.ensures)

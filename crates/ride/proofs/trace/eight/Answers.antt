@@ -4,5 +4,4 @@ use Rattle.ride.proofs.trace.eight.Goals as goal
 
 pub returns : goal.returns
 returns c =
-    let s = c.before.before.before.before.before.before.before.before in
-    eight_bytes s.args.trace.now s.args.at s.requires
+    eight_bytes c.args.trace.now c.args.at c.requires

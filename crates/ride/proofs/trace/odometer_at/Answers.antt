@@ -16,7 +16,6 @@ returns-then-trace-i c =
 pub returns : goal.returns
 unfolding odometer_of
 returns c =
-    let e = c.before.before.before.before.before in
-    let a = e.args in
-    let room : a.i * 8 + 8 ≤ length a.trace.now = omega (arith, e.if-trace-i.false) in
-    c.high_first.ensures ∙ ap odometer_of (eight_bytes a.trace.now (a.i * 8) room) ∙ odometer_there a.trace.now a.i e.if-trace-i.false
+    let a = c.args in
+    let room : a.i * 8 + 8 ≤ length a.trace.now = omega (arith, c.if-trace-i.false) in
+    c.high_first.ensures ∙ ap odometer_of (eight_bytes a.trace.now (a.i * 8) room) ∙ odometer_there a.trace.now a.i c.if-trace-i.false

@@ -12,5 +12,4 @@ made p h = record { place = p; heard = h }
 
 pub returns : goal.returns
 returns c =
-    let p = c.before.before.before in
-    ap₂ made (p.low32.ensures ∙ ap (λ (n : ℕ). n % 4294967296) p.figure_at.ensures) (c.heard_of.ensures ∙ ap heard_of c.figure_at-2.ensures)
+    ap₂ made (c.low32.ensures ∙ ap (λ (n : ℕ). n % 4294967296) c.figure_at.ensures) (c.heard_of.ensures ∙ ap heard_of c.figure_at-2.ensures)

@@ -8,8 +8,7 @@ use Rattle.ride_bytes.proofs.groups.heard_figure.Goals as goal
 
 pub returns-in-Words : goal.returns-in-Words
 returns-in-Words c =
-    let h = c.heard-1.given in
-    (ap heard_figure (sym h.1), heard_back h.0.0 h.0.1.0 h.0.1.1.0 (omega arith) (omega arith) (omega arith) ∙ sym h.1)
+    (ap heard_figure (sym c.in-Words.is), heard_back c.in-Words.x c.in-Words.y c.in-Words.z (omega arith) (omega arith) (omega arith) ∙ sym c.in-Words.is)
 
 pub returns-in-Marker : goal.returns-in-Marker
 unfolding heard_of

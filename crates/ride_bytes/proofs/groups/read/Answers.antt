@@ -16,12 +16,6 @@ grouped k k' n n' l l' p q r = cc
 pub returns : goal.returns
 unfolding each
 returns c =
-    let n = c.before.before.before in
-    let b5 = n.before.before.before in
-    let b4 = b5.before in
-    let b3 = b4.before in
-    let b2 = b3.before in
-    let b1 = b2.before in
     grouped _ _ _ _ _ _
-    (five _ _ _ _ _ _ _ _ _ _ b1.balise_at.ensures b2.balise_at-2.ensures b3.balise_at-3.ensures b4.balise_at-4.ensures b5.balise_at-5.ensures)
-    (n.low8.ensures ∙ ap (λ (m : ℕ). m % 256) n.figure_at.ensures) (c.low32.ensures ∙ ap (λ (m : ℕ). m % 4294967296) c.figure_at-2.ensures)
+    (five _ _ _ _ _ _ _ _ _ _ c.balise_at.ensures c.balise_at-2.ensures c.balise_at-3.ensures c.balise_at-4.ensures c.balise_at-5.ensures)
+    (c.low8.ensures ∙ ap (λ (m : ℕ). m % 256) c.figure_at.ensures) (c.low32.ensures ∙ ap (λ (m : ℕ). m % 4294967296) c.figure_at-2.ensures)

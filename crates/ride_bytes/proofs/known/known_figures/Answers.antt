@@ -23,11 +23,5 @@ knows l l' m m' t t' n n' p q r s = cc
 pub returns : goal.returns
 unfolding known_figures
 returns c =
-    let target = c.before in
-    let main = target.before in
-    let l = main.linking_figures-l in
-    let s = main.before.before.before.before in
-    let low : s.args.ride.odometer % 4294967296 ≡ s.args.ride.odometer = omega arith in (
-      six _ _ _ _ _ _ _ _ _ _ _ (ap (λ (f : List ℕ). get_or f 0 0) l.ensures.0) (ap (λ (f : List ℕ). get_or f 1 0) l.ensures.0) main.told_figure.ensures.0 target.told_figure-2.ensures.0 c.number_figure.ensures.0,
-      (low, knows _ _ _ _ _ _ _ _ l.ensures.1 main.told_figure.ensures.1 target.told_figure-2.ensures.1 c.number_figure.ensures.1),
-    )
+    let l = c.linking_figures-l in
+    let low : c.args.ride.odometer % 4294967296 ≡ c.args.ride.odometer = omega arith in record { value = six _ _ _ _ _ _ _ _ _ _ _ (ap (λ (f : List ℕ). get_or f 0 0) l.ensures.0) (ap (λ (f : List ℕ). get_or f 1 0) l.ensures.0) c.told_figure.ensures.0 c.told_figure-2.ensures.0 c.number_figure.ensures.0; odometer_value = (low, knows _ _ _ _ _ _ _ _ l.ensures.1 c.told_figure.ensures.1 c.told_figure-2.ensures.1 c.number_figure.ensures.1) }

@@ -20,5 +20,4 @@ returns-in-Unset c = (ap both (sym c.in-Unset.is), sym c.in-Unset.is)
 pub returns-in-Set : goal.returns-in-Set
 unfolding both
 returns-in-Set c =
-    let l = c.linking-1.given in
-    (ap both (sym l.1), linking_back l.0.0 l.0.1.0 (omega arith) (omega arith) ∙ sym l.1)
+    (ap both (sym c.in-Set.is), linking_back c.in-Set.distance c.in-Set.from (omega arith) (omega arith) ∙ sym c.in-Set.is)

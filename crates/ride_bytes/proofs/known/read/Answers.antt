@@ -14,10 +14,7 @@ knows l l' m m' t t' n n' p q r s = cc
 
 pub returns : goal.returns
 returns c =
-    let target = c.before.before.before in
-    let main = target.before.before.before in
-    let l = main.before.before.before in
     knows _ _ _ _ _ _ _ _
-    (l.linking_of.ensures ∙ ap₂ linking_of l.figure_at.ensures l.figure_at-2.ensures)
-    (main.told_of.ensures ∙ ap told_of main.figure_at-3.ensures) (target.told_of-2.ensures ∙ ap told_of target.figure_at-4.ensures)
+    (c.linking_of.ensures ∙ ap₂ linking_of c.figure_at.ensures c.figure_at-2.ensures)
+    (c.told_of.ensures ∙ ap told_of c.figure_at-3.ensures) (c.told_of-2.ensures ∙ ap told_of c.figure_at-4.ensures)
     (c.number_of.ensures ∙ ap number_of c.figure_at-5.ensures)

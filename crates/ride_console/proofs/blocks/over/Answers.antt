@@ -8,13 +8,11 @@ use Rattle.ride_console.proofs.blocks.over.Goals as goal
 
 -- the buffers after a block
 kept : (w : After-write_records-stand) →
-    let n = w.before.before.before.before.before in
-    let a = n.args in
-    (length n.next_block-got.new.1.1.0 ≡ length a.block.now) × (length w.write_records-stand.new.1.1.1.1.1.0 ≡ length a.out.now)
+    let a = w.args in
+    (length w.next_block-got.new.block.0 ≡ length a.block.now) × (length w.write_records-stand.new.out.0 ≡ length a.out.now)
 kept w =
-    let n = w.before.before.before.before.before in
-    let inv = n.loop-turns.invariant in
-    (n.next_block-got.auto.1.1.0 ∙ inv.0, w.write_records-stand.auto.1.1.1.1.1.0 ∙ inv.1)
+    let inv = w.loop-turns.invariant in
+    (w.next_block-got.auto.1.1.0 ∙ inv.0, w.write_records-stand.auto.1.1.1.1.1.0 ∙ inv.1)
 
 pub slice_bounds-write_records-end-in-loop-turns : goal.slice_bounds-write_records-end-in-loop-turns
 slice_bounds-write_records-end-in-loop-turns c =
@@ -22,13 +20,13 @@ slice_bounds-write_records-end-in-loop-turns c =
     sym (length-take-le _ _ (omega (arith, n.ensures.0, n.auto.1.1.0)))
 
 pub shape_of-block-in_default : goal.shape_of-block-in_default
-shape_of-block-in_default c = (kept c.before.before.before.before.before.before).0
+shape_of-block-in_default c = (kept (goal.at-shape_of-block-in_default c).After-write_records-stand).0
 
 pub shape_of-out-in_default : goal.shape_of-out-in_default
-shape_of-out-in_default c = (kept c.before.before.before.before.before.before).1
+shape_of-out-in_default c = (kept (goal.at-shape_of-out-in_default c).After-write_records-stand).1
 
 pub loop-turns-preserved : goal.loop-turns-preserved
-loop-turns-preserved c = kept c.before.before.before.before.before.before.before
+loop-turns-preserved c = kept (goal.at-loop-turns-preserved c).After-write_records-stand
 
 pub shape_of-block : goal.shape_of-block
 shape_of-block c = c.loop-turns.invariant.0

@@ -9,15 +9,12 @@ use Rattle.ride_drawing.proofs.lines.after_lines.Goals as goal
 
 pub returns-in-One : goal.returns-in-One
 returns-in-One c =
-    let p1 = c.before.before in
-    let a = p1.args in
-    c.after_Line.ensures ∙ ap (λ (ls : Lines). after_lines a.pen (says_lines ls) a.odometer) (sym p1.in-One.is)
+    let a = c.args in
+    c.after_Line.ensures ∙ ap (λ (ls : Lines). after_lines a.pen (says_lines ls) a.odometer) (sym c.in-One.is)
 
 pub returns-in-Two : goal.returns-in-Two
 returns-in-Two c =
-    let p1 = c.before in
-    let p2 = p1.before.before in
-    let a = p2.args in
+    let a = c.args in
     c.after_line-in-Two-2.ensures
-    ∙ ap (λ (p : Pen). after_line p p2.in-Two.b a.odometer) p1.after_line-in-Two.ensures
-    ∙ ap (λ (ls : Lines). after_lines a.pen (says_lines ls) a.odometer) (sym p2.in-Two.is)
+    ∙ ap (λ (p : Pen). after_line p c.in-Two.b a.odometer) c.after_line-in-Two.ensures
+    ∙ ap (λ (ls : Lines). after_lines a.pen (says_lines ls) a.odometer) (sym c.in-Two.is)

@@ -6,5 +6,4 @@ use Rattle.ride_drawing.proofs.lines.known_then.Goals as goal
 
 pub returns : goal.returns
 returns c =
-    let p1 = c.before.before in
-    ap (λ (e : End). e.ride.known) p1.end-ended.ensures
+    ap (λ (e : End). e.ride.known) c.end-ended.ensures

@@ -11,20 +11,13 @@ use Rattle.ride_drawing.proofs.lines.put_known.Goals as goal
 pub returns-then-is_missed : goal.returns-then-is_missed
 unfolding known_before
 returns-then-is_missed c =
-    let p1 = c.before.before in
-    let p2 = p1.before.before in
-    let p3 = p2.before in
-    let a = p3.args in
-    let is : is_missed a.line ≡ true = sym p3.is_missed.ensures ∙ p2.if-is_missed.true in
-    rw is p1.put_band.ensures
+    let a = c.args in
+    let is : is_missed a.line ≡ true = sym c.is_missed.ensures ∙ c.if-is_missed.true in
+    rw is c.put_band.ensures
 
 pub returns : goal.returns
 unfolding known_before
 returns c =
-    let p1 = c.before.before in
-    let p2 = p1.before.before in
-    let p3 = p2.before in
-    let p4 = p3.before in
-    let a = p4.args in
-    let not : is_missed a.line ≡ false = sym p4.is_missed.ensures ∙ p3.if-is_missed.false in
-    rw not (all_as _ _ (ap (λ (v : ℕ). span a.pen.edge a.pen.from v a.known) p2.reached.ensures) p1.put_span.ensures)
+    let a = c.args in
+    let not : is_missed a.line ≡ false = sym c.is_missed.ensures ∙ c.if-is_missed.false in
+    rw not (all_as _ _ (ap (λ (v : ℕ). span a.pen.edge a.pen.from v a.known) c.reached.ensures) c.put_span.ensures)

@@ -13,14 +13,9 @@ use Rattle.ride_drawing.proofs.lines.put_line.Goals as goal
 pub returns : goal.returns
 unfolding on_its_strip
 returns c =
-    let p0 = c.before.before in
-    let p1 = p0.before.before.before.before in
-    let p2 = p1.before.before.before.before in
-    let p3 = p2.before.before.before.before in
-    let p4 = p3.before.before in
-    let a = p4.args in
+    let a = c.args in
     all_as _ _ (pieces_append (way_past a.plan a.pen a.place a.place a.known) _)
-    (after _ _ _ _ p3.put_way_past-a.ensures
+    (after _ _ _ _ c.put_way_past-a.ensures
     (after _ _ _ _
-    (all_as _ _ (ap (λ (t : Pen). known_before t a.known a.line a.place) p4.arrive-there.ensures) p2.put_known-b.ensures)
-    (after _ _ _ _ (all_as _ _ (ap (λ (t : Pen). sign a.closed a.line t.edge a.place) p4.arrive-there.ensures) p1.put_sign-c.ensures) (all_as _ _ (ap (λ (t : Pen). pieces (extra_mark a.plan a.line t.edge)) p4.arrive-there.ensures) p0.put_extra.ensures))))
+    (all_as _ _ (ap (λ (t : Pen). known_before t a.known a.line a.place) c.arrive-there.ensures) c.put_known-b.ensures)
+    (after _ _ _ _ (all_as _ _ (ap (λ (t : Pen). sign a.closed a.line t.edge a.place) c.arrive-there.ensures) c.put_sign-c.ensures) (all_as _ _ (ap (λ (t : Pen). pieces (extra_mark a.plan a.line t.edge)) c.arrive-there.ensures) c.put_extra.ensures))))

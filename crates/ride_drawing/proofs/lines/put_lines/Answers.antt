@@ -21,35 +21,22 @@ returns-in-None c =
 
 pub returns-in-One : goal.returns-in-One
 returns-in-One c =
-    let p1 = c.before.before in
-    let p2 = p1.before.before in
-    let p3 = p2.before.before in
-    let a = p3.args in
-    let l = p3.in-One.a in
+    let a = c.args in
     all_as _ _
-    (ap (λ (p : ℕ). pieces (on_its_strip a.plan a.pen a.ride.known a.closed l p)) p2.place_of-place.ensures
-    ∙ one_drawn a.plan a.pen a.ride.known (end a.ride).ride.known a.closed l a.ride.odometer
-    ∙ ap (λ (ls : Lines). pieces (draw_lines a.plan a.pen a.ride.known (end a.ride).ride.known a.closed (says_lines ls) a.ride.odometer)) (sym p3.in-One.is))
-    p1.put_line.ensures
+    (ap (λ (p : ℕ). pieces (on_its_strip a.plan a.pen a.ride.known a.closed c.in-One.a p)) c.place_of-place.ensures
+    ∙ one_drawn a.plan a.pen a.ride.known (end a.ride).ride.known a.closed c.in-One.a a.ride.odometer
+    ∙ ap (λ (ls : Lines). pieces (draw_lines a.plan a.pen a.ride.known (end a.ride).ride.known a.closed (says_lines ls) a.ride.odometer)) (sym c.in-One.is))
+    c.put_line.ensures
 
 pub returns-in-Two : goal.returns-in-Two
 returns-in-Two c =
-    let p1 = c.before.before in
-    let p2 = p1.before.before in
-    let p3 = p2.before in
-    let p4 = p3.before in
-    let p5 = p4.before.before.before in
-    let p6 = p5.before.before in
-    let p7 = p6.before.before in
-    let a = p7.args in
-    let l = p7.in-Two.a in
-    let m = p7.in-Two.b in
+    let a = c.args in
     all_as _ _
-    (two_drawn a.plan a.pen a.ride.known (end a.ride).ride.known a.closed l m a.ride.odometer
-    ∙ ap (λ (ls : Lines). pieces (draw_lines a.plan a.pen a.ride.known (end a.ride).ride.known a.closed (says_lines ls) a.ride.odometer)) (sym p7.in-Two.is))
+    (two_drawn a.plan a.pen a.ride.known (end a.ride).ride.known a.closed c.in-Two.a c.in-Two.b a.ride.odometer
+    ∙ ap (λ (ls : Lines). pieces (draw_lines a.plan a.pen a.ride.known (end a.ride).ride.known a.closed (says_lines ls) a.ride.odometer)) (sym c.in-Two.is))
     (after _ _ _ _
-    (all_as _ _ (ap (λ (p : ℕ). pieces (on_its_strip a.plan a.pen a.ride.known a.closed l p)) p6.place_of-place-in-Two.ensures) p5.put_line-next.ensures)
+    (all_as _ _ (ap (λ (p : ℕ). pieces (on_its_strip a.plan a.pen a.ride.known a.closed c.in-Two.a p)) c.place_of-place-in-Two.ensures) c.put_line-next.ensures)
     (all_as _ _
-    (ap (λ (p : ℕ). pieces (on_its_strip a.plan p4.after_Line.result p3.known_then-then.result a.closed m p)) p2.place_of-behind.ensures
-    ∙ ap₂ (λ (q : Pen) (k : Known). pieces (on_its_strip a.plan q k a.closed m (place_of m a.ride.odometer))) p4.after_Line.ensures p3.known_then-then.ensures)
-    p1.put_line-in-Two.ensures))
+    (ap (λ (p : ℕ). pieces (on_its_strip a.plan c.after_Line.result c.known_then-then.result a.closed c.in-Two.b p)) c.place_of-behind.ensures
+    ∙ ap₂ (λ (q : Pen) (k : Known). pieces (on_its_strip a.plan q k a.closed c.in-Two.b (place_of c.in-Two.b a.ride.odometer))) c.after_Line.ensures c.known_then-then.ensures)
+    c.put_line-in-Two.ensures))

@@ -11,16 +11,13 @@ use Rattle.ride_drawing.proofs.places.arrive.Goals as goal
 pub returns-then-not-is_further : goal.returns-then-not-is_further
 unfolding arrive
 returns-then-not-is_further c =
-    let p1 = c.before in
-    let a = p1.args in
-    let no : is_further a.pen a.place ≡ false = sym p1.is_further.ensures ∙ not-true _ c.if-not-is_further.true-raw in
+    let a = c.args in
+    let no : is_further a.pen a.place ≡ false = sym c.is_further.ensures ∙ not-true _ c.if-not-is_further.true-raw in
     rw no
 
 pub returns : goal.returns
 unfolding arrive
 returns c =
-    let p1 = c.before in
-    let p2 = p1.before in
-    let a = p2.args in
-    let yes : is_further a.pen a.place ≡ true = sym p2.is_further.ensures ∙ not-false _ p1.if-not-is_further.false-raw in
+    let a = c.args in
+    let yes : is_further a.pen a.place ≡ true = sym c.is_further.ensures ∙ not-false _ c.if-not-is_further.false-raw in
     rw yes (ap (λ (v : ℕ). pen_of (a.place / 10000 * 10000) v true a.pen.ticks) c.lesser.ensures)

@@ -10,12 +10,10 @@ use Rattle.ride_drawing.proofs.places.certain.Goals as goal
 pub returns-then-group-gt0 : goal.returns-then-group-gt0
 unfolding certain
 returns-then-group-gt0 c =
-    let p1 = c.before.before.before in
-    let a = p1.args in
-    simp (lt-ltb _ _ p1.if-group-gt0.true) (first_place_law a.ride.group.kept (record { place = 0; heard = Heard.Words 0 0 0 }) refl)
+    let a = c.args in
+    simp (lt-ltb _ _ c.if-group-gt0.true) (first_place_law a.ride.group.kept (record { place = 0; heard = Heard.Words 0 0 0 }) refl)
 
 pub returns : goal.returns
 unfolding certain
 returns c =
-    let p1 = c.before in
-    simp (le-ltb _ _ p1.if-group-gt0.false)
+    simp (le-ltb _ _ c.if-group-gt0.false)

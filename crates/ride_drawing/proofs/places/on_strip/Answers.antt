@@ -16,17 +16,14 @@ overflow_add-result c =
 pub returns-then-edge-place : goal.returns-then-edge-place
 unfolding on_strip
 returns-then-edge-place c =
-    let p1 = c.before in
-    simp (le-leb _ _ p1.if-edge-place.true) (ap (λ (v : ℕ). 1000 + v) c.lesser.ensures)
+    simp (le-leb _ _ c.if-edge-place.true) (ap (λ (v : ℕ). 1000 + v) c.lesser.ensures)
 
 pub returns-then-back-le1000 : goal.returns-then-back-le1000
 unfolding on_strip
 returns-then-back-le1000 c =
-    let p1 = c.before in
-    simp (lt-leb _ _ p1.if-edge-place.false)
+    simp (lt-leb _ _ c.if-edge-place.false)
 
 pub returns-else-back-le1000 : goal.returns-else-back-le1000
 unfolding on_strip
 returns-else-back-le1000 c =
-    let p1 = c.before in
-    simp (lt-leb _ _ p1.if-edge-place.false) (omega (arith, c.if-back-le1000.false))
+    simp (lt-leb _ _ c.if-edge-place.false) (omega (arith, c.if-back-le1000.false))

@@ -8,15 +8,12 @@ use Rattle.ride_drawing.proofs.places.reached.Goals as goal
 
 pub returns-then-turns : goal.returns-then-turns
 returns-then-turns c =
-    let p1 = c.before in
-    let p2 = p1.before in
-    let a = p2.args in
-    let so : turns a.line ≡ true = sym p2.turns.ensures ∙ p1.if-turns.true in
+    let a = c.args in
+    let so : turns a.line ≡ true = sym c.turns.ensures ∙ c.if-turns.true in
     rw so c.greater.ensures
 
 pub returns : goal.returns
 returns c =
-    let p1 = c.before in
-    let a = p1.args in
-    let so : turns a.line ≡ false = sym p1.turns.ensures ∙ c.if-turns.false in
+    let a = c.args in
+    let so : turns a.line ≡ false = sym c.turns.ensures ∙ c.if-turns.false in
     rw so

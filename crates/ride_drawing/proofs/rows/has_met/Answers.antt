@@ -18,24 +18,16 @@ loop-i-smaller c = omega (arith, c.loop-i-test.true)
 
 pub loop-i-preserved : goal.loop-i-preserved
 loop-i-preserved c =
-    let g = c.before.before in
-    let t = g.before.before in
-    let n = t.before in
-    let l = n.before in
-    let a = l.args in
-    let e = g.in-Entry.entry in
-    let next = next_entry a.plan.run l.loop-i.i e n.loop-i-test.true (sym g.in-Entry.is ∙ t.report-reported.ensures) in
-    (omega (arith, n.loop-i-test.true), met_next a.plan.run a.place l.loop-i.i e l.loop-i.found c.is_by-found.result next c.is_by-found.ensures ∙ l.loop-i.invariant.1)
+    let a = c.args in
+    let next = next_entry a.plan.run c.loop-i.i c.in-Entry.entry c.loop-i-test.true (sym c.in-Entry.is ∙ c.report-reported.ensures) in
+    (omega (arith, c.loop-i-test.true), met_next a.plan.run a.place c.loop-i.i c.in-Entry.entry c.loop-i.found c.is_by-found.result next c.is_by-found.ensures ∙ c.loop-i.invariant.1)
 
 pub returns-after-loop-i : goal.returns-after-loop-i
 returns-after-loop-i c =
-    let l = c.before in
-    let a = l.args in
-    sym (met_all a.plan.run a.place l.loop-i.i l.loop-i.found (all_passed a.plan.run l.loop-i.i c.loop-i-test.false)) ∙ l.loop-i.invariant.1
+    let a = c.args in
+    sym (met_all a.plan.run a.place c.loop-i.i c.loop-i.found (all_passed a.plan.run c.loop-i.i c.loop-i-test.false)) ∙ c.loop-i.invariant.1
 
 pub returns-in_default : goal.returns-in_default
 returns-in_default c =
-    let t = c.before.before in
-    let l = t.before.before in
-    let a = l.args in
-    sym (met_all a.plan.run a.place l.loop-i.i l.loop-i.found (no_entry_law a.plan.run l.loop-i.i (sym c.in_default.is ∙ t.report-reported.ensures))) ∙ l.loop-i.invariant.1
+    let a = c.args in
+    sym (met_all a.plan.run a.place c.loop-i.i c.loop-i.found (no_entry_law a.plan.run c.loop-i.i (sym c.in_default.is ∙ c.report-reported.ensures))) ∙ c.loop-i.invariant.1

@@ -12,6 +12,5 @@ returns-in-Absent c =
 
 pub returns-in-At : goal.returns-in-At
 returns-in-At c =
-    let p1 = c.before in
-    let a = p1.args in
-    ap (λ (m : Met). is_by a.place m) (sym p1.in-At.is)
+    let a = c.args in
+    ap (λ (m : Met). is_by a.place m) (sym c.in-At.is)

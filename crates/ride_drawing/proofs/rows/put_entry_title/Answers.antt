@@ -14,20 +14,18 @@ use Rattle.ride_drawing.proofs.rows.put_entry_title.Goals.{After-put_entry-n}
 use Rattle.ride_drawing.proofs.rows.put_entry_title.Goals as goal
 
 -- The space begins with the line.
-spelled : (c : After-put_entry-n) → let a = c.args in Begins (entry_line a.i a.entry) c.put_entry-n.new.1.1.0 c.put_entry-n.result
+spelled : (c : After-put_entry-n) → let a = c.args in Begins (entry_line a.i a.entry) c.put_entry-n.new.buf c.put_entry-n.result
 spelled c =
     let a = c.args in
     begins 128 (entry_line a.i a.entry) (entry_length a.i a.entry) c.put_entry-n.ensures
 
 pub slice_bounds-space-end : goal.slice_bounds-space-end
-slice_bounds-space-end c = omega (arith, c.without_newline-m.ensures, (spelled c.before.before).within)
+slice_bounds-space-end c = omega (arith, c.without_newline-m.ensures, (spelled (goal.at-slice_bounds-space-end c).After-put_entry-n).within)
 
 pub slice_bounds-put-end : goal.slice_bounds-put-end
-slice_bounds-put-end c = sym (length-take-le _ _ (omega (arith, c.without_newline-m.ensures, (spelled c.before.before.before).within)))
+slice_bounds-put-end c = sym (length-take-le _ _ (omega (arith, c.without_newline-m.ensures, (spelled (goal.at-slice_bounds-put-end c).After-put_entry-n).within)))
 
 pub returns : goal.returns
 unfolding entry_title
 returns c =
-    let p1 = c.before.before in
-    let p2 = p1.before.before.before in
-    word_as _ _ (cut_short p2.put_entry-n.result p2.without_newline-m.result (spelled c.before.before.before.before.before.before.before) p2.without_newline-m.ensures) p1.put.ensures
+    word_as _ _ (cut_short c.put_entry-n.result c.without_newline-m.result (spelled (goal.at-returns c).After-put_entry-n) c.without_newline-m.ensures) c.put.ensures

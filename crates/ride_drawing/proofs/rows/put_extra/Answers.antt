@@ -10,24 +10,16 @@ use Rattle.ride_drawing.proofs.rows.put_extra.Goals as goal
 
 pub returns-then-is_extra : goal.returns-then-is_extra
 returns-then-is_extra c =
-    let p1 = c.before.before in
-    let p2 = p1.before.before in
-    let p3 = p2.before in
-    let p4 = p3.before.before in
-    let a = p4.args in
-    let s = p4.in-Group.seen in
+    let a = c.args in
     all_as _ _
-    (extra_drawn a.plan s a.edge (sym p3.is_extra.ensures ∙ p2.if-is_extra.true) ∙ ap (λ (l : Line). pieces (extra_mark a.plan l a.edge)) (sym p4.in-Group.is))
-    p1.put_extra_sign.ensures
+    (extra_drawn a.plan c.in-Group.seen a.edge (sym c.is_extra.ensures ∙ c.if-is_extra.true) ∙ ap (λ (l : Line). pieces (extra_mark a.plan l a.edge)) (sym c.in-Group.is))
+    c.put_extra_sign.ensures
 
 pub returns-else-is_extra : goal.returns-else-is_extra
 returns-else-is_extra c =
-    let p3 = c.before in
-    let p4 = p3.before.before in
-    let a = p4.args in
-    let s = p4.in-Group.seen in
+    let a = c.args in
     none_as _ _
-    (extra_none a.plan s a.edge (sym p3.is_extra.ensures ∙ c.if-is_extra.false) ∙ ap (λ (l : Line). pieces (extra_mark a.plan l a.edge)) (sym p4.in-Group.is))
+    (extra_none a.plan c.in-Group.seen a.edge (sym c.is_extra.ensures ∙ c.if-is_extra.false) ∙ ap (λ (l : Line). pieces (extra_mark a.plan l a.edge)) (sym c.in-Group.is))
 
 pub returns-in-Fault : goal.returns-in-Fault
 returns-in-Fault c =

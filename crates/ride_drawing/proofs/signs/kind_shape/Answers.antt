@@ -7,6 +7,5 @@ use Rattle.ride_drawing.proofs.signs.kind_shape.Goals as goal
 
 pub returns-in-Signal : goal.returns-in-Signal
 returns-in-Signal c =
-    let p1 = c.before in
-    let a = p1.args in
-    c.mark_shape.ensures ∙ ap (λ (k : Kind). kind_shape k a.mark) (sym p1.in-Signal.is)
+    let a = c.args in
+    c.mark_shape.ensures ∙ ap (λ (k : Kind). kind_shape k a.mark) (sym c.in-Signal.is)

@@ -17,13 +17,7 @@ returns-in-None c =
 
 pub returns-in-Figure : goal.returns-in-Figure
 returns-in-Figure c =
-    let p1 = c.before.before in
-    let p2 = p1.before.before.before.before.before in
-    let p3 = p2.before.before.before.before.before in
-    let p4 = p3.before.before in
-    let p5 = p4.before.before.before.before in
-    let p6 = p5.before.before.before.before in
-    let a = p6.args in
-    all_as _ _ (ap (λ (n : Number). number_beside a.direction n a.x) (sym p6.in-Figure.is))
-    (after _ _ _ _ p5.put_metres-a.ensures
-    (then _ _ _ _ (word_as _ _ (ap (λ (v : ℕ). codes "' y='" ++ decimal v) p4.beside.ensures) p3.put_number-b.ensures) (then _ _ _ _ p2.put_number-c.ensures (alone _ _ _ p1.put.ensures))))
+    let a = c.args in
+    all_as _ _ (ap (λ (n : Number). number_beside a.direction n a.x) (sym c.in-Figure.is))
+    (after _ _ _ _ c.put_metres-a.ensures
+    (then _ _ _ _ (word_as _ _ (ap (λ (v : ℕ). codes "' y='" ++ decimal v) c.beside.ensures) c.put_number-b.ensures) (then _ _ _ _ c.put_number-c.ensures (alone _ _ _ c.put.ensures))))

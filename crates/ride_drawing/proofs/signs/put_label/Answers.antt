@@ -9,17 +9,13 @@ use Rattle.ride_drawing.proofs.signs.put_label.Goals as goal
 pub returns-in-Group : goal.returns-in-Group
 unfolding label
 returns-in-Group c =
-    let p1 = c.before.before in
-    let p2 = p1.before.before.before in
-    let a = p2.args in
-    all_as _ _ (ap (λ (l : Line). label l a.edge a.x) (sym p2.in-Group.is)) p1.put_beside.ensures
+    let a = c.args in
+    all_as _ _ (ap (λ (l : Line). label l a.edge a.x) (sym c.in-Group.is)) c.put_beside.ensures
 
 pub returns-in-Fault : goal.returns-in-Fault
 returns-in-Fault c =
-    let p1 = c.before.before in
-    let p2 = p1.before.before.before in
-    let a = p2.args in
-    all_as _ _ (ap (λ (l : Line). label l a.edge a.x) (sym p2.in-Fault.is)) p1.put_fault.ensures
+    let a = c.args in
+    all_as _ _ (ap (λ (l : Line). label l a.edge a.x) (sym c.in-Fault.is)) c.put_fault.ensures
 
 pub returns-in-Missed : goal.returns-in-Missed
 unfolding label

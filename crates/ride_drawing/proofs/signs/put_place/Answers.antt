@@ -17,16 +17,12 @@ returns-then-place-edge c =
 pub returns-then-edge-place-le1000 : goal.returns-then-edge-place-le1000
 unfolding puts
 returns-then-edge-place-le1000 c =
-    let p1 = c.before in
-    let a = p1.args in
-    let near : a.edge ≤ a.place + 1000 = omega (arith, p1.if-place-edge.false, c.if-edge-place-le1000.true) in
+    let a = c.args in
+    let near : a.edge ≤ a.place + 1000 = omega (arith, c.if-place-edge.false, c.if-edge-place-le1000.true) in
     simp (le-ltb _ _ near)
 
 pub returns : goal.returns
 returns c =
-    let p1 = c.before.before in
-    let p2 = p1.before.before.before in
-    let p3 = p2.before in
-    let a = p3.args in
-    let far : a.place + 1000 < a.edge = omega (arith, p3.if-place-edge.false, p2.if-edge-place-le1000.false) in
-    simp (lt-ltb _ _ far) (alone _ _ _ p1.put_number.ensures)
+    let a = c.args in
+    let far : a.place + 1000 < a.edge = omega (arith, c.if-place-edge.false, c.if-edge-place-le1000.false) in
+    simp (lt-ltb _ _ far) (alone _ _ _ c.put_number.ensures)

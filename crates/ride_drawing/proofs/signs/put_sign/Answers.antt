@@ -13,19 +13,10 @@ use Rattle.ride_drawing.proofs.signs.put_sign.Goals as goal
 pub returns : goal.returns
 unfolding sign
 returns c =
-    let p1 = c.before.before in
-    let p2 = p1.before.before.before.before.before in
-    let p3 = p2.before.before.before.before in
-    let p4 = p3.before.before.before.before.before in
-    let p5 = p4.before.before.before.before.before in
-    let p6 = p5.before.before in
-    let p7 = p6.before.before.before.before in
-    let p8 = p7.before.before.before.before in
-    let p9 = p8.before.before.before in
-    let a = p9.args in
-    then _ _ _ _ p8.put-a.ensures
-    (then _ _ _ _ p7.put_title-b.ensures
-    (then _ _ _ _ (word_as _ _ (ap (λ (v : ℕ). codes "</title><use href='#s" ++ decimal v) p6.shape.ensures) p5.put_number-c.ensures)
-    (after _ _ _ _ (all_as _ _ (ap (metres (codes "' x='")) p9.on_strip-x.ensures) p4.put_metres-d.ensures)
-    (then _ _ _ _ p3.put-e.ensures
-    (after _ _ _ _ (all_as _ _ (ap (label a.line a.edge) p9.on_strip-x.ensures) p2.put_label-f.ensures) (alone _ _ _ p1.put.ensures))))))
+    let a = c.args in
+    then _ _ _ _ c.put-a.ensures
+    (then _ _ _ _ c.put_title-b.ensures
+    (then _ _ _ _ (word_as _ _ (ap (λ (v : ℕ). codes "</title><use href='#s" ++ decimal v) c.shape.ensures) c.put_number-c.ensures)
+    (after _ _ _ _ (all_as _ _ (ap (metres (codes "' x='")) c.on_strip-x.ensures) c.put_metres-d.ensures)
+    (then _ _ _ _ c.put-e.ensures
+    (after _ _ _ _ (all_as _ _ (ap (label a.line a.edge) c.on_strip-x.ensures) c.put_label-f.ensures) (alone _ _ _ c.put.ensures))))))

@@ -15,20 +15,18 @@ use Rattle.ride_drawing.proofs.signs.put_title.Goals.{After-put_styled-n}
 use Rattle.ride_drawing.proofs.signs.put_title.Goals as goal
 
 -- The space begins with the line.
-spelled : (c : After-put_styled-n) → let a = c.args in Begins (line_text with_reasons a.closed a.line) c.put_styled-n.new.1.1.1.0 c.put_styled-n.result
+spelled : (c : After-put_styled-n) → let a = c.args in Begins (line_text with_reasons a.closed a.line) c.put_styled-n.new.buf c.put_styled-n.result
 spelled c =
     let a = c.args in
     begins 160 (line_text with_reasons a.closed a.line) (line_within with_reasons a.closed a.line) c.put_styled-n.ensures
 
 pub slice_bounds-space-end : goal.slice_bounds-space-end
-slice_bounds-space-end c = omega (arith, c.without_newline-m.ensures, (spelled c.before.before).within)
+slice_bounds-space-end c = omega (arith, c.without_newline-m.ensures, (spelled (goal.at-slice_bounds-space-end c).After-put_styled-n).within)
 
 pub slice_bounds-put-end : goal.slice_bounds-put-end
-slice_bounds-put-end c = sym (length-take-le _ _ (omega (arith, c.without_newline-m.ensures, (spelled c.before.before.before).within)))
+slice_bounds-put-end c = sym (length-take-le _ _ (omega (arith, c.without_newline-m.ensures, (spelled (goal.at-slice_bounds-put-end c).After-put_styled-n).within)))
 
 pub returns : goal.returns
 unfolding title
 returns c =
-    let p1 = c.before.before in
-    let p2 = p1.before.before.before in
-    word_as _ _ (cut_short p2.put_styled-n.result p2.without_newline-m.result (spelled c.before.before.before.before.before.before.before) p2.without_newline-m.ensures) p1.put.ensures
+    word_as _ _ (cut_short c.put_styled-n.result c.without_newline-m.result (spelled (goal.at-returns c).After-put_styled-n) c.without_newline-m.ensures) c.put.ensures

@@ -15,12 +15,10 @@ overflow_add-result c =
 
 pub returns-in-Present : goal.returns-in-Present
 returns-in-Present c =
-    let p1 = c.before in
-    let a = p1.args in
-    c.kind_shape.ensures ∙ ap (λ (d : Direction). seen_shape d (kind_shape a.kind a.mark)) (sym p1.in-Present.is)
+    let a = c.args in
+    c.kind_shape.ensures ∙ ap (λ (d : Direction). seen_shape d (kind_shape a.kind a.mark)) (sym c.in-Present.is)
 
 pub returns-in-Opposite : goal.returns-in-Opposite
 returns-in-Opposite c =
-    let p1 = c.before in
-    let a = p1.args in
-    ap (λ (v : ℕ). v + 10) c.kind_shape-in-Opposite.ensures ∙ ap (λ (d : Direction). seen_shape d (kind_shape a.kind a.mark)) (sym p1.in-Opposite.is)
+    let a = c.args in
+    ap (λ (v : ℕ). v + 10) c.kind_shape-in-Opposite.ensures ∙ ap (λ (d : Direction). seen_shape d (kind_shape a.kind a.mark)) (sym c.in-Opposite.is)

@@ -6,5 +6,4 @@ use Rattle.ride_drawing.proofs.signs.shape.Goals as goal
 
 pub returns-in-Group : goal.returns-in-Group
 returns-in-Group c =
-    let p1 = c.before.before in
-    c.seen_shape.ensures ∙ ap shape (sym p1.in-Group.is)
+    c.seen_shape.ensures ∙ ap shape (sym c.in-Group.is)

@@ -14,7 +14,5 @@ returns-in-Unset c =
 
 pub returns-in-Set : goal.returns-in-Set
 returns-in-Set c =
-    let p1 = c.before.before in
-    let p2 = p1.before.before.before in
-    let a = p2.args in
-    all_as _ _ (ap (λ (k : Linking). band k a.edge a.from a.to) (sym p2.in-Set.is)) p1.put_linked.ensures
+    let a = c.args in
+    all_as _ _ (ap (λ (k : Linking). band k a.edge a.from a.to) (sym c.in-Set.is)) c.put_linked.ensures

@@ -15,17 +15,13 @@ returns-then-l-r c = simp (le-ltb _ _ c.if-l-r.true)
 
 pub returns-in-Unknown : goal.returns-in-Unknown
 returns-in-Unknown c =
-    let p1 = c.before.before in
-    let a = p1.args in
-    none_as _ _ (unknown_level a.words.now a.l a.r p1.if-l-r.false ∙ ap (λ (t : Told). level a.words.now t a.l a.r) (sym c.in-Unknown.is))
+    let a = c.args in
+    none_as _ _ (unknown_level a.words.now a.l a.r c.if-l-r.false ∙ ap (λ (t : Told). level a.words.now t a.l a.r) (sym c.in-Unknown.is))
 
 pub returns-in-Kmh : goal.returns-in-Kmh
 returns-in-Kmh c =
-    let p1 = c.before.before in
-    let p2 = p1.before.before.before in
-    let p3 = p2.before.before in
-    let a = p3.args in
+    let a = c.args in
     all_as _ _
-    (known_level a.words.now p2.in-Kmh.kmh a.l a.r p3.if-l-r.false
-    ∙ ap (λ (t : Told). level a.words.now t a.l a.r) (sym p2.in-Kmh.is))
-    p1.put_speed.ensures
+    (known_level a.words.now c.in-Kmh.kmh a.l a.r c.if-l-r.false
+    ∙ ap (λ (t : Told). level a.words.now t a.l a.r) (sym c.in-Kmh.is))
+    c.put_speed.ensures

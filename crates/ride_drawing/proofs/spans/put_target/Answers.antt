@@ -8,14 +8,10 @@ use Rattle.ride_drawing.proofs.spans.put_target.Goals as goal
 
 pub returns-then-rising : goal.returns-then-rising
 returns-then-rising c =
-    let p1 = c.before.before in
-    let p2 = p1.before.before.before in
-    let a = p2.args in
-    all_as _ _ (ap (λ (b : Bool). level (target_words b) a.target a.l a.r) (sym p2.if-rising.true)) p1.put_level.ensures
+    let a = c.args in
+    all_as _ _ (ap (λ (b : Bool). level (target_words b) a.target a.l a.r) (sym c.if-rising.true)) c.put_level.ensures
 
 pub returns : goal.returns
 returns c =
-    let p1 = c.before.before in
-    let p2 = p1.before.before.before in
-    let a = p2.args in
-    all_as _ _ (ap (λ (b : Bool). level (target_words b) a.target a.l a.r) (sym p2.if-rising.false)) p1.put_level-2.ensures
+    let a = c.args in
+    all_as _ _ (ap (λ (b : Bool). level (target_words b) a.target a.l a.r) (sym c.if-rising.false)) c.put_level-2.ensures

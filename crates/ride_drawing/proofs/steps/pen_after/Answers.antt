@@ -12,22 +12,15 @@ use Rattle.ride_drawing.proofs.steps.pen_after.Goals as goal
 
 pub returns-in-Refused : goal.returns-in-Refused
 returns-in-Refused c =
-    let p1 = c.before in
-    let p2 = p1.before in
-    let a = p2.args in
+    let a = c.args in
     c.ticked.ensures
-    ∙ ap (λ (n : ℕ). ticked n a.pen) p1.one_tick.ensures
-    ∙ ap (λ (g : Given). pen_after a.pen a.odometer (says_given g) a.after) (sym p2.in-Refused.is)
+    ∙ ap (λ (n : ℕ). ticked n a.pen) c.one_tick.ensures
+    ∙ ap (λ (g : Given). pen_after a.pen a.odometer (says_given g) a.after) (sym c.in-Refused.is)
 
 pub returns-in-Lines : goal.returns-in-Lines
 returns-in-Lines c =
-    let p1 = c.before in
-    let p2 = p1.before in
-    let p3 = p2.before in
-    let p4 = p3.before.before in
-    let p5 = p4.before.before in
-    let a = p5.args in
+    let a = c.args in
     c.ticked-in-Lines.ensures
-    ∙ ap₂ (λ (n : ℕ) (p : Pen). ticked n p) p1.ticks_at.ensures
-    (p2.arrive-there.ensures ∙ ap₂ (λ (p : Pen) (u : ℕ). arrive p a.after.odometer u) p4.after_lines-last.ensures p3.certain.ensures)
-    ∙ ap (λ (g : Given). pen_after a.pen a.odometer (says_given g) a.after) (sym p5.in-Lines.is)
+    ∙ ap₂ (λ (n : ℕ) (p : Pen). ticked n p) c.ticks_at.ensures
+    (c.arrive-there.ensures ∙ ap₂ (λ (p : Pen) (u : ℕ). arrive p a.after.odometer u) c.after_lines-last.ensures c.certain.ensures)
+    ∙ ap (λ (g : Given). pen_after a.pen a.odometer (says_given g) a.after) (sym c.in-Lines.is)

@@ -15,12 +15,8 @@ use Rattle.ride_drawing.proofs.steps.put_accepted.Goals as goal
 pub returns : goal.returns
 unfolding draw_accepted
 returns c =
-    let p1 = c.before.before in
-    let p2 = p1.before.before in
-    let p3 = p2.before.before.before in
-    let p4 = p3.before.before.before in
-    let a = p4.args in
+    let a = c.args in
     let lines = draw_lines a.plan a.pen a.ride.known (end a.ride).ride.known a.closed (says_lines a.lines) a.ride.odometer in
     all_as _ _ (pieces_append lines _)
-    (after _ _ _ _ p4.put_lines-a.ensures
-    (all_as _ _ (ap₂ (λ (p : Pen) (u : ℕ). pieces (way_past a.plan p a.after.odometer u a.after.known)) p3.after_lines-there.ensures p2.certain.ensures) p1.put_way_past.ensures))
+    (after _ _ _ _ c.put_lines-a.ensures
+    (all_as _ _ (ap₂ (λ (p : Pen) (u : ℕ). pieces (way_past a.plan p a.after.odometer u a.after.known)) c.after_lines-there.ensures c.certain.ensures) c.put_way_past.ensures))

@@ -11,18 +11,13 @@ use Rattle.ride_drawing.proofs.steps.put_last.Goals as goal
 pub returns-then-not-pen : goal.returns-then-not-pen
 unfolding last_strip
 returns-then-not-pen c =
-    let p1 = c.before.before in
-    let p2 = p1.before.before.before in
-    let a = p2.args in
-    let shut : a.pen.is_open ≡ false = not-true _ p2.if-not-pen.true in
-    rw shut (alone _ _ _ p1.put.ensures)
+    let a = c.args in
+    let shut : a.pen.is_open ≡ false = not-true _ c.if-not-pen.true in
+    rw shut (alone _ _ _ c.put.ensures)
 
 pub returns : goal.returns
 unfolding last_strip
 returns c =
-    let p1 = c.before.before in
-    let p2 = p1.before.before.before.before.before in
-    let p3 = p2.before.before.before.before in
-    let a = p3.args in
-    let is : a.pen.is_open ≡ true = not-false _ p3.if-not-pen.false in
-    rw is (after _ _ _ _ p2.put_span-a.ensures (alone _ _ _ p1.put-2.ensures))
+    let a = c.args in
+    let is : a.pen.is_open ≡ true = not-false _ c.if-not-pen.false in
+    rw is (after _ _ _ _ c.put_span-a.ensures (alone _ _ _ c.put-2.ensures))

@@ -12,8 +12,6 @@ use Rattle.ride_drawing.proofs.steps.put_rest.Goals as goal
 pub returns : goal.returns
 unfolding the_rest
 returns c =
-    let p1 = c.before.before in
-    let p2 = p1.before.before.before.before.before in
-    let a = p2.args in
+    let a = c.args in
     all_as _ _ (pieces_append (past a.pen a.pen 0 (row a.plan) furthest a.ride.odometer a.ride.known).elements _)
-    (after _ _ _ _ p2.pass-went.ensures.0 (after _ _ _ _ (all_as _ _ (ap (λ (q : Pen). last_strip q a.ride) p2.pass-went.ensures.1) p1.put_last.ensures) (none _ _)))
+    (after _ _ _ _ c.pass-went.ensures.buf_after (after _ _ _ _ (all_as _ _ (ap (λ (q : Pen). last_strip q a.ride) c.pass-went.ensures.pen_value) c.put_last.ensures) (none _ _)))

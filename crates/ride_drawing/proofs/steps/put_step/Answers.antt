@@ -13,18 +13,13 @@ use Rattle.ride_drawing.proofs.steps.put_step.Goals as goal
 
 pub returns-in-Refused : goal.returns-in-Refused
 returns-in-Refused c =
-    let p1 = c.before.before in
-    let p2 = p1.before.before in
-    let p3 = p2.before.before in
-    let a = p3.args in
+    let a = c.args in
     all_as _ _
-    (ap (λ (n : ℕ). pieces (draw_refused a.pen a.ride.odometer a.closed (Line.Record a.number n))) p2.refusal.ensures
-    ∙ ap (λ (g : Given). pieces (draw_step a.plan a.pen a.ride a.number (says_given g) a.closed a.after)) (sym p3.in-Refused.is))
-    p1.Put-refused.ensures
+    (ap (λ (n : ℕ). pieces (draw_refused a.pen a.ride.odometer a.closed (Line.Record a.number n))) c.refusal.ensures
+    ∙ ap (λ (g : Given). pieces (draw_step a.plan a.pen a.ride a.number (says_given g) a.closed a.after)) (sym c.in-Refused.is))
+    c.Put-refused.ensures
 
 pub returns-in-Lines : goal.returns-in-Lines
 returns-in-Lines c =
-    let p1 = c.before.before in
-    let p2 = p1.before.before.before in
-    let a = p2.args in
-    all_as _ _ (ap (λ (g : Given). pieces (draw_step a.plan a.pen a.ride a.number (says_given g) a.closed a.after)) (sym p2.in-Lines.is)) p1.put_accepted.ensures
+    let a = c.args in
+    all_as _ _ (ap (λ (g : Given). pieces (draw_step a.plan a.pen a.ride a.number (says_given g) a.closed a.after)) (sym c.in-Lines.is)) c.put_accepted.ensures

@@ -14,7 +14,4 @@ returns-then-n-le1 c = simp (le-ltb _ _ c.if-n-le1.true)
 pub returns : goal.returns
 unfolding between
 returns c =
-    let p1 = c.before.before in
-    let p2 = p1.before.before.before.before.before in
-    let p3 = p2.before.before.before in
-    simp (lt-ltb _ _ p3.if-n-le1.false) (then _ _ _ _ p2.put_number-a.ensures (alone _ _ _ p1.put.ensures))
+    simp (lt-ltb _ _ c.if-n-le1.false) (then _ _ _ _ c.put_number-a.ensures (alone _ _ _ c.put.ensures))

@@ -8,8 +8,4 @@ use Rattle.ride_drawing.proofs.strips.put_figure.Goals as goal
 pub returns : goal.returns
 unfolding figure
 returns c =
-    let p1 = c.before.before in
-    let p2 = p1.before.before.before.before.before in
-    let p3 = p2.before.before.before.before.before in
-    let p4 = p3.before.before.before.before.before in
-    then _ _ _ _ p4.put_number-a.ensures (then _ _ _ _ p3.put_number-b.ensures (then _ _ _ _ p2.put_number-c.ensures (alone _ _ _ p1.put.ensures)))
+    then _ _ _ _ c.put_number-a.ensures (then _ _ _ _ c.put_number-b.ensures (then _ _ _ _ c.put_number-c.ensures (alone _ _ _ c.put.ensures)))

@@ -20,13 +20,10 @@ loop-i-smaller c = omega (arith, c.loop-i-test.true)
 
 pub loop-i-preserved : goal.loop-i-preserved
 loop-i-preserved c =
-    let p = c.before.before in
-    let n = p.before.before in
-    let l = n.before in
-    let km = l.args.km in (
-      p.put_figure-next.auto.1.1.0 ∙ l.loop-i.invariant.0,
-      omega (arith, n.loop-i-test.true),
-      one_put km l.loop-i.i l.loop-i.buf l.loop-i.next n.loop-i-test.true p.put_figure-next.ensures ∙ l.loop-i.invariant.2,
+    let km = c.args.km in (
+      c.put_figure-next.auto.1.1.0 ∙ c.loop-i.invariant.0,
+      omega (arith, c.loop-i-test.true),
+      one_put km c.loop-i.i c.loop-i.buf c.loop-i.next c.loop-i-test.true c.put_figure-next.ensures ∙ c.loop-i.invariant.2,
     )
 
 pub shape_of-buf : goal.shape_of-buf
@@ -35,5 +32,4 @@ shape_of-buf c = c.loop-i.invariant.0
 pub returns : goal.returns
 unfolding from_tick
 returns c =
-    let l = c.before in
-    all_put l.args.km l.loop-i.i l.loop-i.buf l.loop-i.next c.loop-i-test.false ∙ l.loop-i.invariant.2
+    all_put c.args.km c.loop-i.i c.loop-i.buf c.loop-i.next c.loop-i-test.false ∙ c.loop-i.invariant.2

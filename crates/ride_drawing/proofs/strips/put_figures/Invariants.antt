@@ -6,7 +6,7 @@ use Rattle.ride_drawing.proofs.Figures.{from_tick, one_put, all_put}
 use Rattle.ride_drawing.proofs.strips.put_figures.Given as goal
 
 abbrev pub invariant-loop-i : goal.invariant-loop-i
-invariant-loop-i l = (length l.at ≡ length l.initial.buf) × (l.i ≤ 11) × (from_tick l.km l.i l.at l.next ≡ from_tick l.km 0 l.initial.buf l.buf)
+invariant-loop-i l = (length l.buf ≡ length l.initial.buf) × (l.i ≤ 11) × (from_tick l.km l.i l.buf l.next ≡ from_tick l.km 0 l.initial.buf l.at)
 
 abbrev pub decreases-loop-i : goal.decreases-loop-i
 decreases-loop-i l = 11 - l.i

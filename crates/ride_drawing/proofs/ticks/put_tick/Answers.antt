@@ -8,8 +8,4 @@ use Rattle.ride_drawing.proofs.ticks.put_tick.Goals as goal
 pub returns : goal.returns
 unfolding on_the_ticks
 returns c =
-    let p1 = c.before.before in
-    let p2 = p1.before.before.before.before.before in
-    let p3 = p2.before.before.before.before in
-    let p4 = p3.before.before.before.before.before in
-    then _ _ _ _ p4.put_number-a.ensures (then _ _ _ _ p3.put-b.ensures (after _ _ _ _ p2.put_sign-c.ensures (alone _ _ _ p1.put.ensures)))
+    then _ _ _ _ c.put_number-a.ensures (then _ _ _ _ c.put-b.ensures (after _ _ _ _ c.put_sign-c.ensures (alone _ _ _ c.put.ensures)))

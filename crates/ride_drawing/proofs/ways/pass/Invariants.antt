@@ -8,10 +8,10 @@ use Rattle.ride_drawing.proofs.ways.pass.Given as goal
 
 abbrev pub invariant-loop-i : goal.invariant-loop-i
 invariant-loop-i l =
-    (length l.run ≡ length l.initial.buf)
+    (length l.buf ≡ length l.initial.buf)
     × (l.i ≤ 64)
-    × (to_come l.pen l.place l.until l.known l.now l.i (drop l.i (row_of l.at)) l.run l.next ≡ to_come l.pen l.place l.until l.known l.pen 0 (row_of l.at) l.initial.buf l.buf)
-    × ((past l.pen l.now l.i (drop l.i (row_of l.at)) l.place l.until l.known).pen ≡ (past l.pen l.pen 0 (row_of l.at) l.place l.until l.known).pen)
+    × (to_come l.pen l.place l.until l.known l.now l.i (drop l.i (row_of l.run)) l.buf l.next ≡ to_come l.pen l.place l.until l.known l.pen 0 (row_of l.run) l.initial.buf l.at)
+    × ((past l.pen l.now l.i (drop l.i (row_of l.run)) l.place l.until l.known).pen ≡ (past l.pen l.pen 0 (row_of l.run) l.place l.until l.known).pen)
 
 abbrev pub decreases-loop-i : goal.decreases-loop-i
 decreases-loop-i l = 64 - l.i

@@ -15,21 +15,16 @@ use Rattle.ride_drawing.proofs.ways.put_way_past.Goals as goal
 pub returns-then-not-is_further : goal.returns-then-not-is_further
 unfolding way_past puts
 returns-then-not-is_further c =
-    let p1 = c.before in
-    let a = p1.args in
-    let no : is_further a.pen a.place ≡ false = sym p1.is_further.ensures ∙ not-true _ c.if-not-is_further.true-raw in
+    let a = c.args in
+    let no : is_further a.pen a.place ≡ false = sym c.is_further.ensures ∙ not-true _ c.if-not-is_further.true-raw in
     rw no
 
 pub returns : goal.returns
 unfolding way_past
 returns c =
-    let p1 = c.before.before in
-    let p2 = p1.before.before.before.before.before in
-    let p3 = p2.before.before in
-    let p4 = p3.before in
-    let a = p4.args in
-    let yes : is_further a.pen a.place ≡ true = sym p4.is_further.ensures ∙ not-false _ p3.if-not-is_further.false-raw in
+    let a = c.args in
+    let yes : is_further a.pen a.place ≡ true = sym c.is_further.ensures ∙ not-false _ c.if-not-is_further.false-raw in
     rw yes
     (all_as _ _ (pieces_append (past a.pen a.pen 0 (row a.plan) a.place a.until a.known).elements _)
-    (after _ _ _ _ p2.pass-went.ensures.0
-    (after _ _ _ _ (all_as _ _ (ap (λ (q : Pen). way q a.place a.until a.known) p2.pass-went.ensures.1) p1.put_way.ensures) (none _ _))))
+    (after _ _ _ _ c.pass-went.ensures.buf_after
+    (after _ _ _ _ (all_as _ _ (ap (λ (q : Pen). way q a.place a.until a.known) c.pass-went.ensures.pen_value) c.put_way.ensures) (none _ _))))

@@ -11,29 +11,21 @@ use Rattle.ride_text.proofs.lines.put_fault.Goals as goal
 
 pub put_why-c-requires : goal.put_why-c-requires
 put_why-c-requires c =
-    let p2 = c.before.before.before in
-    let p1 = p2.before.before.before.before.before in
-    let s = p1.before.before.before.before in
-    let a = s.args in
+    let a = c.args in
     let b = a.buf.now in
     let t1 = numbered "" a.place in
     let t2 = numbered " fault " a.n in
     let t3 = behind a.reasons a.closed in
-    let whole = room_as b a.at (fault_is a.place a.n t3) s.requires in
+    let whole = room_as b a.at (fault_is a.place a.n t3) c.requires in
     let three = less b a.at (t1 ++ t2 ++ t3) (codes "\n") whole in
-    room_after b a.at (t1 ++ t2) t3 three (join b a.at t1 t2 (less b a.at (t1 ++ t2) t3 three) p1.put_number-a.ensures p2.put_number-b.ensures)
+    room_after b a.at (t1 ++ t2) t3 three (join b a.at t1 t2 (less b a.at (t1 ++ t2) t3 three) c.put_number-a.ensures c.put_number-b.ensures)
 
 pub returns : goal.returns
 returns c =
-    let p4 = c.before.before in
-    let p3 = p4.before.before.before.before.before in
-    let p2 = p3.before.before.before.before in
-    let p1 = p2.before.before.before.before.before in
-    let s = p1.before.before.before.before in
-    let a = s.args in
+    let a = c.args in
     let b = a.buf.now in
     let t3 = behind a.reasons a.closed in
     let is = fault_is a.place a.n t3 in
-    join_4 b a.at (numbered "" a.place) (numbered " fault " a.n) t3 (codes "\n") (room_as b a.at is s.requires)
-    p1.put_number-a.ensures p2.put_number-b.ensures p3.put_why-c.ensures p4.put.ensures
+    join_4 b a.at (numbered "" a.place) (numbered " fault " a.n) t3 (codes "\n") (room_as b a.at is c.requires)
+    c.put_number-a.ensures c.put_number-b.ensures c.put_why-c.ensures c.put.ensures
     ∙ ap (λ (t : List ℕ). put t b a.at) is

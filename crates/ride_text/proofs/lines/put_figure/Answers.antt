@@ -16,10 +16,7 @@ returns-in-None c = by_case number _ _ c.in-None.is c.put.ensures
 
 pub returns-in-Figure : goal.returns-in-Figure
 returns-in-Figure c =
-    let p = c.before.before in
-    let k = p.before.before.before.before in
-    let a = k.args in
-    let m = k.in-Figure.m in
-    let small : m < 2 ^ 16 = omega arith in
-    by_case number a.buf.now a.at k.in-Figure.is
-    (p.put_number.ensures ∙ ap (λ (t : List ℕ). put (codes " n" ++ t) a.buf.now a.at) (sym (five_digits m small)))
+    let a = c.args in
+    let small : c.in-Figure.m < 2 ^ 16 = omega arith in
+    by_case number a.buf.now a.at c.in-Figure.is
+    (c.put_number.ensures ∙ ap (λ (t : List ℕ). put (codes " n" ++ t) a.buf.now a.at) (sym (five_digits c.in-Figure.m small)))

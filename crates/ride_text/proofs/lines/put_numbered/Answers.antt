@@ -6,8 +6,5 @@ use Rattle.ride_text.proofs.lines.put_numbered.Goals as goal
 
 pub returns : goal.returns
 returns c =
-    let p = c.before.before in
-    let q = p.before.before.before.before.before in
-    let s = q.before.before.before.before in
-    let a = s.args in
-    join a.buf.now a.at (a.words.now ++ decimal a.n) (codes "\n") s.requires q.put_number-a.ensures p.put.ensures
+    let a = c.args in
+    join a.buf.now a.at (a.words.now ++ decimal a.n) (codes "\n") c.requires c.put_number-a.ensures c.put.ensures

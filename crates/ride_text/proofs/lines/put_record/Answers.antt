@@ -18,15 +18,10 @@ reads number n = simp append_assoc
 
 pub put_numbered-requires : goal.put_numbered-requires
 put_numbered-requires c =
-    let p = c.before.before.before.before in
-    let s = p.before.before.before.before in
-    let a = s.args in
-    room_after a.buf.now a.at (codes "record " ++ decimal a.number) (after a.n) (room_as a.buf.now a.at (reads a.number a.n) s.requires) p.put_number-a.ensures
+    let a = c.args in
+    room_after a.buf.now a.at (codes "record " ++ decimal a.number) (after a.n) (room_as a.buf.now a.at (reads a.number a.n) c.requires) c.put_number-a.ensures
 
 pub returns : goal.returns
 returns c =
-    let q = c.before.before in
-    let p = q.before.before.before.before.before in
-    let s = p.before.before.before.before in
-    let a = s.args in
-    join_as a.buf.now a.at (codes "record " ++ decimal a.number) (after a.n) (reads a.number a.n) s.requires p.put_number-a.ensures q.put_numbered.ensures
+    let a = c.args in
+    join_as a.buf.now a.at (codes "record " ++ decimal a.number) (after a.n) (reads a.number a.n) c.requires c.put_number-a.ensures c.put_numbered.ensures

@@ -15,24 +15,17 @@ use Rattle.ride_text.proofs.lines.put_why.Goals as goal
 
 pub returns-then-not-reasons : goal.returns-then-not-reasons
 returns-then-not-reasons c =
-    let p = c.before.before in
-    let k = p.before.before.before in
-    let a = k.args in
-    by_case (λ (reasons : Style). behind reasons a.closed) a.buf.now a.at (not-true a.reasons k.if-not-reasons.true-raw) p.put.ensures
+    let a = c.args in
+    by_case (λ (reasons : Style). behind reasons a.closed) a.buf.now a.at (not-true a.reasons c.if-not-reasons.true-raw) c.put.ensures
 
 pub returns : goal.returns
 unfolding why_text
 returns c =
-    let q = c.before.before in
-    let x = q.before.before in
-    let p = x.before.before.before in
-    let k = p.before.before.before in
-    let s = k.before.before in
-    let a = s.args in
+    let a = c.args in
     let b = a.buf.now in
     let words : Style → List ℕ = λ (reasons : Style). behind reasons a.closed in
-    let is = not-false a.reasons k.if-not-reasons.false-raw in
-    let whole = room_as b a.at (sym (ap words is)) s.requires in
+    let is = not-false a.reasons c.if-not-reasons.false-raw in
+    let whole = room_as b a.at (sym (ap words is)) c.requires in
     by_case words b a.at is
-    (join b a.at (codes ": ") (reason_text (explain a.closed)) whole p.put-a.ensures
-    (q.put_reason.ensures ∙ ap (λ (e : Explained). put (reason_text e) p.put-a.new.1.0 p.put-a.result) x.explain.ensures))
+    (join b a.at (codes ": ") (reason_text (explain a.closed)) whole c.put-a.ensures
+    (c.put_reason.ensures ∙ ap (λ (e : Explained). put (reason_text e) c.put-a.new.buf c.put-a.result) c.explain.ensures))

@@ -10,12 +10,12 @@ use Rattle.ride_text.proofs.records.over.Given as goal
 
 abbrev pub invariant-loop-records : goal.invariant-loop-records
 invariant-loop-records l =
-    (l.bytes ≤ length l.needed)
-    × (length l.needed ≡ length l.initial.out)
+    (l.bytes ≤ length l.out)
+    × (length l.out ≡ length l.initial.out)
     × (l.next ≤ 18446744073709551615)
     × (l.records ≤ length l.trace / 8)
     × Holding l.store l.held
-    × (from_here l.reasons (gap_at l.store) l.now l.next l.records l.bytes (left_of l.trace (length l.trace / 8) l.records) l.needed ≡ from_here l.reasons (gap_at l.store) l.initial.now l.number 0 0 (left_of l.trace (length l.trace / 8) 0) l.initial.out)
+    × (from_here l.reasons (gap_at l.store) l.now l.next l.records l.bytes (left_of l.trace (length l.trace / 8) l.records) l.out ≡ from_here l.reasons (gap_at l.store) l.initial.now l.number 0 0 (left_of l.trace (length l.trace / 8) 0) l.initial.out)
 
 abbrev pub decreases-loop-records : goal.decreases-loop-records
 decreases-loop-records l = length l.trace / 8 - l.records

@@ -13,26 +13,19 @@ use Rattle.ride_text.proofs.records.put_given.Goals as goal
 
 pub put_text-requires : goal.put_text-requires
 put_text-requires c =
-    let s = c.before.before.before.before.before.before in
-    let a = s.args in
-    one_fits a.reasons a.closed (Line.Record a.number c.refusal.result) a.out.now a.at s.requires
+    let a = c.args in
+    one_fits a.reasons a.closed (Line.Record a.number c.refusal.result) a.out.now a.at c.requires
 
 pub returns-in-Refused : goal.returns-in-Refused
 returns-in-Refused c =
-    let p = c.before.before in
-    let x = p.before.before in
-    let k = x.before.before in
-    let a = k.args in
-    let w = k.in-Refused.wrong in
-    p.put_text.ensures
-    ∙ ap (λ (v : ℕ). put (line_text a.reasons a.closed (Line.Record a.number v)) a.out.now a.at) x.refusal.ensures
-    ∙ ap (λ (t : List ℕ). put t a.out.now a.at) (one_is a.reasons a.closed (Line.Record a.number (says_wrong w)))
-    ∙ ap (λ (v : Given). put (lines_text a.reasons a.closed (lines_for a.number (says_given v))) a.out.now a.at) (sym k.in-Refused.is)
+    let a = c.args in
+    c.put_text.ensures
+    ∙ ap (λ (v : ℕ). put (line_text a.reasons a.closed (Line.Record a.number v)) a.out.now a.at) c.refusal.ensures
+    ∙ ap (λ (t : List ℕ). put t a.out.now a.at) (one_is a.reasons a.closed (Line.Record a.number (says_wrong c.in-Refused.wrong)))
+    ∙ ap (λ (v : Given). put (lines_text a.reasons a.closed (lines_for a.number (says_given v))) a.out.now a.at) (sym c.in-Refused.is)
 
 pub returns-in-Lines : goal.returns-in-Lines
 returns-in-Lines c =
-    let p = c.before.before in
-    let k = p.before.before.before in
-    let a = k.args in
-    p.put_lines.ensures
-    ∙ ap (λ (v : Given). put (lines_text a.reasons a.closed (lines_for a.number (says_given v))) a.out.now a.at) (sym k.in-Lines.is)
+    let a = c.args in
+    c.put_lines.ensures
+    ∙ ap (λ (v : Given). put (lines_text a.reasons a.closed (lines_for a.number (says_given v))) a.out.now a.at) (sym c.in-Lines.is)

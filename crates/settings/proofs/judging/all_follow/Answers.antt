@@ -12,28 +12,19 @@ loop-i-init c = (search rules, search rules, refl)
 
 pub returns-in-Refused : goal.returns-in-Refused
 returns-in-Refused c =
-    let v = c.before in
-    let f = v.before.before in
-    let l = f.before.before.before in
-    let s = l.before in
-    follow_bad s.args.t1 s.args.count s.well-formed.0.1.0.1 s.requires.1 l.loop-i.last l.loop-i.i (says_bad v.in-Refused.bad)
-    f.loop-i-test.true (sym f.follows-verdict.ensures ∙ ap says_verdict v.in-Refused.is)
-    ∙ l.loop-i.invariant.2
+    follow_bad c.args.versions c.args.count c.well_formed.0.1.0.1 c.requires.1 c.loop-i.last c.loop-i.i (says_bad c.in-Refused.bad)
+    c.loop-i-test.true (sym c.follows-verdict.ensures ∙ ap says_verdict c.in-Refused.is)
+    ∙ c.loop-i.invariant.2
 
 pub loop-i-preserved : goal.loop-i-preserved
-loop-i-preserved c =
-    let f = c.before.before in
-    let l = f.before.before.before in
-    let s = l.before in (
-      omega arith,
-      omega arith,
-      sym (follow_next s.args.t1 s.args.count s.well-formed.0.1.0.1 s.requires.1 l.loop-i.last l.loop-i.i
-          f.loop-i-test.true (sym f.follows-verdict.ensures ∙ ap says_verdict c.in_default.is))
-          ∙ l.loop-i.invariant.2,
-    )
+loop-i-preserved c = (
+  omega arith,
+  omega arith,
+  sym (follow_next c.args.versions c.args.count c.well_formed.0.1.0.1 c.requires.1 c.loop-i.last c.loop-i.i
+      c.loop-i-test.true (sym c.follows-verdict.ensures ∙ ap says_verdict c.in_default.is))
+      ∙ c.loop-i.invariant.2,
+)
 
 pub returns : goal.returns
 returns c =
-    let l = c.before in
-    let s = l.before in
-    follow_end s.args.t1 s.args.count s.well-formed.0.1.0.1 s.requires.1 l.loop-i.last l.loop-i.i c.loop-i-test.false ∙ l.loop-i.invariant.2
+    follow_end c.args.versions c.args.count c.well_formed.0.1.0.1 c.requires.1 c.loop-i.last c.loop-i.i c.loop-i-test.false ∙ c.loop-i.invariant.2

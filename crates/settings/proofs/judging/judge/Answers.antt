@@ -16,31 +16,19 @@ returns-then-count-eq0 c = empty c.args.store c.if-count-gt32.false c.if-count-e
 
 pub returns-then-first-ne0 : goal.returns-then-first-ne0
 returns-then-first-ne0 c =
-    let two = c.before.before.before.before in
-    let s = two.before.before in
-    let some : 1 ≤ s.args.store.count = omega (arith, two.if-count-eq0.false) in
-    first_place_law s.args.store two.if-count-gt32.false (unmapped _ s.args.store.versions s.well-formed.0.1.1.0.1.0.1) some
+    let some : 1 ≤ c.args.store.count = omega (arith, c.if-count-eq0.false) in
+    first_place_law c.args.store c.if-count-gt32.false c.well_formed.0.1.1.0.1.0.1 some
     (ne_eqb _ _ c.if-first-ne0.true)
 
 pub returns-in-Refused : goal.returns-in-Refused
 returns-in-Refused c =
-    let v = c.before in
-    let f = v.before.before in
-    let three = f.before in
-    let two = three.before.before.before.before in
-    let s = two.before.before in
-    let some : 1 ≤ s.args.store.count = omega (arith, two.if-count-eq0.false) in
-    first_settings s.args.store two.if-count-gt32.false (unmapped _ s.args.store.versions s.well-formed.0.1.1.0.1.0.1) some
-    (eq-eqb _ _ three.if-first-ne0.false) _ (sym (ap says_verdict v.in-Refused.is) ∙ f.settings_of-verdict.ensures)
+    let some : 1 ≤ c.args.store.count = omega (arith, c.if-count-eq0.false) in
+    first_settings c.args.store c.if-count-gt32.false c.well_formed.0.1.1.0.1.0.1 some
+    (eq-eqb _ _ c.if-first-ne0.false) _ (sym (ap says_verdict c.in-Refused.is) ∙ c.settings_of-verdict.ensures)
 
 pub returns-in-Kept : goal.returns-in-Kept
 returns-in-Kept c =
-    let t = c.before in
-    let f = t.before.before in
-    let three = f.before in
-    let two = three.before.before.before.before in
-    let s = two.before.before in
-    let some : 1 ≤ s.args.store.count = omega (arith, two.if-count-eq0.false) in
+    let some : 1 ≤ c.args.store.count = omega (arith, c.if-count-eq0.false) in
     c.all_follow.ensures
-    ∙ first_settings s.args.store two.if-count-gt32.false (unmapped _ s.args.store.versions s.well-formed.0.1.1.0.1.0.1) some
-    (eq-eqb _ _ three.if-first-ne0.false) _ (sym (ap says_verdict t.in-Kept.is) ∙ f.settings_of-verdict.ensures)
+    ∙ first_settings c.args.store c.if-count-gt32.false c.well_formed.0.1.1.0.1.0.1 some
+    (eq-eqb _ _ c.if-first-ne0.false) _ (sym (ap says_verdict c.in-Kept.is) ∙ c.settings_of-verdict.ensures)

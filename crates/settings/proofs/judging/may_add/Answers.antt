@@ -10,48 +10,34 @@ use Rattle.settings.proofs.judging.may_add.Goals as goal
 pub returns-in-Refused : goal.returns-in-Refused
 unfolding may_add
 returns-in-Refused c =
-    let v = c.before in
-    let own = sym v.judge-own.ensures ∙ ap says_verdict v.in-Refused.is in
+    let own = sym c.judge-own.ensures ∙ ap says_verdict c.in-Refused.is in
     rw own
 
 pub last_place-requires : goal.last_place-requires
 last_place-requires c =
-    let j = c.before.before in
-    let own = sym j.judge-own.ensures ∙ ap says_verdict c.in_default.is in
-    (at_least j.args.store own, at_most j.args.store own)
+    let own = sym c.judge-own.ensures ∙ ap says_verdict c.in_default.is in
+    (at_least c.args.store own, at_most c.args.store own)
 
 pub returns-then-store-lt32 : goal.returns-then-store-lt32
 unfolding may_add
 returns-then-store-lt32 c =
-    let t = c.before.before in
-    let f = t.before.before in
-    let l = f.before in
-    let j = l.before.before.before in
-    let a = j.args in
-    let own = sym j.judge-own.ensures ∙ ap says_verdict l.in_default.is in
-    let version = ap (λ n. follows n a.version) (sym l.last_place.ensures) ∙ sym f.follows-verdict.ensures ∙ ap says_verdict t.in-Kept.is in
+    let a = c.args in
+    let own = sym c.judge-own.ensures ∙ ap says_verdict c.in_default.is in
+    let version = ap (λ n. follows n a.version) (sym c.last_place.ensures) ∙ sym c.follows-verdict.ensures ∙ ap says_verdict c.in-Kept.is in
     rw (own, version, lt-ltb _ _ c.if-store-lt32.true)
 
 pub returns-in-Refused-verdict : goal.returns-in-Refused-verdict
 unfolding may_add
 returns-in-Refused-verdict c =
-    let v = c.before in
-    let f = v.before.before in
-    let l = f.before in
-    let j = l.before.before.before in
-    let a = j.args in
-    let own = sym j.judge-own.ensures ∙ ap says_verdict l.in_default.is in
-    let version = ap (λ n. follows n a.version) (sym l.last_place.ensures) ∙ sym f.follows-verdict.ensures ∙ ap says_verdict v.in-Refused-verdict.is in
+    let a = c.args in
+    let own = sym c.judge-own.ensures ∙ ap says_verdict c.in_default.is in
+    let version = ap (λ n. follows n a.version) (sym c.last_place.ensures) ∙ sym c.follows-verdict.ensures ∙ ap says_verdict c.in-Refused-verdict.is in
     rw (own, version)
 
 pub returns-else-store-lt32 : goal.returns-else-store-lt32
 unfolding may_add
 returns-else-store-lt32 c =
-    let t = c.before.before in
-    let f = t.before.before in
-    let l = f.before in
-    let j = l.before.before.before in
-    let a = j.args in
-    let own = sym j.judge-own.ensures ∙ ap says_verdict l.in_default.is in
-    let version = ap (λ n. follows n a.version) (sym l.last_place.ensures) ∙ sym f.follows-verdict.ensures ∙ ap says_verdict t.in-Kept.is in
+    let a = c.args in
+    let own = sym c.judge-own.ensures ∙ ap says_verdict c.in_default.is in
+    let version = ap (λ n. follows n a.version) (sym c.last_place.ensures) ∙ sym c.follows-verdict.ensures ∙ ap says_verdict c.in-Kept.is in
     rw (own, version, le-ltb _ _ c.if-store-lt32.false)

@@ -12,46 +12,36 @@ use Rattle.settings.proofs.places.in_force.Goals as goal
 
 pub loop-i-init : goal.loop-i-init
 loop-i-init c =
-    let s = c.before.before in
-    let a = s.args in (
+    let a = c.args in (
       search rules,
       search rules,
-      held_first a.store.versions a.store.count (unmapped _ a.store.versions s.well-formed.0.1.1.0.1.0.1) s.requires.1 a.place s.requires.0,
+      held_first a.store.versions a.store.count c.well_formed.0.1.1.0.1.0.1 c.requires.1 a.place c.requires.0,
     )
 
 pub returns-then-place-next : goal.returns-then-place-next
 unfolding held_at versions_of
 returns-then-place-next c =
-    let t = c.before.before.before.before in
-    let l = t.before in
-    let s = l.before.before.before in
-    let a = s.args in
+    let a = c.args in
     c.holds.ensures
-    ∙ held_here a.store.versions a.store.count (unmapped _ a.store.versions s.well-formed.0.1.1.0.1.0.1) s.requires.1 l.loop-i.now a.place l.loop-i.i
-    t.loop-i-test.true (lt-leb _ _ c.if-place-next.true)
-    ∙ l.loop-i.invariant.2
+    ∙ held_here a.store.versions a.store.count c.well_formed.0.1.1.0.1.0.1 c.requires.1 c.loop-i.now a.place c.loop-i.i
+    c.loop-i-test.true (lt-leb _ _ c.if-place-next.true)
+    ∙ c.loop-i.invariant.2
 
 pub loop-i-preserved : goal.loop-i-preserved
 loop-i-preserved c =
-    let t = c.before.before.before in
-    let l = t.before in
-    let s = l.before.before.before in
-    let a = s.args in (
+    let a = c.args in (
       omega arith,
       omega arith,
-      sym (held_next a.store.versions a.store.count (unmapped _ a.store.versions s.well-formed.0.1.1.0.1.0.1) s.requires.1 l.loop-i.now a.place l.loop-i.i
-          t.loop-i-test.true (le-leb _ _ c.if-place-next.false))
-          ∙ l.loop-i.invariant.2,
+      sym (held_next a.store.versions a.store.count c.well_formed.0.1.1.0.1.0.1 c.requires.1 c.loop-i.now a.place c.loop-i.i
+          c.loop-i-test.true (le-leb _ _ c.if-place-next.false))
+          ∙ c.loop-i.invariant.2,
     )
 
 pub returns : goal.returns
 unfolding held_at versions_of
 returns c =
-    let t = c.before in
-    let l = t.before in
-    let s = l.before.before.before in
-    let a = s.args in
+    let a = c.args in
     c.holds-2.ensures
-    ∙ held_last a.store.versions a.store.count (unmapped _ a.store.versions s.well-formed.0.1.1.0.1.0.1) s.requires.1 l.loop-i.now a.place l.loop-i.i
-    t.loop-i-test.false
-    ∙ l.loop-i.invariant.2
+    ∙ held_last a.store.versions a.store.count c.well_formed.0.1.1.0.1.0.1 c.requires.1 c.loop-i.now a.place c.loop-i.i
+    c.loop-i-test.false
+    ∙ c.loop-i.invariant.2

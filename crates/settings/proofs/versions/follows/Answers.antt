@@ -8,29 +8,23 @@ use Rattle.settings.proofs.versions.follows.Goals as goal
 pub returns-then-version-gt4000000000 : goal.returns-then-version-gt4000000000
 unfolding follows
 returns-then-version-gt4000000000 c =
-    let t = c.before.before in
-    let settings = sym t.settings_of-verdict.ensures ∙ ap says_verdict t.in-Kept.is in
+    let settings = sym c.settings_of-verdict.ensures ∙ ap says_verdict c.in-Kept.is in
     rw (settings, lt-ltb _ _ c.if-version-gt4000000000.true)
 
 pub returns-then-version-last : goal.returns-then-version-last
 unfolding follows
 returns-then-version-last c =
-    let e = c.before.before in
-    let t = e.before.before in
-    let settings = sym t.settings_of-verdict.ensures ∙ ap says_verdict t.in-Kept.is in
-    rw (settings, le-ltb _ _ e.if-version-gt4000000000.false, le-leb _ _ c.if-version-last.true)
+    let settings = sym c.settings_of-verdict.ensures ∙ ap says_verdict c.in-Kept.is in
+    rw (settings, le-ltb _ _ c.if-version-gt4000000000.false, le-leb _ _ c.if-version-last.true)
 
 pub returns-in-Refused : goal.returns-in-Refused
 unfolding follows
 returns-in-Refused c =
-    let v = c.before in
-    let settings = sym v.settings_of-verdict.ensures ∙ ap says_verdict v.in-Refused.is in
+    let settings = sym c.settings_of-verdict.ensures ∙ ap says_verdict c.in-Refused.is in
     rw settings
 
 pub returns-else-version-last : goal.returns-else-version-last
 unfolding follows
 returns-else-version-last c =
-    let e = c.before.before in
-    let t = e.before.before in
-    let settings = sym t.settings_of-verdict.ensures ∙ ap says_verdict t.in-Kept.is in
-    rw (settings, le-ltb _ _ e.if-version-gt4000000000.false, lt-leb _ _ c.if-version-last.false)
+    let settings = sym c.settings_of-verdict.ensures ∙ ap says_verdict c.in-Kept.is in
+    rw (settings, le-ltb _ _ c.if-version-gt4000000000.false, lt-leb _ _ c.if-version-last.false)

@@ -7,8 +7,7 @@ use Rattle.settings.proofs.versions.settings_of.Goals as goal
 pub returns-then-allowed : goal.returns-then-allowed
 unfolding settings_of
 returns-then-allowed c =
-    let t = c.before.before in
-    let pair = sym t.good_pair.ensures ∙ ap says_pair t.in-Good.is in
+    let pair = sym c.good_pair.ensures ∙ ap says_pair c.in-Good.is in
     rw (pair, ← c.allowed.ensures, c.if-allowed.true)
 
 pub returns-in-NotSeven : goal.returns-in-NotSeven
@@ -20,6 +19,5 @@ returns-in-NotSeven c =
 pub returns-else-allowed : goal.returns-else-allowed
 unfolding settings_of
 returns-else-allowed c =
-    let t = c.before.before in
-    let pair = sym t.good_pair.ensures ∙ ap says_pair t.in-Good.is in
+    let pair = sym c.good_pair.ensures ∙ ap says_pair c.in-Good.is in
     rw (pair, ← c.allowed.ensures, c.if-allowed.false)

@@ -13,20 +13,14 @@ returns-in_default-gap c = simp (c.in-Is.is, c.in_default-gap.is)
 pub returns-in_default-s : goal.returns-in_default-s
 unfolding version
 returns-in_default-s c =
-    let g = c.before.before.before in
-    simp (g.in-Is.is, g.in-Is-gap.is, c.in_default-s.is)
+    simp (c.in-Is.is, c.in-Is-gap.is, c.in_default-s.is)
 
 pub returns-in_default-t : goal.returns-in_default-t
 unfolding version
 returns-in_default-t c =
-    let s = c.before.before.before in
-    let g = s.before.before.before in
-    simp (g.in-Is.is, g.in-Is-gap.is, s.in-Is-s.is, c.in_default-t.is)
+    simp (c.in-Is.is, c.in-Is-gap.is, c.in-Is-s.is, c.in_default-t.is)
 
 pub returns : goal.returns
 unfolding version
 returns c =
-    let t = c.before in
-    let s = t.before.before.before in
-    let g = s.before.before.before in
-    simp (g.in-Is.is, g.in-Is-gap.is, s.in-Is-s.is, t.in-Is-t.is)
+    simp (c.in-Is.is, c.in-Is-gap.is, c.in-Is-s.is, c.in-Is-t.is)

@@ -19,7 +19,6 @@ returns-in-Kept c =
 
 pub returns-in-Refused : goal.returns-in-Refused
 returns-in-Refused c =
-    let k = c.before.before in
-    let a = k.args in
+    let a = c.args in
     ap (λ (n : ℕ). refused_with a.old n) c.number_of.ensures
-    ∙ ap (λ (v : Verdict). after_it (says_verdict v) a.old a.new) (sym k.in-Refused.is)
+    ∙ ap (λ (v : Verdict). after_it (says_verdict v) a.old a.new) (sym c.in-Refused.is)

@@ -7,11 +7,9 @@ use Rattle.settings_text.proofs.taking.give.Goals as goal
 
 pub returns-then-store-gt0 : goal.returns-then-store-gt0
 returns-then-store-gt0 c =
-    let d = c.before.before in
-    let s = d.before.before.before in
-    let a = s.args in
-    c.after_it.ensures ∙ ap (changed a.store) d.add-added.ensures
-    ∙ to_a_store a.store (record { place = a.place; gap = a.gap; s = a.s; t = a.t }) (omega (arith, d.if-store-gt0.true))
+    let a = c.args in
+    c.after_it.ensures ∙ ap (changed a.store) c.add-added.ensures
+    ∙ to_a_store a.store (record { place = a.place; gap = a.gap; s = a.s; t = a.t }) (omega (arith, c.if-store-gt0.true))
 
 pub returns-then-place-gt0 : goal.returns-then-place-gt0
 returns-then-place-gt0 c =
@@ -20,8 +18,6 @@ returns-then-place-gt0 c =
 
 pub returns : goal.returns
 returns c =
-    let b = c.before.before in
-    let e = b.before in
-    let a = e.args in
-    c.after_it-2.ensures ∙ ap (changed a.store) b.begin-begun.ensures
-    ∙ to_none a.store (record { place = a.place; gap = a.gap; s = a.s; t = a.t }) (omega (arith, e.if-store-gt0.false)) (omega (arith, e.if-place-gt0.false))
+    let a = c.args in
+    c.after_it-2.ensures ∙ ap (changed a.store) c.begin-begun.ensures
+    ∙ to_none a.store (record { place = a.place; gap = a.gap; s = a.s; t = a.t }) (omega (arith, c.if-store-gt0.false)) (omega (arith, c.if-place-gt0.false))

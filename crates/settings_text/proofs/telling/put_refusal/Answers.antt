@@ -11,24 +11,15 @@ use Rattle.settings_text.proofs.telling.put_refusal.Goals as goal
 
 pub returns-then-line-eq0 : goal.returns-then-line-eq0
 returns-then-line-eq0 c =
-    let p2 = c.before.before in
-    let p1 = p2.before.before.before.before in
-    let i = p1.before.before.before in
-    let s = i.before.before in
-    let a = s.args in
-    let is = of_none a.line a.number i.if-line-eq0.true in
-    join a.buf.now a.at (codes "settings ") (refused a.number) (room_as a.buf.now a.at is s.requires) p1.put-a.ensures p2.Put-refused.ensures
+    let a = c.args in
+    let is = of_none a.line a.number c.if-line-eq0.true in
+    join a.buf.now a.at (codes "settings ") (refused a.number) (room_as a.buf.now a.at is c.requires) c.put-a.ensures c.Put-refused.ensures
     ∙ ap (λ (t : List ℕ). put t a.buf.now a.at) is
 
 pub returns : goal.returns
 returns c =
-    let p3 = c.before.before in
-    let p2 = p3.before.before.before.before in
-    let p1 = p2.before.before.before.before.before in
-    let i = p1.before.before.before in
-    let s = i.before.before in
-    let a = s.args in
-    let is = of_a_line a.line a.number i.if-line-eq0.false in
-    join_3 a.buf.now a.at (numbered "settings line " a.line) (codes " ") (refused a.number) (room_as a.buf.now a.at is s.requires)
-    p1.put_number-a.ensures p2.put-b.ensures p3.put_refused-2.ensures
+    let a = c.args in
+    let is = of_a_line a.line a.number c.if-line-eq0.false in
+    join_3 a.buf.now a.at (numbered "settings line " a.line) (codes " ") (refused a.number) (room_as a.buf.now a.at is c.requires)
+    c.put_number-a.ensures c.put-b.ensures c.put_refused-2.ensures
     ∙ ap (λ (t : List ℕ). put t a.buf.now a.at) is

@@ -38,7 +38,7 @@ returns c =
     let all : l.j ≡ n = omega arith in
     let on : (i : ℕ) → i < n → get_or l.bytes i 0 ≡ byte_among figures i = λ i h. l.invariant.2 i (subst (λ (m : ℕ). i < m) (sym all) h) in
     let is : l.bytes ≡ spread n figures = is_each (byte_among figures) n 0 l.bytes l.invariant.0 on in
-    (is, λ i h. ap (λ (b : List ℕ). figure_at_meant b i) is ∙ reads_back figures n i h (omega (arith, c.type_inv.figures i)))
+    record { bytes_after = is; by_index = λ i h. ap (λ (b : List ℕ). figure_at_meant b i) is ∙ reads_back figures n i h (omega (arith, c.type_inv.figures i)) }
 
 pub shape_of-bytes : goal.shape_of-bytes
 shape_of-bytes c = c.loop-j.invariant.0

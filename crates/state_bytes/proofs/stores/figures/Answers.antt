@@ -16,7 +16,7 @@ loop-j-init c = (refl, omega arith, (λ i h. absurd (omega arith)), λ i h. absu
 pub loop-j-preserved : goal.loop-j-preserved
 loop-j-preserved c =
     let l = c.loop-j in
-    let versions = c.args.t1 in
+    let versions = c.args.versions in
     let wrote = c.version_figure.ensures in
     let inside : l.j < length l.figures = subst (λ (n : ℕ). l.j < n) (sym l.invariant.0) (omega arith) in
     let v = c.version_figure.result in (
@@ -34,4 +34,4 @@ returns c =
     let all : l.j ≡ 128 = omega arith in
     let on : (i : ℕ) → i < 128 → get_or l.figures i 0 ≡ rule args.t1 i = λ i h. l.invariant.2 i (subst (λ (n : ℕ). i < n) (sym all) h) in
     let small : (i : ℕ) → i < 128 → rule args.t1 i < width_of (i % 4) = λ i h. l.invariant.3 i (subst (λ (n : ℕ). i < n) (sym all) h) in
-    (then_last (rule args.t1) 0 l.figures args.count 128 l.invariant.0 on, (small, c.well-formed.0.1.0.1))
+    (then_last (rule args.t1) 0 l.figures args.count 128 l.invariant.0 on, (small, c.well_formed.0.1.0.1))

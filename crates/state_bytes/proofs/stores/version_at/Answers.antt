@@ -12,11 +12,8 @@ of_these p q g h s u t v a b c d = cc
 
 pub returns : goal.returns
 returns c =
-    let at-s = c.before.before.before in
-    let at_gap = at-s.before.before.before in
-    let at_place = at_gap.before.before.before in
     of_these _ _ _ _ _ _ _ _
-    (at_place.low32.ensures ∙ ap (λ (n : ℕ). n % 4294967296) at_place.figure_at.ensures)
-    (at_gap.low32-2.ensures ∙ ap (λ (n : ℕ). n % 4294967296) at_gap.figure_at-2.ensures)
-    (at-s.low8.ensures ∙ ap (λ (n : ℕ). n % 256) at-s.figure_at-3.ensures)
+    (c.low32.ensures ∙ ap (λ (n : ℕ). n % 4294967296) c.figure_at.ensures)
+    (c.low32-2.ensures ∙ ap (λ (n : ℕ). n % 4294967296) c.figure_at-2.ensures)
+    (c.low8.ensures ∙ ap (λ (n : ℕ). n % 256) c.figure_at-3.ensures)
     (c.low8-2.ensures ∙ ap (λ (n : ℕ). n % 256) c.figure_at-4.ensures)

@@ -14,21 +14,16 @@ after a z b = then (named Word.Z (short_word z)) (λ c. gives (Telegram.Figures 
 
 pub returns-in-NotCode : goal.returns-in-NotCode
 returns-in-NotCode c =
-    let s = c.before.before.before in
-    let a = s.args in
-    no_code Word.Y a.y (after a.a a.z) s.read_short.result s.read_short.ensures c.in-NotCode.p c.in-NotCode.is
+    let a = c.args in
+    no_code Word.Y a.y (after a.a a.z) c.read_short.result c.read_short.ensures c.in-NotCode.p c.in-NotCode.is
 
 pub returns-then-b-eq15 : goal.returns-then-b-eq15
 returns-then-b-eq15 c =
-    let t = c.before.before in
-    let s = t.before.before in
-    let a = s.args in
-    fifteen Word.Y a.y (after a.a a.z) s.read_short.result s.read_short.ensures t.in-Figure.b t.in-Figure.is c.if-b-eq15.true
+    let a = c.args in
+    fifteen Word.Y a.y (after a.a a.z) c.read_short.result c.read_short.ensures c.in-Figure.b c.in-Figure.is c.if-b-eq15.true
 
 pub returns-else-b-eq15 : goal.returns-else-b-eq15
 returns-else-b-eq15 c =
-    let t = c.before.before.before in
-    let s = t.before.before in
-    let a = s.args in
+    let a = c.args in
     c.last.ensures
-    ∙ a_figure Word.Y a.y (after a.a a.z) s.read_short.result s.read_short.ensures t.in-Figure.b t.in-Figure.is c.if-b-eq15.false
+    ∙ a_figure Word.Y a.y (after a.a a.z) c.read_short.result c.read_short.ensures c.in-Figure.b c.in-Figure.is c.if-b-eq15.false

@@ -13,20 +13,15 @@ after a b c = gives (Telegram.Figures a b c)
 
 pub returns-in-NotCode : goal.returns-in-NotCode
 returns-in-NotCode c =
-    let s = c.before.before.before in
-    let a = s.args in
-    no_code Word.Z a.z (after a.a a.b) s.read_short.result s.read_short.ensures c.in-NotCode.p c.in-NotCode.is
+    let a = c.args in
+    no_code Word.Z a.z (after a.a a.b) c.read_short.result c.read_short.ensures c.in-NotCode.p c.in-NotCode.is
 
 pub returns-then-c-eq15 : goal.returns-then-c-eq15
 returns-then-c-eq15 c =
-    let t = c.before.before in
-    let s = t.before.before in
-    let a = s.args in
-    fifteen Word.Z a.z (after a.a a.b) s.read_short.result s.read_short.ensures t.in-Figure.c t.in-Figure.is c.if-c-eq15.true
+    let a = c.args in
+    fifteen Word.Z a.z (after a.a a.b) c.read_short.result c.read_short.ensures c.in-Figure.c c.in-Figure.is c.if-c-eq15.true
 
 pub returns-else-c-eq15 : goal.returns-else-c-eq15
 returns-else-c-eq15 c =
-    let t = c.before.before in
-    let s = t.before.before in
-    let a = s.args in
-    a_figure Word.Z a.z (after a.a a.b) s.read_short.result s.read_short.ensures t.in-Figure.c t.in-Figure.is c.if-c-eq15.false
+    let a = c.args in
+    a_figure Word.Z a.z (after a.a a.b) c.read_short.result c.read_short.ensures c.in-Figure.c c.in-Figure.is c.if-c-eq15.false

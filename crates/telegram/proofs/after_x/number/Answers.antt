@@ -7,12 +7,10 @@ use Rattle.telegram.proofs.after_x.number.Goals as goal
 
 pub returns-in-NotCode : goal.returns-in-NotCode
 returns-in-NotCode c =
-    let s = c.before.before.before in
-    let a = s.args in
-    long_is a.y a.z (λ m. gives (Telegram.Number m)) s.read_long.result (LongRead.NotCode c.in-NotCode.p) s.read_long.ensures c.in-NotCode.is
+    let a = c.args in
+    long_is a.y a.z (λ m. gives (Telegram.Number m)) c.read_long.result (LongRead.NotCode c.in-NotCode.p) c.read_long.ensures c.in-NotCode.is
 
 pub returns-in-Figure : goal.returns-in-Figure
 returns-in-Figure c =
-    let s = c.before.before.before in
-    let a = s.args in
-    long_is a.y a.z (λ m. gives (Telegram.Number m)) s.read_long.result (LongRead.Figure c.in-Figure.m) s.read_long.ensures c.in-Figure.is
+    let a = c.args in
+    long_is a.y a.z (λ m. gives (Telegram.Number m)) c.read_long.result (LongRead.Figure c.in-Figure.m) c.read_long.ensures c.in-Figure.is

@@ -15,17 +15,17 @@ pub overflow_add-result : goal.overflow_add-result
 overflow_add-result c = omega (arith, lies_in c)
 
 pub bounds-buf-i : goal.bounds-buf-i
-bounds-buf-i c = omega (arith, lies_in c.before)
+bounds-buf-i c = omega (arith, lies_in (goal.at-bounds-buf-i c).Then-has)
 
 pub overflow_cast-result : goal.overflow_cast-result
 overflow_cast-result c =
     let a = c.args in
-    omega (arith, lies_in c.before, c.type_inv.buf (a.i + a.k))
+    omega (arith, lies_in (goal.at-overflow_cast-result c).Then-has, c.type_inv.buf (a.i + a.k))
 
 pub returns-then-has : goal.returns-then-has
 returns-then-has c =
     let a = c.args in
-    (refl, omega (arith, lies_in c.before, c.type_inv.buf (a.i + a.k)))
+    (refl, omega (arith, lies_in (goal.at-returns-then-has c).Then-has, c.type_inv.buf (a.i + a.k)))
 
 pub returns : goal.returns
 returns c =

@@ -7,7 +7,7 @@ use Rattle.words.specs.Plain.{is_check, covers, count, carriers, carried, made_e
 use Rattle.words.specs.Code.{other, exchanged, sent}
 use Rattle.words.specs.Says.{says_long_written}
 use Rattle.telegram.specs.Spelling.{words_of}
-use Rattle.telegram.proofs.Spelt.{written, unwritten, large_number, number_out}
+use Rattle.telegram.proofs.Spellings.{written, unwritten, large_number, number_out}
 use Rattle.telegram.proofs.spelling.number.Goals as goal
 
 -- the word for 12
@@ -17,15 +17,12 @@ twelve = refl
 
 pub returns-in_default : goal.returns-in_default
 returns-in_default c =
-    let s = c.before.before in
-    let m = s.args.m in
-    large_number m (unwritten 16 2047 m (ap says_long_written (sym c.in_default.is) ∙ s.write_long.ensures))
+    let m = c.args.m in
+    large_number m (unwritten 16 2047 m (ap says_long_written (sym c.in_default.is) ∙ c.write_long.ensures))
 
 pub returns : goal.returns
 unfolding words_of
 returns c =
-    let s = c.before.before.before in
-    let m = s.args.m in
-    let w = c.in-Word.w in
-    let is = written 16 2047 m w (ap says_long_written (sym c.in-Word.is) ∙ s.write_long.ensures) in
+    let m = c.args.m in
+    let is = written 16 2047 m c.in-Word.w (ap says_long_written (sym c.in-Word.is) ∙ c.write_long.ensures) in
     ap₂ (λ (a b : ℕ). gives (record { x = a; y = b / 256; z = b % 256 })) (sym twelve) is.1 ∙ number_out m is.0

@@ -10,6 +10,4 @@ returns-in-None c = by_case number_pieces _ _ c.in-None.is (none _ _)
 
 pub returns-in-Figure : goal.returns-in-Figure
 returns-in-Figure c =
-    let p = c.before.before in
-    let k = p.before.before.before.before in
-    by_case number_pieces _ _ k.in-Figure.is (alone _ _ _ p.put_number.ensures)
+    by_case number_pieces _ _ c.in-Figure.is (alone _ _ _ c.put_number.ensures)

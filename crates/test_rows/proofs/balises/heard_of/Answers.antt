@@ -12,45 +12,33 @@ returns-then-is_sign c = sym (holds _ _ (sym c.is_sign.ensures ∙ c.if-is_sign.
 pub returns-then-is_sign-2 : goal.returns-then-is_sign-2
 unfolding heard_as
 returns-then-is_sign-2 c =
-    let one = c.before.before in
-    sym (fails _ _ (sym one.is_sign.ensures ∙ one.if-is_sign.false) ∙ holds _ _ (sym c.is_sign-2.ensures ∙ c.if-is_sign-2.true))
+    sym (fails _ _ (sym c.is_sign.ensures ∙ c.if-is_sign.false) ∙ holds _ _ (sym c.is_sign-2.ensures ∙ c.if-is_sign-2.true))
 
 pub returns-then-has : goal.returns-then-has
 unfolding heard_as
 returns-then-has c =
-    let three = c.before in
-    let two = three.before.before in
-    let one = two.before.before in
     c.number.ensures
     ∙ sym
-    (fails _ _ (sym one.is_sign.ensures ∙ one.if-is_sign.false)
-    ∙ fails _ _ (sym two.is_sign-2.ensures ∙ two.if-is_sign-2.false)
-    ∙ holds _ _ (sym three.has.ensures ∙ three.if-has.true))
+    (fails _ _ (sym c.is_sign.ensures ∙ c.if-is_sign.false)
+    ∙ fails _ _ (sym c.is_sign-2.ensures ∙ c.if-is_sign-2.false)
+    ∙ holds _ _ (sym c.has.ensures ∙ c.if-has.true))
 
 pub returns-then-has-2 : goal.returns-then-has-2
 unfolding heard_as
 returns-then-has-2 c =
-    let four = c.before in
-    let three = four.before.before in
-    let two = three.before.before in
-    let one = two.before.before in
     c.three.ensures
     ∙ sym
-    (fails _ _ (sym one.is_sign.ensures ∙ one.if-is_sign.false)
-    ∙ fails _ _ (sym two.is_sign-2.ensures ∙ two.if-is_sign-2.false)
-    ∙ fails _ _ (sym three.has.ensures ∙ three.if-has.false)
-    ∙ holds _ _ (sym four.has-2.ensures ∙ four.if-has-2.true))
+    (fails _ _ (sym c.is_sign.ensures ∙ c.if-is_sign.false)
+    ∙ fails _ _ (sym c.is_sign-2.ensures ∙ c.if-is_sign-2.false)
+    ∙ fails _ _ (sym c.has.ensures ∙ c.if-has.false)
+    ∙ holds _ _ (sym c.has-2.ensures ∙ c.if-has-2.true))
 
 pub returns : goal.returns
 unfolding heard_as
 returns c =
-    let four = c.before in
-    let three = four.before.before in
-    let two = three.before.before in
-    let one = two.before.before in
     c.three-2.ensures
     ∙ sym
-    (fails _ _ (sym one.is_sign.ensures ∙ one.if-is_sign.false)
-    ∙ fails _ _ (sym two.is_sign-2.ensures ∙ two.if-is_sign-2.false)
-    ∙ fails _ _ (sym three.has.ensures ∙ three.if-has.false)
-    ∙ fails _ _ (sym four.has-2.ensures ∙ four.if-has-2.false))
+    (fails _ _ (sym c.is_sign.ensures ∙ c.if-is_sign.false)
+    ∙ fails _ _ (sym c.is_sign-2.ensures ∙ c.if-is_sign-2.false)
+    ∙ fails _ _ (sym c.has.ensures ∙ c.if-has.false)
+    ∙ fails _ _ (sym c.has-2.ensures ∙ c.if-has-2.false))

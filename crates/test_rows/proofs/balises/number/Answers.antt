@@ -18,21 +18,19 @@ use Rattle.test_rows.proofs.balises.number.Goals as goal
 whole : (d : After-decimal) {f : Figure} → f ≡ d.decimal.result → numbered d.sent-x.result f ≡ number_as d.args.text.now
 unfolding number_as
 whole d e =
-    let s = d.before.before in
-    let text = s.args.text.now in
-    ap (numbered s.sent-x.result) (e ∙ d.decimal.ensures ∙ ap (λ (t : List ℕ). decimal t 65535) (bytes_of d.field-2.ensures))
-    ∙ ap (λ (x : Short). numbered x (decimal (field text 110 1) 65535)) (s.sent-x.ensures ∙ ap sent_as (bytes_of s.field.ensures))
+    let text = d.args.text.now in
+    ap (numbered d.sent-x.result) (e ∙ d.decimal.ensures ∙ ap (λ (t : List ℕ). decimal t 65535) (bytes_of d.field-2.ensures))
+    ∙ ap (λ (x : Short). numbered x (decimal (field text 110 1) 65535)) (d.sent-x.ensures ∙ ap sent_as (bytes_of d.field.ensures))
 
 pub overflow_cast-n : goal.overflow_cast-n
 overflow_cast-n c = omega (arith, no_larger _ _ _ (sym c.in-Number.is ∙ c.decimal.ensures))
 
 pub returns-in-Number : goal.returns-in-Number
 returns-in-Number c =
-    let n = c.before.before in
-    c.number_word.ensures ∙ whole n.before.before (sym n.in-Number.is)
+    c.number_word.ensures ∙ whole (goal.at-returns-in-Number c).After-decimal (sym c.in-Number.is)
 
 pub returns-in-Above : goal.returns-in-Above
-returns-in-Above c = whole c.before.before (sym c.in-Above.is)
+returns-in-Above c = whole (goal.at-returns-in-Above c).After-decimal (sym c.in-Above.is)
 
 pub returns-in-Odd : goal.returns-in-Odd
-returns-in-Odd c = whole c.before.before (sym c.in-Odd.is)
+returns-in-Odd c = whole (goal.at-returns-in-Odd c).After-decimal (sym c.in-Odd.is)

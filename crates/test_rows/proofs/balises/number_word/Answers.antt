@@ -8,15 +8,12 @@ use Rattle.test_rows.proofs.balises.number_word.Goals as goal
 
 pub returns-in-Word : goal.returns-in-Word
 returns-in-Word c =
-    let w = c.before.before in
-    let l = w.before.before in
-    let x = l.args.x in
+    let x = c.args.x in
     c.words_of.ensures
-    ∙ ap (λ (r : LongWritten). number_word x (says_long_written r)) (sym w.in-Word.is)
-    ∙ ap (number_word x) l.write_long.ensures
+    ∙ ap (λ (r : LongWritten). number_word x (says_long_written r)) (sym c.in-Word.is)
+    ∙ ap (number_word x) c.write_long.ensures
 
 pub returns-in-TooLarge : goal.returns-in-TooLarge
 returns-in-TooLarge c =
-    let l = c.before.before in
-    let x = l.args.x in
-    ap (λ (r : LongWritten). number_word x (says_long_written r)) (sym c.in-TooLarge.is) ∙ ap (number_word x) l.write_long.ensures
+    let x = c.args.x in
+    ap (λ (r : LongWritten). number_word x (says_long_written r)) (sym c.in-TooLarge.is) ∙ ap (number_word x) c.write_long.ensures

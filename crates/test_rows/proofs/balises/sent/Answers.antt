@@ -11,15 +11,13 @@ use Rattle.test_rows.proofs.balises.sent.Goals as goal
 pub returns-in-Word : goal.returns-in-Word
 unfolding sent_as
 returns-in-Word c =
-    let w = c.before.before.before in
     ap (λ (r : ShortWritten). word_of (says_short_written r)) (sym c.in-Word.is)
-    ∙ ap word_of w.write_short.ensures
-    ∙ ap (λ (x : ℕ). word_of (write_short x)) w.figure.ensures
+    ∙ ap word_of c.write_short.ensures
+    ∙ ap (λ (x : ℕ). word_of (write_short x)) c.figure.ensures
 
 pub returns-in-TooLarge : goal.returns-in-TooLarge
 unfolding sent_as
 returns-in-TooLarge c =
-    let w = c.before.before in
     ap (λ (r : ShortWritten). word_of (says_short_written r)) (sym c.in-TooLarge.is)
-    ∙ ap word_of w.write_short.ensures
-    ∙ ap (λ (x : ℕ). word_of (write_short x)) w.figure.ensures
+    ∙ ap word_of c.write_short.ensures
+    ∙ ap (λ (x : ℕ). word_of (write_short x)) c.figure.ensures

@@ -9,12 +9,9 @@ use Rattle.test_rows.proofs.balises.three.Goals as goal
 pub returns : goal.returns
 unfolding three_as
 returns c =
-    let z = c.before in
-    let y = z.before.before in
-    let x = y.before.before in
-    let in-hex = x.args.in_hex in
-    let first = x.word-x.ensures ∙ ap (word_as in-hex) (bytes_of x.field.ensures) in
-    let second = y.word-y.ensures ∙ ap (word_as in-hex) (bytes_of y.field-2.ensures) in
-    let third = z.word.ensures ∙ ap (word_as in-hex) (bytes_of z.field-3.ensures) in
+    let in-hex = c.args.in_hex in
+    let first = c.word-x.ensures ∙ ap (word_as in-hex) (bytes_of c.field.ensures) in
+    let second = c.word-y.ensures ∙ ap (word_as in-hex) (bytes_of c.field-2.ensures) in
+    let third = c.word.ensures ∙ ap (word_as in-hex) (bytes_of c.field-3.ensures) in
     let all = c.words_of.ensures in
     cc

@@ -6,20 +6,17 @@ use Rattle.test_rows.proofs.spelling.spells.Goals as goal
 pub returns-in-Number : goal.returns-in-Number
 unfolding spells
 returns-in-Number c =
-    let d = c.before.before.before in
-    let n = d.args.n in
-    ap (is n) (sym c.in-Number.is) ∙ ap (is n) d.decimal.ensures
+    let n = c.args.n in
+    ap (is n) (sym c.in-Number.is) ∙ ap (is n) c.decimal.ensures
 
 pub returns-in-Above : goal.returns-in-Above
 unfolding spells
 returns-in-Above c =
-    let d = c.before.before in
-    let n = d.args.n in
-    ap (is n) (sym c.in-Above.is) ∙ ap (is n) d.decimal.ensures
+    let n = c.args.n in
+    ap (is n) (sym c.in-Above.is) ∙ ap (is n) c.decimal.ensures
 
 pub returns-in-Odd : goal.returns-in-Odd
 unfolding spells
 returns-in-Odd c =
-    let d = c.before.before in
-    let n = d.args.n in
-    ap (is n) (sym c.in-Odd.is) ∙ ap (is n) d.decimal.ensures
+    let n = c.args.n in
+    ap (is n) (sym c.in-Odd.is) ∙ ap (is n) c.decimal.ensures

@@ -9,33 +9,25 @@ use Rattle.test_words.proofs.cells.columns.Goals as goal
 pub returns-then-right-eq0 : goal.returns-then-right-eq0
 unfolding columns_of
 returns-then-right-eq0 c =
-    let g = c.before.before.before in
-    let o = g.before in
-    let a = o.args in
-    let off = o.read_off-off.ensures ∙ ap shown_by (its_bytes o.field.ensures) in
-    let three : length (column a.line.now 3) ≡ 0 = ap length (sym (its_bytes g.field-right.ensures)) ∙ c.if-right-eq0.true in
+    let a = c.args in
+    let off = c.read_off-off.ensures ∙ ap shown_by (its_bytes c.field.ensures) in
+    let three : length (column a.line.now 3) ≡ 0 = ap length (sym (its_bytes c.field-right.ensures)) ∙ c.if-right-eq0.true in
     simp (eq-eqb _ _ three) (c.held.ensures ∙ ap (held_by a.figure) off)
 
 pub returns-then-why-eq0 : goal.returns-then-why-eq0
 unfolding columns_of
 returns-then-why-eq0 c =
-    let f = c.before.before in
-    let g = f.before in
-    let a = g.args in
-    let three : (length (column a.line.now 3) ≡ 0) → ⊥ = λ z. c.if-right-eq0.false (ap length (its_bytes g.field-right.ensures) ∙ z) in
-    let four : length (column a.line.now 4) ≡ 0 = ap length (sym (its_bytes f.field-why.ensures)) ∙ c.if-why-eq0.true in
+    let a = c.args in
+    let three : (length (column a.line.now 3) ≡ 0) → ⊥ = λ z. c.if-right-eq0.false (ap length (its_bytes c.field-right.ensures) ∙ z) in
+    let four : length (column a.line.now 4) ≡ 0 = ap length (sym (its_bytes c.field-why.ensures)) ∙ c.if-why-eq0.true in
     simp (ne_eqb _ _ three, eq-eqb _ _ four)
 
 pub returns : goal.returns
 unfolding columns_of
 returns c =
-    let s = c.before.before in
-    let f = s.before.before in
-    let g = f.before in
-    let o = g.before in
-    let a = o.args in
-    let off = o.read_off-off.ensures ∙ ap shown_by (its_bytes o.field.ensures) in
-    let right = c.word.ensures ∙ ap word_by (its_bytes g.field-right.ensures) in
-    let three : (length (column a.line.now 3) ≡ 0) → ⊥ = λ z. s.if-right-eq0.false (ap length (its_bytes g.field-right.ensures) ∙ z) in
-    let four : (length (column a.line.now 4) ≡ 0) → ⊥ = λ z. s.if-why-eq0.false (ap length (its_bytes f.field-why.ensures) ∙ z) in
+    let a = c.args in
+    let off = c.read_off-off.ensures ∙ ap shown_by (its_bytes c.field.ensures) in
+    let right = c.word.ensures ∙ ap word_by (its_bytes c.field-right.ensures) in
+    let three : (length (column a.line.now 3) ≡ 0) → ⊥ = λ z. c.if-right-eq0.false (ap length (its_bytes c.field-right.ensures) ∙ z) in
+    let four : (length (column a.line.now 4) ≡ 0) → ⊥ = λ z. c.if-why-eq0.false (ap length (its_bytes c.field-why.ensures) ∙ z) in
     simp (ne_eqb _ _ three, ne_eqb _ _ four) (c.put_right.ensures ∙ ap₂ (put_right a.figure) off right)

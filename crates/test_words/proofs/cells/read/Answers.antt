@@ -19,28 +19,25 @@ unfolding cell_of
 returns-then-begins c = simp (← c.begins.ensures, c.if-begins.true)
 
 pub overflow_cast-n : goal.overflow_cast-n
-overflow_cast-n c = omega (arith, no_larger _ _ _ (sym c.in-Number.is ∙ figured c.before.before.before))
+overflow_cast-n c = omega (arith, no_larger _ _ _ (sym c.in-Number.is ∙ figured (goal.at-overflow_cast-n c).After-decimal))
 
 pub returns-in-Number : goal.returns-in-Number
 unfolding cell_of
 returns-in-Number c =
-    let d = c.before.before.before.before in
-    let line = d.args.line.now in
-    let e = sym c.in-Number.is ∙ figured d in
-    simp (← d.begins.ensures, d.if-begins.false) (c.columns.ensures ∙ ap (with_figure line) e)
+    let line = c.args.line.now in
+    let e = sym c.in-Number.is ∙ figured (goal.at-returns-in-Number c).After-decimal in
+    simp (← c.begins.ensures, c.if-begins.false) (c.columns.ensures ∙ ap (with_figure line) e)
 
 pub returns-in-Above : goal.returns-in-Above
 unfolding cell_of
 returns-in-Above c =
-    let d = c.before.before in
-    let line = d.args.line.now in
-    let e = sym c.in-Above.is ∙ figured d in
-    simp (← d.begins.ensures, d.if-begins.false) (ap (with_figure line) e)
+    let line = c.args.line.now in
+    let e = sym c.in-Above.is ∙ figured (goal.at-returns-in-Above c).After-decimal in
+    simp (← c.begins.ensures, c.if-begins.false) (ap (with_figure line) e)
 
 pub returns-in-Odd : goal.returns-in-Odd
 unfolding cell_of
 returns-in-Odd c =
-    let d = c.before.before in
-    let line = d.args.line.now in
-    let e = sym c.in-Odd.is ∙ figured d in
-    simp (← d.begins.ensures, d.if-begins.false) (ap (with_figure line) e)
+    let line = c.args.line.now in
+    let e = sym c.in-Odd.is ∙ figured (goal.at-returns-in-Odd c).After-decimal in
+    simp (← c.begins.ensures, c.if-begins.false) (ap (with_figure line) e)

@@ -20,21 +20,15 @@ returns-then-text-ne4 c = simp (ne_eqb _ _ c.if-text-ne4.true)
 
 pub returns-in_default : goal.returns-in_default
 returns-in_default c =
-    let h = c.before.before in
-    let g = h.before.before in
-    let t = g.args.text.now in
-    pairs t g.if-text-ne4.false (sym g.hex-high.ensures ∙ c.in_default.is) refl
+    let t = c.args.text.now in
+    pairs t c.if-text-ne4.false (sym c.hex-high.ensures ∙ c.in_default.is) refl
 
 pub returns-in_default-low : goal.returns-in_default-low
 returns-in_default-low c =
-    let h = c.before.before.before.before.before in
-    let g = h.before.before in
-    let t = g.args.text.now in
-    pairs t g.if-text-ne4.false (sym g.hex-high.ensures ∙ c.in-Is.is) (sym h.hex-low.ensures ∙ c.in_default-low.is)
+    let t = c.args.text.now in
+    pairs t c.if-text-ne4.false (sym c.hex-high.ensures ∙ c.in-Is.is) (sym c.hex-low.ensures ∙ c.in_default-low.is)
 
 pub returns : goal.returns
 returns c =
-    let h = c.before.before.before.before.before.before in
-    let g = h.before.before in
-    let t = g.args.text.now in
-    pairs t g.if-text-ne4.false (sym g.hex-high.ensures ∙ c.in-Is.is) (sym h.hex-low.ensures ∙ c.in-Is-low.is)
+    let t = c.args.text.now in
+    pairs t c.if-text-ne4.false (sym c.hex-high.ensures ∙ c.in-Is.is) (sym c.hex-low.ensures ∙ c.in-Is-low.is)

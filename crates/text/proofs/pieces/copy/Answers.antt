@@ -17,13 +17,12 @@ loop-i-init c =
 
 pub loop-i-preserved : goal.loop-i-preserved
 loop-i-preserved c =
-    let l = c.before.before in
-    let a = l.args in
-    let i = l.loop-i.i in
-    let room : a.at + i < length l.loop-i.buf = omega arith in (
+    let a = c.args in
+    let i = c.loop-i.i in
+    let room : a.at + i < length c.loop-i.buf = omega arith in (
       omega arith,
-      length-set l.loop-i.buf (a.at + i) (get_or a.bytes.now i 0) ∙ l.loop-i.invariant.1,
-      placed_next a.bytes.now l.loop-i.buf a.at i c.loop-i-test.true room ∙ l.loop-i.invariant.2,
+      length-set c.loop-i.buf (a.at + i) (get_or a.bytes.now i 0) ∙ c.loop-i.invariant.1,
+      placed_next a.bytes.now c.loop-i.buf a.at i c.loop-i-test.true room ∙ c.loop-i.invariant.2,
     )
 
 pub shape_of-buf : goal.shape_of-buf
@@ -31,12 +30,11 @@ shape_of-buf c = c.loop-i.invariant.1
 
 pub returns : goal.returns
 returns c =
-    let l = c.before in
-    let a = l.args in
-    let all : l.loop-i.i ≡ length a.bytes.now = omega arith in (
-      ap (λ (k : ℕ). a.at + k) all,
-      sym (placed_none l.loop-i.buf (a.at + l.loop-i.i))
-          ∙ ap (λ (s : List ℕ). placed s l.loop-i.buf (a.at + l.loop-i.i))
+    let a = c.args in
+    let all : c.loop-i.i ≡ length a.bytes.now = omega arith in record {
+      value = ap (λ (k : ℕ). a.at + k) all;
+      buf_after = sym (placed_none c.loop-i.buf (a.at + c.loop-i.i))
+          ∙ ap (λ (s : List ℕ). placed s c.loop-i.buf (a.at + c.loop-i.i))
           (sym (ap (λ (k : ℕ). drop k a.bytes.now) all ∙ drop-length a.bytes.now))
-          ∙ l.loop-i.invariant.2,
-    )
+          ∙ c.loop-i.invariant.2;
+    }

@@ -30,25 +30,24 @@ overflow_sub-i-in-loop-rest c =
 
 pub loop-rest-preserved : goal.loop-rest-preserved
 loop-rest-preserved c =
-    let l = c.before in
-    let a = l.args in
-    let rest = l.loop-rest.rest in
-    let buf = l.loop-rest.buf in
+    let a = c.args in
+    let rest = c.loop-rest.rest in
+    let buf = c.loop-rest.buf in
     let d = digit (rest % 10) in
     let small : rest < 2 ^ 64 = omega arith in
     let digits_are : decimal rest ≡ decimal (rest / 10) ++ (d ∷ []) = decimal_last rest c.loop-rest-test.true small in
     let one_less : length (decimal rest) ≡ length (decimal (rest / 10)) + 1 = ap length digits_are ∙ simp length-append in
-    let here : l.loop-rest.i ≡ a.at + length (decimal (rest / 10)) = omega arith in
+    let here : c.loop-rest.i ≡ a.at + length (decimal (rest / 10)) = omega arith in
     let room : a.at + length (decimal (rest / 10)) < length buf = omega arith in (
       omega arith,
       omega (arith, decimal_some (rest / 10)),
       omega arith,
-      length-set buf l.loop-rest.i d ∙ l.loop-rest.invariant.3,
+      length-set buf c.loop-rest.i d ∙ c.loop-rest.invariant.3,
       ap (λ (k : ℕ). placed (decimal (rest / 10)) (set buf k d) a.at) here
           ∙ placed_last (decimal (rest / 10)) buf a.at d room
           ∙ ap (λ (s : List ℕ). placed s buf a.at) (sym digits_are)
-          ∙ l.loop-rest.invariant.4,
-      l.loop-rest.invariant.5,
+          ∙ c.loop-rest.invariant.4,
+      c.loop-rest.invariant.5,
     )
 
 pub shape_of-buf : goal.shape_of-buf
@@ -57,17 +56,16 @@ shape_of-buf c =
 
 pub returns : goal.returns
 returns c =
-    let l = c.before in
-    let a = l.args in
-    let rest = l.loop-rest.rest in
-    let buf = l.loop-rest.buf in
+    let a = c.args in
+    let rest = c.loop-rest.rest in
+    let buf = c.loop-rest.buf in
     let digit-is : decimal rest ≡ digit rest ∷ [] = decimal_one rest c.loop-rest-test.false in
     let one : length (decimal rest) ≡ 1 = ap length digit-is in
-    let here : l.loop-rest.i ≡ a.at = omega arith in
-    let room : a.at < length buf = omega arith in (
-      l.loop-rest.invariant.5,
-      ap (λ (k : ℕ). set buf k (digit rest)) here
+    let here : c.loop-rest.i ≡ a.at = omega arith in
+    let room : a.at < length buf = omega arith in record {
+      value = c.loop-rest.invariant.5;
+      buf_after = ap (λ (k : ℕ). set buf k (digit rest)) here
           ∙ placed_one buf a.at (digit rest) room
           ∙ ap (λ (s : List ℕ). placed s buf a.at) (sym digit-is)
-          ∙ l.loop-rest.invariant.4,
-    )
+          ∙ c.loop-rest.invariant.4;
+    }

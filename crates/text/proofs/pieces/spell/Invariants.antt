@@ -9,11 +9,11 @@ use Rattle.text.proofs.pieces.spell.Given as goal
 abbrev pub invariant-loop-rest : goal.invariant-loop-rest
 invariant-loop-rest l =
     (l.rest ≤ l.n)
-    × (l.i + 1 ≡ l.buf + length (decimal l.rest))
-    × (l.i < l.buf + length (decimal l.n))
-    × (length l.end ≡ length l.initial.buf)
-    × (placed (decimal l.rest) l.end l.buf ≡ placed (decimal l.n) l.initial.buf l.buf)
-    × (l.at ≡ l.buf + length (decimal l.n))
+    × (l.i + 1 ≡ l.at + length (decimal l.rest))
+    × (l.i < l.at + length (decimal l.n))
+    × (length l.buf ≡ length l.initial.buf)
+    × (placed (decimal l.rest) l.buf l.at ≡ placed (decimal l.n) l.initial.buf l.at)
+    × (l.end ≡ l.at + length (decimal l.n))
 
 abbrev pub decreases-loop-rest : goal.decreases-loop-rest
 decreases-loop-rest l = l.rest

@@ -6,12 +6,12 @@ use Rattle.trace_text.proofs.making.balise.Goals as goal
 
 pub returns-in-Words : goal.returns-in-Words
 unfolding record_of_meant
-returns-in-Words c = let k = c.before.before in c.made.ensures ∙ simp (sym k.spell-spelt.ensures ∙ ap says_spelt k.in-Words.is)
+returns-in-Words c = c.made.ensures ∙ simp (sym c.spell-spelt.ensures ∙ ap says_spelt c.in-Words.is)
 
 pub returns-in-TooLarge : goal.returns-in-TooLarge
 unfolding record_of_meant
-returns-in-TooLarge c = let k = c.before in c.refused.ensures ∙ simp (sym k.spell-spelt.ensures ∙ ap says_spelt k.in-TooLarge.is)
+returns-in-TooLarge c = c.refused.ensures ∙ simp (sym c.spell-spelt.ensures ∙ ap says_spelt c.in-TooLarge.is)
 
 pub returns-in-Fifteen : goal.returns-in-Fifteen
 unfolding record_of_meant
-returns-in-Fifteen c = let k = c.before in c.refused-in-Fifteen.ensures ∙ simp (sym k.spell-spelt.ensures ∙ ap says_spelt k.in-Fifteen.is)
+returns-in-Fifteen c = c.refused-in-Fifteen.ensures ∙ simp (sym c.spell-spelt.ensures ∙ ap says_spelt c.in-Fifteen.is)

@@ -9,20 +9,13 @@ use Rattle.trace_text.proofs.putting.put_balise.Goals as goal
 
 pub returns-then-x-eq12 : goal.returns-then-x-eq12
 returns-then-x-eq12 c =
-    let p = c.before.before in
-    let i = p.before.before.before in
-    let a = i.args in
-    p.put_number.ensures ∙ ap (λ (t : List ℕ). put t a.buf.now a.at) (number_is a.x a.y a.z i.if-x-eq12.true)
+    let a = c.args in
+    c.put_number.ensures ∙ ap (λ (t : List ℕ). put t a.buf.now a.at) (number_is a.x a.y a.z c.if-x-eq12.true)
 
 pub returns : goal.returns
 returns c =
-    let p3 = c.before.before in
-    let p2 = p3.before.before.before.before.before in
-    let p1 = p2.before.before.before.before.before in
-    let i = p1.before.before.before in
-    let s = i.before.before in
-    let a = s.args in
-    let is = figures_are a.x a.y a.z i.if-x-eq12.false in
-    join_3 a.buf.now a.at (numbered " " a.x) (numbered " " a.y) (numbered " " a.z) (room_as a.buf.now a.at is s.requires)
-    p1.put_number-a.ensures p2.put_number-b.ensures p3.put_number-2.ensures
+    let a = c.args in
+    let is = figures_are a.x a.y a.z c.if-x-eq12.false in
+    join_3 a.buf.now a.at (numbered " " a.x) (numbered " " a.y) (numbered " " a.z) (room_as a.buf.now a.at is c.requires)
+    c.put_number-a.ensures c.put_number-b.ensures c.put_number-2.ensures
     ∙ ap (λ (t : List ℕ). put t a.buf.now a.at) is

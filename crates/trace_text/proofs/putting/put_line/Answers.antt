@@ -11,21 +11,14 @@ use Rattle.trace_text.proofs.putting.put_line.Goals as goal
 
 pub put_what-b-requires : goal.put_what-b-requires
 put_what-b-requires c =
-    let p1 = c.before.before.before in
-    let s = p1.before.before.before.before in
-    let a = s.args in
-    let three = less a.buf.now a.at (numbered "" a.place ++ what_text a.what ++ numbered " # " a.number) (codes "\n") (room_as a.buf.now a.at (line_is a.number a.place a.what) s.requires) in
+    let a = c.args in
+    let three = less a.buf.now a.at (numbered "" a.place ++ what_text a.what ++ numbered " # " a.number) (codes "\n") (room_as a.buf.now a.at (line_is a.number a.place a.what) c.requires) in
     let two = less a.buf.now a.at (numbered "" a.place ++ what_text a.what) (numbered " # " a.number) three in
-    room_after a.buf.now a.at (numbered "" a.place) (what_text a.what) two p1.put_number-a.ensures
+    room_after a.buf.now a.at (numbered "" a.place) (what_text a.what) two c.put_number-a.ensures
 
 pub returns : goal.returns
 returns c =
-    let p4 = c.before.before in
-    let p3 = p4.before.before.before.before.before in
-    let p2 = p3.before.before.before.before.before in
-    let p1 = p2.before.before.before.before in
-    let s = p1.before.before.before.before in
-    let a = s.args in
-    join_4 a.buf.now a.at (numbered "" a.place) (what_text a.what) (numbered " # " a.number) (codes "\n") (room_as a.buf.now a.at (line_is a.number a.place a.what) s.requires)
-    p1.put_number-a.ensures p2.put_what-b.ensures p3.put_number-c.ensures p4.put.ensures
+    let a = c.args in
+    join_4 a.buf.now a.at (numbered "" a.place) (what_text a.what) (numbered " # " a.number) (codes "\n") (room_as a.buf.now a.at (line_is a.number a.place a.what) c.requires)
+    c.put_number-a.ensures c.put_what-b.ensures c.put_number-c.ensures c.put.ensures
     ∙ ap (λ (t : List ℕ). put t a.buf.now a.at) (line_is a.number a.place a.what)

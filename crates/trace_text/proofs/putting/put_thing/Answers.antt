@@ -6,15 +6,10 @@ use Rattle.trace_text.proofs.putting.put_thing.Goals as goal
 
 pub put_what-requires : goal.put_what-requires
 put_what-requires c =
-    let p1 = c.before.before.before in
-    let s = p1.before.before.before.before in
-    let a = s.args in
-    room_after a.buf.now a.at (numbered "" a.place) (what_text a.what) (room_as a.buf.now a.at (thing_is a.place a.what) s.requires) p1.put_number-a.ensures
+    let a = c.args in
+    room_after a.buf.now a.at (numbered "" a.place) (what_text a.what) (room_as a.buf.now a.at (thing_is a.place a.what) c.requires) c.put_number-a.ensures
 
 pub returns : goal.returns
 returns c =
-    let p2 = c.before.before in
-    let p1 = p2.before.before.before.before in
-    let s = p1.before.before.before.before in
-    let a = s.args in
-    join_as a.buf.now a.at (numbered "" a.place) (what_text a.what) (thing_is a.place a.what) s.requires p1.put_number-a.ensures p2.put_what.ensures
+    let a = c.args in
+    join_as a.buf.now a.at (numbered "" a.place) (what_text a.what) (thing_is a.place a.what) c.requires c.put_number-a.ensures c.put_what.ensures

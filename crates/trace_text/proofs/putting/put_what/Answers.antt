@@ -10,15 +10,11 @@ use Rattle.trace_text.proofs.putting.put_what.Goals as goal
 pub put_balise-requires : goal.put_balise-requires
 unfolding what_text
 put_balise-requires c =
-    let k = c.before.before in
-    let s = k.before.before.before in
-    subst (λ (w : What). s.args.at + length (what_text w) ≤ length s.args.buf.now) k.in-Balise.is s.requires
+    subst (λ (w : What). c.args.at + length (what_text w) ≤ length c.args.buf.now) c.in-Balise.is c.requires
 
 pub put_raw-requires : goal.put_raw-requires
 put_raw-requires c =
-    let k = c.before.before in
-    let s = k.before.before.before in
-    subst (λ (w : What). s.args.at + length (what_text w) ≤ length s.args.buf.now) k.in-Raw.is s.requires
+    subst (λ (w : What). c.args.at + length (what_text w) ≤ length c.args.buf.now) c.in-Raw.is c.requires
 
 pub returns-in-Balise : goal.returns-in-Balise
 unfolding what_text

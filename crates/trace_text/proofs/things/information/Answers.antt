@@ -4,7 +4,7 @@ use Rattle.telegram.specs.Says.{says_telegram_read}
 use Rattle.trace_text.proofs.things.information.Goals as goal
 
 pub returns-in-Is : goal.returns-in-Is
-returns-in-Is c = let k = c.before.before in c.balise_of.ensures ∙ simp (sym k.read-read.ensures ∙ ap says_telegram_read k.in-Is.is)
+returns-in-Is c = c.balise_of.ensures ∙ simp (sym c.read-read.ensures ∙ ap says_telegram_read c.in-Is.is)
 
 pub returns-in-NotCode : goal.returns-in-NotCode
 returns-in-NotCode c = simp (sym c.read-read.ensures ∙ ap says_telegram_read c.in-NotCode.is)

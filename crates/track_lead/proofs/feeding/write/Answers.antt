@@ -16,9 +16,8 @@ shape_of-out-then-here-to c = c.loop-k.invariant.1.kept
 
 pub returns-then-here-to : goal.returns-then-here-to
 returns-then-here-to c =
-    let o = c.before.before.before in
-    let l = o.loop-k in
-    let a = o.args in
+    let l = c.loop-k in
+    let a = c.args in
     reached a.feed a.to a.out.now l.out l.here l.k l.invariant.1 c.if-here-to.true c.loop-k-test.true
 
 pub slice_bounds-put-end : goal.slice_bounds-put-end
@@ -26,15 +25,11 @@ slice_bounds-put-end c = sym (ap length c.frame-bytes.ensures ∙ frame_long c.l
 
 pub loop-k-preserved : goal.loop-k-preserved
 loop-k-preserved c =
-    let p = c.before.before.before in
-    let f = p.before.before.before in
-    let e = f.before in
-    let o = e.before.before.before in
-    let l = o.loop-k in
-    let a = o.args in (
+    let l = c.loop-k in
+    let a = c.args in (
       omega arith,
-      next a.feed a.to a.out.now l.out l.here l.k l.invariant.1 c.after-here.result f.frame-bytes.result p.put.new.1.0 p.put.result e.if-here-to.false
-          e.loop-k-test.true c.after-here.ensures f.frame-bytes.ensures p.put.ensures,
+      next a.feed a.to a.out.now l.out l.here l.k l.invariant.1 c.after-here.result c.frame-bytes.result c.put.new.buf c.put.result c.if-here-to.false
+          c.loop-k-test.true c.after-here.ensures c.frame-bytes.ensures c.put.ensures,
     )
 
 pub shape_of-out : goal.shape_of-out

@@ -14,9 +14,8 @@ past : (c : After-is_near) (t : Bool) → (c.is_sent.result && c.is_near.result)
     let a = c.args in
     pick {A = Answer Bad TrackWay} t (refuses too_near) (gives (after a.way a.place a.thing)) ≡ take a.way a.place a.thing
 past c t both =
-    let e = c.before.before in
-    let a = e.args in
-    unless_near a.way a.place a.thing c.is_sent.result c.is_near.result t e.if-place-gt-HIGHEST.false e.if-place-way.false
+    let a = c.args in
+    unless_near a.way a.place a.thing c.is_sent.result c.is_near.result t c.if-place-gt-HIGHEST.false c.if-place-way.false
     c.is_sent.ensures c.is_near.ensures both
 
 pub returns-then-place-gt-HIGHEST : goal.returns-then-place-gt-HIGHEST
@@ -28,7 +27,7 @@ unfolding take
 returns-then-place-way c = simp (le-ltb _ _ c.if-place-gt-HIGHEST.false, lt-ltb _ _ c.if-place-way.true)
 
 pub returns-then-is_sent-is_near : goal.returns-then-is_sent-is_near
-returns-then-is_sent-is_near c = past c.before true c.if-is_sent-is_near.true
+returns-then-is_sent-is_near c = past (goal.at-returns-then-is_sent-is_near c).After-is_near true c.if-is_sent-is_near.true
 
 pub returns : goal.returns
-returns c = ap gives c.after.ensures ∙ past c.before.before false c.if-is_sent-is_near.false
+returns c = ap gives c.after.ensures ∙ past (goal.at-returns c).After-is_near false c.if-is_sent-is_near.false

@@ -18,15 +18,15 @@ at c k is = ap (line_in c.args.s c.args.t (Thing.Balise c.args.x c.args.y c.args
 
 pub returns-in-0 : goal.returns-in-0
 unfolding line_in telegrams
-returns-in-0 c = at c.before 0 c.in-0.is
+returns-in-0 c = at (goal.at-returns-in-0 c).Start 0 c.in-0.is
 
 pub returns-in-1 : goal.returns-in-1
 unfolding line_in telegrams
-returns-in-1 c = at c.before 1 c.in-1.is
+returns-in-1 c = at (goal.at-returns-in-1 c).Start 1 c.in-1.is
 
 pub returns-in-2 : goal.returns-in-2
 unfolding line_in telegrams
-returns-in-2 c = at c.before 2 c.in-2.is
+returns-in-2 c = at (goal.at-returns-in-2 c).Start 2 c.in-2.is
 
 pub returns-in_default : goal.returns-in_default
 returns-in_default c =

@@ -3,7 +3,7 @@ use Rattle.std.proofs.Common.{◌≡◌, ◌-◌, length, rules}
 use Rattle.view.proofs.moving.to_start.Given as goal
 
 abbrev pub invariant-loop-k : goal.invariant-loop-k
-invariant-loop-k l = length l.count ≡ length l.initial.buf
+invariant-loop-k l = length l.buf ≡ length l.initial.buf
 
 abbrev pub decreases-loop-k : goal.decreases-loop-k
-decreases-loop-k l = l.to - l.k
+decreases-loop-k l = l.count - l.k

@@ -21,7 +21,7 @@ use Rattle.viewer.proofs.going.backs_at.Goals as goal
 
 -- the ring has its 256 places, so what would stand past them is never read
 ring : (c : Start) → length c.args.stand.last ≡ 256
-ring c = sym (length-map c.args.stand.last _) ∙ (LL.owed P.the_type P'.the_laws c.args.stand _ c.well-formed.0).1.1.1.0.1.0.1
+ring c = sym (length-map c.args.stand.last _) ∙ (LL.owed P.the_type P'.the_laws c.args.stand _ c.well_formed.0).1.1.1.0.1.0.1
 
 within_ring : (l : List Ride) (i : ℕ) (x y : Ride) → i < length l → get_or l i x ≡ get_or l i y
 within_ring [] i x y h = absurd (omega arith)
@@ -37,37 +37,33 @@ within false times kept e = omega arith
 
 pub returns-then-far-eq0 : goal.returns-then-far-eq0
 returns-then-far-eq0 c =
-    let m = c.before in
-    let a = m.args in
-    ap (λ (e : Ending). stopped e a.stand) m.kept_for-ending.ensures
-    ∙ backs_stay a.times a.stand (sym m.smaller-far.ensures ∙ c.if-far-eq0.true)
+    let a = c.args in
+    ap (λ (e : Ending). stopped e a.stand) c.kept_for-ending.ensures
+    ∙ backs_stay a.times a.stand (sym c.smaller-far.ensures ∙ c.if-far-eq0.true)
 
 pub overflow_sub-result : goal.overflow_sub-result
 overflow_sub-result c =
-    let m = c.before.before.before.before.before.before in
-    let a = m.args in
-    omega (arith, m.smaller-far.ensures, within (leb a.times a.stand.kept) a.times a.stand.kept refl)
+    let a = c.args in
+    omega (arith, c.smaller-far.ensures, within (leb a.times a.stand.kept) a.times a.stand.kept refl)
 
 pub returns : goal.returns
 returns c =
-    let l = c.before.before.before.before in
-    let m = l.before.before in
-    let a = m.args in
+    let a = c.args in
     let s = a.stand in
     let far : ℕ = pick (leb a.times s.kept) a.times s.kept in
-    let same : m.smaller-far.result ≡ far = m.smaller-far.ensures in
-    let number : l.less-number.result ≡ s.number - far = l.less-number.ensures ∙ ap (λ (n : ℕ). s.number - n) same in
+    let same : c.smaller-far.result ≡ far = c.smaller-far.ensures in
+    let number : c.less-number.result ≡ s.number - far = c.less-number.ensures ∙ ap (λ (n : ℕ). s.number - n) same in
     let why : Ending = pick (leb a.times s.kept) all (refused 22) in
     let there : ℕ → ℕ → Standing = λ n f. record { number = n; kept = s.kept - f; ride = get_or s.last (n % 256) fresh_ride; last = s.last; settings = s.settings } in
-    let at : l.less-number.result % 256 < length s.last = omega (arith, ring m.before.before) in
+    let at : c.less-number.result % 256 < length s.last = omega (arith, ring (goal.at-returns c).Start) in
     ap {B = Moved}
     (λ (r : Ride). record {
-      steps = m.smaller-far.result;
-      ending = says_ending m.kept_for-ending.result;
-      stand = record { number = l.less-number.result; kept = s.kept - m.smaller-far.result; ride = r; last = s.last; settings = s.settings };
+      steps = c.smaller-far.result;
+      ending = says_ending c.kept_for-ending.result;
+      stand = record { number = c.less-number.result; kept = s.kept - c.smaller-far.result; ride = r; last = s.last; settings = s.settings };
     })
-    (within_ring s.last (l.less-number.result % 256) _ fresh_ride at)
-    ∙ ap {B = Moved} (λ (e : Ending). record { steps = m.smaller-far.result; ending = e; stand = there l.less-number.result m.smaller-far.result }) m.kept_for-ending.ensures
-    ∙ ap {B = Moved} (λ (n : ℕ). record { steps = m.smaller-far.result; ending = why; stand = there n m.smaller-far.result }) number
+    (within_ring s.last (c.less-number.result % 256) _ fresh_ride at)
+    ∙ ap {B = Moved} (λ (e : Ending). record { steps = c.smaller-far.result; ending = e; stand = there c.less-number.result c.smaller-far.result }) c.kept_for-ending.ensures
+    ∙ ap {B = Moved} (λ (n : ℕ). record { steps = c.smaller-far.result; ending = why; stand = there n c.smaller-far.result }) number
     ∙ ap {B = Moved} (λ (f : ℕ). record { steps = f; ending = why; stand = there (s.number - far) f }) same
-    ∙ backs_move a.times s (λ z. l.if-far-eq0.false (same ∙ z))
+    ∙ backs_move a.times s (λ z. c.if-far-eq0.false (same ∙ z))

@@ -14,21 +14,16 @@ returns-then-times-eq0 c =
 
 pub over-requires : goal.over-requires
 over-requires c =
-    let k = c.before in
-    let q = k.before.before in
-    let a = q.args in
-    let held = held_given a.stand.settings 0 _ (sym q.at-asked.ensures ∙ ap says_asked k.in-InForce.is) in
+    let a = c.args in
+    let held = held_given a.stand.settings 0 _ (sym c.at-asked.ensures ∙ ap says_asked c.in-InForce.is) in
     (held.0, held.2)
 
 pub returns-in-Refused : goal.returns-in-Refused
 returns-in-Refused c =
-    let k = c.before.before in
-    let q = k.before.before in
-    let e = q.before.before in
-    let a = e.args in
+    let a = c.args in
     ap (λ (x : Ending). stopped x a.stand) c.refusal.ensures
-    ∙ forwards_refused a.times a.trace.now a.stand _ e.if-times-eq0.false
-    (store_refused a.stand.settings _ (sym q.at-asked.ensures ∙ ap says_asked k.in-Refused.is))
+    ∙ forwards_refused a.times a.trace.now a.stand _ c.if-times-eq0.false
+    (store_refused a.stand.settings _ (sym c.at-asked.ensures ∙ ap says_asked c.in-Refused.is))
 
 pub returns-in-InForce : goal.returns-in-InForce
 returns-in-InForce c = c.over.ensures

@@ -8,7 +8,6 @@ use Rattle.viewer.proofs.moving.back_at.Goals as goal
 
 pub returns : goal.returns
 returns c =
-    let b = c.before.before in
-    ap {B = Back} (λ (o : Outcome Done). record { answer = o; stand = b.backs_at-moved.result.stand }) c.how_of.ensures
-    ∙ ap {B = Back} (λ (m : Moved). record { answer = answer_of m.ending; stand = m.stand }) b.backs_at-moved.ensures
-    ∙ backs_one b.args.stand
+    ap {B = Back} (λ (o : Outcome Done). record { answer = o; stand = c.backs_at-moved.result.stand }) c.how_of.ensures
+    ∙ ap {B = Back} (λ (m : Moved). record { answer = answer_of m.ending; stand = m.stand }) c.backs_at-moved.ensures
+    ∙ backs_one c.args.stand

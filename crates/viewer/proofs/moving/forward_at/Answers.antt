@@ -17,14 +17,11 @@ for_record : (c : After-held_at-held) →
     Holding a.stand.settings c.held_at-held.result
     × (treat a.stand.ride c.held_at-held.result.gap (record_at a.trace.now a.stand.number) ≡ step_of a.stand (record_at a.trace.now a.stand.number))
 for_record c =
-    let k = c.before.before in
-    let q = k.before.before in
-    let e = q.before.before in
-    let a = e.args in
-    let asked = held_given a.stand.settings 0 _ (sym q.at-asked.ensures ∙ ap says_asked k.in-InForce.is) in
-    let first : Holding a.stand.settings k.in-InForce.first = rw asked.2 (holding_at a.stand.settings 0 asked.0) in (
-      held_next a.stand.settings k.in-InForce.first c.held_at-held.result a.trace.now a.stand.number asked.0 first c.held_at-held.ensures,
-      held_treats a.stand.settings k.in-InForce.first c.held_at-held.result a.stand.ride a.trace.now a.stand.number asked.0 first c.held_at-held.ensures e.if-number-trace.false,
+    let a = c.args in
+    let asked = held_given a.stand.settings 0 _ (sym c.at-asked.ensures ∙ ap says_asked c.in-InForce.is) in
+    let first : Holding a.stand.settings c.in-InForce.first = rw asked.2 (holding_at a.stand.settings 0 asked.0) in (
+      held_next a.stand.settings c.in-InForce.first c.held_at-held.result a.trace.now a.stand.number asked.0 first c.held_at-held.ensures,
+      held_treats a.stand.settings c.in-InForce.first c.held_at-held.result a.stand.ride a.trace.now a.stand.number asked.0 first c.held_at-held.ensures c.if-number-trace.false,
     )
 
 pub returns-then-number-trace : goal.returns-then-number-trace
@@ -37,19 +34,12 @@ step_at-requires c = (c.if-number-trace.false, (for_record c).0.gap)
 
 pub returns-in-Refused : goal.returns-in-Refused
 returns-in-Refused c =
-    let k = c.before.before in
-    let q = k.before.before in
-    let e = q.before.before in
-    let a = e.args in
+    let a = c.args in
     c.unmoved-in-Refused.ensures
-    ∙ forward_refused a.trace.now a.stand _ e.if-number-trace.false (store_refused a.stand.settings _ (sym q.at-asked.ensures ∙ ap says_asked k.in-Refused.is))
+    ∙ forward_refused a.trace.now a.stand _ c.if-number-trace.false (store_refused a.stand.settings _ (sym c.at-asked.ensures ∙ ap says_asked c.in-Refused.is))
 
 pub returns-in-InForce : goal.returns-in-InForce
 returns-in-InForce c =
-    let h = c.before in
-    let k = h.before.before in
-    let q = k.before.before in
-    let e = q.before.before in
-    let a = e.args in
-    let held = held_given a.stand.settings 0 _ (sym q.at-asked.ensures ∙ ap says_asked k.in-InForce.is) in
-    c.step_at.ensures ∙ ap (by_step a.stand) (for_record h).1 ∙ forward_step a.trace.now a.stand e.if-number-trace.false held.0
+    let a = c.args in
+    let held = held_given a.stand.settings 0 _ (sym c.at-asked.ensures ∙ ap says_asked c.in-InForce.is) in
+    c.step_at.ensures ∙ ap (by_step a.stand) (for_record (goal.at-returns-in-InForce c).After-held_at-held).1 ∙ forward_step a.trace.now a.stand c.if-number-trace.false held.0

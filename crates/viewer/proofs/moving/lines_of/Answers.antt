@@ -10,6 +10,5 @@ use Rattle.viewer.proofs.moving.lines_of.Goals as goal
 
 pub returns-in-Refused : goal.returns-in-Refused
 returns-in-Refused c =
-    let g = c.before.before in
-    let a = g.args in
-    ap (λ (n : ℕ). Line.Record a.number n ∷ []) c.refusal.ensures ∙ ap (λ (x : Given). lines_for a.number (says_given x)) (sym g.in-Refused.is)
+    let a = c.args in
+    ap (λ (n : ℕ). Line.Record a.number n ∷ []) c.refusal.ensures ∙ ap (λ (x : Given). lines_for a.number (says_given x)) (sym c.in-Refused.is)

@@ -14,22 +14,16 @@ use Rattle.viewer.proofs.moving.step_at.Goals as goal
 
 pub returns-in_default : goal.returns-in_default
 returns-in_default c =
-    let t = c.before.before in
-    let s = t.before.before.before in
-    let a = s.args in
+    let a = c.args in
     absurd
-    (let none = past a.stand.ride a.held.gap a.trace.now a.stand.number t.treat_at-treated.result s.requires.1 t.treat_at-treated.ensures c.in_default.in_default-own.keys2 in
-    let some = s.requires.0 in
+    (let none = past a.stand.ride a.held.gap a.trace.now a.stand.number c.treat_at-treated.result c.requires.1 c.treat_at-treated.ensures c.in_default.in_default-own.keys2 in
+    let some = c.requires.0 in
     omega arith)
 
 pub returns : goal.returns
 returns c =
-    let l = c.before in
-    let k = l.before.before.before.before in
-    let t = k.before.before in
-    let s = t.before.before.before in
-    let a = s.args in
-    let one = took a.stand.ride a.held.gap a.trace.now a.stand.number t.treat_at-treated.result k.in-Record.given s.requires.1 t.treat_at-treated.ensures k.in-Record.is in
-    ap {B = Forward} (λ (ls : List Line). record { answer = gives done; lines = ls; closed = t.treat_at-treated.result.closed; stand = c.pass-after.result }) l.lines_of-lines.ensures
-    ∙ ap {B = Forward} (λ (x : Standing). record { answer = gives done; lines = lines_for (a.stand.number + 1) (says_given k.in-Record.given); closed = t.treat_at-treated.result.closed; stand = x }) c.pass-after.ensures
+    let a = c.args in
+    let one = took a.stand.ride a.held.gap a.trace.now a.stand.number c.treat_at-treated.result c.in-Record.given c.requires.1 c.treat_at-treated.ensures c.in-Record.is in
+    ap {B = Forward} (λ (ls : List Line). record { answer = gives done; lines = ls; closed = c.treat_at-treated.result.closed; stand = c.pass-after.result }) c.lines_of-lines.ensures
+    ∙ ap {B = Forward} (λ (x : Standing). record { answer = gives done; lines = lines_for (a.stand.number + 1) (says_given c.in-Record.given); closed = c.treat_at-treated.result.closed; stand = x }) c.pass-after.ensures
     ∙ ap (by_step a.stand) one.step

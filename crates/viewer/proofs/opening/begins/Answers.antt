@@ -9,23 +9,17 @@ use Rattle.viewer.proofs.opening.begins.Goals as goal
 
 pub returns-then-trace-ne0 : goal.returns-then-trace-ne0
 returns-then-trace-ne0 c =
-    let e = c.before in
-    let q = e.before.before in
-    let a = q.args in
-    let held = held_given a.store 0 _ (sym q.at-asked.ensures ∙ ap says_asked e.in-InForce.is) in
+    let a = c.args in
+    let held = held_given a.store 0 _ (sym c.at-asked.ensures ∙ ap says_asked c.in-InForce.is) in
     ap (λ (s : Start). s.answer) (open_length a.store a.trace.now held.0 (ne_eqb _ _ c.if-trace-ne0.true))
 
 pub returns-in-Refused : goal.returns-in-Refused
 returns-in-Refused c =
-    let k = c.before in
-    let q = k.before.before in
-    let a = q.args in
-    ap (λ (s : Start). s.answer) (open_refused a.store a.trace.now _ (store_refused a.store _ (sym q.at-asked.ensures ∙ ap says_asked k.in-Refused.is)))
+    let a = c.args in
+    ap (λ (s : Start). s.answer) (open_refused a.store a.trace.now _ (store_refused a.store _ (sym c.at-asked.ensures ∙ ap says_asked c.in-Refused.is)))
 
 pub returns-else-trace-ne0 : goal.returns-else-trace-ne0
 returns-else-trace-ne0 c =
-    let e = c.before in
-    let q = e.before.before in
-    let a = q.args in
-    let held = held_given a.store 0 _ (sym q.at-asked.ensures ∙ ap says_asked e.in-InForce.is) in
+    let a = c.args in
+    let held = held_given a.store 0 _ (sym c.at-asked.ensures ∙ ap says_asked c.in-InForce.is) in
     ap (λ (s : Start). s.answer) (open_done a.store a.trace.now held.0 (eq-eqb _ _ c.if-trace-ne0.false))

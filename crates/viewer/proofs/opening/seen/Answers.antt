@@ -15,7 +15,7 @@ use Rattle.viewer.proofs.opening.seen.Goals as goal
 
 -- an empty part at the front of the slice
 abbrev front : Bor (List ℕ) → ℕ → Bor (List ℕ)
-front t name = record { ref_ptr = (t.ptr.0, 0 + t.ptr.1); ghost_name = name; now = [] }
+front t name = record { ref_ptr = (t.ref_ptr.0, 0 + t.ref_ptr.1); ghost_name = name; now = [] }
 
 nothing_held : (o : Outcome Done) (n : ℕ) (t : Bor (List ℕ)) (name : ℕ) → refuses n ≡ o → slice_of o (front t name) ≡ lent_to o t
 nothing_held o n t name e =
@@ -26,27 +26,20 @@ nothing_held o n t name e =
 
 pub returns-in_default : goal.returns-in_default
 returns-in_default c =
-    let k = c.before in
-    let q = k.before.before in
-    let a = q.args in
-    let none = open_refused a.store a.trace.now _ (store_refused a.store _ (sym q.at-asked.ensures ∙ ap says_asked k.in_default.is)) in
+    let a = c.args in
+    let none = open_refused a.store a.trace.now _ (store_refused a.store _ (sym c.at-asked.ensures ∙ ap says_asked c.in_default.is)) in
     nothing_held _ _ a.trace c.result-1.given.0 (ap (λ (s : Start). s.answer) none)
 
 pub returns-then-trace-ne0 : goal.returns-then-trace-ne0
 returns-then-trace-ne0 c =
-    let i = c.before in
-    let e = i.before in
-    let q = e.before.before in
-    let a = q.args in
-    let held = held_given a.store 0 _ (sym q.at-asked.ensures ∙ ap says_asked e.in-InForce.is) in
-    let none = open_length a.store a.trace.now held.0 (ne_eqb _ _ i.if-trace-ne0.true) in
+    let a = c.args in
+    let held = held_given a.store 0 _ (sym c.at-asked.ensures ∙ ap says_asked c.in-InForce.is) in
+    let none = open_length a.store a.trace.now held.0 (ne_eqb _ _ c.if-trace-ne0.true) in
     nothing_held _ _ a.trace c.result-then-trace-ne0-1.given.0 (ap (λ (s : Start). s.answer) none)
 
 pub returns : goal.returns
 returns c =
-    let e = c.before in
-    let q = e.before.before in
-    let a = q.args in
-    let held = held_given a.store 0 _ (sym q.at-asked.ensures ∙ ap says_asked e.in-InForce.is) in
+    let a = c.args in
+    let held = held_given a.store 0 _ (sym c.at-asked.ensures ∙ ap says_asked c.in-InForce.is) in
     let done = open_done a.store a.trace.now held.0 (eq-eqb _ _ c.if-trace-ne0.false) in
     ap (λ (s : Start). slice_of s.answer a.trace) (sym done) ∙ ap (λ (s : Start). lent_to s.answer a.trace) done

@@ -25,9 +25,8 @@ held_by (refuses n) d store trace e h = rw e
 
 pub returns : goal.returns
 returns c =
-    let b = c.before in
-    let a = b.args in
+    let a = c.args in
     let trace = a.trace.now in
-    ap {B = Start} (λ (o : Outcome Done). record { answer = o; trace = trace_of o trace; stand = c.fresh-stand.result }) b.begins-begun.ensures
+    ap {B = Start} (λ (o : Outcome Done). record { answer = o; trace = trace_of o trace; stand = c.fresh-stand.result }) c.begins-begun.ensures
     ∙ ap {B = Start} (λ (s : Standing). record { answer = (start a.store trace).answer; trace = trace_of (start a.store trace).answer trace; stand = s }) c.fresh-stand.ensures
     ∙ held_by (judged a.store) (eqb (length trace % 8) 0) a.store trace refl refl

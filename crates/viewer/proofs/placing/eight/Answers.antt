@@ -7,6 +7,5 @@ use Rattle.viewer.proofs.placing.eight.Goals as goal
 
 pub returns : goal.returns
 returns c =
-    let s = c.before.before.before.before.before.before.before.before in
-    let room : s.args.i * 8 + 8 ≤ length s.args.trace.now = omega (arith, s.requires) in
-    eight_bytes s.args.trace.now (s.args.i * 8) room
+    let room : c.args.i * 8 + 8 ≤ length c.args.trace.now = omega (arith, c.requires) in
+    eight_bytes c.args.trace.now (c.args.i * 8) room

@@ -16,12 +16,9 @@ at_first = refl
 pub returns : goal.returns
 unfolding is_at
 returns c =
-    let k = c.before in
-    let e = k.before in
-    let f = e.before in
-    let a = f.args in
+    let a = c.args in
     c.reaches.ensures
-    ∙ ap (reaches a.place) k.check_record-checked.ensures
-    ∙ ap (λ (r : Ride). reaches a.place (check_record r.odometer e.eight-bytes.result)) f.fresh-fresh.ensures
-    ∙ ap (λ (n : ℕ). reaches a.place (check_record n e.eight-bytes.result)) at_first
-    ∙ ap (λ (r : List ℕ). reaches a.place (check_record 0 r)) e.eight-bytes.ensures
+    ∙ ap (reaches a.place) c.check_record-checked.ensures
+    ∙ ap (λ (r : Ride). reaches a.place (check_record r.odometer c.eight-bytes.result)) c.fresh-fresh.ensures
+    ∙ ap (λ (n : ℕ). reaches a.place (check_record n c.eight-bytes.result)) at_first
+    ∙ ap (λ (r : List ℕ). reaches a.place (check_record 0 r)) c.eight-bytes.ensures

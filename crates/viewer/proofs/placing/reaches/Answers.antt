@@ -7,5 +7,4 @@ use Rattle.viewer.proofs.placing.reaches.Goals as goal
 
 pub returns-in-Accepted : goal.returns-in-Accepted
 returns-in-Accepted c =
-    let k = c.before in
-    ap (λ (x : Checked). reaches k.args.place (says_checked x)) (sym k.in-Accepted.is)
+    ap (λ (x : Checked). reaches c.args.place (says_checked x)) (sym c.in-Accepted.is)

@@ -11,26 +11,21 @@ loop-i-init c = (omega arith, omega arith, omega arith)
 
 pub returns-then-is_at : goal.returns-then-is_at
 returns-then-is_at c =
-    let o = c.before in
-    let l = o.before.before in
-    let a = l.args in
-    let none = times_there a.place a.trace.now l.loop-i.i o.loop-i-test.true (sym o.is_at.ensures ∙ c.if-is_at.true) in
-    omega (arith, l.loop-i.invariant.2)
+    let a = c.args in
+    let none = times_there a.place a.trace.now c.loop-i.i c.loop-i-test.true (sym c.is_at.ensures ∙ c.if-is_at.true) in
+    omega (arith, c.loop-i.invariant.2)
 
 pub loop-i-preserved : goal.loop-i-preserved
 loop-i-preserved c =
-    let o = c.before in
-    let l = o.before.before in
-    let a = l.args in
-    let more = times_next a.place a.trace.now l.loop-i.i o.loop-i-test.true (sym o.is_at.ensures ∙ c.if-is_at.false) in
-    (omega (arith, l.loop-i.invariant.0), omega (arith, l.loop-i.invariant.0), omega (arith, l.loop-i.invariant.2))
+    let a = c.args in
+    let more = times_next a.place a.trace.now c.loop-i.i c.loop-i-test.true (sym c.is_at.ensures ∙ c.if-is_at.false) in
+    (omega (arith, c.loop-i.invariant.0), omega (arith, c.loop-i.invariant.0), omega (arith, c.loop-i.invariant.2))
 
 pub returns : goal.returns
 returns c =
-    let l = c.before in
-    let a = l.args in
-    let none = times_none a.place a.trace.now l.loop-i.i c.loop-i-test.false in
-    omega (arith, l.loop-i.invariant.2)
+    let a = c.args in
+    let none = times_none a.place a.trace.now c.loop-i.i c.loop-i-test.false in
+    omega (arith, c.loop-i.invariant.2)
 
 pub is_at-requires : goal.is_at-requires
 is_at-requires c = c.loop-i-test.true

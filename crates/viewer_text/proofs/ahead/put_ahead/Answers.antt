@@ -19,11 +19,12 @@ room : (place : ℕ) (what : What) → 0 + length (next_is place what) ≤ lengt
 room place what = omega (arith, next_length place what, length-replicate {A = ℕ} 96 0)
 
 -- The space begins with the line.
-line : (c : After-put-n) → let a = c.args in Begins (next_is a.place a.what) c.put-n.new.1.0 c.put-n.result
+line : (c : After-put-n) → let a = c.args in Begins (next_is a.place a.what) c.put-n.new.buf c.put-n.result
 unfolding next_is
 line c =
-    let t = c.before.before.before.before in
-    let p = t.before.before.before in
-    let a = p.args in
+    let a = c.args in
     begins 96 (next_is a.place a.what) (next_length a.place a.what)
-    (join_3 (replicate 96 0) 0 (codes "  next ") (thing_text a.place a.what) (codes "\n") (room a.place a.what) p.put-a.ensures t.put_thing-b.ensures c.put-n.ensures)
+    (join_3 (replicate 96 0) 0 (codes "  next ") (thing_text a.place a.what) (codes "\n") (room a.place a.what) c.put-a.ensures c.put_thing-b.ensures c.put-n.ensures)
+
+pub returns : goal.returns
+returns c = put_as _ _ (line (goal.at-returns c).After-put-n) c.put.ensures

@@ -21,37 +21,23 @@ one_left trace n h = ap (λ (b : Bool). pick b (next_said (thing_at trace (n * 8
 
 pub returns-then-number-trace : goal.returns-then-number-trace
 returns-then-number-trace c =
-    let p = c.before.before in
-    let i = p.before.before.before in
-    let a = i.args in
-    p.put.ensures ∙ ap (λ (t : List ℕ). put t a.buf.now a.at) (none_left a.trace.now a.number i.if-number-trace.true)
+    let a = c.args in
+    c.put.ensures ∙ ap (λ (t : List ℕ). put t a.buf.now a.at) (none_left a.trace.now a.number c.if-number-trace.true)
 
 pub returns-in-Nothing : goal.returns-in-Nothing
 returns-in-Nothing c =
-    let p = c.before.before in
-    let k = p.before.before.before in
-    let t = k.before.before in
-    let i = t.before in
-    let a = i.args in
-    p.put-in-Nothing.ensures
-    ∙ ap (λ (x : List ℕ). put x a.buf.now a.at) (ap next_said (sym k.in-Nothing.is ∙ t.thing_at-said.ensures) ∙ one_left a.trace.now a.number i.if-number-trace.false)
+    let a = c.args in
+    c.put-in-Nothing.ensures
+    ∙ ap (λ (x : List ℕ). put x a.buf.now a.at) (ap next_said (sym c.in-Nothing.is ∙ c.thing_at-said.ensures) ∙ one_left a.trace.now a.number c.if-number-trace.false)
 
 pub returns-in-Thing : goal.returns-in-Thing
 returns-in-Thing c =
-    let p = c.before.before in
-    let k = p.before.before.before in
-    let t = k.before.before in
-    let i = t.before in
-    let a = i.args in
-    p.put_ahead.ensures
-    ∙ ap (λ (x : List ℕ). put x a.buf.now a.at) (ap next_said (sym k.in-Thing.is ∙ t.thing_at-said.ensures) ∙ one_left a.trace.now a.number i.if-number-trace.false)
+    let a = c.args in
+    c.put_ahead.ensures
+    ∙ ap (λ (x : List ℕ). put x a.buf.now a.at) (ap next_said (sym c.in-Thing.is ∙ c.thing_at-said.ensures) ∙ one_left a.trace.now a.number c.if-number-trace.false)
 
 pub returns-in-Unreadable : goal.returns-in-Unreadable
 returns-in-Unreadable c =
-    let p = c.before.before in
-    let k = p.before.before.before in
-    let t = k.before.before in
-    let i = t.before in
-    let a = i.args in
-    p.put-in-Unreadable.ensures
-    ∙ ap (λ (x : List ℕ). put x a.buf.now a.at) (ap next_said (sym k.in-Unreadable.is ∙ t.thing_at-said.ensures) ∙ one_left a.trace.now a.number i.if-number-trace.false)
+    let a = c.args in
+    c.put-in-Unreadable.ensures
+    ∙ ap (λ (x : List ℕ). put x a.buf.now a.at) (ap next_said (sym c.in-Unreadable.is ∙ c.thing_at-said.ensures) ∙ one_left a.trace.now a.number c.if-number-trace.false)

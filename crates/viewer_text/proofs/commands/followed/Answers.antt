@@ -22,41 +22,33 @@ rest_is l k = take_all (length l - k) (drop k l) (simp length-drop (omega arith)
 -- blanks and a figure
 figured : (d : After-decimal) → let a = d.args in numbered a.letter d.decimal.result ≡ followed a.letter a.rest.now
 figured d =
-    let x = d.before.before in
-    let b = x.before in
-    let a = b.args in
+    let a = d.args in
     ap (numbered a.letter) (d.decimal.ensures
-    ∙ ap (λ (l : List ℕ). decimal l largest) (rest_is a.rest.now b.begin-blanks.result ∙ ap (λ (k : ℕ). drop k a.rest.now) b.begin-blanks.ensures))
-    ∙ led_is a.letter a.rest.now (λ z. x.if-blanks-eq0.false (b.begin-blanks.ensures ∙ z))
+    ∙ ap (λ (l : List ℕ). decimal l largest) (rest_is a.rest.now d.begin-blanks.result ∙ ap (λ (k : ℕ). drop k a.rest.now) d.begin-blanks.ensures))
+    ∙ led_is a.letter a.rest.now (λ z. d.if-blanks-eq0.false (d.begin-blanks.ensures ∙ z))
 
 pub returns-then-blanks-eq0 : goal.returns-then-blanks-eq0
 returns-then-blanks-eq0 c =
-    let b = c.before in
-    let a = b.args in
-    unled_is a.letter a.rest.now (sym b.begin-blanks.ensures ∙ c.if-blanks-eq0.true)
+    let a = c.args in
+    unled_is a.letter a.rest.now (sym c.begin-blanks.ensures ∙ c.if-blanks-eq0.true)
 
 pub returns-in-Number : goal.returns-in-Number
 returns-in-Number c =
-    let n = c.before.before in
-    let d = n.before.before in
-    let a = d.args in
-    c.by.ensures ∙ ap (numbered a.letter) (sym n.in-Number.is) ∙ figured d
+    let a = c.args in
+    c.by.ensures ∙ ap (numbered a.letter) (sym c.in-Number.is) ∙ figured (goal.at-returns-in-Number c).After-decimal
 
 pub returns-in-Above : goal.returns-in-Above
 returns-in-Above c =
-    let n = c.before in
-    let d = n.before.before in
-    let a = d.args in
-    c.by-in-Above.ensures ∙ ap (numbered a.letter) (sym n.in-Above.is) ∙ figured d
+    let a = c.args in
+    c.by-in-Above.ensures ∙ ap (numbered a.letter) (sym c.in-Above.is) ∙ figured (goal.at-returns-in-Above c).After-decimal
 
 pub returns-in-Odd : goal.returns-in-Odd
 returns-in-Odd c =
-    let d = c.before.before in
-    let a = d.args in
-    ap (numbered a.letter) (sym c.in-Odd.is) ∙ figured d
+    let a = c.args in
+    ap (numbered a.letter) (sym c.in-Odd.is) ∙ figured (goal.at-returns-in-Odd c).After-decimal
 
 pub slice_bounds-decimal-count : goal.slice_bounds-decimal-count
-slice_bounds-decimal-count c = omega (arith, within c.before)
+slice_bounds-decimal-count c = omega (arith, within (goal.at-slice_bounds-decimal-count c).After-begin-blanks)
 
 pub slice_bounds-decimal-start : goal.slice_bounds-decimal-start
-slice_bounds-decimal-start c = within c.before
+slice_bounds-decimal-start c = within (goal.at-slice_bounds-decimal-start c).After-begin-blanks

@@ -12,58 +12,43 @@ use Rattle.viewer_text.proofs.commands.read.Goals as goal
 
 -- the line, and where what stands in it begins and ends
 abbrev line : After-end-to → List ℕ
-line e = e.before.before.before.args.line.now
+line e = e.args.line.now
 
 abbrev from : After-end-to → ℕ
-from e = e.before.begin.result
+from e = e.begin-from.result
 
 abbrev to : After-end-to → ℕ
-to e = e.end.result
+to e = e.end-to.result
 
 within : (e : After-end-to) → to e ≤ length (line e)
 within e = omega (arith, e.end-to.ensures, ends_within (length (line e)) (line e))
 
 pub returns-then-to-from : goal.returns-then-to-from
 returns-then-to-from c =
-    let e = c.before in
-    again_is (line e) (from e) (to e) c.if-to-from.true ∙ trimmed (line e) (from e) (to e) e.begin-from.ensures e.end-to.ensures
+    again_is (line (goal.at-returns-then-to-from c).After-end-to) (from (goal.at-returns-then-to-from c).After-end-to) (to (goal.at-returns-then-to-from c).After-end-to) c.if-to-from.true ∙ trimmed (line (goal.at-returns-then-to-from c).After-end-to) (from (goal.at-returns-then-to-from c).After-end-to) (to (goal.at-returns-then-to-from c).After-end-to) c.begin-from.ensures c.end-to.ensures
 
 pub bounds-line-from : goal.bounds-line-from
 bounds-line-from c =
-    let e = c.before.before in
-    omega (arith, c.if-to-from.false, within e)
+    omega (arith, c.if-to-from.false, within (goal.at-bounds-line-from c).After-end-to)
 
 pub returns-then-letter-eq47 : goal.returns-then-letter-eq47
 returns-then-letter-eq47 c =
-    let s = c.before in
-    let x = s.before.before in
-    let e = x.before in
-    find_is (line e) (from e) (to e) x.if-to-from.false (sym s.small-letter.ensures ∙ c.if-letter-eq47.true)
-    ∙ trimmed (line e) (from e) (to e) e.begin-from.ensures e.end-to.ensures
+    find_is (line (goal.at-returns-then-letter-eq47 c).After-end-to) (from (goal.at-returns-then-letter-eq47 c).After-end-to) (to (goal.at-returns-then-letter-eq47 c).After-end-to) c.if-to-from.false (sym c.small-letter.ensures ∙ c.if-letter-eq47.true)
+    ∙ trimmed (line (goal.at-returns-then-letter-eq47 c).After-end-to) (from (goal.at-returns-then-letter-eq47 c).After-end-to) (to (goal.at-returns-then-letter-eq47 c).After-end-to) c.begin-from.ensures c.end-to.ensures
 
 pub returns-then-to-from-eq1 : goal.returns-then-to-from-eq1
 returns-then-to-from-eq1 c =
-    let j = c.before in
-    let i = j.before in
-    let s = i.before in
-    let x = s.before.before in
-    let e = x.before in
     c.alone.ensures
-    ∙ ap alone s.small-letter.ensures
-    ∙ alone_is (line e) (from e) (to e) x.if-to-from.false (λ z. i.if-letter-eq47.false (s.small-letter.ensures ∙ z)) j.if-to-from-eq1.true
-    ∙ trimmed (line e) (from e) (to e) e.begin-from.ensures e.end-to.ensures
+    ∙ ap alone c.small-letter.ensures
+    ∙ alone_is (line (goal.at-returns-then-to-from-eq1 c).After-end-to) (from (goal.at-returns-then-to-from-eq1 c).After-end-to) (to (goal.at-returns-then-to-from-eq1 c).After-end-to) c.if-to-from.false (λ z. c.if-letter-eq47.false (c.small-letter.ensures ∙ z)) c.if-to-from-eq1.true
+    ∙ trimmed (line (goal.at-returns-then-to-from-eq1 c).After-end-to) (from (goal.at-returns-then-to-from-eq1 c).After-end-to) (to (goal.at-returns-then-to-from-eq1 c).After-end-to) c.begin-from.ensures c.end-to.ensures
 
 pub slice_bounds-followed-end : goal.slice_bounds-followed-end
-slice_bounds-followed-end c = within c.before.before.before.before.before
+slice_bounds-followed-end c = within (goal.at-slice_bounds-followed-end c).After-end-to
 
 pub returns : goal.returns
 returns c =
-    let j = c.before.before in
-    let i = j.before in
-    let s = i.before in
-    let x = s.before.before in
-    let e = x.before in
     c.followed.ensures
-    ∙ ap (λ (n : ℕ). followed n (take (to e - (from e + 1)) (drop (from e + 1) (line e)))) s.small-letter.ensures
-    ∙ followed_is (line e) (from e) (to e) x.if-to-from.false (λ z. i.if-letter-eq47.false (s.small-letter.ensures ∙ z)) j.if-to-from-eq1.false
-    ∙ trimmed (line e) (from e) (to e) e.begin-from.ensures e.end-to.ensures
+    ∙ ap (λ (n : ℕ). followed n (take (to (goal.at-returns c).After-end-to - (from (goal.at-returns c).After-end-to + 1)) (drop (from (goal.at-returns c).After-end-to + 1) (line (goal.at-returns c).After-end-to)))) c.small-letter.ensures
+    ∙ followed_is (line (goal.at-returns c).After-end-to) (from (goal.at-returns c).After-end-to) (to (goal.at-returns c).After-end-to) c.if-to-from.false (λ z. c.if-letter-eq47.false (c.small-letter.ensures ∙ z)) c.if-to-from-eq1.false
+    ∙ trimmed (line (goal.at-returns c).After-end-to) (from (goal.at-returns c).After-end-to) (to (goal.at-returns c).After-end-to) c.begin-from.ensures c.end-to.ensures

@@ -24,26 +24,19 @@ loop-n-init c =
 
 pub returns-then-stands_at : goal.returns-then-stands_at
 returns-then-stands_at c =
-    let f = c.before in
-    let l = f.before in
-    let t = l.before in
-    let a = t.args in
-    found a.text.now a.word.now t.loop-n.n l.loop-n-test.true (sym f.stands_at.ensures ∙ c.if-stands_at.true) ∙ t.loop-n.invariant.1
+    let a = c.args in
+    found a.text.now a.word.now c.loop-n.n c.loop-n-test.true (sym c.stands_at.ensures ∙ c.if-stands_at.true) ∙ c.loop-n.invariant.1
 
 pub loop-n-preserved : goal.loop-n-preserved
 loop-n-preserved c =
-    let f = c.before in
-    let l = f.before in
-    let t = l.before in
-    let a = t.args in
-    let on = found_on a.text.now a.word.now t.loop-n.n l.loop-n-test.true (sym f.stands_at.ensures ∙ c.if-stands_at.false) in
-    (omega (arith, t.loop-n.invariant.0), on ∙ t.loop-n.invariant.1)
+    let a = c.args in
+    let on = found_on a.text.now a.word.now c.loop-n.n c.loop-n-test.true (sym c.stands_at.ensures ∙ c.if-stands_at.false) in
+    (omega (arith, c.loop-n.invariant.0), on ∙ c.loop-n.invariant.1)
 
 pub returns : goal.returns
 returns c =
-    let t = c.before in
-    let a = t.args in
-    found_none a.text.now a.word.now t.loop-n.n c.loop-n-test.false ∙ t.loop-n.invariant.1
+    let a = c.args in
+    found_none a.text.now a.word.now c.loop-n.n c.loop-n-test.false ∙ c.loop-n.invariant.1
 
 pub overflow_sub-n-in-loop-n : goal.overflow_sub-n-in-loop-n
 overflow_sub-n-in-loop-n c = omega (arith, c.loop-n-test.true)

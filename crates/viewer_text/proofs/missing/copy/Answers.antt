@@ -26,19 +26,18 @@ loop-i-init c =
 
 pub loop-i-preserved : goal.loop-i-preserved
 loop-i-preserved c =
-    let l = c.before.before.before in
-    let a = l.args in
-    let i = l.loop-i.i in
-    let b = l.loop-i.buf in
+    let a = c.args in
+    let i = c.loop-i.i in
+    let b = c.loop-i.buf in
     let s : List ℕ = map visible a.word.now in
     let less : i < length a.word.now = c.loop-i-test.true in
     let within : i < length s = omega (arith, as_many a.word.now) in
     let sign : c.visible.result ≡ get_or s i 0 = c.visible.ensures ∙ sym (visible_at a.word.now i less) in (
       omega arith,
-      length-set b (a.at + i) c.visible.result ∙ l.loop-i.invariant.1,
+      length-set b (a.at + i) c.visible.result ∙ c.loop-i.invariant.1,
       ap (λ (d : ℕ). placed (drop (i + 1) s) (set b (a.at + i) d) (a.at + (i + 1))) sign
-          ∙ placed_next s b a.at i within (room l less)
-          ∙ l.loop-i.invariant.2,
+          ∙ placed_next s b a.at i within (room (goal.at-loop-i-preserved c).At-loop-i less)
+          ∙ c.loop-i.invariant.2,
     )
 
 pub shape_of-buf : goal.shape_of-buf
@@ -46,25 +45,24 @@ shape_of-buf c = c.loop-i.invariant.1
 
 pub returns : goal.returns
 returns c =
-    let l = c.before in
-    let a = l.args in
+    let a = c.args in
     let s : List ℕ = map visible a.word.now in
-    let all : l.loop-i.i ≡ length s = omega (arith, as_many a.word.now, c.loop-i-test.false, l.loop-i.invariant.0) in
+    let all : c.loop-i.i ≡ length s = omega (arith, as_many a.word.now, c.loop-i-test.false, c.loop-i.invariant.0) in
     was_put {t = s} (record {
       put = (
         ap (λ (k : ℕ). a.at + k) all,
-        sym (placed_none l.loop-i.buf (a.at + l.loop-i.i))
-            ∙ ap (λ (t : List ℕ). placed t l.loop-i.buf (a.at + l.loop-i.i)) (sym (ap (λ (k : ℕ). drop k s) all ∙ drop-length s))
-            ∙ l.loop-i.invariant.2,
+        sym (placed_none c.loop-i.buf (a.at + c.loop-i.i))
+            ∙ ap (λ (t : List ℕ). placed t c.loop-i.buf (a.at + c.loop-i.i)) (sym (ap (λ (k : ℕ). drop k s) all ∙ drop-length s))
+            ∙ c.loop-i.invariant.2,
       );
-      fits = omega (arith, as_many a.word.now, l.requires);
+      fits = omega (arith, as_many a.word.now, c.requires);
     })
 
 pub overflow_add-buf : goal.overflow_add-buf
-overflow_add-buf c = omega (arith, room c.before.before.before c.loop-i-test.true)
+overflow_add-buf c = omega (arith, room (goal.at-overflow_add-buf c).At-loop-i c.loop-i-test.true)
 
 pub bounds-buf-at : goal.bounds-buf-at
-bounds-buf-at c = omega (arith, room c.before.before.before c.loop-i-test.true)
+bounds-buf-at c = omega (arith, room (goal.at-bounds-buf-at c).At-loop-i c.loop-i-test.true)
 
 pub overflow_add-i : goal.overflow_add-i
 overflow_add-i c = omega (arith, c.loop-i-test.true)

@@ -9,7 +9,7 @@ use Rattle.viewer_text.proofs.missing.copy.Given as goal
 
 abbrev pub invariant-loop-i : goal.invariant-loop-i
 invariant-loop-i l =
-    (l.i ≤ length l.word) × (length l.at ≡ length l.initial.buf) × (placed (drop l.i (map visible l.word)) l.at (l.buf + l.i) ≡ placed (map visible l.word) l.initial.buf l.buf)
+    (l.i ≤ length l.word) × (length l.buf ≡ length l.initial.buf) × (placed (drop l.i (map visible l.word)) l.buf (l.at + l.i) ≡ placed (map visible l.word) l.initial.buf l.at)
 
 abbrev pub decreases-loop-i : goal.decreases-loop-i
 decreases-loop-i l = length l.word - l.i

@@ -38,17 +38,11 @@ returns-then-buf-at c =
 
 pub copy-said-requires : goal.copy-said-requires
 copy-said-requires c =
-    let p = c.before.before.before in
-    let x = p.before.before.before in
-    let a = x.args in
-    omega (arith, as_many a.word.now, room_after a.buf.now a.at (codes "no further line has ") (map visible a.word.now) (named x) p.put-named.ensures)
+    let a = c.args in
+    omega (arith, as_many a.word.now, room_after a.buf.now a.at (codes "no further line has ") (map visible a.word.now) (named (goal.at-copy-said-requires c).After-put-arg-1) c.put-named.ensures)
 
 pub returns : goal.returns
 unfolding no_line
 returns c =
-    let q = c.before.before in
-    let k = q.before.before.before.before.before in
-    let p = k.before.before.before.before in
-    let x = p.before.before.before in
-    let a = x.args in
-    join_3 a.buf.now a.at (codes "no further line has ") (map visible a.word.now) (codes "\n") (fits x) p.put-named.ensures k.copy-said.ensures q.put.ensures
+    let a = c.args in
+    join_3 a.buf.now a.at (codes "no further line has ") (map visible a.word.now) (codes "\n") (fits (goal.at-returns c).After-put-arg-2-1) c.put-named.ensures c.copy-said.ensures c.put.ensures

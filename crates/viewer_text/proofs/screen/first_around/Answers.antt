@@ -11,17 +11,15 @@ use Rattle.viewer_text.proofs.screen.first_around.Goals as goal
 pub returns-then-before-last : goal.returns-then-before-last
 unfolding around
 returns-then-before-last c =
-    let b = c.before in
-    let n = b.args.number in
-    let k = b.args.count in
-    b.less-before.ensures
-    ∙ ap (λ (t : Bool). pick t (n - 3) (k - 6)) (sym (ap (λ (x : ℕ). leb x (k - 6)) (sym b.less-before.ensures) ∙ ap (leb b.less-before.result) (sym b.less-last.ensures) ∙ le-leb _ _ c.if-before-last.true))
+    let n = c.args.number in
+    let k = c.args.count in
+    c.less-before.ensures
+    ∙ ap (λ (t : Bool). pick t (n - 3) (k - 6)) (sym (ap (λ (x : ℕ). leb x (k - 6)) (sym c.less-before.ensures) ∙ ap (leb c.less-before.result) (sym c.less-last.ensures) ∙ le-leb _ _ c.if-before-last.true))
 
 pub returns : goal.returns
 unfolding around
 returns c =
-    let b = c.before in
-    let n = b.args.number in
-    let k = b.args.count in
-    b.less-last.ensures
-    ∙ ap (λ (t : Bool). pick t (n - 3) (k - 6)) (sym (ap (λ (x : ℕ). leb x (k - 6)) (sym b.less-before.ensures) ∙ ap (leb b.less-before.result) (sym b.less-last.ensures) ∙ lt-leb _ _ c.if-before-last.false))
+    let n = c.args.number in
+    let k = c.args.count in
+    c.less-last.ensures
+    ∙ ap (λ (t : Bool). pick t (n - 3) (k - 6)) (sym (ap (λ (x : ℕ). leb x (k - 6)) (sym c.less-before.ensures) ∙ ap (leb c.less-before.result) (sym c.less-last.ensures) ∙ lt-leb _ _ c.if-before-last.false))

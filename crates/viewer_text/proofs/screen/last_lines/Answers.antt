@@ -12,28 +12,22 @@ loop-i-init c = (omega arith, refl)
 
 pub returns-then-left-eq0 : goal.returns-then-left-eq0
 returns-then-left-eq0 c =
-    let i = c.before in
-    let l = i.before.before in
-    let t = l.before in
-    let text = t.args.text.now in
-    lines_here text t.loop-i.left t.loop-i.i l.loop-i-test.true i.if-text-i-eq10.true c.if-left-eq0.true ∙ t.loop-i.invariant.1
+    let text = c.args.text.now in
+    lines_here text c.loop-i.left c.loop-i.i c.loop-i-test.true c.if-text-i-eq10.true c.if-left-eq0.true ∙ c.loop-i.invariant.1
 
 pub loop-i-preserved : goal.loop-i-preserved
 loop-i-preserved c =
-    let l = c.before.before in
-    let t = l.before in
-    let text = t.args.text.now in
-    let on : lines_from (t.loop-i.i - 1) c.if-text-i-eq10.left text ≡ lines_from t.loop-i.i t.loop-i.left text =
+    let text = c.args.text.now in
+    let on : lines_from (c.loop-i.i - 1) c.if-text-i-eq10.left text ≡ lines_from c.loop-i.i c.loop-i.left text =
     ⊎_elim
-    (λ w. ap (λ (n : ℕ). lines_from (t.loop-i.i - 1) n text) w.2 ∙ lines_less text t.loop-i.left t.loop-i.i l.loop-i-test.true w.0.taken w.1.left)
-    (λ w. ap (λ (n : ℕ). lines_from (t.loop-i.i - 1) n text) w.1 ∙ lines_pass text t.loop-i.left t.loop-i.i l.loop-i-test.true w.0.left)
+    (λ w. ap (λ (n : ℕ). lines_from (c.loop-i.i - 1) n text) w.2 ∙ lines_less text c.loop-i.left c.loop-i.i c.loop-i-test.true w.0.taken w.1.left)
+    (λ w. ap (λ (n : ℕ). lines_from (c.loop-i.i - 1) n text) w.1 ∙ lines_pass text c.loop-i.left c.loop-i.i c.loop-i-test.true w.0.left)
     c.if-text-i-eq10.branch-raw in
-    (omega (arith, t.loop-i.invariant.0), on ∙ t.loop-i.invariant.1)
+    (omega (arith, c.loop-i.invariant.0), on ∙ c.loop-i.invariant.1)
 
 pub returns : goal.returns
 returns c =
-    let t = c.before in
-    lines_none t.args.text.now t.loop-i.left t.loop-i.i c.loop-i-test.false ∙ t.loop-i.invariant.1
+    lines_none c.args.text.now c.loop-i.left c.loop-i.i c.loop-i-test.false ∙ c.loop-i.invariant.1
 
 pub overflow_sub-i : goal.overflow_sub-i
 overflow_sub-i c = omega (arith, c.loop-i-test.true)

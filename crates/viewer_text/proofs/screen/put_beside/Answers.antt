@@ -22,40 +22,26 @@ one_there trace i n h = ap (λ (b : Bool). pick b (said_beside (eqb i n) (i + 1)
 
 pub returns-then-i-trace : goal.returns-then-i-trace
 returns-then-i-trace c =
-    let p = c.before.before in
-    let i = p.before.before.before in
-    let a = i.args in
-    p.put.ensures ∙ ap (λ (t : List ℕ). put t a.buf.now a.at) (none_there a.trace.now a.i a.number i.if-i-trace.true)
+    let a = c.args in
+    c.put.ensures ∙ ap (λ (t : List ℕ). put t a.buf.now a.at) (none_there a.trace.now a.i a.number c.if-i-trace.true)
 
 pub returns-in-Nothing : goal.returns-in-Nothing
 returns-in-Nothing c =
-    let p = c.before.before in
-    let k = p.before.before.before in
-    let t = k.before.before in
-    let i = t.before in
-    let a = i.args in
-    p.put-in-Nothing.ensures
+    let a = c.args in
+    c.put-in-Nothing.ensures
     ∙ ap (λ (x : List ℕ). put x a.buf.now a.at)
-    (ap (said_beside (eqb a.i a.number) (a.i + 1)) (sym k.in-Nothing.is ∙ t.thing_at-said.ensures) ∙ one_there a.trace.now a.i a.number i.if-i-trace.false)
+    (ap (said_beside (eqb a.i a.number) (a.i + 1)) (sym c.in-Nothing.is ∙ c.thing_at-said.ensures) ∙ one_there a.trace.now a.i a.number c.if-i-trace.false)
 
 pub returns-in-Thing : goal.returns-in-Thing
 returns-in-Thing c =
-    let p = c.before.before in
-    let k = p.before.before.before in
-    let t = k.before.before in
-    let i = t.before in
-    let a = i.args in
-    p.put_marked.ensures
+    let a = c.args in
+    c.put_marked.ensures
     ∙ ap (λ (x : List ℕ). put x a.buf.now a.at)
-    (ap (said_beside (eqb a.i a.number) (a.i + 1)) (sym k.in-Thing.is ∙ t.thing_at-said.ensures) ∙ one_there a.trace.now a.i a.number i.if-i-trace.false)
+    (ap (said_beside (eqb a.i a.number) (a.i + 1)) (sym c.in-Thing.is ∙ c.thing_at-said.ensures) ∙ one_there a.trace.now a.i a.number c.if-i-trace.false)
 
 pub returns-in-Unreadable : goal.returns-in-Unreadable
 returns-in-Unreadable c =
-    let p = c.before.before in
-    let k = p.before.before.before in
-    let t = k.before.before in
-    let i = t.before in
-    let a = i.args in
-    p.put-in-Unreadable.ensures
+    let a = c.args in
+    c.put-in-Unreadable.ensures
     ∙ ap (λ (x : List ℕ). put x a.buf.now a.at)
-    (ap (said_beside (eqb a.i a.number) (a.i + 1)) (sym k.in-Unreadable.is ∙ t.thing_at-said.ensures) ∙ one_there a.trace.now a.i a.number i.if-i-trace.false)
+    (ap (said_beside (eqb a.i a.number) (a.i + 1)) (sym c.in-Unreadable.is ∙ c.thing_at-said.ensures) ∙ one_there a.trace.now a.i a.number c.if-i-trace.false)

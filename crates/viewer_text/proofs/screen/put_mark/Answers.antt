@@ -7,12 +7,8 @@ use Rattle.viewer_text.proofs.screen.put_mark.Goals as goal
 
 pub returns-then-ahead : goal.returns-then-ahead
 returns-then-ahead c =
-    let p = c.before.before in
-    let i = p.before.before.before in
-    p.put.ensures ∙ ap (λ (b : Bool). put (mark b) i.args.buf.now 0) (sym i.if-ahead.true)
+    c.put.ensures ∙ ap (λ (b : Bool). put (mark b) c.args.buf.now 0) (sym c.if-ahead.true)
 
 pub returns : goal.returns
 returns c =
-    let p = c.before.before in
-    let i = p.before.before.before in
-    p.put-2.ensures ∙ ap (λ (b : Bool). put (mark b) i.args.buf.now 0) (sym i.if-ahead.false)
+    c.put-2.ensures ∙ ap (λ (b : Bool). put (mark b) c.args.buf.now 0) (sym c.if-ahead.false)

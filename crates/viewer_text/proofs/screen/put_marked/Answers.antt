@@ -23,19 +23,18 @@ room : (b : Bool) (number place : ℕ) (what : What) → 0 + length (marked b nu
 room b number place what = omega (arith, marked_length b number place what, length-replicate {A = ℕ} 136 0)
 
 -- The space begins with the line.
-line : (c : After-put_record-n) → let a = c.args in Begins (marked a.ahead a.number a.place a.what) c.put_record-n.new.1.1.1.0 c.put_record-n.result
+line : (c : After-put_record-n) → let a = c.args in Begins (marked a.ahead a.number a.place a.what) c.put_record-n.new.buf c.put_record-n.result
 unfolding marked
 line c =
-    let m = c.before.before.before in
-    let a = m.args in
+    let a = c.args in
     begins 136 (marked a.ahead a.number a.place a.what) (marked_length a.ahead a.number a.place a.what)
-    (join (replicate 136 0) 0 (mark a.ahead) (record_line a.number a.place a.what) (room a.ahead a.number a.place a.what) m.put_mark-a.ensures c.put_record-n.ensures)
+    (join (replicate 136 0) 0 (mark a.ahead) (record_line a.number a.place a.what) (room a.ahead a.number a.place a.what) c.put_mark-a.ensures c.put_record-n.ensures)
 
 pub slice_bounds-space-end : goal.slice_bounds-space-end
-slice_bounds-space-end c = (line c.before).within
+slice_bounds-space-end c = (line (goal.at-slice_bounds-space-end c).After-put_record-n).within
 
 pub slice_bounds-put-end : goal.slice_bounds-put-end
-slice_bounds-put-end c = as_long (line c.before.before)
+slice_bounds-put-end c = as_long (line (goal.at-slice_bounds-put-end c).After-put_record-n)
 
 pub returns : goal.returns
-returns c = put_as _ _ (line c.before.before.before.before.before.before) c.put.ensures
+returns c = put_as _ _ (line (goal.at-returns c).After-put_record-n) c.put.ensures

@@ -23,76 +23,59 @@ use Rattle.viewer_text.proofs.seeking.over.Goals as goal
 
 -- what a record's listing says
 listed : (b : After-bytes_of-bytes) →
-    let l = b.before.before in
-    let t = l.before.before.before.before in
-    let a = t.args in
-    Here a.store t.loop-i.now t.loop-i.i a.trace.now l.list-listed.new.1.1.1.1.1.0 l.list-listed.result b.bytes_of-bytes.result
+    let a = b.args in
+    Here a.store b.loop-i.now b.loop-i.i a.trace.now b.list-listed.new.out.0 b.list-listed.result b.bytes_of-bytes.result
 listed b =
-    let l = b.before.before in
-    let i = l.before.before.before in
-    let t = i.before in
-    let s = t.before.before.before in
-    let a = s.args in
-    let eight : t.loop-i.i * 8 + 8 - t.loop-i.i * 8 ≡ 8 = omega arith in
-    let small : t.loop-i.i + 1 < largest64 = omega (arith, i.loop-i-test.true) in
-    here a.store t.loop-i.now t.loop-i.i a.trace.now t.loop-i.text l.list-listed.new.1.1.1.1.1.0 l.list-listed.result b.bytes_of-bytes.result
-    i.loop-i-test.true s.requires t.loop-i.invariant.2 small
-    (l.list-listed.ensures
-    ∙ ap (λ (n : ℕ). list with_reasons t.loop-i.now a.store (t.loop-i.i + 1) (take n (drop (t.loop-i.i * 8) a.trace.now)) t.loop-i.text) eight)
+    let a = b.args in
+    let eight : b.loop-i.i * 8 + 8 - b.loop-i.i * 8 ≡ 8 = omega arith in
+    let small : b.loop-i.i + 1 < largest64 = omega (arith, b.loop-i-test.true) in
+    here a.store b.loop-i.now b.loop-i.i a.trace.now b.loop-i.text b.list-listed.new.out.0 b.list-listed.result b.bytes_of-bytes.result
+    b.loop-i-test.true b.requires b.loop-i.invariant.2 small
+    (b.list-listed.ensures
+    ∙ ap (λ (n : ℕ). list with_reasons b.loop-i.now a.store (b.loop-i.i + 1) (take n (drop (b.loop-i.i * 8) a.trace.now)) b.loop-i.text) eight)
     b.bytes_of-bytes.ensures
 
 -- whether its lines have the word
 told : (h : After-has) →
-    let t = h.before.before.before.before.before.before.before.before in
-    let a = t.args in
-    let r = record_at a.trace.now t.loop-i.i in
-    has (step_text with_reasons (t.loop-i.i + 1) (treat t.loop-i.now (gap_at a.store (odometer_of r)) r)) a.word.now ≡ h.has.result
+    let a = h.args in
+    let r = record_at a.trace.now h.loop-i.i in
+    has (step_text with_reasons (h.loop-i.i + 1) (treat h.loop-i.now (gap_at a.store (odometer_of r)) r)) a.word.now ≡ h.has.result
 told h =
-    let b = h.before.before in
-    let a = b.args in
-    ap (λ (x : List ℕ). has x a.word.now) (sym (listed b).text-is) ∙ sym h.has.ensures
+    let a = h.args in
+    ap (λ (x : List ℕ). has x a.word.now) (sym (listed (goal.at-After-has h).After-bytes_of-bytes).text-is) ∙ sym h.has.ensures
 
 pub loop-i-init : goal.loop-i-init
 loop-i-init c = (omega arith, omega arith, length-replicate {A = ℕ} 320 0, further_none _)
 
 pub returns-then-has : goal.returns-then-has
 returns-then-has c =
-    let h = c.before in
-    let i = h.before.before.before.before.before.before.before in
-    let t = i.before in
-    let a = t.args in
-    ap (further t.loop-i.times) (sym (seek_here a.word.now a.store t.loop-i.now t.loop-i.i a.trace.now i.loop-i-test.true (told h ∙ c.if-has.true)))
-    ∙ t.loop-i.invariant.3
+    let a = c.args in
+    ap (further c.loop-i.times) (sym (seek_here a.word.now a.store c.loop-i.now c.loop-i.i a.trace.now c.loop-i-test.true (told (goal.at-returns-then-has c).After-has ∙ c.if-has.true)))
+    ∙ c.loop-i.invariant.3
 
 pub loop-i-preserved : goal.loop-i-preserved
 loop-i-preserved c =
-    let e = c.before in
-    let h = e.before in
-    let b = h.before.before in
-    let i = b.before.before.before.before.before in
-    let t = i.before in
-    let a = t.args in
-    let rest : List (List ℕ) = records (drop ((t.loop-i.i + 1) * 8) a.trace.now) in
-    let r = record_at a.trace.now t.loop-i.i in
-    let then : Ride = (treat t.loop-i.now (gap_at a.store (odometer_of r)) r).ride in
-    let there = i.loop-i-test.true in (
-      omega (arith, t.loop-i.invariant.0),
-      omega (arith, t.loop-i.invariant.0),
-      (listed b).long,
-      ap (λ (x : Ride). further (t.loop-i.times + 1) (seek_in a.word.now (gap_at a.store) x (t.loop-i.i + 1 + 1) rest)) (listed b).ride-is
-          ∙ sym (further_on t.loop-i.times (seek_in a.word.now (gap_at a.store) then (t.loop-i.i + 1 + 1) rest))
-          ∙ ap (further t.loop-i.times) (sym (seek_next a.word.now a.store t.loop-i.now t.loop-i.i a.trace.now there (told h ∙ e.if-has.false)))
-          ∙ t.loop-i.invariant.3,
+    let a = c.args in
+    let rest : List (List ℕ) = records (drop ((c.loop-i.i + 1) * 8) a.trace.now) in
+    let r = record_at a.trace.now c.loop-i.i in
+    let then : Ride = (treat c.loop-i.now (gap_at a.store (odometer_of r)) r).ride in
+    let there = c.loop-i-test.true in (
+      omega (arith, c.loop-i.invariant.0),
+      omega (arith, c.loop-i.invariant.0),
+      (listed (goal.at-loop-i-preserved c).After-bytes_of-bytes).long,
+      ap (λ (x : Ride). further (c.loop-i.times + 1) (seek_in a.word.now (gap_at a.store) x (c.loop-i.i + 1 + 1) rest)) (listed (goal.at-loop-i-preserved c).After-bytes_of-bytes).ride-is
+          ∙ sym (further_on c.loop-i.times (seek_in a.word.now (gap_at a.store) then (c.loop-i.i + 1 + 1) rest))
+          ∙ ap (further c.loop-i.times) (sym (seek_next a.word.now a.store c.loop-i.now c.loop-i.i a.trace.now there (told (goal.at-loop-i-preserved c).After-has ∙ c.if-has.false)))
+          ∙ c.loop-i.invariant.3,
     )
 
 pub returns : goal.returns
 returns c =
-    let t = c.before in
-    let a = t.args in
-    ap (further t.loop-i.times) (sym (seek_none a.word.now a.store t.loop-i.now t.loop-i.i a.trace.now c.loop-i-test.false)) ∙ t.loop-i.invariant.3
+    let a = c.args in
+    ap (further c.loop-i.times) (sym (seek_none a.word.now a.store c.loop-i.now c.loop-i.i a.trace.now c.loop-i-test.false)) ∙ c.loop-i.invariant.3
 
 pub slice_bounds-text-end : goal.slice_bounds-text-end
 slice_bounds-text-end c = omega (arith, (listed c).within, (listed c).long)
 
 pub slice_bounds-has-end : goal.slice_bounds-has-end
-slice_bounds-has-end c = sym (length-take-le _ _ (omega (arith, (listed c.before).within, (listed c.before).long)))
+slice_bounds-has-end c = sym (length-take-le _ _ (omega (arith, (listed (goal.at-slice_bounds-has-end c).After-bytes_of-bytes).within, (listed (goal.at-slice_bounds-has-end c).After-bytes_of-bytes).long)))

@@ -7,19 +7,15 @@ use Rattle.viewer_text.proofs.seeking.seek.Goals as goal
 
 pub over-requires : goal.over-requires
 over-requires c =
-    let q = c.before.before in
-    (held_given q.args.store 0 _ (sym q.at-asked.ensures ∙ ap says_asked c.in-InForce.is)).0
+    (held_given c.args.store 0 _ (sym c.at-asked.ensures ∙ ap says_asked c.in-InForce.is)).0
 
 pub returns-in-Refused : goal.returns-in-Refused
 returns-in-Refused c =
-    let q = c.before.before in
-    let a = q.args in
-    seek_bad a.word.now a.store a.ride a.number a.trace.now _ (store_refused a.store _ (sym q.at-asked.ensures ∙ ap says_asked c.in-Refused.is))
+    let a = c.args in
+    seek_bad a.word.now a.store a.ride a.number a.trace.now _ (store_refused a.store _ (sym c.at-asked.ensures ∙ ap says_asked c.in-Refused.is))
 
 pub returns-in-InForce : goal.returns-in-InForce
 returns-in-InForce c =
-    let h = c.before in
-    let q = h.before.before in
-    let a = q.args in
-    let good = (held_given a.store 0 _ (sym q.at-asked.ensures ∙ ap says_asked h.in-InForce.is)).0 in
+    let a = c.args in
+    let good = (held_given a.store 0 _ (sym c.at-asked.ensures ∙ ap says_asked c.in-InForce.is)).0 in
     c.over.ensures ∙ seek_good a.word.now a.store a.ride a.number a.trace.now good

@@ -39,42 +39,26 @@ to_two s = less s.args.buf.now s.args.at (one s ++ two s) (three s) (to_three s)
 
 pub put_place-a-requires : goal.put_place-a-requires
 put_place-a-requires c =
-    let s = c.before.before.before.before in
-    less s.args.buf.now s.args.at (one s) (two s) (to_two s)
+    less c.args.buf.now c.args.at (one (goal.at-put_place-a-requires c).Start) (two (goal.at-put_place-a-requires c).Start) (to_two (goal.at-put_place-a-requires c).Start)
 
 pub put_group-b-requires : goal.put_group-b-requires
 put_group-b-requires c =
-    let p1 = c.before.before.before in
-    let s = p1.before.before.before.before.before in
-    room_after s.args.buf.now s.args.at (one s) (two s) (to_two s) p1.put_place-a.ensures
+    room_after c.args.buf.now c.args.at (one (goal.at-put_group-b-requires c).Start) (two (goal.at-put_group-b-requires c).Start) (to_two (goal.at-put_group-b-requires c).Start) c.put_place-a.ensures
 
 pub put_linking-c-requires : goal.put_linking-c-requires
 put_linking-c-requires c =
-    let p2 = c.before.before.before in
-    let p1 = p2.before.before.before.before in
-    let s = p1.before.before.before.before.before in
-    room_after s.args.buf.now s.args.at (one s ++ two s) (three s) (to_three s)
-    (join s.args.buf.now s.args.at (one s) (two s) (to_two s) p1.put_place-a.ensures p2.put_group-b.ensures)
+    room_after c.args.buf.now c.args.at (one (goal.at-put_linking-c-requires c).Start ++ two (goal.at-put_linking-c-requires c).Start) (three (goal.at-put_linking-c-requires c).Start) (to_three (goal.at-put_linking-c-requires c).Start)
+    (join c.args.buf.now c.args.at (one (goal.at-put_linking-c-requires c).Start) (two (goal.at-put_linking-c-requires c).Start) (to_two (goal.at-put_linking-c-requires c).Start) c.put_place-a.ensures c.put_group-b.ensures)
 
 pub put_speeds-d-requires : goal.put_speeds-d-requires
 put_speeds-d-requires c =
-    let p3 = c.before.before.before in
-    let p2 = p3.before.before.before.before in
-    let p1 = p2.before.before.before.before in
-    let s = p1.before.before.before.before.before in
-    room_after s.args.buf.now s.args.at (one s ++ two s ++ three s) (four s) (to_four s)
-    (join_3 s.args.buf.now s.args.at (one s) (two s) (three s) (to_three s) p1.put_place-a.ensures p2.put_group-b.ensures p3.put_linking-c.ensures)
+    room_after c.args.buf.now c.args.at (one (goal.at-put_speeds-d-requires c).Start ++ two (goal.at-put_speeds-d-requires c).Start ++ three (goal.at-put_speeds-d-requires c).Start) (four (goal.at-put_speeds-d-requires c).Start) (to_four (goal.at-put_speeds-d-requires c).Start)
+    (join_3 c.args.buf.now c.args.at (one (goal.at-put_speeds-d-requires c).Start) (two (goal.at-put_speeds-d-requires c).Start) (three (goal.at-put_speeds-d-requires c).Start) (to_three (goal.at-put_speeds-d-requires c).Start) c.put_place-a.ensures c.put_group-b.ensures c.put_linking-c.ensures)
 
 pub returns : goal.returns
 returns c =
-    let p5 = c.before.before in
-    let p4 = p5.before.before.before.before.before in
-    let p3 = p4.before.before.before.before in
-    let p2 = p3.before.before.before.before in
-    let p1 = p2.before.before.before.before in
-    let s = p1.before.before.before.before.before in
-    let a = s.args in
-    join a.buf.now a.at (one s ++ two s ++ three s ++ four s) (codes "\n") (to_end s)
-    (join_4 a.buf.now a.at (one s) (two s) (three s) (four s) (to_four s) p1.put_place-a.ensures p2.put_group-b.ensures p3.put_linking-c.ensures p4.put_speeds-d.ensures)
-    p5.put.ensures
+    let a = c.args in
+    join a.buf.now a.at (one (goal.at-returns c).After-slice_known-1 ++ two (goal.at-returns c).After-slice_known-1 ++ three (goal.at-returns c).After-slice_known-1 ++ four (goal.at-returns c).After-slice_known-1) (codes "\n") (to_end (goal.at-returns c).After-slice_known-1)
+    (join_4 a.buf.now a.at (one (goal.at-returns c).After-slice_known-1) (two (goal.at-returns c).After-slice_known-1) (three (goal.at-returns c).After-slice_known-1) (four (goal.at-returns c).After-slice_known-1) (to_four (goal.at-returns c).After-slice_known-1) c.put_place-a.ensures c.put_group-b.ensures c.put_linking-c.ensures c.put_speeds-d.ensures)
+    c.put.ensures
     ∙ ap (λ (t : List ℕ). put t a.buf.now a.at) (state_is a.number a.count a.kept a.ride)

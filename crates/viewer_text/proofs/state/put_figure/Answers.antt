@@ -9,15 +9,11 @@ use Rattle.viewer_text.proofs.state.put_figure.Goals as goal
 pub returns-in-None : goal.returns-in-None
 unfolding on_figure figure
 returns-in-None c =
-    let p = c.before.before in
-    let k = p.before.before.before in
-    let a = k.args in
-    p.put.ensures ∙ ap (λ (m : Number). put (on_figure m) a.buf.now a.at) (sym k.in-None.is)
+    let a = c.args in
+    c.put.ensures ∙ ap (λ (m : Number). put (on_figure m) a.buf.now a.at) (sym c.in-None.is)
 
 pub returns-in-Figure : goal.returns-in-Figure
 unfolding on_figure figure
 returns-in-Figure c =
-    let p = c.before.before in
-    let k = p.before.before.before.before in
-    let a = k.args in
-    p.put_number.ensures ∙ ap (λ (m : Number). put (on_figure m) a.buf.now a.at) (sym k.in-Figure.is)
+    let a = c.args in
+    c.put_number.ensures ∙ ap (λ (m : Number). put (on_figure m) a.buf.now a.at) (sym c.in-Figure.is)

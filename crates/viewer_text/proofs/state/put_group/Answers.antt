@@ -37,24 +37,17 @@ none_kept = record { place = 0; heard = Heard.Words 0 0 0 }
 
 pub returns-then-of-eq0 : goal.returns-then-of-eq0
 returns-then-of-eq0 c =
-    let p = c.before.before in
-    let i = p.before.before.before in
-    let a = i.args in
-    p.put.ensures ∙ ap (λ (t : List ℕ). put t a.buf.now a.at) (none_open a.t1 i.if-of-eq0.true)
+    let a = c.args in
+    c.put.ensures ∙ ap (λ (t : List ℕ). put t a.buf.now a.at) (none_open a.t1 c.if-of-eq0.true)
 
 pub returns : goal.returns
 returns c =
-    let p3 = c.before.before in
-    let p2 = p3.before.before.before.before.before in
-    let p1 = p2.before.before.before.before.before.before in
-    let i = p1.before.before.before.before in
-    let s = i.before.before in
-    let a = s.args in
+    let a = c.args in
     let first = (get_or a.t1.kept 0 none_kept).place in
     let same : (codes "\n  group of " ++ decimal a.t1.count) ++ (codes " from " ++ decimal first) ++ (codes " to " ++ decimal a.t1.last)
     ≡ (codes "\n  group of " ++ decimal a.t1.count) ++ (codes " from " ++ decimal (first_place a.t1)) ++ (codes " to " ++ decimal a.t1.last) =
     ap (λ (n : ℕ). (codes "\n  group of " ++ decimal a.t1.count) ++ (codes " from " ++ decimal n) ++ (codes " to " ++ decimal a.t1.last)) (first_of a.t1.kept none_kept no_balise refl) in
-    let is = same ∙ one_open a.t1 i.if-of-eq0.false in
-    join_3 a.buf.now a.at (codes "\n  group of " ++ decimal a.t1.count) (codes " from " ++ decimal first) (codes " to " ++ decimal a.t1.last) (room_as a.buf.now a.at is s.requires)
-    p1.put_number-a.ensures p2.put_number-b.ensures p3.put_number.ensures
+    let is = same ∙ one_open a.t1 c.if-of-eq0.false in
+    join_3 a.buf.now a.at (codes "\n  group of " ++ decimal a.t1.count) (codes " from " ++ decimal first) (codes " to " ++ decimal a.t1.last) (room_as a.buf.now a.at is c.requires)
+    c.put_number-a.ensures c.put_number-b.ensures c.put_number.ensures
     ∙ ap (λ (t : List ℕ). put t a.buf.now a.at) is

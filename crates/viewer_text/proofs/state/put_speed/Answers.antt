@@ -13,19 +13,13 @@ use Rattle.viewer_text.proofs.state.put_speed.Goals as goal
 pub returns-in-Unknown : goal.returns-in-Unknown
 unfolding speed
 returns-in-Unknown c =
-    let p2 = c.before.before in
-    let p1 = p2.before.before.before.before.before in
-    let k = p1.before.before in
-    let s = k.before.before.before.before in
-    let a = s.args in
+    let a = c.args in
     join a.buf.now a.at a.words.now (codes "none")
-    (subst (λ (t : Told). a.at + length (a.words.now ++ speed t) ≤ length a.buf.now) k.in-Unknown.is s.requires) p1.put-a.ensures p2.put.ensures
-    ∙ ap (λ (t : Told). put (a.words.now ++ speed t) a.buf.now a.at) (sym k.in-Unknown.is)
+    (subst (λ (t : Told). a.at + length (a.words.now ++ speed t) ≤ length a.buf.now) c.in-Unknown.is c.requires) c.put-a.ensures c.put.ensures
+    ∙ ap (λ (t : Told). put (a.words.now ++ speed t) a.buf.now a.at) (sym c.in-Unknown.is)
 
 pub returns-in-Kmh : goal.returns-in-Kmh
 unfolding speed
 returns-in-Kmh c =
-    let p = c.before.before in
-    let k = p.before.before.before in
-    let a = k.args in
-    p.put_number.ensures ∙ ap (λ (t : Told). put (a.words.now ++ speed t) a.buf.now a.at) (sym k.in-Kmh.is)
+    let a = c.args in
+    c.put_number.ensures ∙ ap (λ (t : Told). put (a.words.now ++ speed t) a.buf.now a.at) (sym c.in-Kmh.is)

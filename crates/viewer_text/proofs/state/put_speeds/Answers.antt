@@ -24,33 +24,23 @@ both s =
 
 pub put_speed-a-requires : goal.put_speed-a-requires
 put_speed-a-requires c =
-    let s = c.before.before.before in
-    let a = s.args in
-    less a.buf.now a.at (codes "\n  main " ++ speed a.of.main) (codes ", target " ++ speed a.of.target) (both s)
+    let a = c.args in
+    less a.buf.now a.at (codes "\n  main " ++ speed a.of.main) (codes ", target " ++ speed a.of.target) (both (goal.at-put_speed-a-requires c).After-slice_known-1)
 
 pub put_speed-b-requires : goal.put_speed-b-requires
 put_speed-b-requires c =
-    let p1 = c.before.before.before.before in
-    let s = p1.before.before.before.before in
-    let a = s.args in
-    room_after a.buf.now a.at (codes "\n  main " ++ speed a.of.main) (codes ", target " ++ speed a.of.target) (both s) p1.put_speed-a.ensures
+    let a = c.args in
+    room_after a.buf.now a.at (codes "\n  main " ++ speed a.of.main) (codes ", target " ++ speed a.of.target) (both (goal.at-put_speed-b-requires c).After-put_speed-arg-1) c.put_speed-a.ensures
 
 pub put_figure-requires : goal.put_figure-requires
 put_figure-requires c =
-    let p2 = c.before.before.before in
-    let p1 = p2.before.before.before.before.before in
-    let s = p1.before.before.before.before in
-    let a = s.args in
-    room_after a.buf.now a.at ((codes "\n  main " ++ speed a.of.main) ++ (codes ", target " ++ speed a.of.target)) (on_figure a.of.number) (whole s)
-    (join a.buf.now a.at (codes "\n  main " ++ speed a.of.main) (codes ", target " ++ speed a.of.target) (both s) p1.put_speed-a.ensures p2.put_speed-b.ensures)
+    let a = c.args in
+    room_after a.buf.now a.at ((codes "\n  main " ++ speed a.of.main) ++ (codes ", target " ++ speed a.of.target)) (on_figure a.of.number) (whole (goal.at-put_figure-requires c).After-put_speed-arg-1)
+    (join a.buf.now a.at (codes "\n  main " ++ speed a.of.main) (codes ", target " ++ speed a.of.target) (both (goal.at-put_figure-requires c).After-put_speed-arg-1) c.put_speed-a.ensures c.put_speed-b.ensures)
 
 pub returns : goal.returns
 unfolding on_speeds
 returns c =
-    let p3 = c.before.before in
-    let p2 = p3.before.before.before.before in
-    let p1 = p2.before.before.before.before.before in
-    let s = p1.before.before.before.before in
-    let a = s.args in
-    join_3 a.buf.now a.at (codes "\n  main " ++ speed a.of.main) (codes ", target " ++ speed a.of.target) (on_figure a.of.number) (whole s)
-    p1.put_speed-a.ensures p2.put_speed-b.ensures p3.put_figure.ensures
+    let a = c.args in
+    join_3 a.buf.now a.at (codes "\n  main " ++ speed a.of.main) (codes ", target " ++ speed a.of.target) (on_figure a.of.number) (whole (goal.at-returns c).After-put_speed-arg-1)
+    c.put_speed-a.ensures c.put_speed-b.ensures c.put_figure.ensures

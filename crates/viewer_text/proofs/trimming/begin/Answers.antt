@@ -11,25 +11,18 @@ loop-i-init c = omega arith
 
 pub returns-then-not-is_blank : goal.returns-then-not-is_blank
 returns-then-not-is_blank c =
-    let b = c.before in
-    let l = b.before.before in
-    let t = l.before in
-    let none = leads_not t.args.line.now t.loop-i.i l.loop-i-test.true (sym b.is_blank.ensures ∙ not-true _ c.if-not-is_blank.true-raw) in
-    omega (arith, t.loop-i.invariant)
+    let none = leads_not c.args.line.now c.loop-i.i c.loop-i-test.true (sym c.is_blank.ensures ∙ not-true _ c.if-not-is_blank.true-raw) in
+    omega (arith, c.loop-i.invariant)
 
 pub loop-i-preserved : goal.loop-i-preserved
 loop-i-preserved c =
-    let b = c.before in
-    let l = b.before.before in
-    let t = l.before in
-    let more = leads_on t.args.line.now t.loop-i.i l.loop-i-test.true (sym b.is_blank.ensures ∙ not-false _ c.if-not-is_blank.false-raw) in
-    omega (arith, t.loop-i.invariant)
+    let more = leads_on c.args.line.now c.loop-i.i c.loop-i-test.true (sym c.is_blank.ensures ∙ not-false _ c.if-not-is_blank.false-raw) in
+    omega (arith, c.loop-i.invariant)
 
 pub returns : goal.returns
 returns c =
-    let t = c.before in
-    let none = leads_end t.args.line.now t.loop-i.i c.loop-i-test.false in
-    omega (arith, t.loop-i.invariant)
+    let none = leads_end c.args.line.now c.loop-i.i c.loop-i-test.false in
+    omega (arith, c.loop-i.invariant)
 
 pub loop-i-smaller : goal.loop-i-smaller
 loop-i-smaller c = omega (arith, c.loop-i-test.true)

@@ -11,23 +11,16 @@ loop-n-init c = (omega arith, refl)
 
 pub returns-then-not-is_blank : goal.returns-then-not-is_blank
 returns-then-not-is_blank c =
-    let b = c.before in
-    let l = b.before.before in
-    let t = l.before in
-    ends_here t.args.line.now t.loop-n.n l.loop-n-test.true (sym b.is_blank.ensures ∙ not-true _ c.if-not-is_blank.true-raw) ∙ t.loop-n.invariant.1
+    ends_here c.args.line.now c.loop-n.n c.loop-n-test.true (sym c.is_blank.ensures ∙ not-true _ c.if-not-is_blank.true-raw) ∙ c.loop-n.invariant.1
 
 pub loop-n-preserved : goal.loop-n-preserved
 loop-n-preserved c =
-    let b = c.before in
-    let l = b.before.before in
-    let t = l.before in
-    let on = ends_on t.args.line.now t.loop-n.n l.loop-n-test.true (sym b.is_blank.ensures ∙ not-false _ c.if-not-is_blank.false-raw) in
-    (omega (arith, t.loop-n.invariant.0), on ∙ t.loop-n.invariant.1)
+    let on = ends_on c.args.line.now c.loop-n.n c.loop-n-test.true (sym c.is_blank.ensures ∙ not-false _ c.if-not-is_blank.false-raw) in
+    (omega (arith, c.loop-n.invariant.0), on ∙ c.loop-n.invariant.1)
 
 pub returns : goal.returns
 returns c =
-    let t = c.before in
-    ends_none t.args.line.now t.loop-n.n c.loop-n-test.false ∙ t.loop-n.invariant.1
+    ends_none c.args.line.now c.loop-n.n c.loop-n-test.false ∙ c.loop-n.invariant.1
 
 pub overflow_sub-n : goal.overflow_sub-n
 overflow_sub-n c = omega (arith, c.loop-n-test.true)
