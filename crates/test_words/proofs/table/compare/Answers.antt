@@ -1,5 +1,4 @@
 -- `compare` takes one line after the other; what is left of the text falls.
-use Prim.Native.Nat.{◌-◌}
 use native.Mathlib.Omega.{arith}
 use Rattle.figures.proofs.Signs.{found_within}
 use Rattle.test_words.proofs.table.compare.Goals as goal
