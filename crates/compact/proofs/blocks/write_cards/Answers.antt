@@ -14,8 +14,7 @@ kept w =
 -- what was read lies within the block
 pub write_front-stand-requires : goal.write_front-stand-requires
 write_front-stand-requires c =
-    let n = c.next_block-got in
-    omega (arith, n.ensures.0, n.auto.1.1.0)
+    omega (arith, c.next_block-got.ensures.0, c.next_block-got.auto.1.1.0)
 
 pub shape_of-block-then-not-stand : goal.shape_of-block-then-not-stand
 shape_of-block-then-not-stand c = kept (goal.at-shape_of-block-then-not-stand c).After-write_front-stand

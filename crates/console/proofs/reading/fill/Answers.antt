@@ -6,15 +6,15 @@ use Rattle.console.proofs.reading.fill.Goals as goal
 
 -- what is read next lies within the buffer too
 within : (c : After-read_some-got) →
-    c.loop-have.have + c.read_Some.result.count ≤ length c.loop-have.buf
+    c.loop-have.have + c.read_some-got.result.count ≤ length c.loop-have.buf
 within c =
-    omega (arith, c.read_Some.ensures, mid_len c.loop-have.have (length c.loop-have.buf) c.loop-have.buf (le_refl (length c.loop-have.buf)))
+    omega (arith, c.read_some-got.ensures, mid_len c.loop-have.have (length c.loop-have.buf) c.loop-have.buf (le_refl (length c.loop-have.buf)))
 
 -- the buffer keeps its length
 keeps : (c : After-read_some-got) →
-    length (put_mid c.loop-have.have (length c.loop-have.buf - c.loop-have.have) c.loop-have.buf c.read_Some.new.1.0) ≡ length c.loop-have.buf
+    length (put_mid c.loop-have.have (length c.loop-have.buf - c.loop-have.have) c.loop-have.buf c.read_some-got.new.buf) ≡ length c.loop-have.buf
 keeps c =
-    same_len_mid c.loop-have.have (length c.loop-have.buf - c.loop-have.have) c.loop-have.buf c.read_Some.new.1.0 c.read_Some.auto.1.0
+    same_len_mid c.loop-have.have (length c.loop-have.buf - c.loop-have.have) c.loop-have.buf c.read_some-got.new.buf c.read_some-got.auto.1.0
 
 pub loop-have-init : goal.loop-have-init
 loop-have-init c = (omega arith, refl)

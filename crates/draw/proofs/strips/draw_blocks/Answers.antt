@@ -7,15 +7,14 @@ use Rattle.draw.proofs.strips.draw_blocks.Goals as goal
 -- the buffers after a block
 kept : (d : After-draw_records-stand) →
     let a = d.args in
-    (length d.next_block-got.new.block.0 ≡ length a.block.now) × (length d.draw_records-stand.new.out.0 ≡ length a.out.now)
+    (length d.next_block-got.new.block ≡ length a.block.now) × (length d.draw_records-stand.new.out ≡ length a.out.now)
 kept d =
     let inv = d.loop-turns.invariant in
     (d.next_block-got.auto.1.1.0 ∙ inv.0, d.draw_records-stand.auto.1.1.1.1.0 ∙ inv.1)
 
 pub slice_bounds-draw_records-end-in-loop-turns : goal.slice_bounds-draw_records-end-in-loop-turns
 slice_bounds-draw_records-end-in-loop-turns c =
-    let n = c.next_block-got in
-    sym (length-take-le _ _ (omega (arith, n.ensures.0, n.auto.1.1.0)))
+    sym (length-take-le _ _ (omega (arith, c.next_block-got.ensures.0, c.next_block-got.auto.1.1.0)))
 
 pub shape_of-block-in_default : goal.shape_of-block-in_default
 shape_of-block-in_default c = (kept (goal.at-shape_of-block-in_default c).After-draw_records-stand).0

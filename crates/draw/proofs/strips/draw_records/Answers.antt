@@ -6,7 +6,7 @@ use Rattle.draw.proofs.strips.draw_records.Goals.{After-draw-drawn, At-loop-i, E
 use Rattle.draw.proofs.strips.draw_records.Goals as goal
 
 -- after a call the buffer has the length that it had
-kept : (c : After-draw-drawn) → length c.draw-drawn.new.out.0 ≡ length c.args.out.now
+kept : (c : After-draw-drawn) → length c.draw-drawn.new.out ≡ length c.args.out.now
 kept c = c.draw-drawn.auto.1.1.1.1.0 ∙ c.loop-i.invariant.0
 
 -- no more was drawn than was left

@@ -14,8 +14,7 @@ kept s =
 -- what was read lies within the block
 pub send-sent-requires : goal.send-sent-requires
 send-sent-requires c =
-    let n = c.next_piece-piece in
-    omega (arith, n.ensures.0, n.auto.1.0)
+    omega (arith, c.next_piece-piece.ensures.0, c.next_piece-piece.auto.1.0)
 
 pub shape_of-block-then-not-sent : goal.shape_of-block-then-not-sent
 shape_of-block-then-not-sent c = kept (goal.at-shape_of-block-then-not-sent c).After-send-sent

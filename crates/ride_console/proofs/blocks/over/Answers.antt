@@ -9,15 +9,14 @@ use Rattle.ride_console.proofs.blocks.over.Goals as goal
 -- the buffers after a block
 kept : (w : After-write_records-stand) →
     let a = w.args in
-    (length w.next_block-got.new.block.0 ≡ length a.block.now) × (length w.write_records-stand.new.out.0 ≡ length a.out.now)
+    (length w.next_block-got.new.block ≡ length a.block.now) × (length w.write_records-stand.new.out ≡ length a.out.now)
 kept w =
     let inv = w.loop-turns.invariant in
     (w.next_block-got.auto.1.1.0 ∙ inv.0, w.write_records-stand.auto.1.1.1.1.1.0 ∙ inv.1)
 
 pub slice_bounds-write_records-end-in-loop-turns : goal.slice_bounds-write_records-end-in-loop-turns
 slice_bounds-write_records-end-in-loop-turns c =
-    let n = c.next_block-got in
-    sym (length-take-le _ _ (omega (arith, n.ensures.0, n.auto.1.1.0)))
+    sym (length-take-le _ _ (omega (arith, c.next_block-got.ensures.0, c.next_block-got.auto.1.1.0)))
 
 pub shape_of-block-in_default : goal.shape_of-block-in_default
 shape_of-block-in_default c = (kept (goal.at-shape_of-block-in_default c).After-write_records-stand).0
