@@ -15,7 +15,7 @@ NAME = r"[^\s(){}.;,@\"«»\[\]\\]+"
 
 
 def alike(name):
-    return re.sub("[-_]", "", name)
+    return re.sub("[-_]", "", name).lower()
 
 
 def read(path):
@@ -172,7 +172,7 @@ class Unit:
                 given, rest, at = self.e["params"][it[3]], steps[1:], 0
                 while rest and rest[0] == "1" and at < len(given) - 1:
                     at, rest = at + 1, rest[1:]
-                if rest and rest[0] == "0" and at < len(given) - 1:
+                if rest and rest[0] == "0":
                     rest = rest[1:]
                 return ["new", given[at]] + rest
         return steps
@@ -262,6 +262,21 @@ class Unit:
                 break
             text = text[: m.start()] + in_place(text[m.end() :], m[1], m[2])
 
+        # a name for a step whose parts have new names is written out too
+        at = 0
+        while True:
+            m = re.compile(r"let ([a-z][\w'-]*) = ([a-z][\w'-]*(?:\.[\w'-]+)+) in\s*").search(text, at)
+            if not m:
+                break
+            rest = text[m.end() :]
+            named = re.search(r"(?<![\w.'-])" + re.escape(m[1]) + r"\.(ensures|given|last|new|known|t\d+|keys\d+|rest|if\d)(?![\w'-])", rest)
+            renamed = m[2].split(".")[0] in records and named
+            if renamed:
+                text = text[: m.start()] + in_place(rest, m[1], m[2])
+                at = 0
+            else:
+                at = m.end()
+
         # a name for an outer record is written out
         while True:
             m = re.search(r"let ([a-z][\w'-]*) = ([a-z][\w'-]*(?:\.before)*) in\s*", text)
@@ -291,7 +306,10 @@ class Unit:
         text = re.sub(r"(?<![\w.'-])[A-Za-z_κ][\w'₀-]*(?:\.[\w'·-]+)+", path, text)
         # (f x).before.before.args.n
         def after(m):
-            return ")" + "".join("." + it for it in self.path_of(m[1].split(".")[1:], place))
+            steps = m[1].split(".")[1:]
+            if steps[0] == "before":
+                steps = self.path_of(steps, place)
+            return ")" + "".join("." + self.field(it) for it in steps)
 
         text = re.sub(r"\)((?:\.[\w'-]+)+)", after, text)
         return text

@@ -10,28 +10,24 @@ use Rattle.antenna.proofs.hear_piece.Goals as goal
 pub overflow_add-start : goal.overflow_add-start
 overflow_add-start c =
     let a = c.args in
-    let i = c.inside-reach in
-    let h = judged_inside a.buf.now a.start a.len i.result i.ensures c.in-Inside.is in
+    let h = judged_inside a.buf.now a.start a.len c.inside-reach.result c.inside-reach.ensures c.in-Inside.is in
     omega (arith, taken a.buf.now a.start a.len h)
 
 pub over-requires : goal.over-requires
 over-requires c =
     let a = c.args in
-    let i = c.inside-reach in
-    let h = judged_inside a.buf.now a.start a.len i.result i.ensures c.in-Inside.is in
+    let h = judged_inside a.buf.now a.start a.len c.inside-reach.result c.inside-reach.ensures c.in-Inside.is in
     omega (arith, taken a.buf.now a.start a.len h)
 
 pub returns-in-Inside : goal.returns-in-Inside
 unfolding hear_piece
 returns-in-Inside c =
     let a = c.args in
-    let i = c.inside-reach in
     let e : a.start + a.len - a.start ≡ a.len = omega arith in
-    simp (judged_inside a.buf.now a.start a.len i.result i.ensures c.in-Inside.is) (rw e at c.over.ensures)
+    simp (judged_inside a.buf.now a.start a.len c.inside-reach.result c.inside-reach.ensures c.in-Inside.is) (rw e at c.over.ensures)
 
 pub returns-in-Beyond : goal.returns-in-Beyond
 unfolding hear_piece
 returns-in-Beyond c =
     let a = c.args in
-    let i = c.inside-reach in
-    simp (judged_beyond a.buf.now a.start a.len i.result i.ensures c.in-Beyond.is)
+    simp (judged_beyond a.buf.now a.start a.len c.inside-reach.result c.inside-reach.ensures c.in-Beyond.is)

@@ -17,5 +17,5 @@ returns-in-Refused c = block_refused _ _ _ _ (refused_with _ _ _ c.in-Refused.is
 pub returns-else-block-ne0 : goal.returns-else-block-ne0
 returns-else-block-ne0 c =
     let held = in_force_law _ _ _ c.in-InForce.is c.at-asked.ensures in
-    block_settled _ _ _ c.over-walked.result.waiting c.over-walked.result.gap c.over-walked.result.bytes c.over-walked.new.block.0 held.0
+    block_settled _ _ _ c.over-walked.result.waiting c.over-walked.result.gap c.over-walked.result.bytes c.over-walked.new.block held.0
     (eq-eqb _ _ c.if-block-ne0.false) c.over-walked.ensures

@@ -8,12 +8,10 @@ pub returns-in-Inside : goal.returns-in-Inside
 unfolding begin from_start
 returns-in-Inside c =
     let a = c.args in
-    let i = c.inside-reach in
-    simp (judged_inside a.buf.now a.start a.len i.result i.ensures c.in-Inside.is)
+    simp (judged_inside a.buf.now a.start a.len c.inside-reach.result c.inside-reach.ensures c.in-Inside.is)
 
 pub returns-in-Beyond : goal.returns-in-Beyond
 unfolding begin from_start
 returns-in-Beyond c =
     let a = c.args in
-    let i = c.inside-reach in
-    simp (judged_beyond a.buf.now a.start a.len i.result i.ensures c.in-Beyond.is)
+    simp (judged_beyond a.buf.now a.start a.len c.inside-reach.result c.inside-reach.ensures c.in-Beyond.is)

@@ -43,53 +43,45 @@ module _ (b : List ℕ) (start len s t : ℕ) (r : Surveyed) (says : says_survey
 pub returns-then-count-ge2 : goal.returns-then-count-ge2
 returns-then-count-ge2 c =
     let a = c.args in
-    let v = c.survey-surveyed in
-    count_alike a.buf.now a.start a.len a.s a.t v.result v.ensures
+    count_alike a.buf.now a.start a.len a.s a.t c.survey-surveyed.result c.survey-surveyed.ensures
     (gives c.in-Alike.telegram) c.in-Alike.first c.in-Alike.count true (ap says_surveyed c.in-Alike.is) (le-leb _ _ c.if-count-ge2.true)
 
 pub or_neither-requires : goal.or_neither-requires
 or_neither-requires c =
     let a = c.args in
-    let v = c.survey-surveyed in
-    let h = alike_taken a.buf.now a.start a.len a.s a.t v.result v.ensures (alike (gives c.in-Alike.telegram) c.in-Alike.first c.in-Alike.count) (ap says_surveyed c.in-Alike.is) in
+    let h = alike_taken a.buf.now a.start a.len a.s a.t c.survey-surveyed.result c.survey-surveyed.ensures (alike (gives c.in-Alike.telegram) c.in-Alike.first c.in-Alike.count) (ap says_surveyed c.in-Alike.is) in
     omega (arith, taken a.buf.now a.start a.len h)
 
 pub or_neither-requires-in-NoPlace : goal.or_neither-requires-in-NoPlace
 or_neither-requires-in-NoPlace c =
     let a = c.args in
-    let v = c.survey-surveyed in
-    let h = none_taken a.buf.now a.start a.len a.s a.t v.result v.ensures (ap says_surveyed c.in-NoPlace.is) in
+    let h = none_taken a.buf.now a.start a.len a.s a.t c.survey-surveyed.result c.survey-surveyed.ensures (ap says_surveyed c.in-NoPlace.is) in
     omega (arith, taken a.buf.now a.start a.len h)
 
 pub returns-else-count-ge2 : goal.returns-else-count-ge2
 returns-else-count-ge2 c =
     let a = c.args in
-    let v = c.survey-surveyed in
     c.or_neither.ensures
-    ∙ count_alike a.buf.now a.start a.len a.s a.t v.result v.ensures
+    ∙ count_alike a.buf.now a.start a.len a.s a.t c.survey-surveyed.result c.survey-surveyed.ensures
     (gives c.in-Alike.telegram) c.in-Alike.first c.in-Alike.count false (ap says_surveyed c.in-Alike.is) (lt-leb _ _ c.if-count-ge2.false)
 
 pub returns-in-Differ : goal.returns-in-Differ
 returns-in-Differ c =
     let a = c.args in
-    let v = c.survey-surveyed in
-    decided a.buf.now a.start a.len a.s a.t v.result v.ensures (refuses 7) (ap says_surveyed c.in-Differ.is)
+    decided a.buf.now a.start a.len a.s a.t c.survey-surveyed.result c.survey-surveyed.ensures (refuses 7) (ap says_surveyed c.in-Differ.is)
 
 pub returns-in-NotSeven : goal.returns-in-NotSeven
 returns-in-NotSeven c =
     let a = c.args in
-    let v = c.survey-surveyed in
-    decided a.buf.now a.start a.len a.s a.t v.result v.ensures (refuses 4) (ap says_surveyed c.in-NotSeven.is)
+    decided a.buf.now a.start a.len a.s a.t c.survey-surveyed.result c.survey-surveyed.ensures (refuses 4) (ap says_surveyed c.in-NotSeven.is)
 
 pub returns-in-Beyond : goal.returns-in-Beyond
 returns-in-Beyond c =
     let a = c.args in
-    let v = c.survey-surveyed in
-    decided a.buf.now a.start a.len a.s a.t v.result v.ensures (refuses 5) (ap says_surveyed c.in-Beyond.is)
+    decided a.buf.now a.start a.len a.s a.t c.survey-surveyed.result c.survey-surveyed.ensures (refuses 5) (ap says_surveyed c.in-Beyond.is)
 
 pub returns-in-NoPlace : goal.returns-in-NoPlace
 returns-in-NoPlace c =
     let a = c.args in
-    let v = c.survey-surveyed in
     c.or_neither-in-NoPlace.ensures
-    ∙ decided a.buf.now a.start a.len a.s a.t v.result v.ensures (refuses 6) (ap says_surveyed c.in-NoPlace.is)
+    ∙ decided a.buf.now a.start a.len a.s a.t c.survey-surveyed.result c.survey-surveyed.ensures (refuses 6) (ap says_surveyed c.in-NoPlace.is)

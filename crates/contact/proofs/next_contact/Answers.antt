@@ -10,29 +10,25 @@ use Rattle.contact.proofs.next_contact.Goals as goal
 pub overflow_add-next : goal.overflow_add-next
 overflow_add-next c =
     let a = c.args in
-    let i = c.inside-reach in
-    let h = judged_inside a.buf.now a.search.next a.search.left i.result i.ensures c.in-Inside.is in
+    let h = judged_inside a.buf.now a.search.next a.search.left c.inside-reach.result c.inside-reach.ensures c.in-Inside.is in
     omega (arith, taken a.buf.now a.search.next a.search.left h)
 
 pub outside-requires : goal.outside-requires
 outside-requires c =
     let a = c.args in
-    let i = c.inside-reach in
-    let h = judged_inside a.buf.now a.search.next a.search.left i.result i.ensures c.in-Inside.is in
+    let h = judged_inside a.buf.now a.search.next a.search.left c.inside-reach.result c.inside-reach.ensures c.in-Inside.is in
     omega (arith, taken a.buf.now a.search.next a.search.left h)
 
 pub returns-in-Inside : goal.returns-in-Inside
 unfolding next_contact contacts_from
 returns-in-Inside c =
     let a = c.args in
-    let i = c.inside-reach in
     let s = a.search in
     let e : s.next + s.left - s.next ≡ s.left = omega arith in
-    simp (judged_inside a.buf.now s.next s.left i.result i.ensures c.in-Inside.is) (rw e at c.outside.ensures)
+    simp (judged_inside a.buf.now s.next s.left c.inside-reach.result c.inside-reach.ensures c.in-Inside.is) (rw e at c.outside.ensures)
 
 pub returns-in-Beyond : goal.returns-in-Beyond
 unfolding next_contact contacts_from
 returns-in-Beyond c =
     let a = c.args in
-    let i = c.inside-reach in
-    simp (judged_beyond a.buf.now a.search.next a.search.left i.result i.ensures c.in-Beyond.is)
+    simp (judged_beyond a.buf.now a.search.next a.search.left c.inside-reach.result c.inside-reach.ensures c.in-Beyond.is)

@@ -27,7 +27,7 @@ got c =
 
 -- the line as it was taken
 took : (c : After-take-taken) →
-    c.take-taken.result ≡ take_line c.loop-store.store (next_line fresh c.args.text.now c.loop-store.from).line-1
+    c.take-taken.result ≡ take_line c.loop-store.store (next_line fresh c.args.text.now c.loop-store.from).line
 took c =
     c.take-taken.ensures ∙ ap (λ (g : Got). take_line c.loop-store.store g.line) (got (goal.at-After-take-taken c).After-next_line-got)
 

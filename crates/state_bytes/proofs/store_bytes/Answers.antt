@@ -12,13 +12,12 @@ use Rattle.state_bytes.proofs.store_bytes.Goals as goal
 pub returns : goal.returns
 unfolding store_bytes
 returns c =
-    let sp = c.spread in
     let f = c.figures-figures in
     let store = c.args.store in
     let vs = store.versions in
     let n = store.count in
     let long : length {A = ℕ} (replicate 1032 0) ≡ 1032 = length-replicate {A = ℕ} 1032 0 in record {
-      value = sp.ensures.0 ∙ ap₂ spread long f.ensures.0;
-      result_value = store_back vs n sp.new.1.0 f.ensures.1.1 f.ensures.1.0
-          (λ i h. sp.ensures.1 i (subst (λ (m : ℕ). i < m / 8) (sym long) h) ∙ ap (λ (l : List ℕ). get_or l i 0) f.ensures.0);
+      value = c.spread.ensures.bytes_after ∙ ap₂ spread long f.ensures.value;
+      result_value = store_back vs n c.spread.new.bytes f.ensures.versions_len f.ensures.by_index
+          (λ i h. c.spread.ensures.by_index i (subst (λ (m : ℕ). i < m / 8) (sym long) h) ∙ ap (λ (l : List ℕ). get_or l i 0) f.ensures.value);
     }

@@ -23,7 +23,7 @@ answered : (w : After-write) → says_answer w.write.result ≡ (came w).answer
 unfolding came
 answered w = ap (λ (v : Writing). v.answer) w.write.ensures
 
-left_there : (w : After-write) → w.write.new.out.0 ≡ (came w).buffer
+left_there : (w : After-write) → w.write.new.out ≡ (came w).buffer
 unfolding came
 left_there w = ap (λ (v : Writing). v.buffer) w.write.ensures
 

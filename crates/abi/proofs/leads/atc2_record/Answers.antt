@@ -37,6 +37,6 @@ pub returns-in-InForce : goal.returns-in-InForce
 returns-in-InForce c =
     let a = c.args in
     was_heard a.ear.now a.store.now a.lead.now a.records.now a.out.now c.store_in-held.result c.ear_in-from.result c.hear-wrote.result
-    c.hear-wrote.new.buffer.0 c.ear_bytes-bytes.result c.store_in-held.ensures
+    c.hear-wrote.new.buffer c.ear_bytes-bytes.result c.store_in-held.ensures
     (in_force_law c.store_in-held.result c.at.result _ c.in-InForce.is c.at.ensures).0 c.ear_in-from.ensures c.hear-wrote.ensures
     c.ear_bytes-bytes.ensures.value c.ear_bytes-bytes.ensures.result_value

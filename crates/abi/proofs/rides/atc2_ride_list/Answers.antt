@@ -23,7 +23,7 @@ all w =
     listed a.state.now a.store.now a.trace.now a.number a.style a.text.now
 
 -- What `list` came to.
-came : (w : After-list-listed) → says_listed w.list-listed.result w.list-listed.new.out.0 ≡ all w
+came : (w : After-list-listed) → says_listed w.list-listed.result w.list-listed.new.out ≡ all w
 unfolding all
 came w =
     let a = w.args in
@@ -40,20 +40,19 @@ unfolding all
 returns-in-Took c =
     let a = c.args in
     took a.state.now a.store.now a.trace.now a.number a.style a.text.now a.out.now
-    (record { records = c.in-Took.records; bytes = c.in-Took.bytes }) c.list-listed.result.ride c.ride_bytes-made.result c.list-listed.new.out.0
+    (record { records = c.in-Took.records; bytes = c.in-Took.bytes }) c.list-listed.result.ride c.ride_bytes-made.result c.list-listed.new.out
     (went (goal.at-returns-in-Took c).After-list-listed c.in-Took.is) (ap (λ (x : Listing). x.ride) (came (goal.at-returns-in-Took c).After-list-listed)) (ap (λ (x : Listing). x.out) (came (goal.at-returns-in-Took c).After-list-listed)) c.ride_bytes-made.ensures.value c.ride_bytes-made.ensures.result_value
 
 pub returns-in-Settings : goal.returns-in-Settings
 unfolding all
 returns-in-Settings c =
     let a = c.args in
-    let s = c.of_settings in
     untaken a.state.now a.store.now a.trace.now a.number a.style a.text.now a.out.now
-    (says_bad c.in-Settings.bad) _ c.list-listed.new.out.0 (went (goal.at-returns-in-Settings c).After-list-listed c.in-Settings.is) (back s.result (says_bad c.in-Settings.bad) s.ensures.0 s.ensures.1) (ap (λ (x : Listing). x.out) (came (goal.at-returns-in-Settings c).After-list-listed))
+    (says_bad c.in-Settings.bad) _ c.list-listed.new.out (went (goal.at-returns-in-Settings c).After-list-listed c.in-Settings.is) (back c.of_settings.result (says_bad c.in-Settings.bad) c.of_settings.ensures.0 c.of_settings.ensures.1) (ap (λ (x : Listing). x.out) (came (goal.at-returns-in-Settings c).After-list-listed))
 
 pub returns-in-Length : goal.returns-in-Length
 unfolding all
 returns-in-Length c =
     let a = c.args in
     untaken a.state.now a.store.now a.trace.now a.number a.style a.text.now a.out.now
-    16 _ c.list-listed.new.out.0 (went (goal.at-returns-in-Length c).After-list-listed c.in-Length.is) refl (ap (λ (x : Listing). x.out) (came (goal.at-returns-in-Length c).After-list-listed))
+    16 _ c.list-listed.new.out (went (goal.at-returns-in-Length c).After-list-listed c.in-Length.is) refl (ap (λ (x : Listing). x.out) (came (goal.at-returns-in-Length c).After-list-listed))

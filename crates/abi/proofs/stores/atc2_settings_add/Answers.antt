@@ -34,8 +34,8 @@ returns-in-Kept c =
     let a = c.args in
     let went : gives kept ≡ (change (goal.at-returns-in-Kept c).After-add-added).answer = ap says_verdict (sym c.in-Kept.is) ∙ ap (λ (x : Change). x.answer) (came (goal.at-returns-in-Kept c).After-add-added) in
     let made : c.add-added.result.store ≡ (change (goal.at-returns-in-Kept c).After-add-added).store = ap (λ (x : Change). x.store) (came (goal.at-returns-in-Kept c).After-add-added) in
-    stored (change (goal.at-returns-in-Kept c).After-add-added).answer (change (goal.at-returns-in-Kept c).After-add-added).store a.store.now c.add-added.result.store c.store_Bytes.result went made
-    c.store_Bytes.ensures.0 c.store_Bytes.ensures.1
+    stored (change (goal.at-returns-in-Kept c).After-add-added).answer (change (goal.at-returns-in-Kept c).After-add-added).store a.store.now c.add-added.result.store c.store_bytes-bytes.result went made
+    c.store_bytes-bytes.ensures.value c.store_bytes-bytes.ensures.result_value
 
 pub returns-in-Refused : goal.returns-in-Refused
 unfolding version change

@@ -21,8 +21,8 @@ returns-in-Kept c =
     let went : gives kept ≡ (begin a.gap a.s a.t).answer =
     ap says_verdict (sym c.in-Kept.is) ∙ ap (λ (x : Change). x.answer) (came (goal.at-returns-in-Kept c).After-begin-begun) in
     let made : c.begin-begun.result.store ≡ (begin a.gap a.s a.t).store = ap (λ (x : Change). x.store) (came (goal.at-returns-in-Kept c).After-begin-begun) in
-    stored (begin a.gap a.s a.t).answer (begin a.gap a.s a.t).store a.store.now c.begin-begun.result.store c.store_Bytes.result went made
-    c.store_Bytes.ensures.0 c.store_Bytes.ensures.1
+    stored (begin a.gap a.s a.t).answer (begin a.gap a.s a.t).store a.store.now c.begin-begun.result.store c.store_bytes-bytes.result went made
+    c.store_bytes-bytes.ensures.value c.store_bytes-bytes.ensures.result_value
 
 pub returns-in-Refused : goal.returns-in-Refused
 returns-in-Refused c =

@@ -12,7 +12,7 @@ use Rattle.abi.proofs.stores.atc2_settings_read.Goals.{After-read-read}
 use Rattle.abi.proofs.stores.atc2_settings_read.Goals as goal
 
 -- The answer of a text, by how it is.
-answered : (w : After-read-read) {how : Condition} → w.read-read.result.how ≡ how → how_answer how ≡ how_answer (sheet w.args.text.now).how-1
+answered : (w : After-read-read) {how : Condition} → w.read-read.result.how ≡ how → how_answer how ≡ how_answer (sheet w.args.text.now).how
 answered w e = ap how_answer (sym e) ∙ ap (λ (x : Sheet). how_answer x.how) w.read-read.ensures
 
 pub returns-in-Fine : goal.returns-in-Fine
@@ -20,8 +20,8 @@ returns-in-Fine c =
     let a = c.args in
     let x = sheet a.text.now in
     let made : c.read-read.result.store ≡ x.store = ap (λ (x : Sheet). x.store) c.read-read.ensures in
-    stored (how_answer x.how) x.store a.store.now c.read-read.result.store c.store_Bytes.result (answered (goal.at-returns-in-Fine c).After-read-read c.in-Fine.is) made
-    c.store_Bytes.ensures.0 c.store_Bytes.ensures.1
+    stored (how_answer x.how) x.store a.store.now c.read-read.result.store c.store_bytes-bytes.result (answered (goal.at-returns-in-Fine c).After-read-read c.in-Fine.is) made
+    c.store_bytes-bytes.ensures.value c.store_bytes-bytes.ensures.result_value
 
 pub returns-in-Refused : goal.returns-in-Refused
 returns-in-Refused c =

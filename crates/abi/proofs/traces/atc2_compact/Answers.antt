@@ -25,7 +25,7 @@ came w =
     let a = w.args in
     compact fresh_ride (plain a.gap) a.trace.now
 
-called : (w : After-compact-compacted) → says_compacted w.compact-compacted.result w.compact-compacted.new.trace.0 ≡ came w
+called : (w : After-compact-compacted) → says_compacted w.compact-compacted.result w.compact-compacted.new.trace ≡ came w
 unfolding came
 called w =
     let a = w.args in
@@ -35,7 +35,7 @@ called w =
 answered : (w : After-compact-compacted) → says_size w.compact-compacted.result.size ≡ (came w).answer
 answered w = ap (λ (v : Compaction). v.answer) (called w)
 
-left_there : (w : After-compact-compacted) → w.compact-compacted.new.trace.0 ≡ (came w).buffer
+left_there : (w : After-compact-compacted) → w.compact-compacted.new.trace ≡ (came w).buffer
 left_there w = ap (λ (v : Compaction). v.buffer) (called w)
 
 -- not above the trace's own length, which is below 2 ^ 63

@@ -18,9 +18,8 @@ back i h = omega arith
 
 pub loop-i-init : goal.loop-i-init
 loop-i-init c =
-    let a = c.args in
-    let k : a.n ≤ length a.t1 = omega arith in
-    (omega arith, sym (met_none a.t1 a.n k), omega arith)
+    let k : c.args.n ≤ length c.args.entries = omega arith in
+    (omega arith, sym (met_none c.args.entries c.args.n k), omega arith)
 
 pub loop-i-preserved-then-not-is_absent : goal.loop-i-preserved-then-not-is_absent
 loop-i-preserved-then-not-is_absent c =

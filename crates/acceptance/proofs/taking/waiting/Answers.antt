@@ -10,8 +10,7 @@ use Rattle.acceptance.proofs.taking.waiting.Goals as goal
 
 pub loop-i-init : goal.loop-i-init
 loop-i-init c =
-    let a = c.args in
-    let none : waiting a.tolerance a.place a.kind (take a.n a.t4) ≡ 0 + waiting a.tolerance a.place a.kind (take a.n a.t4) = omega arith in
+    let none : waiting c.args.tolerance c.args.place c.args.kind (take c.args.n c.args.entries) ≡ 0 + waiting c.args.tolerance c.args.place c.args.kind (take c.args.n c.args.entries) = omega arith in
     (omega arith, none)
 
 pub returns-then-waits : goal.returns-then-waits

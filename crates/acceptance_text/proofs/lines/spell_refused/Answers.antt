@@ -13,5 +13,5 @@ use Rattle.acceptance_text.proofs.lines.spell_refused.Goals as goal
 pub returns : goal.returns
 returns c =
     let a = c.args in
-    join a.buf.now a.at (codes "plan ") (refused a.number) (room_as a.buf.now a.at (refused_is a.number) c.requires) c.put-a.ensures c.Put-refused.ensures
+    join a.buf.now a.at (codes "plan ") (refused a.number) (room_as a.buf.now a.at (refused_is a.number) c.requires) c.put-a.ensures c.put_refused.ensures
     ∙ ap (λ (t : List ℕ). put t a.buf.now a.at) (refused_is a.number)

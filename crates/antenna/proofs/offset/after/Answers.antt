@@ -40,33 +40,26 @@ returns-then-length-lt40 c = let a = c.args in too_few a.places a.length a.v a.s
 pub returns-then-not-are_syncs : goal.returns-then-not-are_syncs
 returns-then-not-are_syncs c =
     let a = c.args in
-    let o = c.are_syncs in
-    no-syncs a.places a.length a.v a.s a.t c.if-length-lt40.false (sym o.ensures ∙ not-true o.result c.if-not-are_syncs.true-raw)
+    no-syncs a.places a.length a.v a.s a.t c.if-length-lt40.false (sym c.are_syncs.ensures ∙ not-true c.are_syncs.result c.if-not-are_syncs.true-raw)
 
 pub returns-in-Is : goal.returns-in-Is
 returns-in-Is c =
     let a = c.args in
-    let o = c.are_syncs in
-    let r = c.read in
     c.another.ensures
     ∙ by_answer a.places a.length a.v a.s a.t c.if-length-lt40.false
-    (sym o.ensures ∙ not-false o.result c.if-not-are_syncs.false-raw)
-    r.result (TelegramRead.Is c.in-Is.telegram) r.ensures c.in-Is.is
+    (sym c.are_syncs.ensures ∙ not-false c.are_syncs.result c.if-not-are_syncs.false-raw)
+    c.read.result (TelegramRead.Is c.in-Is.telegram) c.read.ensures c.in-Is.is
 
 pub returns-in-NotCode : goal.returns-in-NotCode
 returns-in-NotCode c =
     let a = c.args in
-    let o = c.are_syncs in
-    let r = c.read in
     by_answer a.places a.length a.v a.s a.t c.if-length-lt40.false
-    (sym o.ensures ∙ not-false o.result c.if-not-are_syncs.false-raw)
-    r.result (TelegramRead.NotCode c.in-NotCode.field-0 c.in-NotCode.field-1) r.ensures c.in-NotCode.is
+    (sym c.are_syncs.ensures ∙ not-false c.are_syncs.result c.if-not-are_syncs.false-raw)
+    c.read.result (TelegramRead.NotCode c.in-NotCode.field-0 c.in-NotCode.field-1) c.read.ensures c.in-NotCode.is
 
 pub returns-in-Fifteen : goal.returns-in-Fifteen
 returns-in-Fifteen c =
     let a = c.args in
-    let o = c.are_syncs in
-    let r = c.read in
     by_answer a.places a.length a.v a.s a.t c.if-length-lt40.false
-    (sym o.ensures ∙ not-false o.result c.if-not-are_syncs.false-raw)
-    r.result (TelegramRead.Fifteen c.in-Fifteen.field-0) r.ensures c.in-Fifteen.is
+    (sym c.are_syncs.ensures ∙ not-false c.are_syncs.result c.if-not-are_syncs.false-raw)
+    c.read.result (TelegramRead.Fifteen c.in-Fifteen.field-0) c.read.ensures c.in-Fifteen.is

@@ -16,9 +16,7 @@ none b s t ear i end = let here : i ≡ i + 0 = omega arith in ap (λ (k : ℕ).
 pub returns-then-history-eq65535 : goal.returns-then-history-eq65535
 returns-then-history-eq65535 c =
     let a = c.args in
-    let n = c.ones_ahead in
-    let m = c.smaller in
-    (omega arith, λ s t. passes a.buf.now s t a.history a.i a.end m.result n.result c.if-history-eq65535.true (omega arith) m.ensures.0 m.ensures.1 n.ensures)
+    (omega arith, λ s t. passes a.buf.now s t a.history a.i a.end c.smaller.result c.ones_ahead.result c.if-history-eq65535.true (omega arith) c.smaller.ensures.0 c.smaller.ensures.1 c.ones_ahead.ensures)
 
 pub returns : goal.returns
 returns c =

@@ -28,19 +28,16 @@ pub returns-in-NotSeven : goal.returns-in-NotSeven
 unfolding judged
 returns-in-NotSeven c =
     let a = c.args.sound in
-    let p = c.good_pair-pair in
-    simp (found a.s a.t p.result Pair.NotSeven p.ensures c.in-NotSeven.is)
+    simp (found a.s a.t c.good_pair-pair.result Pair.NotSeven c.good_pair-pair.ensures c.in-NotSeven.is)
 
 pub returns-then-sound-le16777216 : goal.returns-then-sound-le16777216
 unfolding judged
 returns-then-sound-le16777216 c =
     let a = c.args.sound in
-    let p = c.good_pair-pair in
-    simp (found a.s a.t p.result Pair.Good p.ensures c.in-Good.is, le-leb _ _ c.if-sound-le16777216.true) c.by_places.ensures
+    simp (found a.s a.t c.good_pair-pair.result Pair.Good c.good_pair-pair.ensures c.in-Good.is, le-leb _ _ c.if-sound-le16777216.true) c.by_places.ensures
 
 pub returns-else-sound-le16777216 : goal.returns-else-sound-le16777216
 unfolding judged
 returns-else-sound-le16777216 c =
     let a = c.args.sound in
-    let p = c.good_pair-pair in
-    simp (found a.s a.t p.result Pair.Good p.ensures c.in-Good.is, lt-leb _ _ c.if-sound-le16777216.false)
+    simp (found a.s a.t c.good_pair-pair.result Pair.Good c.good_pair-pair.ensures c.in-Good.is, lt-leb _ _ c.if-sound-le16777216.false)

@@ -48,8 +48,8 @@ pub returns : goal.returns
 returns c =
     let a = c.args in
     let room : 4 * a.n + 1 ≤ length a.out.now = omega arith in
-    let kept : length c.fill.new.out.0 ≡ length a.out.now = search rules in
+    let kept : length c.fill.new.out ≡ length a.out.now = search rules in
     let end : a.n * 4 + 1 ≡ 4 * a.n + 1 = omega arith in
-    answers_bytes a.s a.t a.n (words (goal.at-returns c).Start) a.out.now (is_pair (goal.at-returns c).In-Good) (in_range_law (goal.at-returns c).Else-n) room (a.n * 4 + 1) end c.fill.new.out.0
-    (is_onto a.s a.t (words (goal.at-returns c).Start) a.n a.out.now c.fill.new.out.0 kept room
+    answers_bytes a.s a.t a.n (words (goal.at-returns c).Start) a.out.now (is_pair (goal.at-returns c).In-Good) (in_range_law (goal.at-returns c).Else-n) room (a.n * 4 + 1) end c.fill.new.out
+    (is_onto a.s a.t (words (goal.at-returns c).Start) a.n a.out.now c.fill.new.out kept room
     (λ i h. c.fill.ensures.by_index i (omega arith)) (λ i h. c.fill.ensures.by_index_2 i (omega arith)))

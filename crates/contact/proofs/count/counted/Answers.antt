@@ -7,20 +7,16 @@ use Rattle.contact.proofs.count.counted.Goals as goal
 pub returns : goal.returns
 returns c =
     let w = c.args.w in
-    let two = c.doubled-two in
-    let four = c.doubled-four in
-    let eight = c.doubled-eight in
-    let all = c.doubled in
-    let t = two.result in
-    let f = four.result in
-    let g = eight.result in
-    let r = all.result in
+    let t = c.doubled-two.result in
+    let f = c.doubled-four.result in
+    let g = c.doubled-eight.result in
+    let r = c.doubled.result in
     let tells =
     twice w 8 g.a g.b g.c g.d r.a r.b r.c r.d
     (twice w 4 f.a f.b f.c f.d g.a g.b g.c g.d
     (twice w 2 t.a t.b t.c t.d f.a f.b f.c f.d
-    (twice w 1 (bit_xor w 18446744073709551615) 0 0 0 t.a t.b t.c t.d (single w) two.ensures.0 two.ensures.1)
-    four.ensures.0 four.ensures.1)
-    eight.ensures.0 eight.ensures.1)
-    all.ensures.0 all.ensures.1 in
+    (twice w 1 (bit_xor w 18446744073709551615) 0 0 0 t.a t.b t.c t.d (single w) c.doubled-two.ensures.by_index c.doubled-two.ensures.by_index_2)
+    c.doubled-four.ensures.by_index c.doubled-four.ensures.by_index_2)
+    c.doubled-eight.ensures.by_index c.doubled-eight.ensures.by_index_2)
+    c.doubled.ensures.by_index c.doubled.ensures.by_index_2 in
     record { by_index = λ k room. (tells k room).0; by_index_2 = λ k room. (tells k room).1 }

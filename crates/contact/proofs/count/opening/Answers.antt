@@ -7,6 +7,5 @@ use Rattle.contact.proofs.count.opening.Goals as goal
 
 pub returns : goal.returns
 returns c k room none =
-    let n = c.counted-n in
-    let r = n.result in
-    eight r.a r.b r.c r.d k (zeroes_of (c.args.w / 2 ^ k) 16) (n.ensures.0 k room, n.ensures.1 k room) none
+    let r = c.counted-n.result in
+    eight r.a r.b r.c r.d k (zeroes_of (c.args.w / 2 ^ k) 16) (c.counted-n.ensures.by_index k room, c.counted-n.ensures.by_index_2 k room) none

@@ -18,10 +18,8 @@ turn : (c : After-before_first-n) → let a = c.args in
 turn c =
     let a = c.args in
     let l = c.loop-i in
-    let m = c.opening in
-    let n = c.before_first-n in
     by_marks a.buf.now outside a.end (λ (z : ℕ). z < 8) (λ h i below few. stays_out a.buf.now h i a.end _ _ below refl refl few)
-    l.h l.i c.line-w.result m.result n.result l.invariant.1 c.line-w.ensures m.ensures n.ensures.0 n.ensures.1
+    l.h l.i c.line-w.result c.opening.result c.before_first-n.result l.invariant.1 c.line-w.ensures c.opening.ensures c.before_first-n.ensures.0 c.before_first-n.ensures.1
 
 pub loop-i-init : goal.loop-i-init
 loop-i-init c = (omega arith, omega arith, refl)

@@ -18,10 +18,8 @@ turn : (c : After-before_first-n) → let a = c.args in
 turn c =
     let a = c.args in
     let l = c.loop-i in
-    let m = c.closing in
-    let n = c.before_first-n in
     by_marks a.buf.now (since a.opened) a.end (λ (z : ℕ). 4 < z) (λ h i below many. stays_in a.buf.now h i a.end _ _ below refl refl a.opened many)
-    l.h l.i c.line-w.result m.result n.result l.invariant.2 c.line-w.ensures m.ensures n.ensures.0 n.ensures.1
+    l.h l.i c.line-w.result c.closing.result c.before_first-n.result l.invariant.2 c.line-w.ensures c.closing.ensures c.before_first-n.ensures.0 c.before_first-n.ensures.1
 
 pub loop-i-init : goal.loop-i-init
 loop-i-init c = (omega arith, omega arith, omega arith, refl)

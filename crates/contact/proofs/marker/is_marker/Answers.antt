@@ -15,15 +15,13 @@ returns-then-len-lt64 c =
 pub returns-then-ones-gt11 : goal.returns-then-ones-gt11
 unfolding is_marker
 returns-then-ones-gt11 c =
-    let o = c.ones_at_end-ones in
     let long : 64 ≤ c.args.len = omega arith in
-    let many : 11 < o.result = omega arith in
-    simp (le-leb _ _ long, ← o.ensures.0, lt-leb _ _ many)
+    let many : 11 < c.ones_at_end-ones.result = omega arith in
+    simp (le-leb _ _ long, ← c.ones_at_end-ones.ensures.0, lt-leb _ _ many)
 
 pub returns : goal.returns
 unfolding is_marker
 returns c =
-    let o = c.ones_at_end-ones in
     let long : 64 ≤ c.args.len = omega arith in
-    let few : o.result ≤ 11 = omega arith in
-    simp (le-leb _ _ long, ← o.ensures.0, le-leb _ _ few) c.all_zero.ensures
+    let few : c.ones_at_end-ones.result ≤ 11 = omega arith in
+    simp (le-leb _ _ long, ← c.ones_at_end-ones.ensures.0, le-leb _ _ few) c.all_zero.ensures

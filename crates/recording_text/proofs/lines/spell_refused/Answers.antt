@@ -15,5 +15,5 @@ returns c =
     let a = c.args in
     let is = refused_is a.frame a.number in
     join_3 a.buf.now a.at (numbered "record: frame " a.frame) (codes " ") (refused a.number) (room_as a.buf.now a.at is c.requires)
-    c.put_number-a.ensures c.put-b.ensures c.Put-refused.ensures
+    c.put_number-a.ensures c.put-b.ensures c.put_refused.ensures
     ∙ ap (λ (t : List ℕ). put t a.buf.now a.at) is

@@ -5,7 +5,7 @@ use Rattle.records.proofs.blocks.put_block.Goals as goal
 
 -- the buffer keeps its length
 keeps : (c : After-put_at-lines) →
-    length c.put_at-lines.new.out.0 ≡ length c.args.out.now
+    length c.put_at-lines.new.out ≡ length c.args.out.now
 keeps c = c.put_at-lines.auto.1.1.1.0 ∙ c.loop-at.invariant
 
 pub shape_of-out-then-block-at-lt8 : goal.shape_of-out-then-block-at-lt8

@@ -4,4 +4,4 @@ use Rattle.ride.proofs.closing.accepted.Goals as goal
 
 pub returns : goal.returns
 unfolding says_group_verdict
-returns c = rw (c.seen_from-seen.ensures, c.Known-from.ensures)
+returns c = rw (c.seen_from-seen.ensures, c.known_from-after.ensures)

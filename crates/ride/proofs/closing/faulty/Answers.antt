@@ -6,6 +6,5 @@ use Rattle.ride.proofs.closing.faulty.Goals as goal
 
 pub returns : goal.returns
 returns c =
-    let a = c.args in
-    faulted a.t1 a.known _ _ a.number c.requires c.nothing_known-nothing.ensures
-    (first_place_law a.t1.kept (record { place = 0; heard = Heard.Words 0 0 0 }) refl)
+    faulted c.args.group c.args.known _ _ c.args.number c.requires c.nothing_known-nothing.ensures
+    (first_place_law c.args.group.kept (record { place = 0; heard = Heard.Words 0 0 0 }) refl)

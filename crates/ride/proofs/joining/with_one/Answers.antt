@@ -9,6 +9,6 @@ use Rattle.ride.proofs.joining.with_one.Goals as goal
 pub returns : goal.returns
 returns c =
     let a = c.args in
-    let five : length a.t1 ≡ 5 = omega (arith, c.well_formed.0.1.0.1) in
+    let five : length a.old ≡ 5 = omega (arith, c.well_formed.0.1.0.1) in
     rw (c.either.ensures, c.either-2.ensures, c.either-3.ensures, c.either-4.ensures, c.either-5.ensures)
-    (each_is_set a.t1 a.count a.balise (record { place = 0; heard = Heard.Words 0 0 0 }) five)
+    (each_is_set a.old a.count a.balise (record { place = 0; heard = Heard.Words 0 0 0 }) five)

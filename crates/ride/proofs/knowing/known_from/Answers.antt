@@ -4,6 +4,5 @@ use Rattle.ride.proofs.knowing.known_from.Goals as goal
 
 pub returns-in-Signal : goal.returns-in-Signal
 returns-in-Signal c =
-    let a = c.args in
     rw (c.linking_from.ensures, c.main_from.ensures)
-    (known_signal a.content _ _ _ _ a.place a.number a.known c.in-Signal.is)
+    (known_signal c.args.content _ _ _ _ c.args.place c.args.number c.args.known c.in-Signal.is)

@@ -6,7 +6,6 @@ use Rattle.ride.proofs.marks.mark_of.Goals as goal
 
 pub returns-in-Set : goal.returns-in-Set
 returns-in-Set c =
-    let l = c.linking-1 in
     let a = c.args in
-    c.mark_at.ensures ∙ ap (mark_at l.given.0.0) c.beyond.ensures
-    ∙ mark_set a.linking _ _ a.place l.given.1
+    c.mark_at.ensures ∙ ap (mark_at c.in-Set.distance) c.beyond.ensures
+    ∙ mark_set a.linking _ _ a.place c.in-Set.is

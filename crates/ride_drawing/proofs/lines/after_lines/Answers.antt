@@ -10,7 +10,7 @@ use Rattle.ride_drawing.proofs.lines.after_lines.Goals as goal
 pub returns-in-One : goal.returns-in-One
 returns-in-One c =
     let a = c.args in
-    c.after_Line.ensures ∙ ap (λ (ls : Lines). after_lines a.pen (says_lines ls) a.odometer) (sym c.in-One.is)
+    c.after_line.ensures ∙ ap (λ (ls : Lines). after_lines a.pen (says_lines ls) a.odometer) (sym c.in-One.is)
 
 pub returns-in-Two : goal.returns-in-Two
 returns-in-Two c =

@@ -37,6 +37,6 @@ returns-in-Two c =
     (after _ _ _ _
     (all_as _ _ (ap (λ (p : ℕ). pieces (on_its_strip a.plan a.pen a.ride.known a.closed c.in-Two.a p)) c.place_of-place-in-Two.ensures) c.put_line-next.ensures)
     (all_as _ _
-    (ap (λ (p : ℕ). pieces (on_its_strip a.plan c.after_Line.result c.known_then-then.result a.closed c.in-Two.b p)) c.place_of-behind.ensures
-    ∙ ap₂ (λ (q : Pen) (k : Known). pieces (on_its_strip a.plan q k a.closed c.in-Two.b (place_of c.in-Two.b a.ride.odometer))) c.after_Line.ensures c.known_then-then.ensures)
+    (ap (λ (p : ℕ). pieces (on_its_strip a.plan c.after_line-there.result c.known_then-then.result a.closed c.in-Two.b p)) c.place_of-behind.ensures
+    ∙ ap₂ (λ (q : Pen) (k : Known). pieces (on_its_strip a.plan q k a.closed c.in-Two.b (place_of c.in-Two.b a.ride.odometer))) c.after_line-there.ensures c.known_then-then.ensures)
     c.put_line-in-Two.ensures))

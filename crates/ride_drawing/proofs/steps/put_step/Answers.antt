@@ -17,7 +17,7 @@ returns-in-Refused c =
     all_as _ _
     (ap (λ (n : ℕ). pieces (draw_refused a.pen a.ride.odometer a.closed (Line.Record a.number n))) c.refusal.ensures
     ∙ ap (λ (g : Given). pieces (draw_step a.plan a.pen a.ride a.number (says_given g) a.closed a.after)) (sym c.in-Refused.is))
-    c.Put-refused.ensures
+    c.put_refused.ensures
 
 pub returns-in-Lines : goal.returns-in-Lines
 returns-in-Lines c =

@@ -14,8 +14,7 @@ refused_with store n = record { store = store; how = Condition.Refused n }
 
 pub returns-in-Kept : goal.returns-in-Kept
 returns-in-Kept c =
-    let a = c.args in
-    ap (λ (v : Verdict). after_it (says_verdict v) a.old a.new) (sym c.in-Kept.is)
+    ap (λ (v : Verdict). after_it (says_verdict v) c.args.old c.args.new) (sym c.in-Kept.is)
 
 pub returns-in-Refused : goal.returns-in-Refused
 returns-in-Refused c =

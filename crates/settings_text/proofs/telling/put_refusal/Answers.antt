@@ -13,7 +13,7 @@ pub returns-then-line-eq0 : goal.returns-then-line-eq0
 returns-then-line-eq0 c =
     let a = c.args in
     let is = of_none a.line a.number c.if-line-eq0.true in
-    join a.buf.now a.at (codes "settings ") (refused a.number) (room_as a.buf.now a.at is c.requires) c.put-a.ensures c.Put-refused.ensures
+    join a.buf.now a.at (codes "settings ") (refused a.number) (room_as a.buf.now a.at is c.requires) c.put-a.ensures c.put_refused.ensures
     ∙ ap (λ (t : List ℕ). put t a.buf.now a.at) is
 
 pub returns : goal.returns

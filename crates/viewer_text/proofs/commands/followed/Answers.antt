@@ -20,12 +20,12 @@ rest_is : (l : List ℕ) (k : ℕ) → take (length l - k) (drop k l) ≡ drop k
 rest_is l k = take_all (length l - k) (drop k l) (simp length-drop (omega arith))
 
 -- blanks and a figure
-figured : (d : After-decimal) → let a = d.args in numbered a.letter d.decimal.result ≡ followed a.letter a.rest.now
+figured : (d : After-decimal) → numbered d.args.letter d.decimal.result ≡ followed d.args.letter d.args.rest.now
 figured d =
     let a = d.args in
-    ap (numbered a.letter) (d.decimal.ensures
-    ∙ ap (λ (l : List ℕ). decimal l largest) (rest_is a.rest.now d.begin-blanks.result ∙ ap (λ (k : ℕ). drop k a.rest.now) d.begin-blanks.ensures))
-    ∙ led_is a.letter a.rest.now (λ z. d.if-blanks-eq0.false (d.begin-blanks.ensures ∙ z))
+    ap (numbered d.args.letter) (d.decimal.ensures
+    ∙ ap (λ (l : List ℕ). decimal l largest) (rest_is d.args.rest.now d.begin-blanks.result ∙ ap (λ (k : ℕ). drop k d.args.rest.now) d.begin-blanks.ensures))
+    ∙ led_is d.args.letter d.args.rest.now (λ z. d.if-blanks-eq0.false (d.begin-blanks.ensures ∙ z))
 
 pub returns-then-blanks-eq0 : goal.returns-then-blanks-eq0
 returns-then-blanks-eq0 c =

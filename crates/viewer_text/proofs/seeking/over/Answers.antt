@@ -24,12 +24,12 @@ use Rattle.viewer_text.proofs.seeking.over.Goals as goal
 -- what a record's listing says
 listed : (b : After-bytes_of-bytes) →
     let a = b.args in
-    Here a.store b.loop-i.now b.loop-i.i a.trace.now b.list-listed.new.out.0 b.list-listed.result b.bytes_of-bytes.result
+    Here a.store b.loop-i.now b.loop-i.i a.trace.now b.list-listed.new.out b.list-listed.result b.bytes_of-bytes.result
 listed b =
     let a = b.args in
     let eight : b.loop-i.i * 8 + 8 - b.loop-i.i * 8 ≡ 8 = omega arith in
     let small : b.loop-i.i + 1 < largest64 = omega (arith, b.loop-i-test.true) in
-    here a.store b.loop-i.now b.loop-i.i a.trace.now b.loop-i.text b.list-listed.new.out.0 b.list-listed.result b.bytes_of-bytes.result
+    here a.store b.loop-i.now b.loop-i.i a.trace.now b.loop-i.text b.list-listed.new.out b.list-listed.result b.bytes_of-bytes.result
     b.loop-i-test.true b.requires b.loop-i.invariant.2 small
     (b.list-listed.ensures
     ∙ ap (λ (n : ℕ). list with_reasons b.loop-i.now a.store (b.loop-i.i + 1) (take n (drop (b.loop-i.i * 8) a.trace.now)) b.loop-i.text) eight)
