@@ -1,5 +1,5 @@
 -- `judged` rides under the store of a text that is fine, which is good.
-use Rattle.std.proofs.Common.{sym, refl, ◌∙◌, rules}
+use Rattle.std.proofs.Common.{sym, refl, ◌∙◌}
 use Rattle.console.specs.declared.before.OptionsWent.{OptionsWent}
 use Rattle.console.proofs.Riding.{nothing_ridden, good}
 use Rattle.console.proofs.before.judged.Goals as goal
