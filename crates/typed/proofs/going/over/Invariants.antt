@@ -1,5 +1,5 @@
 -- What the loop keeps true.
-use Rattle.std.proofs.Common.{◌≡◌, length, refl, ◌∙◌, arith}
+use Rattle.std.proofs.Common.{◌≡◌, length}
 use Rattle.typed.proofs.going.over.Given as goal
 
 abbrev pub invariant-loop-turns : goal.invariant-loop-turns
