@@ -73,13 +73,13 @@ pub treat-treated-requires : goal.treat-treated-requires
 treat-treated-requires c = c.loop-i.invariant.5.good
 
 pub put_eight-requires : goal.put_eight-requires
-put_eight-requires c = omega (arith, fits (goal.at-put_eight-requires c).At-loop-i)
+put_eight-requires c = omega (arith, fits (goal.at-put_eight-requires c).In-loop-i)
 
 pub overflow_add-at : goal.overflow_add-at
-overflow_add-at c = omega (arith, fits (goal.at-overflow_add-at c).At-loop-i)
+overflow_add-at c = omega (arith, fits (goal.at-overflow_add-at c).In-loop-i)
 
 pub overflow_add-i : goal.overflow_add-i
-overflow_add-i c = omega (arith, fits (goal.at-overflow_add-i c).At-loop-i)
+overflow_add-i c = omega (arith, fits (goal.at-overflow_add-i c).In-loop-i)
 
 pub loop-i-preserved : goal.loop-i-preserved
 loop-i-preserved c =

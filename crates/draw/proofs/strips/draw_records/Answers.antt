@@ -21,7 +21,7 @@ fits l k h = omega arith
 
 pub overflow_add-i : goal.overflow_add-i
 overflow_add-i c =
-    omega (arith, fits (goal.at-overflow_add-i c).After-drawing-1 (c.loop-i.i + c.written-took.result) (within c))
+    omega (arith, fits (goal.at-overflow_add-i c).At-loop-i (c.loop-i.i + c.written-took.result) (within c))
 
 pub loop-i-init : goal.loop-i-init
 loop-i-init c = (refl, omega arith)
@@ -42,13 +42,13 @@ pub overflow_sub-records : goal.overflow_sub-records
 overflow_sub-records c = omega (arith, c.loop-i.invariant.1)
 
 pub shape_of-out-then-took-eq0 : goal.shape_of-out-then-took-eq0
-shape_of-out-then-took-eq0 c = kept (goal.at-shape_of-out-then-took-eq0 c).After-draw-arg-in-loop-i-1
+shape_of-out-then-took-eq0 c = kept (goal.at-shape_of-out-then-took-eq0 c).After-draw-drawn
 
 pub loop-i-smaller : goal.loop-i-smaller
 loop-i-smaller c = omega (arith, within c, c.if-took-eq0.false)
 
 pub loop-i-preserved : goal.loop-i-preserved
-loop-i-preserved c = (kept (goal.at-loop-i-preserved c).After-draw-arg-in-loop-i-1, within c)
+loop-i-preserved c = (kept (goal.at-loop-i-preserved c).After-draw-drawn, within c)
 
 pub shape_of-out : goal.shape_of-out
 shape_of-out c = c.loop-i.invariant.0

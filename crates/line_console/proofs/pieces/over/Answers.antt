@@ -29,7 +29,7 @@ add-text-requires c =
 
 pub overflow_add-i-in-Closed : goal.overflow_add-i-in-Closed
 overflow_add-i-in-Closed c =
-    omega (arith, (closed_on _ _ _ _ _ _ c.hear_piece.result c.hear_piece.ensures c.loop-i-test.true c.in-Closed.is).0, few (goal.at-overflow_add-i-in-Closed c).In-loop-i)
+    omega (arith, (closed_on _ _ _ _ _ _ c.hear_piece.result c.hear_piece.ensures c.loop-i-test.true c.in-Closed.is).0, few (goal.at-overflow_add-i-in-Closed c).After-hear_piece)
 
 pub loop-i-smaller-in-Closed : goal.loop-i-smaller-in-Closed
 loop-i-smaller-in-Closed c =

@@ -20,7 +20,7 @@ pub shape_of-block-then-not-sent : goal.shape_of-block-then-not-sent
 shape_of-block-then-not-sent c = kept (goal.at-shape_of-block-then-not-sent c).After-send-sent
 
 pub shape_of-block-in_default : goal.shape_of-block-in_default
-shape_of-block-in_default c = kept (goal.at-shape_of-block-in_default c).After-send-arg-1
+shape_of-block-in_default c = kept (goal.at-shape_of-block-in_default c).After-send-sent
 
 pub loop-turns-preserved : goal.loop-turns-preserved
 loop-turns-preserved c = kept (goal.at-loop-turns-preserved c).After-send-sent
