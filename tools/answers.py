@@ -80,6 +80,9 @@ def in_place(text, name, value):
     return re.sub(r"(?<![\w.'\\-])" + re.escape(name) + r"(?![\w'-])", one, text)
 
 
+OWN_FIELDS = set()
+
+
 class Unit:
     def __init__(self, crate, path, entry, source):
         self.crate, self.path, self.e, self.source = crate, path, entry, source
@@ -90,7 +93,7 @@ class Unit:
         for it in entry["places"]:
             self.step.setdefault(alike(it[2][0]), set()).add(it[2][1])
         self.words = set(re.findall(r"\b[a-z]\w*_\w+\b", source))
-        self.named = set()
+        self.named, self.taking = set(), {}
         self.args = {}
         for a, b in entry.get("args") or []:
             if a.startswith((".args ", ".ranges ")):
@@ -134,6 +137,8 @@ class Unit:
     def field(self, name):
         """A field that is a name of the source."""
         plain = name.replace("-", "_")
+        if plain in OWN_FIELDS:
+            return plain
         if name in ("well-formed", "type-inv"):
             return plain
         if "-" in name and plain in self.words:
@@ -262,6 +267,17 @@ class Unit:
                 break
             text = text[: m.start()] + in_place(text[m.end() :], m[1], m[2])
 
+        # a name for an outer record is written out
+        at = 0
+        while True:
+            m = re.compile(r"let ([a-z][\w'-]*) = ([a-z][\w'-]*(?:\.before)*) in\s*").search(text, at)
+            if not m:
+                break
+            if m[2].split(".")[0] in records:
+                text, at = text[: m.start()] + in_place(text[m.end() :], m[1], m[2]), 0
+            else:
+                at = m.end()
+
         # a name for a step whose parts have new names is written out too
         at = 0
         while True:
@@ -277,18 +293,13 @@ class Unit:
             else:
                 at = m.end()
 
-        # a name for an outer record is written out
-        while True:
-            m = re.search(r"let ([a-z][\w'-]*) = ([a-z][\w'-]*(?:\.before)*) in\s*", text)
-            if not m or m[2].split(".")[0] not in records:
-                break
-            end = len(text)
-            text = text[: m.start()] + in_place(text[m.end() : end], m[1], m[2])
-
         def path(m):
             steps = m[0].split(".")
             if steps[0] in records and len(steps) > 1 and all(it == "before" for it in steps[1:]):
                 outer = self.outer(records[steps[0]], len(steps) - 1)
+                lemma = re.search(r"([^\s(){}.;,]+) $", m.string[: m.start()])
+                if lemma and lemma[1] in self.taking:
+                    outer = self.taking[lemma[1]]
                 at = goal or self.new_name(records[steps[0]])
                 if outer and self.new_name(outer) == self.new_name(records[steps[0]]):
                     return steps[0]
@@ -511,6 +522,8 @@ def by_clause(unit, goal, text):
     if not fields or len(fields) < 2:
         return text
     end = len(text.rstrip())
+    if " in (" in text and text[end - 1 : end] == ")":
+        pass
     if text[end - 1 : end] != ")":
         return text
     deep, k = 0, end - 1
@@ -532,6 +545,18 @@ def by_clause(unit, goal, text):
         word += ch
     if word.strip():
         found.append(word)
+    while len(found) < len(fields) and re.fullmatch(r"\s*\(.*\)\s*", found[-1], re.S):
+        held, deep, word, more = found[-1].strip()[1:-1], 0, "", []
+        for ch in held:
+            if ch == "," and not deep:
+                more.append(word)
+                word = ""
+                continue
+            deep += (ch in "([{") - (ch in ")]}")
+            word += ch
+        if not more:
+            break
+        found[-1:] = more + [word] if word.strip() else more
     if len(found) != len(fields):
         return text
     return text[:k] + "record { " + "; ".join(f"{f} = {v.strip()}" for f, v in zip(fields, found)) + " }" + text[end:]
@@ -575,6 +600,12 @@ def write(unit, folder, text):
         used = [u for u in uses if keeps(u, body)]
         files["Invariants.antt"] = "\n".join(comments[:1] and ["-- What the loop keeps true."]) + "\n" + "\n".join([trim(u, body) for u in used] + [f"use {base}.Given as goal"]) + "\n\n" + body
     out = []
+    for said, code, name in helpers:
+        for it in defined(code):
+            part = re.search(r"(?m)^ *(?:abbrev |unfoldable |pub )*" + re.escape(it) + r" :[^\n]*(?:\n +[^\n]*)*", code)
+            first = re.search(r"tie\.([\w-]+)", part[0] if part and "tie." in part[0] else code.split("where")[0] if code.startswith("module") else "")
+            if first and unit.place(first[1])[0]:
+                unit.taking[it] = unit.place(first[1])[0]
     for said, code, name in helpers:
         records = params(unit, code)
         place = next(iter(records.values()), None)
@@ -644,6 +675,10 @@ def trim(use, body):
 
 def main():
     names, crates = sys.argv[1], sys.argv[2:]
+    for folder, _, fs in os.walk("crates"):
+        for f in fs:
+            if f.endswith(".antt") and f != "Proof.antt" and "/out/" not in folder:
+                OWN_FIELDS.update(re.findall(r"(?m)^ +(?:pub )?([a-z]\w*_\w+) :", read(f"{folder}/{f}")))
     for crate in crates:
         listed = json.load(open(f"{names}/{crate}/names.json"))
         done = left = 0

@@ -7,4 +7,4 @@ use Rattle.abi.proofs.leads.atc2_record_begin.Goals as goal
 pub returns : goal.returns
 returns c =
     let begun = c.fresh-begun.ensures in
-    (refl, (c.ear_bytes-bytes.ensures.value ∙ ap ear_bytes begun, c.ear_bytes-bytes.ensures.result_value ∙ begun))
+    record { value = refl; ear_after = c.ear_bytes-bytes.ensures.value ∙ ap ear_bytes begun; ear_after_2 = c.ear_bytes-bytes.ensures.result_value ∙ begun }

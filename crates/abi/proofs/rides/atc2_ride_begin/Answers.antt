@@ -5,4 +5,4 @@ use Rattle.ride_bytes.specs.Rides.{ride_bytes}
 use Rattle.abi.proofs.rides.atc2_ride_begin.Goals as goal
 
 pub returns : goal.returns
-returns c = (refl, (c.ride_bytes-bytes.ensures.value ∙ ap ride_bytes c.fresh.ensures, c.ride_bytes-bytes.ensures.result_value ∙ c.fresh.ensures))
+returns c = record { value = refl; state_after = c.ride_bytes-bytes.ensures.value ∙ ap ride_bytes c.fresh.ensures; state_after_2 = c.ride_bytes-bytes.ensures.result_value ∙ c.fresh.ensures }

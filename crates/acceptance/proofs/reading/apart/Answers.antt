@@ -13,24 +13,21 @@ loop-i-init c = (omega arith, omega arith, refl)
 
 pub returns-then-next-one : goal.returns-then-next-one
 returns-then-next-one c =
-    let a = c.args in
-    let k : a.n ≤ length a.t1 = omega arith in
-    sym (c.loop-i.invariant.2 ∙ near a.tolerance a.t1 a.n c.loop-i.i k c.loop-i.invariant.0 (omega arith) c.if-next-one.true)
+    let k : c.args.n ≤ length c.args.entries = omega arith in
+    sym (c.loop-i.invariant.2 ∙ near c.args.tolerance c.args.entries c.args.n c.loop-i.i k c.loop-i.invariant.0 (omega arith) c.if-next-one.true)
 
 pub loop-i-preserved : goal.loop-i-preserved
 loop-i-preserved c =
-    let a = c.args in
-    let k : a.n ≤ length a.t1 = omega arith in
+    let k : c.args.n ≤ length c.args.entries = omega arith in
     let back : c.loop-i.i ≡ c.loop-i.i + 1 - 1 = omega arith in (
       omega arith,
       omega arith,
       c.loop-i.invariant.2
-          ∙ beyond a.tolerance a.t1 a.n c.loop-i.i k c.loop-i.invariant.0 (omega arith) c.if-next-one.false
-          ∙ ap (λ (j : ℕ). apart a.tolerance (drop j (take a.n a.t1))) back,
+          ∙ beyond c.args.tolerance c.args.entries c.args.n c.loop-i.i k c.loop-i.invariant.0 (omega arith) c.if-next-one.false
+          ∙ ap (λ (j : ℕ). apart c.args.tolerance (drop j (take c.args.n c.args.entries))) back,
     )
 
 pub returns : goal.returns
 returns c =
-    let a = c.args in
-    let k : a.n ≤ length a.t1 = omega arith in
-    sym (c.loop-i.invariant.2 ∙ no_neighbour a.tolerance a.t1 a.n c.loop-i.i k c.loop-i.invariant.0 c.loop-i-test.false)
+    let k : c.args.n ≤ length c.args.entries = omega arith in
+    sym (c.loop-i.invariant.2 ∙ no_neighbour c.args.tolerance c.args.entries c.args.n c.loop-i.i k c.loop-i.invariant.0 c.loop-i-test.false)

@@ -23,26 +23,23 @@ loop-i-init c =
 
 pub loop-i-preserved-then-not-is_absent : goal.loop-i-preserved-then-not-is_absent
 loop-i-preserved-then-not-is_absent c =
-    let a = c.args in
-    let k : a.n ≤ length a.t1 = omega arith in
-    let j : c.loop-i.i - 1 < a.n = omega arith in
-    let is : is_absent (get_or a.t1 (c.loop-i.i - 1) no_entry).met ≡ false = sym c.is_absent.ensures ∙ not-true _ c.if-not-is_absent.true-raw in
-    let same : met_in (drop (c.loop-i.i - 1 + 1) (take a.n a.t1)) ≡ met_in (drop c.loop-i.i (take a.n a.t1)) =
-    ap (λ (m : ℕ). met_in (drop m (take a.n a.t1))) (back c.loop-i.i c.loop-i-test.true) in
-    (omega arith, omega (arith, c.loop-i.invariant.1, met_one a.t1 a.n (c.loop-i.i - 1) j k is), omega arith)
+    let k : c.args.n ≤ length c.args.entries = omega arith in
+    let j : c.loop-i.i - 1 < c.args.n = omega arith in
+    let is : is_absent (get_or c.args.entries (c.loop-i.i - 1) no_entry).met ≡ false = sym c.is_absent.ensures ∙ not-true _ c.if-not-is_absent.true-raw in
+    let same : met_in (drop (c.loop-i.i - 1 + 1) (take c.args.n c.args.entries)) ≡ met_in (drop c.loop-i.i (take c.args.n c.args.entries)) =
+    ap (λ (m : ℕ). met_in (drop m (take c.args.n c.args.entries))) (back c.loop-i.i c.loop-i-test.true) in
+    (omega arith, omega (arith, c.loop-i.invariant.1, met_one c.args.entries c.args.n (c.loop-i.i - 1) j k is), omega arith)
 
 pub loop-i-preserved : goal.loop-i-preserved
 loop-i-preserved c =
-    let a = c.args in
-    let k : a.n ≤ length a.t1 = omega arith in
-    let j : c.loop-i.i - 1 < a.n = omega arith in
-    let is : is_absent (get_or a.t1 (c.loop-i.i - 1) no_entry).met ≡ true = sym c.is_absent.ensures ∙ not-false _ c.if-not-is_absent.false-raw in
-    let same : met_in (drop (c.loop-i.i - 1 + 1) (take a.n a.t1)) ≡ met_in (drop c.loop-i.i (take a.n a.t1)) =
-    ap (λ (m : ℕ). met_in (drop m (take a.n a.t1))) (back c.loop-i.i c.loop-i-test.true) in
-    (omega arith, omega (arith, c.loop-i.invariant.1, met_not a.t1 a.n (c.loop-i.i - 1) j k is), omega arith)
+    let k : c.args.n ≤ length c.args.entries = omega arith in
+    let j : c.loop-i.i - 1 < c.args.n = omega arith in
+    let is : is_absent (get_or c.args.entries (c.loop-i.i - 1) no_entry).met ≡ true = sym c.is_absent.ensures ∙ not-false _ c.if-not-is_absent.false-raw in
+    let same : met_in (drop (c.loop-i.i - 1 + 1) (take c.args.n c.args.entries)) ≡ met_in (drop c.loop-i.i (take c.args.n c.args.entries)) =
+    ap (λ (m : ℕ). met_in (drop m (take c.args.n c.args.entries))) (back c.loop-i.i c.loop-i-test.true) in
+    (omega arith, omega (arith, c.loop-i.invariant.1, met_not c.args.entries c.args.n (c.loop-i.i - 1) j k is), omega arith)
 
 pub returns : goal.returns
 returns c =
-    let a = c.args in
     let last : c.loop-i.i ≡ 0 = omega arith in
-    record { value = c.loop-i.invariant.1 ∙ ap (λ (m : ℕ). met_in (drop m (take a.n a.t1))) last; upper_bound = omega arith }
+    record { value = c.loop-i.invariant.1 ∙ ap (λ (m : ℕ). met_in (drop m (take c.args.n c.args.entries))) last; upper_bound = omega arith }

@@ -11,7 +11,7 @@ pub returns-then-count-lt64 : goal.returns-then-count-lt64
 returns-then-count-lt64 c =
     let a = c.args in
     let k : a.count ≤ length a.entries = omega arith in
-    (sym (length-take-le a.count a.entries k), (refl, omega arith))
+    record { value = sym (length-take-le a.count a.entries k); entries_value = refl; upper_bound = omega arith }
 
 pub returns-else-count-lt64 : goal.returns-else-count-lt64
 returns-else-count-lt64 c =
@@ -19,4 +19,4 @@ returns-else-count-lt64 c =
     let size : length a.entries ≡ 64 = omega arith in
     let all = take_all a.count a.entries (omega arith) in
     let whole = take_all 64 a.entries (omega arith) in
-    (sym (ap length all ∙ size), (whole ∙ sym all, omega arith))
+    record { value = sym (ap length all ∙ size); entries_value = whole ∙ sym all; upper_bound = omega arith }

@@ -15,21 +15,18 @@ loop-i-init c =
 
 pub returns-then-waits : goal.returns-then-waits
 returns-then-waits c =
-    let a = c.args in
-    let k : a.n ≤ length a.t4 = omega arith in
-    omega (arith, c.loop-i.invariant.1, wait_here a.tolerance a.place a.kind a.t4 a.n c.loop-i.i c.loop-i-test.true k (sym c.waits.ensures ∙ c.if-waits.true))
+    let k : c.args.n ≤ length c.args.entries = omega arith in
+    omega (arith, c.loop-i.invariant.1, wait_here c.args.tolerance c.args.place c.args.kind c.args.entries c.args.n c.loop-i.i c.loop-i-test.true k (sym c.waits.ensures ∙ c.if-waits.true))
 
 pub loop-i-preserved : goal.loop-i-preserved
 loop-i-preserved c =
-    let a = c.args in
-    let k : a.n ≤ length a.t4 = omega arith in
-    (omega arith, omega (arith, c.loop-i.invariant.1, wait_on a.tolerance a.place a.kind a.t4 a.n c.loop-i.i c.loop-i-test.true k (sym c.waits.ensures ∙ c.if-waits.false)))
+    let k : c.args.n ≤ length c.args.entries = omega arith in
+    (omega arith, omega (arith, c.loop-i.invariant.1, wait_on c.args.tolerance c.args.place c.args.kind c.args.entries c.args.n c.loop-i.i c.loop-i-test.true k (sym c.waits.ensures ∙ c.if-waits.false)))
 
 pub returns : goal.returns
 returns c =
-    let a = c.args in
-    let k : a.n ≤ length a.t4 = omega arith in
-    let last : c.loop-i.i ≡ a.n = omega arith in
-    let is : waiting a.tolerance a.place a.kind (drop c.loop-i.i (take a.n a.t4)) ≡ 0 =
-    ap (λ (j : ℕ). waiting a.tolerance a.place a.kind (drop j (take a.n a.t4))) last ∙ wait_none a.tolerance a.place a.kind a.t4 a.n k in
+    let k : c.args.n ≤ length c.args.entries = omega arith in
+    let last : c.loop-i.i ≡ c.args.n = omega arith in
+    let is : waiting c.args.tolerance c.args.place c.args.kind (drop c.loop-i.i (take c.args.n c.args.entries)) ≡ 0 =
+    ap (λ (j : ℕ). waiting c.args.tolerance c.args.place c.args.kind (drop j (take c.args.n c.args.entries))) last ∙ wait_none c.args.tolerance c.args.place c.args.kind c.args.entries c.args.n k in
     omega (arith, c.loop-i.invariant.1)

@@ -33,14 +33,14 @@ pub spell_met-requires : goal.spell_met-requires
 spell_met-requires c =
     let a = c.args in
     let first = c.put_number-a.ensures ∙ ap (λ (m : ℕ). put (numbered "entry " m) a.buf.now a.at) c.one_more.ensures in
-    room_after a.buf.now a.at (numbered "entry " (one_more a.i) ++ numbered " at " a.entry.place ++ kind_word a.entry.kind) (met_words a.entry.met) (whole (goal.at-spell_met-requires c).After-put_number-arg-1)
-    (join_3 a.buf.now a.at (numbered "entry " (one_more a.i)) (numbered " at " a.entry.place) (kind_word a.entry.kind) (with_kind (goal.at-spell_met-requires c).After-put_number-arg-1) first c.put_number-b.ensures
+    room_after a.buf.now a.at (numbered "entry " (one_more a.i) ++ numbered " at " a.entry.place ++ kind_word a.entry.kind) (met_words a.entry.met) (whole (goal.at-spell_met-requires c).Start)
+    (join_3 a.buf.now a.at (numbered "entry " (one_more a.i)) (numbered " at " a.entry.place) (kind_word a.entry.kind) (with_kind (goal.at-spell_met-requires c).Start) first c.put_number-b.ensures
     c.put_kind-c.ensures)
 
 pub returns : goal.returns
 returns c =
     let a = c.args in
     let first = c.put_number-a.ensures ∙ ap (λ (m : ℕ). put (numbered "entry " m) a.buf.now a.at) c.one_more.ensures in
-    join_4 a.buf.now a.at (numbered "entry " (one_more a.i)) (numbered " at " a.entry.place) (kind_word a.entry.kind) (met_words a.entry.met) (whole (goal.at-returns c).After-put_number-arg-1) first
+    join_4 a.buf.now a.at (numbered "entry " (one_more a.i)) (numbered " at " a.entry.place) (kind_word a.entry.kind) (met_words a.entry.met) (whole (goal.at-returns c).Start) first
     c.put_number-b.ensures c.put_kind-c.ensures c.spell_met.ensures
     ∙ ap (λ (t : List ℕ). put t a.buf.now a.at) (entry_is a.i a.entry)

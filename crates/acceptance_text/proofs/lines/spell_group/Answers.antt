@@ -22,11 +22,11 @@ with_kind s = let a = s.args in less a.buf.now a.at (numbered "" a.place ++ kind
 pub spell_part-requires : goal.spell_part-requires
 spell_part-requires c =
     let a = c.args in
-    room_after a.buf.now a.at (numbered "" a.place ++ kind_word a.kind) (part_words a.part) (whole (goal.at-spell_part-requires c).After-slice_known-1)
-    (join a.buf.now a.at (numbered "" a.place) (kind_word a.kind) (with_kind (goal.at-spell_part-requires c).After-slice_known-1) c.put_number-a.ensures c.put_kind-b.ensures)
+    room_after a.buf.now a.at (numbered "" a.place ++ kind_word a.kind) (part_words a.part) (whole (goal.at-spell_part-requires c).Start)
+    (join a.buf.now a.at (numbered "" a.place) (kind_word a.kind) (with_kind (goal.at-spell_part-requires c).Start) c.put_number-a.ensures c.put_kind-b.ensures)
 
 pub returns : goal.returns
 returns c =
     let a = c.args in
-    join_3 a.buf.now a.at (numbered "" a.place) (kind_word a.kind) (part_words a.part) (whole (goal.at-returns c).After-slice_known-1) c.put_number-a.ensures c.put_kind-b.ensures c.spell_part.ensures
+    join_3 a.buf.now a.at (numbered "" a.place) (kind_word a.kind) (part_words a.part) (whole (goal.at-returns c).Start) c.put_number-a.ensures c.put_kind-b.ensures c.spell_part.ensures
     ∙ ap (λ (t : List ℕ). put t a.buf.now a.at) (group_is a.place a.kind a.part)

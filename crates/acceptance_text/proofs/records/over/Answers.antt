@@ -19,6 +19,7 @@ use Rattle.acceptance_text.specs.Taking.{started, take_all}
 use Rattle.acceptance_text.specs.Inside.{writes, written}
 use Rattle.acceptance_text.proofs.Way.{OnTheWay, sets_out, same_length as length-stays, goes_on, comes_to, comes_to_end, in_pieces, quiet}
 use Rattle.acceptance_text.proofs.records.over.Goals.{After-treat_at-treated, At-loop-i, In-Record, In-loop-i, Joined-not-is_quiet}
+use borrow.Enum.Refused.{opened}
 use Rattle.acceptance_text.proofs.records.over.Goals as goal
 
 -- the buffer has its length
@@ -107,4 +108,4 @@ shape_of-out-in_default c = stays (goal.at-shape_of-out-in_default c).At-loop-i
 
 pub returns-in_default : goal.returns-in_default
 returns-in_default c =
-    comes_to_end _ _ _ _ _ _ _ _ _ _ c.loop-i.invariant.2 (turned_past _ _ _ _ _ _ _ (turn (goal.at-returns-in_default c).After-treat_at-treated) c.in_default.in_default-own.keys2)
+    comes_to_end _ _ _ _ _ _ _ _ _ _ c.loop-i.invariant.2 (turned_past _ _ _ _ _ _ _ (turn (goal.at-returns-in_default c).After-treat_at-treated) (opened c.in_default.in_default-own.keys2))

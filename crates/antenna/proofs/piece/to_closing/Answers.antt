@@ -50,7 +50,7 @@ loop-i-preserved c =
     let counted = c.zeroes_after-count.ensures ∙ ap zeroes (sym c.after-h.ensures) in
     let low : l.i < a.end = c.loop-i-test.true in
     let places_are : c.if-ends_with_sync.places ≡ places_after l.places bits forty a.sound.s a.sound.t =
-    ⊎_elim (λ w. w.2 ∙ w.1.ensures) (λ w. w.1 ∙ none_ends a.sound.s a.sound.t bits forty l.places (sym c.ends_with_sync.ensures ∙ w.0.left)) c.if-ends_with_sync.branch-raw in (
+    ⊎_elim (λ w. w.places-is ∙ w.after-places.ensures) (λ w. w.places-is ∙ none_ends a.sound.s a.sound.t bits forty l.places (sym c.ends_with_sync.ensures ∙ w.if-ends_with_sync.false)) c.if-ends_with_sync.branch-raw in (
       omega arith,
       counted,
       λ p q. l.invariant.2 p q

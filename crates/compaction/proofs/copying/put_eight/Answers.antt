@@ -16,14 +16,13 @@ loop-i-init c = (omega arith, c.well_formed.0.1.0.1, refl, ap (placed c.args.byt
 
 pub loop-i-preserved : goal.loop-i-preserved
 loop-i-preserved c =
-    let a = c.args in
     let i = c.loop-i.i in
-    let there : i < length a.t1 = omega arith in
-    let room : a.at + i < length c.loop-i.trace = omega arith in (
+    let there : i < length c.args.bytes = omega arith in
+    let room : c.args.at + i < length c.loop-i.trace = omega arith in (
       omega arith,
       c.loop-i.invariant.1,
-      length-set c.loop-i.trace (a.at + i) (get_or a.t1 i 0) ∙ c.loop-i.invariant.2,
-      placed_next a.t1 c.loop-i.trace a.at i there room ∙ c.loop-i.invariant.3,
+      length-set c.loop-i.trace (c.args.at + i) (get_or c.args.bytes i 0) ∙ c.loop-i.invariant.2,
+      placed_next c.args.bytes c.loop-i.trace c.args.at i there room ∙ c.loop-i.invariant.3,
     )
 
 pub shape_of-trace : goal.shape_of-trace
@@ -31,11 +30,10 @@ shape_of-trace c = c.loop-i.invariant.2
 
 pub returns : goal.returns
 returns c =
-    let a = c.args in
-    let all : c.loop-i.i ≡ length a.t1 = omega arith in record {
+    let all : c.loop-i.i ≡ length c.args.bytes = omega arith in record {
       bytes_len = c.loop-i.invariant.1;
-      trace_after = sym (placed_none c.loop-i.trace (a.at + c.loop-i.i))
-          ∙ ap (λ (s : List ℕ). placed s c.loop-i.trace (a.at + c.loop-i.i))
-          (sym (ap (λ (k : ℕ). drop k a.t1) all ∙ drop-length a.t1))
+      trace_after = sym (placed_none c.loop-i.trace (c.args.at + c.loop-i.i))
+          ∙ ap (λ (s : List ℕ). placed s c.loop-i.trace (c.args.at + c.loop-i.i))
+          (sym (ap (λ (k : ℕ). drop k c.args.bytes) all ∙ drop-length c.args.bytes))
           ∙ c.loop-i.invariant.3;
     }

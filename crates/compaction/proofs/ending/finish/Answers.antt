@@ -13,7 +13,7 @@ pub returns-then-not-waiting : goal.returns-then-not-waiting
 returns-then-not-waiting c =
     let a = c.args in
     let f = finish_none (λ o. a.gap) a.waiting a.at a.trace.now (not-true a.waiting.waits c.if-not-waiting.true) in
-    (f.ride-is, (f.size_is, f.buffer-is))
+    record { ride_value = f.ride_is; size_value = f.size_is; trace_after = f.buffer_is }
 
 pub put_eight-requires : goal.put_eight-requires
 put_eight-requires c =
@@ -31,4 +31,4 @@ returns c =
     (not-false a.waiting.waits c.if-not-waiting.false) c.put_eight.ensures.bytes_len
     (ap (λ (x : Step). x.ride) (c.step-stepped.ensures ∙ step_allowed a.waiting.ride a.gap a.waiting.bytes c.requires.0))
     c.put_eight.ensures.trace_after in
-    (f.ride-is, (f.size_is, f.buffer-is))
+    record { ride_value = f.ride_is; size_value = f.size_is; trace_after = f.buffer_is }

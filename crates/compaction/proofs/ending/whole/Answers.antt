@@ -16,7 +16,7 @@ finish-requires c =
       c.over-walked.ensures.serves.good,
       λ h.
           let room = there_is_room (gap_at c.args.store) c.args.ride _ c.args.trace.now c.over-walked.result.waiting c.over-walked.result.bytes c.over-walked.ensures.waits
-          c.over-walked.ensures.bytes-are h in
+          c.over-walked.ensures.bytes_are h in
           omega arith,
     )
 
@@ -24,7 +24,7 @@ pub returns : goal.returns
 returns c =
     let w = c.over-walked.result.waiting in
     is_whole (gap_at c.args.store) c.args.ride _ c.args.trace.now w c.over-walked.result.bytes c.over-walked.new.block
-    c.finish.new.trace c.finish.result.ride c.finish.result.size c.over-walked.ensures.waits c.over-walked.ensures.bytes-are c.over-walked.ensures.buffer
+    c.finish.new.trace c.finish.result.ride c.finish.result.size c.over-walked.ensures.waits c.over-walked.ensures.bytes_are c.over-walked.ensures.buffer
     (finished_so (gap_at c.args.store) c.over-walked.result.gap w c.over-walked.result.bytes c.over-walked.new.block c.finish.result.ride c.finish.result.size
     c.finish.new.trace c.over-walked.ensures.serves
     (record { ride_is = c.finish.ensures.ride_value; size_is = c.finish.ensures.size_value; buffer_is = c.finish.ensures.trace_after }))

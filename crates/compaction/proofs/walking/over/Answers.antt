@@ -43,22 +43,22 @@ walked j =
     let stays = walk_same gaps a.waiting a.block.now (j.loop-i.i + 1) w' j.loop-i.at j.if-waits.at j.loop-i.block j.if-waits.block in
     ⊎_elim
     (λ k.
-    let s = settles gaps j.loop-i.held.gap w next k.1.result k.3.result j.loop-i.invariant.5 k.0.taken k.1.ensures k.3.ensures in
+    let s = settles gaps j.loop-i.held.gap w next k.treat-treated.result k.is_dropped.result j.loop-i.invariant.5 k.if-waits.true k.treat-treated.ensures k.is_dropped.ensures in
     walk_same gaps a.waiting a.block.now (j.loop-i.i + 1) w' (j.loop-i.at + 8) j.if-waits.at
     (placed j.loop-i.bytes j.loop-i.block j.loop-i.at) j.if-waits.block
-    (one_kept (ap (λ (r : Ride). from r next true) k.10 ∙ s.0) k.6.ensures.0
-    (ap (λ (d : Bool). pick (not d) (j.loop-i.bytes ∷ []) []) (sym (not-true k.3.result k.4.taken)) ∙ s.1))
-    k.11 (k.9 ∙ k.6.ensures.1))
+    (one_kept (ap (λ (r : Ride). from r next true) k.ride-is ∙ s.0) k.put_eight.ensures.bytes_len
+    (ap (λ (d : Bool). pick (not d) (j.loop-i.bytes ∷ []) []) (sym (not-true k.is_dropped.result k.if-not-is_dropped.true)) ∙ s.1))
+    k.at-is (k.block-is ∙ k.put_eight.ensures.trace_after))
     (λ v. ⊎_elim
     (λ k.
-    let s = settles gaps j.loop-i.held.gap w next k.1.result k.3.result j.loop-i.invariant.5 k.0.taken k.1.ensures k.3.ensures in
+    let s = settles gaps j.loop-i.held.gap w next k.treat-treated.result k.is_dropped.result j.loop-i.invariant.5 k.if-waits.true k.treat-treated.ensures k.is_dropped.ensures in
     stays
-    (one-dropped (ap (λ (r : Ride). from r next true) k.6 ∙ s.0)
-    (ap (λ (d : Bool). pick (not d) (j.loop-i.bytes ∷ []) []) (sym (not-false k.3.result k.4.left)) ∙ s.1))
-    k.7 k.5)
+    (one-dropped (ap (λ (r : Ride). from r next true) k.ride-is ∙ s.0)
+    (ap (λ (d : Bool). pick (not d) (j.loop-i.bytes ∷ []) []) (sym (not-false k.is_dropped.result k.if-not-is_dropped.false)) ∙ s.1))
+    k.at-is k.block-is)
     (λ k.
-    let s = none_waits gaps w next k.0.left in
-    stays (one-dropped (ap (λ (r : Ride). from r next true) k.2 ∙ s.0) s.1) k.3 k.1)
+    let s = none_waits gaps w next k.if-waits.false in
+    stays (one-dropped (ap (λ (r : Ride). from r next true) k.ride-is ∙ s.0) s.1) k.at-is k.block-is)
     v)
     j.if-waits.branch-raw
 
@@ -73,13 +73,13 @@ pub treat-treated-requires : goal.treat-treated-requires
 treat-treated-requires c = c.loop-i.invariant.5.good
 
 pub put_eight-requires : goal.put_eight-requires
-put_eight-requires c = omega (arith, fits (goal.at-put_eight-requires c).At-loop-i)
+put_eight-requires c = omega (arith, fits (goal.at-put_eight-requires c).In-loop-i)
 
 pub overflow_add-at : goal.overflow_add-at
-overflow_add-at c = omega (arith, fits (goal.at-overflow_add-at c).At-loop-i)
+overflow_add-at c = omega (arith, fits (goal.at-overflow_add-at c).In-loop-i)
 
 pub overflow_add-i : goal.overflow_add-i
-overflow_add-i c = omega (arith, fits (goal.at-overflow_add-i c).At-loop-i)
+overflow_add-i c = omega (arith, fits (goal.at-overflow_add-i c).In-loop-i)
 
 pub loop-i-preserved : goal.loop-i-preserved
 loop-i-preserved c =

@@ -24,13 +24,13 @@ with_what s =
 pub put_what-c-requires : goal.put_what-c-requires
 put_what-c-requires c =
     let a = c.args in
-    let two = less a.buf.now a.at (numbered "" a.start ++ numbered " " a.bits) (what a.judged) (with_what (goal.at-put_what-c-requires c).After-put_number-arg-1) in
-    room_after a.buf.now a.at (numbered "" a.start ++ numbered " " a.bits) (what a.judged) (with_what (goal.at-put_what-c-requires c).After-put_number-arg-1)
+    let two = less a.buf.now a.at (numbered "" a.start ++ numbered " " a.bits) (what a.judged) (with_what (goal.at-put_what-c-requires c).Start) in
+    room_after a.buf.now a.at (numbered "" a.start ++ numbered " " a.bits) (what a.judged) (with_what (goal.at-put_what-c-requires c).Start)
     (join a.buf.now a.at (numbered "" a.start) (numbered " " a.bits) two c.put_number-a.ensures c.put_number-b.ensures)
 
 pub returns : goal.returns
 returns c =
     let a = c.args in
-    join_4 a.buf.now a.at (numbered "" a.start) (numbered " " a.bits) (what a.judged) (codes "\n") (whole (goal.at-returns c).After-put_number-arg-2-1)
+    join_4 a.buf.now a.at (numbered "" a.start) (numbered " " a.bits) (what a.judged) (codes "\n") (whole (goal.at-returns c).Start)
     c.put_number-a.ensures c.put_number-b.ensures c.put_what-c.ensures c.put.ensures
     ∙ ap (λ (t : List ℕ). put t a.buf.now a.at) (heard_is a.start a.bits a.judged)

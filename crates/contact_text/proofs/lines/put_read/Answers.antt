@@ -26,11 +26,11 @@ with_figures s =
 pub put_figures-b-requires : goal.put_figures-b-requires
 put_figures-b-requires c =
     let a = c.args in
-    room_after a.buf.now a.at (codes " telegram") (figures a.telegram) (with_figures (goal.at-put_figures-b-requires c).After-slice_known-1) c.put-a.ensures
+    room_after a.buf.now a.at (codes " telegram") (figures a.telegram) (with_figures (goal.at-put_figures-b-requires c).Start) c.put-a.ensures
 
 pub returns : goal.returns
 returns c =
     let a = c.args in
-    join_4 a.buf.now a.at (codes " telegram") (figures a.telegram) (numbered " places " a.count) (numbered " from " a.first) (whole (goal.at-returns c).After-put-arg-2-1)
+    join_4 a.buf.now a.at (codes " telegram") (figures a.telegram) (numbered " places " a.count) (numbered " from " a.first) (whole (goal.at-returns c).Start)
     c.put-a.ensures c.put_figures-b.ensures c.put_number-c.ensures c.put_number.ensures
     ∙ ap (λ (t : List ℕ). put t a.buf.now a.at) (read_is a.telegram a.first a.count)

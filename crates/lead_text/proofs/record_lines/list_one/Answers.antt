@@ -23,20 +23,16 @@ listed c =
 
 pub overflow_add-result : goal.overflow_add-result
 overflow_add-result c =
-    let a = c.args in
-    omega (arith, written_in (gap_at a.store) a.ride a.number a.t4 a.out.now a.at c.list-listed.result c.list-listed.new.out _ _ (listed (goal.at-overflow_add-result c).After-list-listed) c.in-Took.is c.requires.at_in_bounds c.list-listed.auto.1.1.1.1.1.0)
+    omega (arith, written_in (gap_at c.args.store) c.args.ride c.args.number c.args.bytes c.args.out.now c.args.at c.list-listed.result c.list-listed.new.out _ _ (listed (goal.at-overflow_add-result c).After-list-listed) c.in-Took.is c.requires.at_in_bounds c.list-listed.auto.1.1.1.1.1.0)
 
 pub returns-in-Took : goal.returns-in-Took
 returns-in-Took c =
-    let a = c.args in
-    took (gap_at a.store) a.ride a.number a.t4 a.out.now a.at c.list-listed.result c.list-listed.new.out _ _ (listed (goal.at-returns-in-Took c).After-list-listed) c.in-Took.is
+    took (gap_at c.args.store) c.args.ride c.args.number c.args.bytes c.args.out.now c.args.at c.list-listed.result c.list-listed.new.out _ _ (listed (goal.at-returns-in-Took c).After-list-listed) c.in-Took.is
 
 pub returns-in-Settings : goal.returns-in-Settings
 returns-in-Settings c =
-    let a = c.args in
-    not_refused (gap_at a.store) a.ride a.number a.t4 a.out.now a.at c.list-listed.result c.list-listed.new.out _ (listed (goal.at-returns-in-Settings c).After-list-listed) (ap says_done c.in-Settings.is)
+    not_refused (gap_at c.args.store) c.args.ride c.args.number c.args.bytes c.args.out.now c.args.at c.list-listed.result c.list-listed.new.out _ (listed (goal.at-returns-in-Settings c).After-list-listed) (ap says_done c.in-Settings.is)
 
 pub returns-in-Length : goal.returns-in-Length
 returns-in-Length c =
-    let a = c.args in
-    not_refused (gap_at a.store) a.ride a.number a.t4 a.out.now a.at c.list-listed.result c.list-listed.new.out 16 (listed (goal.at-returns-in-Length c).After-list-listed) (ap says_done c.in-Length.is)
+    not_refused (gap_at c.args.store) c.args.ride c.args.number c.args.bytes c.args.out.now c.args.at c.list-listed.result c.list-listed.new.out 16 (listed (goal.at-returns-in-Length c).After-list-listed) (ap says_done c.in-Length.is)

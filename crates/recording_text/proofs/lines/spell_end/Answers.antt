@@ -30,18 +30,18 @@ most s = less s.args.buf.now s.args.at (one s ++ two s) (three s) (whole s)
 
 pub spell_where_any-a-requires : goal.spell_where_any-a-requires
 spell_where_any-a-requires c =
-    less c.args.buf.now c.args.at (one (goal.at-spell_where_any-a-requires c).After-slice_known-1) (two (goal.at-spell_where_any-a-requires c).After-slice_known-1) (most (goal.at-spell_where_any-a-requires c).After-slice_known-1)
+    less c.args.buf.now c.args.at (one (goal.at-spell_where_any-a-requires c).Start) (two (goal.at-spell_where_any-a-requires c).Start) (most (goal.at-spell_where_any-a-requires c).Start)
 
 pub spell_where_any-b-requires : goal.spell_where_any-b-requires
 spell_where_any-b-requires c =
-    room_after c.args.buf.now c.args.at (one (goal.at-spell_where_any-b-requires c).After-spell_where_any-arg-1) (two (goal.at-spell_where_any-b-requires c).After-spell_where_any-arg-1) (most (goal.at-spell_where_any-b-requires c).After-spell_where_any-arg-1) c.spell_where_any-a.ensures
+    room_after c.args.buf.now c.args.at (one (goal.at-spell_where_any-b-requires c).Start) (two (goal.at-spell_where_any-b-requires c).Start) (most (goal.at-spell_where_any-b-requires c).Start) c.spell_where_any-a.ensures
 
 pub spell_sum-requires : goal.spell_sum-requires
 spell_sum-requires c =
-    room_after c.args.buf.now c.args.at (one (goal.at-spell_sum-requires c).After-spell_where_any-arg-1 ++ two (goal.at-spell_sum-requires c).After-spell_where_any-arg-1) (three (goal.at-spell_sum-requires c).After-spell_where_any-arg-1) (whole (goal.at-spell_sum-requires c).After-spell_where_any-arg-1)
-    (join c.args.buf.now c.args.at (one (goal.at-spell_sum-requires c).After-spell_where_any-arg-1) (two (goal.at-spell_sum-requires c).After-spell_where_any-arg-1) (most (goal.at-spell_sum-requires c).After-spell_where_any-arg-1) c.spell_where_any-a.ensures c.spell_where_any-b.ensures)
+    room_after c.args.buf.now c.args.at (one (goal.at-spell_sum-requires c).Start ++ two (goal.at-spell_sum-requires c).Start) (three (goal.at-spell_sum-requires c).Start) (whole (goal.at-spell_sum-requires c).Start)
+    (join c.args.buf.now c.args.at (one (goal.at-spell_sum-requires c).Start) (two (goal.at-spell_sum-requires c).Start) (most (goal.at-spell_sum-requires c).Start) c.spell_where_any-a.ensures c.spell_where_any-b.ensures)
 
 pub returns : goal.returns
 returns c =
-    join_3 c.args.buf.now c.args.at (one (goal.at-returns c).After-spell_where_any-arg-1) (two (goal.at-returns c).After-spell_where_any-arg-1) (three (goal.at-returns c).After-spell_where_any-arg-1) (whole (goal.at-returns c).After-spell_where_any-arg-1) c.spell_where_any-a.ensures c.spell_where_any-b.ensures c.spell_sum.ensures
+    join_3 c.args.buf.now c.args.at (one (goal.at-returns c).Start) (two (goal.at-returns c).Start) (three (goal.at-returns c).Start) (whole (goal.at-returns c).Start) c.spell_where_any-a.ensures c.spell_where_any-b.ensures c.spell_sum.ensures
     ∙ ap (λ (t : List ℕ). put t c.args.buf.now c.args.at) (end_is c.args.frames c.args.records c.args.bytes)

@@ -23,5 +23,4 @@ knows l l' m m' t t' n n' p q r s = cc
 pub returns : goal.returns
 unfolding known_figures
 returns c =
-    let l = c.linking_figures-l in
-    let low : c.args.ride.odometer % 4294967296 ≡ c.args.ride.odometer = omega arith in record { value = six _ _ _ _ _ _ _ _ _ _ _ (ap (λ (f : List ℕ). get_or f 0 0) l.ensures.0) (ap (λ (f : List ℕ). get_or f 1 0) l.ensures.0) c.told_figure.ensures.0 c.told_figure-2.ensures.0 c.number_figure.ensures.0; odometer_value = (low, knows _ _ _ _ _ _ _ _ l.ensures.1 c.told_figure.ensures.1 c.told_figure-2.ensures.1 c.number_figure.ensures.1) }
+    let low : c.args.ride.odometer % 4294967296 ≡ c.args.ride.odometer = omega arith in record { value = six _ _ _ _ _ _ _ _ _ _ _ (ap (λ (f : List ℕ). get_or f 0 0) c.linking_figures-l.ensures.0) (ap (λ (f : List ℕ). get_or f 1 0) c.linking_figures-l.ensures.0) c.told_figure.ensures.0 c.told_figure-2.ensures.0 c.number_figure.ensures.0; odometer_value = (low, knows _ _ _ _ _ _ _ _ c.linking_figures-l.ensures.1 c.told_figure.ensures.1 c.told_figure-2.ensures.1 c.number_figure.ensures.1) }

@@ -18,6 +18,5 @@ returns-then-is_missed c =
 pub returns : goal.returns
 unfolding known_before
 returns c =
-    let a = c.args in
-    let not : is_missed a.line ≡ false = sym c.is_missed.ensures ∙ c.if-is_missed.false in
-    rw not (all_as _ _ (ap (λ (v : ℕ). span a.pen.edge a.pen.from v a.known) c.reached.ensures) c.put_span.ensures)
+    let not : is_missed c.args.line ≡ false = sym c.is_missed.ensures ∙ c.if-is_missed.false in
+    rw not (all_as _ _ (ap (λ (v : ℕ). span c.args.pen.edge c.args.pen.from v c.args.known) c.reached.ensures) c.put_span.ensures)

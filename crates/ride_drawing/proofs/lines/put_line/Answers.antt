@@ -13,9 +13,8 @@ use Rattle.ride_drawing.proofs.lines.put_line.Goals as goal
 pub returns : goal.returns
 unfolding on_its_strip
 returns c =
-    let a = c.args in
-    all_as _ _ (pieces_append (way_past a.plan a.pen a.place a.place a.known) _)
+    all_as _ _ (pieces_append (way_past c.args.plan c.args.pen c.args.place c.args.place c.args.known) _)
     (after _ _ _ _ c.put_way_past-a.ensures
     (after _ _ _ _
-    (all_as _ _ (ap (λ (t : Pen). known_before t a.known a.line a.place) c.arrive-there.ensures) c.put_known-b.ensures)
-    (after _ _ _ _ (all_as _ _ (ap (λ (t : Pen). sign a.closed a.line t.edge a.place) c.arrive-there.ensures) c.put_sign-c.ensures) (all_as _ _ (ap (λ (t : Pen). pieces (extra_mark a.plan a.line t.edge)) c.arrive-there.ensures) c.put_extra.ensures))))
+    (all_as _ _ (ap (λ (t : Pen). known_before t c.args.known c.args.line c.args.place) c.arrive-there.ensures) c.put_known-b.ensures)
+    (after _ _ _ _ (all_as _ _ (ap (λ (t : Pen). sign c.args.closed c.args.line t.edge c.args.place) c.arrive-there.ensures) c.put_sign-c.ensures) (all_as _ _ (ap (λ (t : Pen). pieces (extra_mark c.args.plan c.args.line t.edge)) c.arrive-there.ensures) c.put_extra.ensures))))

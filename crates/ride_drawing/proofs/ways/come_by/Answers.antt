@@ -8,13 +8,11 @@ use Rattle.ride_drawing.proofs.ways.come_by.Goals as goal
 
 pub returns-then-not-is_on_the_way : goal.returns-then-not-is_on_the_way
 returns-then-not-is_on_the_way c =
-    let a = c.args in
-    let left = by_none a.began a.i a.entry a.place a.until a.known a.pen (sym c.is_on_the_way.ensures ∙ not-true _ c.if-not-is_on_the_way.true-raw) in
+    let left = by_none c.args.began c.args.i c.args.entry c.args.place c.args.until c.args.known c.args.pen (sym c.is_on_the_way.ensures ∙ not-true _ c.if-not-is_on_the_way.true-raw) in
     record { buf_after = none_as _ _ left.0; pen_value = left.1 }
 
 pub returns : goal.returns
 returns c =
-    let a = c.args in
     let drawn =
-    by_drawn a.began a.i a.entry a.place a.until a.known a.pen c.arrive-there.result (sym c.is_on_the_way.ensures ∙ not-false _ c.if-not-is_on_the_way.false-raw) c.arrive-there.ensures in
+    by_drawn c.args.began c.args.i c.args.entry c.args.place c.args.until c.args.known c.args.pen c.arrive-there.result (sym c.is_on_the_way.ensures ∙ not-false _ c.if-not-is_on_the_way.false-raw) c.arrive-there.ensures in
     record { buf_after = all_as _ _ drawn.0 (after _ _ _ _ c.put_way-a.ensures (after _ _ _ _ c.put_entry-next.ensures (none _ _))); pen_value = drawn.1 }

@@ -18,11 +18,10 @@ loop-i-smaller c = omega (arith, c.loop-i-test.true)
 
 pub loop-i-preserved : goal.loop-i-preserved
 loop-i-preserved c =
-    let a = c.args in
     let i = c.loop-i.i in
-    let next = next_entry a.plan.run i c.in-Entry.entry c.loop-i-test.true (sym c.in-Entry.is ∙ c.report-reported.ensures) in
+    let next = next_entry c.args.plan.run i c.in-Entry.entry c.loop-i-test.true (sym c.in-Entry.is ∙ c.report-reported.ensures) in
     let step =
-    one_passed a.pen a.place a.until a.known c.loop-i.now i c.in-Entry.entry (drop (i + 1) (row_of a.plan.run)) (drop i (row_of a.plan.run)) c.loop-i.buf c.loop-i.next c.come_by-went.result.pen next
+    one_passed c.args.pen c.args.place c.args.until c.args.known c.loop-i.now i c.in-Entry.entry (drop (i + 1) (row_of c.args.plan.run)) (drop i (row_of c.args.plan.run)) c.loop-i.buf c.loop-i.next c.come_by-went.result.pen next
     c.come_by-went.ensures.buf_after c.come_by-went.ensures.pen_value in
     (c.come_by-went.auto.1.1.1.1.1.1.1.0 ∙ c.loop-i.invariant.0, omega (arith, c.loop-i-test.true), step.0 ∙ c.loop-i.invariant.2, step.1 ∙ c.loop-i.invariant.3)
 
@@ -32,9 +31,8 @@ shape_of-buf-after-loop-i c = c.loop-i.invariant.0
 pub returns-after-loop-i : goal.returns-after-loop-i
 unfolding to_come
 returns-after-loop-i c =
-    let a = c.args in
     let i = c.loop-i.i in
-    let all = none_left a.pen a.place a.until a.known c.loop-i.now i (drop i (row_of a.plan.run)) c.loop-i.buf c.loop-i.next (all_passed a.plan.run i c.loop-i-test.false) in
+    let all = none_left c.args.pen c.args.place c.args.until c.args.known c.loop-i.now i (drop i (row_of c.args.plan.run)) c.loop-i.buf c.loop-i.next (all_passed c.args.plan.run i c.loop-i-test.false) in
     record { buf_after = all.0 ∙ c.loop-i.invariant.2; pen_value = all.1 ∙ c.loop-i.invariant.3 }
 
 pub shape_of-buf-in_default : goal.shape_of-buf-in_default
@@ -43,9 +41,8 @@ shape_of-buf-in_default c = c.loop-i.invariant.0
 pub returns-in_default : goal.returns-in_default
 unfolding to_come
 returns-in_default c =
-    let a = c.args in
     let i = c.loop-i.i in
     let all =
-    none_left a.pen a.place a.until a.known c.loop-i.now i (drop i (row_of a.plan.run)) c.loop-i.buf c.loop-i.next
-    (no_entry_law a.plan.run i (sym c.in_default.is ∙ c.report-reported.ensures)) in
+    none_left c.args.pen c.args.place c.args.until c.args.known c.loop-i.now i (drop i (row_of c.args.plan.run)) c.loop-i.buf c.loop-i.next
+    (no_entry_law c.args.plan.run i (sym c.in_default.is ∙ c.report-reported.ensures)) in
     record { buf_after = all.0 ∙ c.loop-i.invariant.2; pen_value = all.1 ∙ c.loop-i.invariant.3 }

@@ -22,9 +22,8 @@ returns-then-not-is_further c =
 pub returns : goal.returns
 unfolding way_past
 returns c =
-    let a = c.args in
-    let yes : is_further a.pen a.place ≡ true = sym c.is_further.ensures ∙ not-false _ c.if-not-is_further.false-raw in
+    let yes : is_further c.args.pen c.args.place ≡ true = sym c.is_further.ensures ∙ not-false _ c.if-not-is_further.false-raw in
     rw yes
-    (all_as _ _ (pieces_append (past a.pen a.pen 0 (row a.plan) a.place a.until a.known).elements _)
+    (all_as _ _ (pieces_append (past c.args.pen c.args.pen 0 (row c.args.plan) c.args.place c.args.until c.args.known).elements _)
     (after _ _ _ _ c.pass-went.ensures.buf_after
-    (after _ _ _ _ (all_as _ _ (ap (λ (q : Pen). way q a.place a.until a.known) c.pass-went.ensures.pen_value) c.put_way.ensures) (none _ _))))
+    (after _ _ _ _ (all_as _ _ (ap (λ (q : Pen). way q c.args.place c.args.until c.args.known) c.pass-went.ensures.pen_value) c.put_way.ensures) (none _ _))))

@@ -16,6 +16,7 @@ use Rattle.ride_text.specs.List.{room_for, is_taken, taken, list_taken}
 use Rattle.ride_text.proofs.Turns.{listing, from_here, from_first, from_last, left_of, left_all, no_more, none_left, both}
 use Rattle.ride_text.proofs.OneOn.{one_on}
 use Rattle.ride_text.proofs.records.over.Goals.{After-treat_at-treated, At-loop-records, In-Record, In-loop-records}
+use borrow.Enum.Refused.{opened}
 use Rattle.ride_text.proofs.records.over.Goals as goal
 
 -- the loop's test of room is the style's
@@ -122,4 +123,4 @@ returns-in_default c =
     let trace = c.args.trace.now in
     whole (goal.at-returns-in_default c).At-loop-records
     (none_left c.args.reasons (gap_at c.args.store) c.loop-records.now c.loop-records.next (length c.loop-records.out - c.loop-records.bytes) trace (length trace / 8) c.loop-records.records
-    (turned_past _ _ _ _ _ _ _ (turn (goal.at-returns-in_default c).After-treat_at-treated) c.in_default.in_default-own.keys2))
+    (turned_past _ _ _ _ _ _ _ (turn (goal.at-returns-in_default c).After-treat_at-treated) (opened c.in_default.in_default-own.keys2)))

@@ -33,4 +33,4 @@ returns c =
     let all : l.j ≡ 128 = omega arith in
     let on : (i : ℕ) → i < 128 → get_or l.figures i 0 ≡ rule c.args.versions i = λ i h. l.invariant.2 i (subst (λ (n : ℕ). i < n) (sym all) h) in
     let small : (i : ℕ) → i < 128 → rule c.args.versions i < width_of (i % 4) = λ i h. l.invariant.3 i (subst (λ (n : ℕ). i < n) (sym all) h) in
-    record { value = then_last (rule c.args.versions) 0 l.figures c.args.count 128 l.invariant.0 on, (small, c.well_formed.0.1.0.1))
+    record { value = then_last (rule c.args.versions) 0 l.figures c.args.count 128 l.invariant.0 on; by_index = small; versions_len = c.well_formed.0.1.0.1 }

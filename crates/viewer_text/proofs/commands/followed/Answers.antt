@@ -29,8 +29,7 @@ figured d =
 
 pub returns-then-blanks-eq0 : goal.returns-then-blanks-eq0
 returns-then-blanks-eq0 c =
-    let a = c.args in
-    unled_is a.letter a.rest.now (sym c.begin-blanks.ensures ∙ c.if-blanks-eq0.true)
+    unled_is c.args.letter c.args.rest.now (sym c.begin-blanks.ensures ∙ c.if-blanks-eq0.true)
 
 pub returns-in-Number : goal.returns-in-Number
 returns-in-Number c =

@@ -39,10 +39,10 @@ returns-then-buf-at c =
 pub copy-said-requires : goal.copy-said-requires
 copy-said-requires c =
     let a = c.args in
-    omega (arith, as_many a.word.now, room_after a.buf.now a.at (codes "no further line has ") (map visible a.word.now) (named (goal.at-copy-said-requires c).After-put-arg-1) c.put-named.ensures)
+    omega (arith, as_many a.word.now, room_after a.buf.now a.at (codes "no further line has ") (map visible a.word.now) (named (goal.at-copy-said-requires c).Else-buf-at) c.put-named.ensures)
 
 pub returns : goal.returns
 unfolding no_line
 returns c =
     let a = c.args in
-    join_3 a.buf.now a.at (codes "no further line has ") (map visible a.word.now) (codes "\n") (fits (goal.at-returns c).After-put-arg-2-1) c.put-named.ensures c.copy-said.ensures c.put.ensures
+    join_3 a.buf.now a.at (codes "no further line has ") (map visible a.word.now) (codes "\n") (fits (goal.at-returns c).Else-buf-at) c.put-named.ensures c.copy-said.ensures c.put.ensures

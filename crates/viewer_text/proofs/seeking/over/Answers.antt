@@ -42,7 +42,7 @@ told : (h : After-has) →
     has (step_text with_reasons (h.loop-i.i + 1) (treat h.loop-i.now (gap_at a.store (odometer_of r)) r)) a.word.now ≡ h.has.result
 told h =
     let a = h.args in
-    ap (λ (x : List ℕ). has x a.word.now) (sym (listed (goal.at-After-has h).After-bytes_of-bytes).text-is) ∙ sym h.has.ensures
+    ap (λ (x : List ℕ). has x a.word.now) (sym (listed (goal.at-After-has h).After-bytes_of-bytes).text_is) ∙ sym h.has.ensures
 
 pub loop-i-init : goal.loop-i-init
 loop-i-init c = (omega arith, omega arith, length-replicate {A = ℕ} 320 0, further_none _)
@@ -63,7 +63,7 @@ loop-i-preserved c =
       omega (arith, c.loop-i.invariant.0),
       omega (arith, c.loop-i.invariant.0),
       (listed (goal.at-loop-i-preserved c).After-bytes_of-bytes).long,
-      ap (λ (x : Ride). further (c.loop-i.times + 1) (seek_in a.word.now (gap_at a.store) x (c.loop-i.i + 1 + 1) rest)) (listed (goal.at-loop-i-preserved c).After-bytes_of-bytes).ride-is
+      ap (λ (x : Ride). further (c.loop-i.times + 1) (seek_in a.word.now (gap_at a.store) x (c.loop-i.i + 1 + 1) rest)) (listed (goal.at-loop-i-preserved c).After-bytes_of-bytes).ride_is
           ∙ sym (further_on c.loop-i.times (seek_in a.word.now (gap_at a.store) then (c.loop-i.i + 1 + 1) rest))
           ∙ ap (further c.loop-i.times) (sym (seek_next a.word.now a.store c.loop-i.now c.loop-i.i a.trace.now there (told (goal.at-loop-i-preserved c).After-has ∙ c.if-has.false)))
           ∙ c.loop-i.invariant.3,

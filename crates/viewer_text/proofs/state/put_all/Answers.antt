@@ -58,7 +58,7 @@ put_speeds-d-requires c =
 pub returns : goal.returns
 returns c =
     let a = c.args in
-    join a.buf.now a.at (one (goal.at-returns c).After-slice_known-1 ++ two (goal.at-returns c).After-slice_known-1 ++ three (goal.at-returns c).After-slice_known-1 ++ four (goal.at-returns c).After-slice_known-1) (codes "\n") (to_end (goal.at-returns c).After-slice_known-1)
-    (join_4 a.buf.now a.at (one (goal.at-returns c).After-slice_known-1) (two (goal.at-returns c).After-slice_known-1) (three (goal.at-returns c).After-slice_known-1) (four (goal.at-returns c).After-slice_known-1) (to_four (goal.at-returns c).After-slice_known-1) c.put_place-a.ensures c.put_group-b.ensures c.put_linking-c.ensures c.put_speeds-d.ensures)
+    join a.buf.now a.at (one (goal.at-returns c).Start ++ two (goal.at-returns c).Start ++ three (goal.at-returns c).Start ++ four (goal.at-returns c).Start) (codes "\n") (to_end (goal.at-returns c).Start)
+    (join_4 a.buf.now a.at (one (goal.at-returns c).Start) (two (goal.at-returns c).Start) (three (goal.at-returns c).Start) (four (goal.at-returns c).Start) (to_four (goal.at-returns c).Start) c.put_place-a.ensures c.put_group-b.ensures c.put_linking-c.ensures c.put_speeds-d.ensures)
     c.put.ensures
     ∙ ap (λ (t : List ℕ). put t a.buf.now a.at) (state_is a.number a.count a.kept a.ride)

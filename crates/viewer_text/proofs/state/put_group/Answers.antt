@@ -37,17 +37,15 @@ none_kept = record { place = 0; heard = Heard.Words 0 0 0 }
 
 pub returns-then-of-eq0 : goal.returns-then-of-eq0
 returns-then-of-eq0 c =
-    let a = c.args in
-    c.put.ensures ∙ ap (λ (t : List ℕ). put t a.buf.now a.at) (none_open a.t1 c.if-of-eq0.true)
+    c.put.ensures ∙ ap (λ (t : List ℕ). put t c.args.buf.now c.args.at) (none_open c.args.of c.if-of-eq0.true)
 
 pub returns : goal.returns
 returns c =
-    let a = c.args in
-    let first = (get_or a.t1.kept 0 none_kept).place in
-    let same : (codes "\n  group of " ++ decimal a.t1.count) ++ (codes " from " ++ decimal first) ++ (codes " to " ++ decimal a.t1.last)
-    ≡ (codes "\n  group of " ++ decimal a.t1.count) ++ (codes " from " ++ decimal (first_place a.t1)) ++ (codes " to " ++ decimal a.t1.last) =
-    ap (λ (n : ℕ). (codes "\n  group of " ++ decimal a.t1.count) ++ (codes " from " ++ decimal n) ++ (codes " to " ++ decimal a.t1.last)) (first_of a.t1.kept none_kept no_balise refl) in
-    let is = same ∙ one_open a.t1 c.if-of-eq0.false in
-    join_3 a.buf.now a.at (codes "\n  group of " ++ decimal a.t1.count) (codes " from " ++ decimal first) (codes " to " ++ decimal a.t1.last) (room_as a.buf.now a.at is c.requires)
+    let first = (get_or c.args.of.kept 0 none_kept).place in
+    let same : (codes "\n  group of " ++ decimal c.args.of.count) ++ (codes " from " ++ decimal first) ++ (codes " to " ++ decimal c.args.of.last)
+    ≡ (codes "\n  group of " ++ decimal c.args.of.count) ++ (codes " from " ++ decimal (first_place c.args.of)) ++ (codes " to " ++ decimal c.args.of.last) =
+    ap (λ (n : ℕ). (codes "\n  group of " ++ decimal c.args.of.count) ++ (codes " from " ++ decimal n) ++ (codes " to " ++ decimal c.args.of.last)) (first_of c.args.of.kept none_kept no_balise refl) in
+    let is = same ∙ one_open c.args.of c.if-of-eq0.false in
+    join_3 c.args.buf.now c.args.at (codes "\n  group of " ++ decimal c.args.of.count) (codes " from " ++ decimal first) (codes " to " ++ decimal c.args.of.last) (room_as c.args.buf.now c.args.at is c.requires)
     c.put_number-a.ensures c.put_number-b.ensures c.put_number.ensures
-    ∙ ap (λ (t : List ℕ). put t a.buf.now a.at) is
+    ∙ ap (λ (t : List ℕ). put t c.args.buf.now c.args.at) is

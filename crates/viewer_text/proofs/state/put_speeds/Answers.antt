@@ -25,22 +25,22 @@ both s =
 pub put_speed-a-requires : goal.put_speed-a-requires
 put_speed-a-requires c =
     let a = c.args in
-    less a.buf.now a.at (codes "\n  main " ++ speed a.of.main) (codes ", target " ++ speed a.of.target) (both (goal.at-put_speed-a-requires c).After-slice_known-1)
+    less a.buf.now a.at (codes "\n  main " ++ speed a.of.main) (codes ", target " ++ speed a.of.target) (both (goal.at-put_speed-a-requires c).Start)
 
 pub put_speed-b-requires : goal.put_speed-b-requires
 put_speed-b-requires c =
     let a = c.args in
-    room_after a.buf.now a.at (codes "\n  main " ++ speed a.of.main) (codes ", target " ++ speed a.of.target) (both (goal.at-put_speed-b-requires c).After-put_speed-arg-1) c.put_speed-a.ensures
+    room_after a.buf.now a.at (codes "\n  main " ++ speed a.of.main) (codes ", target " ++ speed a.of.target) (both (goal.at-put_speed-b-requires c).Start) c.put_speed-a.ensures
 
 pub put_figure-requires : goal.put_figure-requires
 put_figure-requires c =
     let a = c.args in
-    room_after a.buf.now a.at ((codes "\n  main " ++ speed a.of.main) ++ (codes ", target " ++ speed a.of.target)) (on_figure a.of.number) (whole (goal.at-put_figure-requires c).After-put_speed-arg-1)
-    (join a.buf.now a.at (codes "\n  main " ++ speed a.of.main) (codes ", target " ++ speed a.of.target) (both (goal.at-put_figure-requires c).After-put_speed-arg-1) c.put_speed-a.ensures c.put_speed-b.ensures)
+    room_after a.buf.now a.at ((codes "\n  main " ++ speed a.of.main) ++ (codes ", target " ++ speed a.of.target)) (on_figure a.of.number) (whole (goal.at-put_figure-requires c).Start)
+    (join a.buf.now a.at (codes "\n  main " ++ speed a.of.main) (codes ", target " ++ speed a.of.target) (both (goal.at-put_figure-requires c).Start) c.put_speed-a.ensures c.put_speed-b.ensures)
 
 pub returns : goal.returns
 unfolding on_speeds
 returns c =
     let a = c.args in
-    join_3 a.buf.now a.at (codes "\n  main " ++ speed a.of.main) (codes ", target " ++ speed a.of.target) (on_figure a.of.number) (whole (goal.at-returns c).After-put_speed-arg-1)
+    join_3 a.buf.now a.at (codes "\n  main " ++ speed a.of.main) (codes ", target " ++ speed a.of.target) (on_figure a.of.number) (whole (goal.at-returns c).Start)
     c.put_speed-a.ensures c.put_speed-b.ensures c.put_figure.ensures
