@@ -3,13 +3,13 @@ use Rattle.std.proofs.Common.{◌≡◌, length, refl, ◌∙◌, arith}
 use Rattle.typed_lines.proofs.on.Goals as goal
 
 pub shape_of-block-then-more : goal.shape_of-block-then-more
-shape_of-block-then-more c = c.fill-more.auto.1.0 ∙ c.loop-turns.invariant
+shape_of-block-then-more c = c.fill-more.auto.buf ∙ c.loop-turns.invariant
 
 pub shape_of-block-then-count-eq0 : goal.shape_of-block-then-count-eq0
-shape_of-block-then-count-eq0 c = c.fill-more.auto.1.0 ∙ c.loop-turns.invariant
+shape_of-block-then-count-eq0 c = c.fill-more.auto.buf ∙ c.loop-turns.invariant
 
 pub loop-turns-preserved : goal.loop-turns-preserved
-loop-turns-preserved c = c.fill-more.auto.1.0 ∙ c.loop-turns.invariant
+loop-turns-preserved c = c.fill-more.auto.buf ∙ c.loop-turns.invariant
 
 pub shape_of-block : goal.shape_of-block
 shape_of-block c = c.loop-turns.invariant

@@ -9,11 +9,11 @@ kept : (t : After-take_records-stand) →
     (length t.next_block-got.new.block ≡ length a.block.now) × (length t.take_records-stand.new.out ≡ length a.out.now)
 kept t =
     let inv = t.loop-turns.invariant in
-    (t.next_block-got.auto.1.1.0 ∙ inv.0, t.take_records-stand.auto.1.1.1.1.1.0 ∙ inv.1)
+    (t.next_block-got.auto.block ∙ inv.0, t.take_records-stand.auto.out ∙ inv.1)
 
 pub slice_bounds-take_records-end-in-loop-turns : goal.slice_bounds-take_records-end-in-loop-turns
 slice_bounds-take_records-end-in-loop-turns c =
-    sym (length-take-le _ _ (omega (arith, c.next_block-got.ensures.0, c.next_block-got.auto.1.1.0)))
+    sym (length-take-le _ _ (omega (arith, c.next_block-got.ensures.0, c.next_block-got.auto.block)))
 
 pub shape_of-block-in_default : goal.shape_of-block-in_default
 shape_of-block-in_default c = (kept (goal.at-shape_of-block-in_default c).After-take_records-stand).0

@@ -9,12 +9,12 @@ use Rattle.compact.proofs.blocks.write_cards.Goals as goal
 kept : (w : After-write_front-stand) →
     length w.write_front-stand.new.block ≡ length w.args.block.now
 kept w =
-    w.write_front-stand.auto.1.1.0 ∙ w.next_block-got.auto.1.1.0 ∙ w.loop-turns.invariant
+    w.write_front-stand.auto.block ∙ w.next_block-got.auto.block ∙ w.loop-turns.invariant
 
 -- what was read lies within the block
 pub write_front-stand-requires : goal.write_front-stand-requires
 write_front-stand-requires c =
-    omega (arith, c.next_block-got.ensures.0, c.next_block-got.auto.1.1.0)
+    omega (arith, c.next_block-got.ensures.0, c.next_block-got.auto.block)
 
 pub shape_of-block-then-not-stand : goal.shape_of-block-then-not-stand
 shape_of-block-then-not-stand c = kept (goal.at-shape_of-block-then-not-stand c).After-write_front-stand

@@ -9,7 +9,7 @@ kept : (c : After-measure-card) →
     let a = c.args in
     (length c.loop-i.lengths ≡ length a.lengths.now) × (length c.measure-card.new.block ≡ length a.block.now)
 kept c =
-    (c.loop-i.invariant.2, c.measure-card.auto.1.0 ∙ c.loop-i.invariant.3)
+    (c.loop-i.invariant.2, c.measure-card.auto.block ∙ c.loop-i.invariant.3)
 
 pub loop-i-init : goal.loop-i-init
 loop-i-init c = (omega arith, c.requires.0, refl, refl)

@@ -14,7 +14,7 @@ within c =
 keeps : (c : After-read_some-got) →
     length (put_mid c.loop-have.have (length c.loop-have.buf - c.loop-have.have) c.loop-have.buf c.read_some-got.new.buf) ≡ length c.loop-have.buf
 keeps c =
-    same_len_mid c.loop-have.have (length c.loop-have.buf - c.loop-have.have) c.loop-have.buf c.read_some-got.new.buf c.read_some-got.auto.1.0
+    same_len_mid c.loop-have.have (length c.loop-have.buf - c.loop-have.have) c.loop-have.buf c.read_some-got.new.buf c.read_some-got.auto.buf
 
 pub loop-have-init : goal.loop-have-init
 loop-have-init c = (omega arith, refl)

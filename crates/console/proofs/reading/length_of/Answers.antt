@@ -6,7 +6,7 @@ use Rattle.console.proofs.reading.length_of.Goals as goal
 -- the block keeps its length
 keeps : (c : After-fill-got) →
     length c.fill-got.new.buf ≡ length c.args.block.now
-keeps c = c.fill-got.auto.1.0 ∙ c.loop-turns.invariant.1
+keeps c = c.fill-got.auto.buf ∙ c.loop-turns.invariant.1
 
 pub loop-turns-init : goal.loop-turns-init
 loop-turns-init c = (omega arith, refl)

@@ -10,17 +10,17 @@ kept : (d : After-draw_records-stand) →
     (length d.next_block-got.new.block ≡ length a.block.now) × (length d.draw_records-stand.new.out ≡ length a.out.now)
 kept d =
     let inv = d.loop-turns.invariant in
-    (d.next_block-got.auto.1.1.0 ∙ inv.0, d.draw_records-stand.auto.1.1.1.1.0 ∙ inv.1)
+    (d.next_block-got.auto.block ∙ inv.0, d.draw_records-stand.auto.out ∙ inv.1)
 
 pub slice_bounds-draw_records-end-in-loop-turns : goal.slice_bounds-draw_records-end-in-loop-turns
 slice_bounds-draw_records-end-in-loop-turns c =
-    sym (length-take-le _ _ (omega (arith, c.next_block-got.ensures.0, c.next_block-got.auto.1.1.0)))
+    sym (length-take-le _ _ (omega (arith, c.next_block-got.ensures.0, c.next_block-got.auto.block)))
 
 pub shape_of-block-in_default : goal.shape_of-block-in_default
 shape_of-block-in_default c = (kept (goal.at-shape_of-block-in_default c).After-draw_records-stand).0
 
 pub shape_of-out-in_default : goal.shape_of-out-in_default
-shape_of-out-in_default c = c.finish.auto.1.1.1.0 ∙ (kept (goal.at-shape_of-out-in_default c).After-draw_records-stand).1
+shape_of-out-in_default c = c.finish.auto.out ∙ (kept (goal.at-shape_of-out-in_default c).After-draw_records-stand).1
 
 pub loop-turns-preserved : goal.loop-turns-preserved
 loop-turns-preserved c = kept (goal.at-loop-turns-preserved c).After-draw_records-stand

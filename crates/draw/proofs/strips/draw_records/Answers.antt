@@ -7,7 +7,7 @@ use Rattle.draw.proofs.strips.draw_records.Goals as goal
 
 -- after a call the buffer has the length that it had
 kept : (c : After-draw-drawn) → length c.draw-drawn.new.out ≡ length c.args.out.now
-kept c = c.draw-drawn.auto.1.1.1.1.0 ∙ c.loop-i.invariant.0
+kept c = c.draw-drawn.auto.out ∙ c.loop-i.invariant.0
 
 -- no more was drawn than was left
 within : (c : Else-took-eq0) →

@@ -9,12 +9,12 @@ use Rattle.noise.proofs.pieces.all.Goals as goal
 kept : (s : After-send-sent) →
     length s.send-sent.new.block ≡ length s.args.block.now
 kept s =
-    s.send-sent.auto.1.1.0 ∙ s.next_piece-piece.auto.1.0 ∙ s.loop-turns.invariant
+    s.send-sent.auto.block ∙ s.next_piece-piece.auto.block ∙ s.loop-turns.invariant
 
 -- what was read lies within the block
 pub send-sent-requires : goal.send-sent-requires
 send-sent-requires c =
-    omega (arith, c.next_piece-piece.ensures.0, c.next_piece-piece.auto.1.0)
+    omega (arith, c.next_piece-piece.ensures.0, c.next_piece-piece.auto.block)
 
 pub shape_of-block-then-not-sent : goal.shape_of-block-then-not-sent
 shape_of-block-then-not-sent c = kept (goal.at-shape_of-block-then-not-sent c).After-send-sent

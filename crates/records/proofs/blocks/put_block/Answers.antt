@@ -6,7 +6,7 @@ use Rattle.records.proofs.blocks.put_block.Goals as goal
 -- the buffer keeps its length
 keeps : (c : After-put_at-lines) →
     length c.put_at-lines.new.out ≡ length c.args.out.now
-keeps c = c.put_at-lines.auto.1.1.1.0 ∙ c.loop-at.invariant
+keeps c = c.put_at-lines.auto.out ∙ c.loop-at.invariant
 
 pub shape_of-out-then-block-at-lt8 : goal.shape_of-out-then-block-at-lt8
 shape_of-out-then-block-at-lt8 c = keeps (goal.at-shape_of-out-then-block-at-lt8 c).After-put_at-lines

@@ -4,4 +4,4 @@ use Rattle.records.proofs.blocks.write_block.Goals as goal
 
 pub slice_bounds-write_all-end : goal.slice_bounds-write_all-end
 slice_bounds-write_all-end c =
-    sym (length-take-le _ _ (omega (arith, c.put_block-lines.auto.1.1.0, c.large_buffer-out.ensures)))
+    sym (length-take-le _ _ (omega (arith, c.put_block-lines.auto.out, c.large_buffer-out.ensures)))

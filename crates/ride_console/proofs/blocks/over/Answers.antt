@@ -12,11 +12,11 @@ kept : (w : After-write_records-stand) →
     (length w.next_block-got.new.block ≡ length a.block.now) × (length w.write_records-stand.new.out ≡ length a.out.now)
 kept w =
     let inv = w.loop-turns.invariant in
-    (w.next_block-got.auto.1.1.0 ∙ inv.0, w.write_records-stand.auto.1.1.1.1.1.0 ∙ inv.1)
+    (w.next_block-got.auto.block ∙ inv.0, w.write_records-stand.auto.out ∙ inv.1)
 
 pub slice_bounds-write_records-end-in-loop-turns : goal.slice_bounds-write_records-end-in-loop-turns
 slice_bounds-write_records-end-in-loop-turns c =
-    sym (length-take-le _ _ (omega (arith, c.next_block-got.ensures.0, c.next_block-got.auto.1.1.0)))
+    sym (length-take-le _ _ (omega (arith, c.next_block-got.ensures.0, c.next_block-got.auto.block)))
 
 pub shape_of-block-in_default : goal.shape_of-block-in_default
 shape_of-block-in_default c = (kept (goal.at-shape_of-block-in_default c).After-write_records-stand).0

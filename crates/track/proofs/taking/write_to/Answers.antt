@@ -3,13 +3,13 @@ use mathlib.Core.Path.{◌≡◌, refl, ◌∙◌}
 use Rattle.track.proofs.taking.write_to.Goals as goal
 
 pub shape_of-room-then-count-eq0 : goal.shape_of-room-then-count-eq0
-shape_of-room-then-count-eq0 c = c.write-wrote.auto.1.1.0 ∙ c.loop-turns.invariant
+shape_of-room-then-count-eq0 c = c.write-wrote.auto.out ∙ c.loop-turns.invariant
 
 pub shape_of-room-then-not-write : goal.shape_of-room-then-not-write
-shape_of-room-then-not-write c = c.write-wrote.auto.1.1.0 ∙ c.loop-turns.invariant
+shape_of-room-then-not-write c = c.write-wrote.auto.out ∙ c.loop-turns.invariant
 
 pub loop-turns-preserved : goal.loop-turns-preserved
-loop-turns-preserved c = c.write-wrote.auto.1.1.0 ∙ c.loop-turns.invariant
+loop-turns-preserved c = c.write-wrote.auto.out ∙ c.loop-turns.invariant
 
 pub shape_of-room : goal.shape_of-room
 shape_of-room c = c.loop-turns.invariant

@@ -4,14 +4,14 @@ use Rattle.std.proofs.Common.{◌≡◌, length, refl, ◌∙◌, arith}
 use Rattle.typed.proofs.going.over.Goals as goal
 
 pub shape_of-block-then-not-goes_on : goal.shape_of-block-then-not-goes_on
-shape_of-block-then-not-goes_on c = c.next-next.auto.1.0 ∙ c.loop-turns.invariant.0
+shape_of-block-then-not-goes_on c = c.next-next.auto.block ∙ c.loop-turns.invariant.0
 
 pub shape_of-out-then-not-goes_on : goal.shape_of-out-then-not-goes_on
-shape_of-out-then-not-goes_on c = c.after-done.auto.1.1.1.1.1.1.0 ∙ c.loop-turns.invariant.1
+shape_of-out-then-not-goes_on c = c.after-done.auto.out ∙ c.loop-turns.invariant.1
 
 pub loop-turns-preserved : goal.loop-turns-preserved
 loop-turns-preserved c =
-    (c.next-next.auto.1.0 ∙ c.loop-turns.invariant.0, c.after-done.auto.1.1.1.1.1.1.0 ∙ c.loop-turns.invariant.1)
+    (c.next-next.auto.block ∙ c.loop-turns.invariant.0, c.after-done.auto.out ∙ c.loop-turns.invariant.1)
 
 pub loop-turns-init : goal.loop-turns-init
 loop-turns-init c = (refl, refl)
