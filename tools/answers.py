@@ -173,13 +173,13 @@ class Unit:
             clauses = self.e["clauses"][index[it[0]]]
             if steps[:1] == ["ensures"] and clauses and clauses.get("fields") and len(steps) > 1:
                 return ["ensures"] + self.clause(clauses["fields"], steps[1:])
-            if steps[:1] in (["last"], ["new"]) and len(steps) > 1 and it[3] in self.e["params"] and steps[1].isdigit():
+            if steps[:1] in (["last"], ["new"], ["auto"]) and len(steps) > 1 and it[3] in self.e["params"] and steps[1].isdigit():
                 given, rest, at = self.e["params"][it[3]], steps[1:], 0
                 while rest and rest[0] == "1" and at < len(given) - 1:
                     at, rest = at + 1, rest[1:]
                 if rest and rest[0] == "0":
                     rest = rest[1:]
-                return ["new", given[at]] + rest
+                return ["auto" if steps[0] == "auto" else "new", given[at]] + rest
         return steps
 
     def befores(self, place, count):

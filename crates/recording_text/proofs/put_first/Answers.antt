@@ -14,7 +14,7 @@ line c =
     begins 128 (first_line a.before a.after) (omega (arith, first_length a.before a.after)) c.spell_first-n.ensures
 
 pub spell_first-n-requires : goal.spell_first-n-requires
-spell_first-n-requires c = omega (arith, first_length c.args c.args.after)
+spell_first-n-requires c = omega (arith, first_length c.args.before c.args.after)
 
 pub slice_bounds-space-end : goal.slice_bounds-space-end
 slice_bounds-space-end c = (line (goal.at-slice_bounds-space-end c).After-spell_first-n).within

@@ -54,10 +54,10 @@ wrote j =
     let l = j.loop-i in
     let f = j.if-not-is_quiet in
     ⊎_elim
-    (λ w. in_pieces w.2.result w.2.last.1.1.1.0 _ f.run f.troubles f.at f.out w.7 w.8 w.9 w.10 w.2.ensures)
-    (λ w. in_pieces (record { run = l.run; troubles = l.troubles; next = l.at }) l.out _ f.run f.troubles f.at f.out w.1 w.2 w.3 w.4
-    (quiet l.run l.troubles (says_given j.in-Record.given) l.out l.at (sym j.is_quiet.ensures ∙ not-false j.is_quiet.result w.0.left)))
-    f.branch
+    (λ w. in_pieces w.take_given-took.result w.take_given-took.new.buf _ f.run f.troubles f.at f.out w.run-is w.troubles-is w.at-is w.out-is w.take_given-took.ensures)
+    (λ w. in_pieces (record { run = l.run; troubles = l.troubles; next = l.at }) l.out _ f.run f.troubles f.at f.out w.run-is w.troubles-is w.at-is w.out-is
+    (quiet l.run l.troubles (says_given j.in-Record.given) l.out l.at (sym j.is_quiet.ensures ∙ w.if-not-is_quiet.false)))
+    f.branch-raw
 
 -- an index of the trace has a next one
 next_fits : (l : At-loop-i) → l.loop-i.i < length l.args.trace.now / 8 → l.loop-i.i + 1 < 18446744073709551616

@@ -47,14 +47,14 @@ walked j =
     walk_same gaps a.waiting a.block.now (j.loop-i.i + 1) w' (j.loop-i.at + 8) j.if-waits.at
     (placed j.loop-i.bytes j.loop-i.block j.loop-i.at) j.if-waits.block
     (one_kept (ap (λ (r : Ride). from r next true) k.ride-is ∙ s.0) k.put_eight.ensures.bytes_len
-    (ap (λ (d : Bool). pick (not d) (j.loop-i.bytes ∷ []) []) (sym (not-true k.is_dropped.result k.if-not-is_dropped.true)) ∙ s.1))
+    (ap (λ (d : Bool). pick (not d) (j.loop-i.bytes ∷ []) []) (sym k.if-not-is_dropped.true) ∙ s.1))
     k.at-is (k.block-is ∙ k.put_eight.ensures.trace_after))
     (λ v. ⊎_elim
     (λ k.
     let s = settles gaps j.loop-i.held.gap w next k.treat-treated.result k.is_dropped.result j.loop-i.invariant.5 k.if-waits.true k.treat-treated.ensures k.is_dropped.ensures in
     stays
     (one-dropped (ap (λ (r : Ride). from r next true) k.ride-is ∙ s.0)
-    (ap (λ (d : Bool). pick (not d) (j.loop-i.bytes ∷ []) []) (sym (not-false k.is_dropped.result k.if-not-is_dropped.false)) ∙ s.1))
+    (ap (λ (d : Bool). pick (not d) (j.loop-i.bytes ∷ []) []) (sym k.if-not-is_dropped.false) ∙ s.1))
     k.at-is k.block-is)
     (λ k.
     let s = none_waits gaps w next k.if-waits.false in

@@ -23,7 +23,7 @@ listed c =
 
 pub overflow_add-result : goal.overflow_add-result
 overflow_add-result c =
-    omega (arith, written_in (gap_at c.args.store) c.args.ride c.args.number c.args.bytes c.args.out.now c.args.at c.list-listed.result c.list-listed.new.out _ _ (listed (goal.at-overflow_add-result c).After-list-listed) c.in-Took.is c.requires.at_in_bounds c.list-listed.auto.1.1.1.1.1.0)
+    omega (arith, written_in (gap_at c.args.store) c.args.ride c.args.number c.args.bytes c.args.out.now c.args.at c.list-listed.result c.list-listed.new.out _ _ (listed (goal.at-overflow_add-result c).After-list-listed) c.in-Took.is c.requires.at_in_bounds c.list-listed.auto.out)
 
 pub returns-in-Took : goal.returns-in-Took
 returns-in-Took c =

@@ -21,7 +21,7 @@ loop-i-smaller c = omega (arith, c.loop-i-test.true)
 pub loop-i-preserved : goal.loop-i-preserved
 loop-i-preserved c =
     let km = c.args.km in (
-      c.put_figure-next.auto.1.1.0 ∙ c.loop-i.invariant.0,
+      c.put_figure-next.auto.buf ∙ c.loop-i.invariant.0,
       omega (arith, c.loop-i-test.true),
       one_put km c.loop-i.i c.loop-i.buf c.loop-i.next c.loop-i-test.true c.put_figure-next.ensures ∙ c.loop-i.invariant.2,
     )

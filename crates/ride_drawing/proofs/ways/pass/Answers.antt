@@ -23,7 +23,7 @@ loop-i-preserved c =
     let step =
     one_passed c.args.pen c.args.place c.args.until c.args.known c.loop-i.now i c.in-Entry.entry (drop (i + 1) (row_of c.args.plan.run)) (drop i (row_of c.args.plan.run)) c.loop-i.buf c.loop-i.next c.come_by-went.result.pen next
     c.come_by-went.ensures.buf_after c.come_by-went.ensures.pen_value in
-    (c.come_by-went.auto.1.1.1.1.1.1.1.0 ∙ c.loop-i.invariant.0, omega (arith, c.loop-i-test.true), step.0 ∙ c.loop-i.invariant.2, step.1 ∙ c.loop-i.invariant.3)
+    (c.come_by-went.auto.buf ∙ c.loop-i.invariant.0, omega (arith, c.loop-i-test.true), step.0 ∙ c.loop-i.invariant.2, step.1 ∙ c.loop-i.invariant.3)
 
 pub shape_of-buf-after-loop-i : goal.shape_of-buf-after-loop-i
 shape_of-buf-after-loop-i c = c.loop-i.invariant.0
