@@ -1,6 +1,5 @@
 -- `begin` passes over the blanks: those so far and those from here are all of them.
-use mathlib.Core.Path.{◌≡◌, sym, ◌∙◌}
-use Prim.Native.Nat.{◌+◌, ◌-◌}
+use mathlib.Core.Path.{sym, ◌∙◌}
 use native.Mathlib.Omega.{arith}
 use borrow.Author.Tests.{not-true, not-false}
 use Rattle.viewer_text.proofs.Scanning.{leads_on, leads_not, leads_end}

@@ -1,6 +1,5 @@
 -- `end` goes back over the blanks: where the first signs end decides.
-use mathlib.Core.Path.{◌≡◌, refl, sym, ◌∙◌}
-use Prim.Native.Nat.{◌-◌, ◌≤◌}
+use mathlib.Core.Path.{refl, sym, ◌∙◌}
 use native.Mathlib.Omega.{arith}
 use borrow.Author.Tests.{not-true, not-false}
 use Rattle.viewer_text.proofs.Scanning.{ends_on, ends_here, ends_none}
