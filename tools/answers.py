@@ -515,6 +515,25 @@ def params(unit, code):
     return found
 
 
+def both(goal, text, fields):
+    """A product that is no tuple: its parts by name."""
+    equations = re.findall(r"(?m)^" + re.escape(goal) + r" [^\n=]*=", text)
+    if len(equations) != 1:
+        return text
+    at = text.index(equations[0]) + len(equations[0])
+    deep, last = 0, at
+    for m in re.finditer(r"[(\[{]|[)\]}]| in(?=\s)|\n    in(?=\s)", text[at:]):
+        if m[0] in "([{":
+            deep += 1
+        elif m[0] in ")]}":
+            deep -= 1
+        elif not deep:
+            last = at + m.end()
+    term = text[last:].strip()
+    parts = [f"{f} = both{'.1' * i}{'.0' if i < len(fields) - 1 else ''}" for i, f in enumerate(fields)]
+    return text[:last] + f"\n    let both = {term} in\n    record {{ {'; '.join(parts)} }}\n"
+
+
 def by_clause(unit, goal, text):
     """Where a goal has several facts with names: a tuple becomes a record."""
     asked = unit.e.get("asked") or {}
@@ -522,10 +541,8 @@ def by_clause(unit, goal, text):
     if not fields or len(fields) < 2:
         return text
     end = len(text.rstrip())
-    if " in (" in text and text[end - 1 : end] == ")":
-        pass
     if text[end - 1 : end] != ")":
-        return text
+        return both(goal, text, fields)
     deep, k = 0, end - 1
     while k >= 0:
         deep += (text[k] == ")") - (text[k] == "(")
@@ -534,7 +551,7 @@ def by_clause(unit, goal, text):
         k -= 1
     before = text[:k].rstrip()
     if not before.endswith(("=", " in", "\nin")):
-        return text
+        return both(goal, text, fields)
     held, deep, found, word = text[k + 1 : end - 1], 0, [], ""
     for ch in held:
         if ch == "," and not deep:
@@ -558,7 +575,7 @@ def by_clause(unit, goal, text):
             break
         found[-1:] = more + [word] if word.strip() else more
     if len(found) != len(fields):
-        return text
+        return both(goal, text, fields)
     return text[:k] + "record { " + "; ".join(f"{f} = {v.strip()}" for f, v in zip(fields, found)) + " }" + text[end:]
 
 

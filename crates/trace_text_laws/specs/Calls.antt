@@ -2,6 +2,7 @@
 -- a function is its `ensures` line, made into a statement by the kit. A lent buffer is a reference
 -- whose bytes are `now` of it.
 -- Assumes nothing.
+use denote.MutBor.{MutBor}
 use Rattle.std.specs.Prelude.{ℕ, ◌≡◌, List}
 use contract.Lifetimes.{Lfts}
 use Rattle.std.specs.Borrow.{Bor}
@@ -38,5 +39,5 @@ ThingAt block at r =
 -- lent buffer, which held `before`, holds `after` then.
 abbrev pub PutRecord : ℕ → ℕ → What → List ℕ → ℕ → ℕ → List ℕ → Type 0
 PutRecord number place what before at r after =
-    (κs : Lfts 1) × (buf : Bor (List ℕ)) × (e : AtExit (ended_of 1 put_record_kinds.ps put_record_kinds.r) κs)
+    (κs : Lfts 1) × (buf : MutBor (List ℕ)) × (e : AtExit (ended_of 1 put_record_kinds.ps put_record_kinds.r) κs)
     × (buf.now ≡ before) × (e.1.1.1.0.now ≡ after) × put_record_reads.Post κs (number, (place, (what, (buf, (at, tt))))) r e

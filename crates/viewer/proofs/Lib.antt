@@ -1,7 +1,4 @@
 pub mod Calls
-pub mod Walking
-pub mod Turning
-pub mod Beginning
 pub mod Straight
 pub mod Ring
 pub mod Many

@@ -8,8 +8,10 @@ use Rattle.abi.proofs.contacts.atc2_begin.Goals as goal
 
 pub returns-in-Search : goal.returns-in-Search
 returns-in-Search c =
-    faced says_search_begun begun_number begun_put c.args.search.now c.in-Search.is c.begin.ensures
+    let both = faced says_search_begun begun_number begun_put c.args.search.now c.in-Search.is c.begin.ensures in
+    record { value = both.0; search_after = both.1 }
 
 pub returns-in-Beyond : goal.returns-in-Beyond
 returns-in-Beyond c =
-    faced says_search_begun begun_number begun_put c.args.search.now c.in-Beyond.is c.begin.ensures
+    let both = faced says_search_begun begun_number begun_put c.args.search.now c.in-Beyond.is c.begin.ensures in
+    record { value = both.0; search_after = both.1 }

@@ -17,20 +17,25 @@ returns-in-Read c =
 
 pub returns-in-Marker : goal.returns-in-Marker
 returns-in-Marker c =
-    faced says_judged judged_number judged_put c.args.out.now c.in-Marker.is c.judge.ensures
+    let both = faced says_judged judged_number judged_put c.args.out.now c.in-Marker.is c.judge.ensures in
+    record { value = both.0; out_after = both.1 }
 
 pub returns-in-NotSeven : goal.returns-in-NotSeven
 returns-in-NotSeven c =
-    faced says_judged judged_number judged_put c.args.out.now c.in-NotSeven.is c.judge.ensures
+    let both = faced says_judged judged_number judged_put c.args.out.now c.in-NotSeven.is c.judge.ensures in
+    record { value = both.0; out_after = both.1 }
 
 pub returns-in-Beyond : goal.returns-in-Beyond
 returns-in-Beyond c =
-    faced says_judged judged_number judged_put c.args.out.now c.in-Beyond.is c.judge.ensures
+    let both = faced says_judged judged_number judged_put c.args.out.now c.in-Beyond.is c.judge.ensures in
+    record { value = both.0; out_after = both.1 }
 
 pub returns-in-Differ : goal.returns-in-Differ
 returns-in-Differ c =
-    faced says_judged judged_number judged_put c.args.out.now c.in-Differ.is c.judge.ensures
+    let both = faced says_judged judged_number judged_put c.args.out.now c.in-Differ.is c.judge.ensures in
+    record { value = both.0; out_after = both.1 }
 
 pub returns-in-Neither : goal.returns-in-Neither
 returns-in-Neither c =
-    faced says_judged judged_number judged_put c.args.out.now c.in-Neither.is c.judge.ensures
+    let both = faced says_judged judged_number judged_put c.args.out.now c.in-Neither.is c.judge.ensures in
+    record { value = both.0; out_after = both.1 }

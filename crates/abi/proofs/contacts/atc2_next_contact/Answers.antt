@@ -24,19 +24,23 @@ all search out is said =
 pub returns-in-Contact : goal.returns-in-Contact
 returns-in-Contact c =
     let args = c.args in
-    all args.search.now args.out.now c.in-Contact.is c.next_contact.ensures
+    let both = all args.search.now args.out.now c.in-Contact.is c.next_contact.ensures in
+    record { value = both.0; search_after = both.1.0; out_after = both.1.1 }
 
 pub returns-in-NoFurther : goal.returns-in-NoFurther
 returns-in-NoFurther c =
     let args = c.args in
-    all args.search.now args.out.now c.in-NoFurther.is c.next_contact.ensures
+    let both = all args.search.now args.out.now c.in-NoFurther.is c.next_contact.ensures in
+    record { value = both.0; search_after = both.1.0; out_after = both.1.1 }
 
 pub returns-in-Cut : goal.returns-in-Cut
 returns-in-Cut c =
     let args = c.args in
-    all args.search.now args.out.now c.in-Cut.is c.next_contact.ensures
+    let both = all args.search.now args.out.now c.in-Cut.is c.next_contact.ensures in
+    record { value = both.0; search_after = both.1.0; out_after = both.1.1 }
 
 pub returns-in-Beyond : goal.returns-in-Beyond
 returns-in-Beyond c =
     let args = c.args in
-    all args.search.now args.out.now c.in-Beyond.is c.next_contact.ensures
+    let both = all args.search.now args.out.now c.in-Beyond.is c.next_contact.ensures in
+    record { value = both.0; search_after = both.1.0; out_after = both.1.1 }

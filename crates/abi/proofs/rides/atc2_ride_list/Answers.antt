@@ -39,20 +39,23 @@ pub returns-in-Took : goal.returns-in-Took
 unfolding all
 returns-in-Took c =
     let a = c.args in
-    took a.state.now a.store.now a.trace.now a.number a.style a.text.now a.out.now
+    let both = took a.state.now a.store.now a.trace.now a.number a.style a.text.now a.out.now
     (record { records = c.in-Took.records; bytes = c.in-Took.bytes }) c.list-listed.result.ride c.ride_bytes-made.result c.list-listed.new.out
-    (went (goal.at-returns-in-Took c).After-list-listed c.in-Took.is) (ap (λ (x : Listing). x.ride) (came (goal.at-returns-in-Took c).After-list-listed)) (ap (λ (x : Listing). x.out) (came (goal.at-returns-in-Took c).After-list-listed)) c.ride_bytes-made.ensures.value c.ride_bytes-made.ensures.result_value
+    (went (goal.at-returns-in-Took c).After-list-listed c.in-Took.is) (ap (λ (x : Listing). x.ride) (came (goal.at-returns-in-Took c).After-list-listed)) (ap (λ (x : Listing). x.out) (came (goal.at-returns-in-Took c).After-list-listed)) c.ride_bytes-made.ensures.value c.ride_bytes-made.ensures.result_value in
+    record { value = both.0; state_after = both.1.0; state_after_2 = both.1.1.0; text_after = both.1.1.1.0; out_after = both.1.1.1.1 }
 
 pub returns-in-Settings : goal.returns-in-Settings
 unfolding all
 returns-in-Settings c =
     let a = c.args in
-    untaken a.state.now a.store.now a.trace.now a.number a.style a.text.now a.out.now
-    (says_bad c.in-Settings.bad) _ c.list-listed.new.out (went (goal.at-returns-in-Settings c).After-list-listed c.in-Settings.is) (back c.of_settings.result (says_bad c.in-Settings.bad) c.of_settings.ensures.0 c.of_settings.ensures.1) (ap (λ (x : Listing). x.out) (came (goal.at-returns-in-Settings c).After-list-listed))
+    let both = untaken a.state.now a.store.now a.trace.now a.number a.style a.text.now a.out.now
+    (says_bad c.in-Settings.bad) _ c.list-listed.new.out (went (goal.at-returns-in-Settings c).After-list-listed c.in-Settings.is) (back c.of_settings.result (says_bad c.in-Settings.bad) c.of_settings.ensures.0 c.of_settings.ensures.1) (ap (λ (x : Listing). x.out) (came (goal.at-returns-in-Settings c).After-list-listed)) in
+    record { value = both.0; state_after = both.1.0; state_after_2 = both.1.1.0; text_after = both.1.1.1.0; out_after = both.1.1.1.1 }
 
 pub returns-in-Length : goal.returns-in-Length
 unfolding all
 returns-in-Length c =
     let a = c.args in
-    untaken a.state.now a.store.now a.trace.now a.number a.style a.text.now a.out.now
-    16 _ c.list-listed.new.out (went (goal.at-returns-in-Length c).After-list-listed c.in-Length.is) refl (ap (λ (x : Listing). x.out) (came (goal.at-returns-in-Length c).After-list-listed))
+    let both = untaken a.state.now a.store.now a.trace.now a.number a.style a.text.now a.out.now
+    16 _ c.list-listed.new.out (went (goal.at-returns-in-Length c).After-list-listed c.in-Length.is) refl (ap (λ (x : Listing). x.out) (came (goal.at-returns-in-Length c).After-list-listed)) in
+    record { value = both.0; state_after = both.1.0; state_after_2 = both.1.1.0; text_after = both.1.1.1.0; out_after = both.1.1.1.1 }

@@ -34,12 +34,14 @@ returns-in-Kept c =
     let a = c.args in
     let went : gives kept ≡ (change (goal.at-returns-in-Kept c).After-add-added).answer = ap says_verdict (sym c.in-Kept.is) ∙ ap (λ (x : Change). x.answer) (came (goal.at-returns-in-Kept c).After-add-added) in
     let made : c.add-added.result.store ≡ (change (goal.at-returns-in-Kept c).After-add-added).store = ap (λ (x : Change). x.store) (came (goal.at-returns-in-Kept c).After-add-added) in
-    stored (change (goal.at-returns-in-Kept c).After-add-added).answer (change (goal.at-returns-in-Kept c).After-add-added).store a.store.now c.add-added.result.store c.store_bytes-bytes.result went made
-    c.store_bytes-bytes.ensures.value c.store_bytes-bytes.ensures.result_value
+    let both = stored (change (goal.at-returns-in-Kept c).After-add-added).answer (change (goal.at-returns-in-Kept c).After-add-added).store a.store.now c.add-added.result.store c.store_bytes-bytes.result went made
+    c.store_bytes-bytes.ensures.value c.store_bytes-bytes.ensures.result_value in
+    record { value = both.0; store_after = both.1.0; store_after_2 = both.1.1 }
 
 pub returns-in-Refused : goal.returns-in-Refused
 unfolding version change
 returns-in-Refused c =
     let a = c.args in
     let went : refuses (says_bad c.in-Refused.bad) ≡ (change (goal.at-returns-in-Refused c).After-add-added).answer = ap says_verdict (sym c.in-Refused.is) ∙ ap (λ (x : Change). x.answer) (came (goal.at-returns-in-Refused c).After-add-added) in
-    unstored (change (goal.at-returns-in-Refused c).After-add-added).answer (change (goal.at-returns-in-Refused c).After-add-added).store a.store.now (says_bad c.in-Refused.bad) _ went (back c.of_settings.result (says_bad c.in-Refused.bad) c.of_settings.ensures.0 c.of_settings.ensures.1)
+    let both = unstored (change (goal.at-returns-in-Refused c).After-add-added).answer (change (goal.at-returns-in-Refused c).After-add-added).store a.store.now (says_bad c.in-Refused.bad) _ went (back c.of_settings.result (says_bad c.in-Refused.bad) c.of_settings.ensures.0 c.of_settings.ensures.1) in
+    record { value = both.0; store_after = both.1.0; store_after_2 = both.1.1 }

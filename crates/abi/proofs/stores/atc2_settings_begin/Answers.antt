@@ -21,12 +21,14 @@ returns-in-Kept c =
     let went : gives kept ≡ (begin a.gap a.s a.t).answer =
     ap says_verdict (sym c.in-Kept.is) ∙ ap (λ (x : Change). x.answer) (came (goal.at-returns-in-Kept c).After-begin-begun) in
     let made : c.begin-begun.result.store ≡ (begin a.gap a.s a.t).store = ap (λ (x : Change). x.store) (came (goal.at-returns-in-Kept c).After-begin-begun) in
-    stored (begin a.gap a.s a.t).answer (begin a.gap a.s a.t).store a.store.now c.begin-begun.result.store c.store_bytes-bytes.result went made
-    c.store_bytes-bytes.ensures.value c.store_bytes-bytes.ensures.result_value
+    let both = stored (begin a.gap a.s a.t).answer (begin a.gap a.s a.t).store a.store.now c.begin-begun.result.store c.store_bytes-bytes.result went made
+    c.store_bytes-bytes.ensures.value c.store_bytes-bytes.ensures.result_value in
+    record { value = both.0; store_after = both.1.0; store_after_2 = both.1.1 }
 
 pub returns-in-Refused : goal.returns-in-Refused
 returns-in-Refused c =
     let a = c.args in
     let went : refuses (says_bad c.in-Refused.bad) ≡ (begin a.gap a.s a.t).answer =
     ap says_verdict (sym c.in-Refused.is) ∙ ap (λ (x : Change). x.answer) (came (goal.at-returns-in-Refused c).After-begin-begun) in
-    unstored (begin a.gap a.s a.t).answer (begin a.gap a.s a.t).store a.store.now (says_bad c.in-Refused.bad) _ went (back c.of_settings.result (says_bad c.in-Refused.bad) c.of_settings.ensures.0 c.of_settings.ensures.1)
+    let both = unstored (begin a.gap a.s a.t).answer (begin a.gap a.s a.t).store a.store.now (says_bad c.in-Refused.bad) _ went (back c.of_settings.result (says_bad c.in-Refused.bad) c.of_settings.ensures.0 c.of_settings.ensures.1) in
+    record { value = both.0; store_after = both.1.0; store_after_2 = both.1.1 }

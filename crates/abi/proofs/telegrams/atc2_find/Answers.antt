@@ -16,12 +16,15 @@ returns-in-At c =
 
 pub returns-in-NotSeven : goal.returns-in-NotSeven
 returns-in-NotSeven c =
-    faced says_found found_number found_put c.args.out.now c.in-NotSeven.is c.find.ensures
+    let both = faced says_found found_number found_put c.args.out.now c.in-NotSeven.is c.find.ensures in
+    record { value = both.0; out_after = both.1 }
 
 pub returns-in-Beyond : goal.returns-in-Beyond
 returns-in-Beyond c =
-    faced says_found found_number found_put c.args.out.now c.in-Beyond.is c.find.ensures
+    let both = faced says_found found_number found_put c.args.out.now c.in-Beyond.is c.find.ensures in
+    record { value = both.0; out_after = both.1 }
 
 pub returns-in-NoPlace : goal.returns-in-NoPlace
 returns-in-NoPlace c =
-    faced says_found found_number found_put c.args.out.now c.in-NoPlace.is c.find.ensures
+    let both = faced says_found found_number found_put c.args.out.now c.in-NoPlace.is c.find.ensures in
+    record { value = both.0; out_after = both.1 }

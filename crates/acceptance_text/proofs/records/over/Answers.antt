@@ -54,8 +54,8 @@ wrote j =
     let l = j.loop-i in
     let f = j.if-not-is_quiet in
     ⊎_elim
-    (λ w. in_pieces w.take_given-took.result w.take_given-took.new.buf _ f.run f.troubles f.at f.out w.run-is w.troubles-is w.at-is w.out-is w.take_given-took.ensures)
-    (λ w. in_pieces (record { run = l.run; troubles = l.troubles; next = l.at }) l.out _ f.run f.troubles f.at f.out w.run-is w.troubles-is w.at-is w.out-is
+    (λ w. in_pieces w.take_given-took.result w.take_given-took.new.buf _ f.run f.troubles f.at f.out w.out-is w.run-is w.troubles-is w.at-is w.take_given-took.ensures)
+    (λ w. in_pieces (record { run = l.run; troubles = l.troubles; next = l.at }) l.out _ f.run f.troubles f.at f.out w.out-is w.run-is w.troubles-is w.at-is
     (quiet l.run l.troubles (says_given j.in-Record.given) l.out l.at (sym j.is_quiet.ensures ∙ w.if-not-is_quiet.false)))
     f.branch-raw
 

@@ -47,7 +47,7 @@ pub returns-then-not-one : goal.returns-then-not-one
 returns-then-not-one c =
     let a = c.args in
     room_used a.ends a.store a.frames.now c.loop-out.here c.loop-out.at c.loop-out.out c.next_record-taken.result c.next_record-taken.ensures
-    c.list_one-one.result c.list_one-one.new.out c.list_one-one.ensures c.in-Record.is c.if-not-one.true
+    c.list_one-one.result c.list_one-one.new.out c.list_one-one.ensures c.in-Record.is (not-true c.list_one-one.result.taken c.if-not-one.true)
     ∙ whole (goal.at-returns-then-not-one c).At-loop-out
 
 pub loop-out-smaller : goal.loop-out-smaller
@@ -62,7 +62,7 @@ loop-out-preserved c =
     let same = c.list_one-one.auto.out in
     let out = c.list_one-one.new.out in
     let on = one_taken a.ends a.store a.frames.now c.loop-out.here c.loop-out.at c.loop-out.out c.next_record-taken.result c.next_record-taken.ensures
-    c.list_one-one.result out c.list_one-one.ensures c.in-Record.is c.if-not-one.false c.loop-out.invariant.0 same in (
+    c.list_one-one.result out c.list_one-one.ensures c.in-Record.is (not-false c.list_one-one.result.taken c.if-not-one.false) c.loop-out.invariant.0 same in (
       on.0,
       same ∙ c.loop-out.invariant.1,
       ap (λ (u : Underway). from_either a.ends a.store a.frames.now u c.list_one-one.result.at out) c.standing-here.ensures ∙ on.1 ∙ c.loop-out.invariant.2,

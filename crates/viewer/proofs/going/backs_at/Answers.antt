@@ -6,7 +6,7 @@ use mathlib.Core.Bool.{Bool, true, false}
 use mathlib.Core.List.{List, [], ◌∷◌}
 use borrow.Author.Tests.{leb-true}
 use lib.Dec.{leb}
-use lib.ListN.{length, get_or, length-map}
+use lib.ListN.{length, get_or}
 use Rattle.words.specs.Answer.{pick}
 use Rattle.ride.specs.declared.Ride.{Ride}
 use Rattle.ride.specs.State.{fresh_ride}
@@ -14,15 +14,10 @@ use Rattle.viewer.specs.declared.Standing.{Standing}
 use Rattle.viewer.specs.Going.{Ending, all, refused, Moved, stopped}
 use Rattle.viewer.specs.Says.{says_ending}
 use Rattle.viewer.proofs.Many.{backs_stay, backs_move}
-use denote.Struct.Laws as LL
-use Rattle.viewer.specs.contracts.Standing as P
 use Rattle.viewer.proofs.going.backs_at.Goals.{Start}
 use Rattle.viewer.proofs.going.backs_at.Goals as goal
 
--- the ring has its 256 places, so what would stand past them is never read
-ring : (c : Start) → length c.args.stand.last ≡ 256
-ring c = sym (length-map c.args.stand.last _) ∙ (LL.owed P.the_type P'.the_laws c.args.stand _ c.well_formed.0).1.1.1.0.1.0.1
-
+-- what would stand past the places of a list is never read; the ring has its 256
 within_ring : (l : List Ride) (i : ℕ) (x y : Ride) → i < length l → get_or l i x ≡ get_or l i y
 within_ring [] i x y h = absurd (omega arith)
 within_ring (r ∷ l) zero x y h = refl
@@ -55,7 +50,7 @@ returns c =
     let number : c.less-number.result ≡ s.number - far = c.less-number.ensures ∙ ap (λ (n : ℕ). s.number - n) same in
     let why : Ending = pick (leb a.times s.kept) all (refused 22) in
     let there : ℕ → ℕ → Standing = λ n f. record { number = n; kept = s.kept - f; ride = get_or s.last (n % 256) fresh_ride; last = s.last; settings = s.settings } in
-    let at : c.less-number.result % 256 < length s.last = omega (arith, ring (goal.at-returns c).Start) in
+    let at : c.less-number.result % 256 < length s.last = omega arith in
     ap {B = Moved}
     (λ (r : Ride). record {
       steps = c.smaller-far.result;

@@ -6,7 +6,7 @@ use native.Mathlib.Omega.{arith}
 use borrow.Author.Tests.{ltb-true}
 use lib.Dec.{eqb, ltb}
 use lib.ListN.{length, set}
-use Rattle.settings.proofs.Holding.{Holding, holding_at}
+use Rattle.settings.proofs.Holding.{holding_at}
 use Rattle.ride.proofs.Under.{turned_on}
 use Rattle.words.specs.Answer.{pick}
 use Rattle.viewer.specs.declared.Standing.{Standing}
@@ -49,7 +49,7 @@ loop-left-preserved c =
     let store = a.from.settings in
     let trace = a.trace.now in
     let left = test (goal.at-loop-left-preserved c).In-loop-left in
-    let stand = here c.loop-left.number c.loop-left.auto c.loop-left.now c.loop-left.last store in
+    let stand = here c.loop-left.number c.loop-left.kept c.loop-left.now c.loop-left.last store in
     let on = turned_on store c.loop-left.held c.held_at-held.result c.loop-left.now trace c.loop-left.number c.treat_at-treated.result
     (record { good = c.requires.0; holding = c.loop-left.invariant.0; next_is = c.held_at-held.ensures; says = c.treat_at-treated.ensures }) left.1 in
     let most : c.loop-left.left ≤ a.times = c.loop-left.invariant.1 in
@@ -69,9 +69,9 @@ loop-left-preserved c =
 pub returns : goal.returns
 returns c =
     let a = c.args in
-    let stand = here c.loop-left.number c.loop-left.auto c.loop-left.now c.loop-left.last a.from.settings in
+    let stand = here c.loop-left.number c.loop-left.kept c.loop-left.now c.loop-left.last a.from.settings in
     let none : a.times - c.loop-left.left + 0 ≡ a.times - c.loop-left.left = omega arith in
-    ap {B = Moved} (λ (e : Ending). record { steps = a.times - c.loop-left.left; ending = (goal.at-returns c).After-loop-left; stand = stand }) c.ended.ensures
+    ap {B = Moved} (λ (e : Ending). record { steps = a.times - c.loop-left.left; ending = e; stand = stand }) c.ended.ensures
     ∙ ap {B = Moved} (λ (n : ℕ). record { steps = n; ending = pick (eqb c.loop-left.left 0) all (refused 23); stand = stand }) (sym none)
     ∙ ap (after (a.times - c.loop-left.left)) (forwards_stop c.loop-left.left a.trace.now stand c.loop-left-test.false)
     ∙ c.loop-left.invariant.2

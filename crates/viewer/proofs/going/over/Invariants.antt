@@ -1,13 +1,12 @@
 -- What the loop keeps true.
-use mathlib.Core.Path.{◌≡◌, ap, sym, ◌∙◌}
-use Prim.Native.Nat.{ℕ, ◌+◌, ◌-◌, ◌/◌, ◌%◌, ◌<◌, ◌≤◌}
-use lib.ListN.{length, set}
+use mathlib.Core.Path.{◌≡◌}
+use Prim.Native.Nat.{ℕ, ◌-◌, ◌≤◌}
 use Rattle.settings.specs.declared.Store.{Store}
-use Rattle.settings.proofs.Holding.{Holding, holding_at}
+use Rattle.settings.proofs.Holding.{Holding}
 use Rattle.ride.specs.declared.Ride.{Ride}
 use mathlib.Core.List.{List}
 use Rattle.viewer.specs.declared.Standing.{Standing}
-use Rattle.viewer.specs.Going.{Ending, all, refused, Moved, after, forwards}
+use Rattle.viewer.specs.Going.{after, forwards}
 use Rattle.viewer.proofs.going.over.Given as goal
 
 -- where the loop has come

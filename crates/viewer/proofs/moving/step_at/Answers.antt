@@ -1,6 +1,7 @@
 -- `step_at` treats the record by its step: it stands in the trace, and the gap is allowed.
 use mathlib.Core.Path.{ap, ◌∙◌}
 use Prim.Native.Nat.{◌+◌}
+use borrow.Enum.Refused.{opened}
 use native.Mathlib.Omega.{arith}
 use mathlib.Core.List.{List}
 use Rattle.words.specs.Answer.{gives}
@@ -16,7 +17,7 @@ pub returns-in_default : goal.returns-in_default
 returns-in_default c =
     let a = c.args in
     absurd
-    (let none = past a.stand.ride a.held.gap a.trace.now a.stand.number c.treat_at-treated.result c.requires.1 c.treat_at-treated.ensures c.in_default.in_default-own.keys2 in
+    (let none = past a.stand.ride a.held.gap a.trace.now a.stand.number c.treat_at-treated.result c.requires.1 c.treat_at-treated.ensures (opened c.in_default.in_default-own.keys2) in
     let some = c.requires.0 in
     omega arith)
 

@@ -14,13 +14,13 @@ use Rattle.viewer.proofs.Calls.{open_refused, open_length, open_done}
 use Rattle.viewer.proofs.opening.seen.Goals as goal
 
 -- an empty part at the front of the slice
-abbrev front : Bor (List ℕ) → ℕ → Bor (List ℕ)
-front t name = record { ref_ptr = (t.ref_ptr.0, 0 + t.ref_ptr.1); ghost_name = name; now = [] }
+abbrev front : Bor (List ℕ) → Bor (List ℕ)
+front t = record { ref_ptr = (t.ref_ptr.0, 0 + t.ref_ptr.1); now = [] }
 
-nothing_held : (o : Outcome Done) (n : ℕ) (t : Bor (List ℕ)) (name : ℕ) → refuses n ≡ o → slice_of o (front t name) ≡ lent_to o t
-nothing_held o n t name e =
+nothing_held : (o : Outcome Done) (n : ℕ) (t : Bor (List ℕ)) → refuses n ≡ o → slice_of o (front t) ≡ lent_to o t
+nothing_held o n t e =
     let there : 0 + t.ref_ptr.1 ≡ t.ref_ptr.1 = omega arith in
-    ap (λ (x : Outcome Done). slice_of x (front t name)) (sym e)
+    ap (λ (x : Outcome Done). slice_of x (front t)) (sym e)
     ∙ ap (λ (k : ℕ). lies (t.ref_ptr.0, k) []) there
     ∙ ap (λ (x : Outcome Done). lent_to x t) e
 
@@ -28,14 +28,14 @@ pub returns-in_default : goal.returns-in_default
 returns-in_default c =
     let a = c.args in
     let none = open_refused a.store a.trace.now _ (store_refused a.store _ (sym c.at-asked.ensures ∙ ap says_asked c.in_default.is)) in
-    nothing_held _ _ a.trace c.result-1.given.0 (ap (λ (s : Start). s.answer) none)
+    nothing_held _ _ a.trace (ap (λ (s : Start). s.answer) none)
 
 pub returns-then-trace-ne0 : goal.returns-then-trace-ne0
 returns-then-trace-ne0 c =
     let a = c.args in
     let held = held_given a.store 0 _ (sym c.at-asked.ensures ∙ ap says_asked c.in-InForce.is) in
     let none = open_length a.store a.trace.now held.0 (ne_eqb _ _ c.if-trace-ne0.true) in
-    nothing_held _ _ a.trace c.result-then-trace-ne0-1.given.0 (ap (λ (s : Start). s.answer) none)
+    nothing_held _ _ a.trace (ap (λ (s : Start). s.answer) none)
 
 pub returns : goal.returns
 returns c =

@@ -1,7 +1,6 @@
 -- `times_to` goes over the records that are left: the times so far and those from here are all of
 -- them.
-use mathlib.Core.Path.{◌≡◌, sym, ◌∙◌}
-use Prim.Native.Nat.{◌+◌, ◌-◌, ◌/◌, ◌≤◌}
+use mathlib.Core.Path.{sym, ◌∙◌}
 use native.Mathlib.Omega.{arith}
 use Rattle.viewer.proofs.Places.{times_there, times_next, times_none}
 use Rattle.viewer.proofs.placing.times_to.Goals as goal

@@ -26,5 +26,11 @@ line c =
     begins 96 (next_is a.place a.what) (next_length a.place a.what)
     (join_3 (replicate 96 0) 0 (codes "  next ") (thing_text a.place a.what) (codes "\n") (room a.place a.what) c.put-a.ensures c.put_thing-b.ensures c.put-n.ensures)
 
+pub slice_bounds-space-end : goal.slice_bounds-space-end
+slice_bounds-space-end c = (line (goal.at-slice_bounds-space-end c).After-put-n).within
+
+pub slice_bounds-put-end-5 : goal.slice_bounds-put-end-5
+slice_bounds-put-end-5 c = as_long (line (goal.at-slice_bounds-put-end-5 c).After-put-n)
+
 pub returns : goal.returns
 returns c = put_as _ _ (line (goal.at-returns c).After-put-n) c.put.ensures

@@ -1,6 +1,6 @@
 -- What the loop keeps true.
-use mathlib.Core.Path.{◌≡◌, sym, ap, ◌∙◌}
-use Prim.Native.Nat.{◌+◌, ◌-◌, ◌≤◌}
+use mathlib.Core.Path.{◌≡◌}
+use Prim.Native.Nat.{◌+◌, ◌≤◌}
 use lib.ListN.{length}
 use Rattle.viewer_text.specs.Finding.{stands_before, has}
 use Rattle.viewer_text.proofs.finding.has.Given as goal

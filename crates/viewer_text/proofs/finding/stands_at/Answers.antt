@@ -1,10 +1,9 @@
 -- `stands_at` compares the letters from the last to the first: those that are left decide.
-use mathlib.Core.Path.{◌≡◌, refl, sym, subst, ◌∙◌}
-use Prim.Native.Nat.{ℕ, ◌+◌, ◌-◌, ◌^◌, ◌<◌, ◌≤◌}
+use mathlib.Core.Path.{refl, sym, subst, ◌∙◌}
+use Prim.Native.Nat.{ℕ, ◌+◌, ◌-◌, ◌^◌, ◌<◌}
 use native.Mathlib.Nat.{mul-one}
 use native.Mathlib.Omega.{arith}
 use lib.ListN.{length}
-use Rattle.viewer_text.specs.Finding.{small, stands_at}
 use Rattle.viewer_text.proofs.Scanning.{stands_on, stands_not, stands_done}
 use Rattle.viewer_text.proofs.finding.stands_at.Goals.{In-loop-k}
 use Rattle.viewer_text.proofs.finding.stands_at.Goals as goal

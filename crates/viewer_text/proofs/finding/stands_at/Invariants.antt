@@ -1,8 +1,8 @@
 -- What the loop keeps true.
-use mathlib.Core.Path.{◌≡◌, refl, sym, subst, ◌∙◌}
-use Prim.Native.Nat.{ℕ, ◌+◌, ◌-◌, ◌^◌, ◌<◌, ◌≤◌}
+use mathlib.Core.Path.{◌≡◌}
+use Prim.Native.Nat.{◌≤◌}
 use lib.ListN.{length}
-use Rattle.viewer_text.specs.Finding.{small, stands_at}
+use Rattle.viewer_text.specs.Finding.{stands_at}
 use Rattle.viewer_text.proofs.finding.stands_at.Given as goal
 
 abbrev pub invariant-loop-k : goal.invariant-loop-k

@@ -1,10 +1,10 @@
 -- `last_lines` goes back over the newlines: the lines that are left, up to here, decide.
 use mathlib.Core.Path.{◌≡◌, refl, ap, ◌∙◌}
-use mathlib.Core.Logic.{⊎_elim}
-use Prim.Native.Nat.{ℕ, ◌-◌, ◌≤◌}
+use Prim.Native.Nat.{ℕ, ◌-◌}
 use native.Mathlib.Omega.{arith}
 use Rattle.viewer_text.specs.Screen.{lines_from}
 use Rattle.viewer_text.proofs.Scanning.{lines_pass, lines_less, lines_here, lines_none}
+use Rattle.viewer_text.proofs.screen.last_lines.Goals.{then-text-i-eq10+else-left-eq0, else-text-i-eq10}
 use Rattle.viewer_text.proofs.screen.last_lines.Goals as goal
 
 pub loop-i-init : goal.loop-i-init
@@ -19,10 +19,14 @@ pub loop-i-preserved : goal.loop-i-preserved
 loop-i-preserved c =
     let text = c.args.text.now in
     let on : lines_from (c.loop-i.i - 1) c.if-text-i-eq10.left text ≡ lines_from c.loop-i.i c.loop-i.left text =
-    ⊎_elim
-    (λ w. ap (λ (n : ℕ). lines_from (c.loop-i.i - 1) n text) w.2 ∙ lines_less text c.loop-i.left c.loop-i.i c.loop-i-test.true w.0.taken w.1.left)
-    (λ w. ap (λ (n : ℕ). lines_from (c.loop-i.i - 1) n text) w.1 ∙ lines_pass text c.loop-i.left c.loop-i.i c.loop-i-test.true w.0.left)
-    c.if-text-i-eq10.branch-raw in
+    elim c.if-text-i-eq10.branch [
+      | then-text-i-eq10+else-left-eq0 w ↦
+          ap (λ (n : ℕ). lines_from (c.loop-i.i - 1) n text) w.left-is
+          ∙ lines_less text c.loop-i.left c.loop-i.i c.loop-i-test.true w.if-text-i-eq10.true w.if-left-eq0.false
+      | else-text-i-eq10 w ↦
+          ap (λ (n : ℕ). lines_from (c.loop-i.i - 1) n text) w.left-is
+          ∙ lines_pass text c.loop-i.left c.loop-i.i c.loop-i-test.true w.if-text-i-eq10.false
+    ] in
     (omega (arith, c.loop-i.invariant.0), on ∙ c.loop-i.invariant.1)
 
 pub returns : goal.returns

@@ -1,6 +1,6 @@
 -- What the loop keeps true.
-use mathlib.Core.Path.{◌≡◌, refl, ap, ◌∙◌}
-use Prim.Native.Nat.{ℕ, ◌-◌, ◌≤◌}
+use mathlib.Core.Path.{◌≡◌}
+use Prim.Native.Nat.{◌≤◌}
 use lib.ListN.{length}
 use Rattle.viewer_text.specs.Screen.{lines_from}
 use Rattle.viewer_text.proofs.screen.last_lines.Given as goal

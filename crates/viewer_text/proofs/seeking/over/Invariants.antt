@@ -1,7 +1,7 @@
 -- What the loop keeps true.
-use mathlib.Core.Path.{◌≡◌, sym, ap, ◌∙◌}
-use Prim.Native.Nat.{ℕ, ◌+◌, ◌-◌, ◌*◌, ◌/◌, ◌<◌, ◌≤◌}
-use lib.ListN.{length, take, drop, length-replicate}
+use mathlib.Core.Path.{◌≡◌}
+use Prim.Native.Nat.{◌+◌, ◌-◌, ◌*◌, ◌/◌, ◌≤◌}
+use lib.ListN.{length, drop}
 use Rattle.settings.specs.At.{gap_at}
 use Rattle.ride.specs.Over.{records}
 use Rattle.viewer_text.specs.Seeking.{further, seek_in}

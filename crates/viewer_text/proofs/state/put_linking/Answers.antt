@@ -20,6 +20,6 @@ pub returns-in-Set : goal.returns-in-Set
 unfolding on_linking
 returns-in-Set c =
     let a = c.args in
-    join a.buf.now a.at (codes "\n  linking " ++ decimal c.in-Set.distance) (codes " c.in-Set.from " ++ decimal c.in-Set.from)
+    join a.buf.now a.at (codes "\n  linking " ++ decimal c.in-Set.distance) (codes " from " ++ decimal c.in-Set.from)
     (subst (λ (l : Linking). a.at + length (on_linking l) ≤ length a.buf.now) c.in-Set.is c.requires) c.put_number-a.ensures c.put_number.ensures
     ∙ ap (λ (l : Linking). put (on_linking l) a.buf.now a.at) (sym c.in-Set.is)

@@ -1,6 +1,5 @@
 -- `put_place` puts one number after the other.
 use mathlib.Core.List.{◌++◌}
-use Prim.Native.Nat.{◌+◌}
 use Rattle.text.specs.Text.{codes, decimal}
 use Rattle.text.proofs.Standing.{join_4}
 use Rattle.viewer_text.specs.Pieces.{on_place}

@@ -1,8 +1,6 @@
 -- `begin` passes over the blanks: those so far and those from here are all of them.
-use mathlib.Core.Path.{◌≡◌, sym, ◌∙◌}
-use Prim.Native.Nat.{◌+◌, ◌-◌}
+use mathlib.Core.Path.{sym, ◌∙◌}
 use native.Mathlib.Omega.{arith}
-use borrow.Author.Tests.{not-true, not-false}
 use Rattle.viewer_text.proofs.Scanning.{leads_on, leads_not, leads_end}
 use Rattle.viewer_text.proofs.trimming.begin.Goals as goal
 
@@ -11,12 +9,12 @@ loop-i-init c = omega arith
 
 pub returns-then-not-is_blank : goal.returns-then-not-is_blank
 returns-then-not-is_blank c =
-    let none = leads_not c.args.line.now c.loop-i.i c.loop-i-test.true (sym c.is_blank.ensures ∙ not-true _ c.if-not-is_blank.true-raw) in
+    let none = leads_not c.args.line.now c.loop-i.i c.loop-i-test.true (sym c.is_blank.ensures ∙ c.if-not-is_blank.true) in
     omega (arith, c.loop-i.invariant)
 
 pub loop-i-preserved : goal.loop-i-preserved
 loop-i-preserved c =
-    let more = leads_on c.args.line.now c.loop-i.i c.loop-i-test.true (sym c.is_blank.ensures ∙ not-false _ c.if-not-is_blank.false-raw) in
+    let more = leads_on c.args.line.now c.loop-i.i c.loop-i-test.true (sym c.is_blank.ensures ∙ c.if-not-is_blank.false) in
     omega (arith, c.loop-i.invariant)
 
 pub returns : goal.returns

@@ -1,8 +1,6 @@
 -- `end` goes back over the blanks: where the first signs end decides.
-use mathlib.Core.Path.{◌≡◌, refl, sym, ◌∙◌}
-use Prim.Native.Nat.{◌-◌, ◌≤◌}
+use mathlib.Core.Path.{refl, sym, ◌∙◌}
 use native.Mathlib.Omega.{arith}
-use borrow.Author.Tests.{not-true, not-false}
 use Rattle.viewer_text.proofs.Scanning.{ends_on, ends_here, ends_none}
 use Rattle.viewer_text.proofs.trimming.end.Goals as goal
 
@@ -11,11 +9,11 @@ loop-n-init c = (omega arith, refl)
 
 pub returns-then-not-is_blank : goal.returns-then-not-is_blank
 returns-then-not-is_blank c =
-    ends_here c.args.line.now c.loop-n.n c.loop-n-test.true (sym c.is_blank.ensures ∙ not-true _ c.if-not-is_blank.true-raw) ∙ c.loop-n.invariant.1
+    ends_here c.args.line.now c.loop-n.n c.loop-n-test.true (sym c.is_blank.ensures ∙ c.if-not-is_blank.true) ∙ c.loop-n.invariant.1
 
 pub loop-n-preserved : goal.loop-n-preserved
 loop-n-preserved c =
-    let on = ends_on c.args.line.now c.loop-n.n c.loop-n-test.true (sym c.is_blank.ensures ∙ not-false _ c.if-not-is_blank.false-raw) in
+    let on = ends_on c.args.line.now c.loop-n.n c.loop-n-test.true (sym c.is_blank.ensures ∙ c.if-not-is_blank.false) in
     (omega (arith, c.loop-n.invariant.0), on ∙ c.loop-n.invariant.1)
 
 pub returns : goal.returns
