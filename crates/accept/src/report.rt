@@ -1,10 +1,11 @@
 // The ride compared with its plan, with the lines of its groups, and the report: the entries of the
 // plan, then the verdict.
 use acceptance::{Acceptance, Reported};
+use console::System;
 use settings::Store;
 
 // The entries of the plan, as far as they can be written.
-fn put_entries(run: Acceptance) -> bool {
+fn put_entries(rt: &impl System, run: Acceptance) -> bool {
     let mut i: usize = 0;
     while i < 64 {
         let reported = acceptance::report(run, i);
@@ -13,7 +14,7 @@ fn put_entries(run: Acceptance) -> bool {
         };
         let mut text = [0u8; 128];
         let count = acceptance_text::put_entry(i, entry, &mut text, 0);
-        if !put(&text, count) {
+        if !put(rt, &text, count) {
             return false;
         }
         i += 1;
@@ -22,19 +23,28 @@ fn put_entries(run: Acceptance) -> bool {
 }
 
 // The first bytes of a text; where they cannot be written it is said and told.
-fn put(text: &[u8], count: usize) -> bool {
-    console::put(b"accept", text, count)
+fn put(rt: &impl System, text: &[u8], count: usize) -> bool {
+    console::put(rt, b"accept", text, count)
 }
 
 // The ride over the cards from this argument on, by a run that has not begun.
-pub fn accept(store: Store, run: Acceptance, first: usize, lengths: &[u64], block: &mut [u8]) {
-    let compared = acceptance_console::compare(b"accept", true, run, store, first, lengths, block);
+pub fn accept(
+    rt: &impl System,
+    store: Store,
+    run: Acceptance,
+    first: usize,
+    lengths: &[u64],
+    block: &mut [u8],
+) {
+    let compared = acceptance_console::compare(
+        rt, b"accept", true, run, store, first, lengths, block,
+    );
     if !compared.whole {
         return;
     }
     let going = compared.going;
     let after = going.run;
-    if put_entries(after) {
-        acceptance_console::put_verdict(b"accept", compared);
+    if put_entries(rt, after) {
+        acceptance_console::put_verdict(rt, b"accept", compared);
     }
 }

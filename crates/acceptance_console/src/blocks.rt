@@ -5,7 +5,7 @@ ghost use Rattle.acceptance_console.specs.SetOut.{set_out};
 
 use acceptance::Acceptance;
 use acceptance_text::{Ending, Going, Progress, Troubles};
-use console::Goes;
+use console::{Goes, System};
 use settings::Store;
 
 // A ride compared with a plan so far, and whether that is whole: all reads and writes succeeded.
@@ -34,15 +34,16 @@ pub fn set_out(run: Acceptance) -> Compared
 }
 
 // Writes the first bytes of a buffer, if they are listed.
-fn put_listed(program: &[u8], lists: bool, out: &[u8], count: usize) -> bool {
+fn put_listed(rt: &impl System, program: &[u8], lists: bool, out: &[u8], count: usize) -> bool {
     if lists {
-        return console::put(program, out, count);
+        return console::put(rt, program, out, count);
     }
     true
 }
 
 // Takes the records. Where out has 128 bytes for each of them, one call of `accept` takes them all.
 fn take_records(
+    rt: &impl System,
     program: &[u8],
     lists: bool,
     from: Compared,
@@ -64,7 +65,7 @@ fn take_records(
             whole: false,
         };
     };
-    let put = put_listed(program, lists, out, bytes);
+    let put = put_listed(rt, program, lists, out, bytes);
     Compared {
         going,
         whole: put & (count == records.len() / 8),
@@ -72,7 +73,7 @@ fn take_records(
 }
 
 // The end of the ride.
-fn finish(program: &[u8], lists: bool, from: Compared) -> Compared {
+fn finish(rt: &impl System, program: &[u8], lists: bool, from: Compared) -> Compared {
     let before = from.going;
     let mut text = [0u8; 128];
     let finished = acceptance_text::finish(before, &mut text);
@@ -81,7 +82,7 @@ fn finish(program: &[u8], lists: bool, from: Compared) -> Compared {
     match ending {
         Ending::Wrote(bytes) => Compared {
             going,
-            whole: put_listed(program, lists, &text, bytes),
+            whole: put_listed(rt, program, lists, &text, bytes),
         },
         Ending::NoRoom => Compared {
             going,
@@ -92,21 +93,22 @@ fn finish(program: &[u8], lists: bool, from: Compared) -> Compared {
 
 // What comes after the last block: the end of the ride where all cards were read, and a word of
 // what went wrong otherwise.
-fn ended(program: &[u8], lists: bool, how: Goes, from: Compared) -> Compared {
+fn ended(rt: &impl System, program: &[u8], lists: bool, how: Goes, from: Compared) -> Compared {
     let Goes::End = how else {
-        console::say_goes(program, how);
+        console::say_goes(rt, program, how);
         let going = from.going;
         return Compared {
             going,
             whole: false,
         };
     };
-    finish(program, lists, from)
+    finish(rt, program, lists, from)
 }
 
 // The records of all cards, whose lengths were kept, as one ride. A proved loop has to end, and
 // nothing says that a file does: so it counts its turns down from a number that no run uses up.
 fn over(
+    rt: &impl System,
     program: &[u8],
     lists: bool,
     run: Acceptance,
@@ -120,24 +122,25 @@ fn over(
     let mut pass = console::begin(first);
     let mut turns = u64::MAX;
     while turns > 0 {
-        let got = console::next_block(pass, lengths, block);
+        let got = console::next_block(rt, pass, lengths, block);
         let read = got.read;
-        stand = take_records(program, lists, stand, store, &block[..read], out);
+        stand = take_records(rt, program, lists, stand, store, &block[..read], out);
         if !stand.whole {
             return stand;
         }
         let how = got.how;
         let Goes::More = how else {
-            return ended(program, lists, how, stand);
+            return ended(rt, program, lists, how, stand);
         };
         pass = got.pass;
         turns -= 1;
     }
-    ended(program, lists, Goes::More, stand)
+    ended(rt, program, lists, Goes::More, stand)
 }
 
 // The ride over the cards from this argument on, whose lengths were kept, compared with a plan.
 pub fn compare(
+    rt: &impl System,
     program: &[u8],
     lists: bool,
     run: Acceptance,
@@ -147,5 +150,7 @@ pub fn compare(
     block: &mut [u8],
 ) -> Compared {
     let mut out = console::room();
-    over(program, lists, run, store, first, lengths, block, &mut out)
+    over(
+        rt, program, lists, run, store, first, lengths, block, &mut out,
+    )
 }

@@ -1,4 +1,6 @@
-// A plan of the test track and a ride compared with it: what `accept` and `draw -p` share.
+// A plan of the test track and a ride compared with it: what `accept` and `draw -p` share. What
+// reads, writes or asks for an argument takes the system first, `rt: &impl System`, which is left
+// out below.
 // 1. `plan_of(program, file)` reads the plan that argument `file` names, with the tolerance of the
 //    argument after it, and answers a `PlanAsked`: a run over the plan that has not begun; or that
 //    there is none, which was said and told: `plan refused 26: WORDS` on standard output, else

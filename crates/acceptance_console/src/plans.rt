@@ -1,6 +1,6 @@
 // The plan and the tolerance that the arguments name.
 use acceptance::{Acceptance, PlanJudged};
-use console::FigureAsked;
+use console::{FigureAsked, Source, System};
 
 // The largest number that a tolerance is read as, which stands for all above it; no plan has it.
 const MOST: u64 = 4294967295;
@@ -24,32 +24,38 @@ fn none() -> PlanAsked {
 }
 
 // That the plan is refused.
-fn refuse(program: &[u8], number: u8) {
+fn refuse(rt: &impl System, program: &[u8], number: u8) {
     let mut text = [0u8; 128];
     let count = acceptance_text::put_refused(number, &mut text, 0);
-    console::refuse_by(program, &text, count);
+    console::refuse_by(rt, program, &text, count);
 }
 
 // Whether a plan is good; where it is refused that is said.
-fn is_taken(program: &[u8], judged: PlanJudged) -> bool {
+fn is_taken(rt: &impl System, program: &[u8], judged: PlanJudged) -> bool {
     match judged {
         PlanJudged::Good => {
             return true;
         }
-        PlanJudged::Tolerance => refuse(program, 28),
-        PlanJudged::Record => refuse(program, 26),
-        PlanJudged::Near => refuse(program, 27),
+        PlanJudged::Tolerance => refuse(rt, program, 28),
+        PlanJudged::Record => refuse(rt, program, 26),
+        PlanJudged::Near => refuse(rt, program, 27),
     }
     false
 }
 
 // The plan of the open file of an argument, with this tolerance. A plan has 512 bytes at most; a
 // longer file shows by one byte more.
-fn read(program: &[u8], file: usize, fd: i32, tolerance: u32) -> PlanAsked {
+fn read(
+    rt: &impl System,
+    program: &[u8],
+    file: usize,
+    from: &mut Source,
+    tolerance: u32,
+) -> PlanAsked {
     let mut bytes = [0u8; 513];
-    let got = console::fill(fd, &mut bytes);
+    let got = console::fill(rt, from, &mut bytes);
     if got.failed {
-        console::cannot_read(program, file);
+        console::cannot_read(rt, program, file);
         return none();
     }
     let count = got.count;
@@ -58,7 +64,7 @@ fn read(program: &[u8], file: usize, fd: i32, tolerance: u32) -> PlanAsked {
     let judged = planned.judged;
     PlanAsked {
         run,
-        is_good: is_taken(program, judged),
+        is_good: is_taken(rt, program, judged),
     }
 }
 
@@ -71,17 +77,14 @@ fn in_dm(n: u64) -> u32 {
 }
 
 // The plan that the argument `file` names, with the tolerance of the one after it.
-pub fn plan_of(program: &[u8], file: usize) -> PlanAsked {
+pub fn plan_of(rt: &impl System, program: &[u8], file: usize) -> PlanAsked {
     let next = std::num::wrapping_add_usize(file, 1);
-    let FigureAsked::Is(n) = console::figure(program, b"TOLERANCE", next, MOST) else {
+    let FigureAsked::Is(n) = console::figure(rt, program, b"TOLERANCE", next, MOST) else {
         return none();
     };
-    let fd = console::open_card(file);
-    if fd < 0 {
-        console::cannot_open(program, file);
+    let Some(mut opened) = console::open_card(rt, file) else {
+        console::cannot_open(rt, program, file);
         return none();
-    }
-    let asked = read(program, file, fd, in_dm(n));
-    libc::close(fd);
-    asked
+    };
+    read(rt, program, file, &mut opened, in_dm(n))
 }

@@ -12,17 +12,17 @@ mod out;
 use console::PairAsked;
 use telegram::Pair;
 
-fn main() {
-    if os::arg_count() != 3 {
-        console::usage(b"audible", b"audible S S*");
+fn main(rt: HostRuntime) {
+    if console::argument_count(&rt) != 3 {
+        console::usage(&rt, b"audible", b"audible S S*");
         return;
     }
-    let PairAsked::Is(s, t) = console::sync_pair(b"audible", 1) else {
+    let PairAsked::Is(s, t) = console::sync_pair(&rt, b"audible", 1) else {
         return;
     };
     let Pair::Good = telegram::good_pair(s, t) else {
-        console::refuse_here(b"audible", 4);
+        console::refuse_here(&rt, b"audible", 4);
         return;
     };
-    list::all(s, t);
+    list::all(&rt, s, t);
 }

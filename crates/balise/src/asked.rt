@@ -1,7 +1,7 @@
 // What the arguments ask for.
 ghost use Rattle.std.specs.Prelude.{◌≤◌};
 
-use console::{FigureAsked, PairAsked};
+use console::{FigureAsked, PairAsked, System};
 use figures::Figure;
 
 // A balise: its figures, its sync words, the number of telegrams, and the bytes of quiet line
@@ -27,8 +27,8 @@ pub enum BaliseAsked {
 }
 
 // Argument k, of this name, as a number up to `most`, which stands for all above it.
-fn figure(name: &[u8], k: usize, most: u64) -> FigureAsked {
-    console::figure(b"balise", name, k, most)
+fn figure(rt: &impl System, name: &[u8], k: usize, most: u64) -> FigureAsked {
+    console::figure(rt, b"balise", name, k, most)
 }
 
 // A figure of one byte, of two and of four: the largest stands for all above it, and is refused as
@@ -55,29 +55,29 @@ fn four_bytes(n: u64) -> u32 {
 }
 
 // The bytes of quiet line, argument k if there is one: 0 to 65,535.
-fn idle(k: usize) -> FigureAsked {
-    if os::arg_count() <= k {
+fn idle(rt: &impl System, k: usize) -> FigureAsked {
+    if console::argument_count(rt) <= k {
         return FigureAsked::Is(0);
     }
-    let asked = console::number(k, 65535);
+    let asked = console::number(rt, k, 65535);
     let Figure::Number(n) = asked else {
-        console::wrong(b"balise", b"IDLE", b"figure up to 65,535", k);
+        console::wrong(rt, b"balise", b"IDLE", b"figure up to 65,535", k);
         return FigureAsked::Said;
     };
     FigureAsked::Is(n)
 }
 
 // The call with these figures, its sync words from argument k on.
-fn with_figures(x: u64, y: u64, z: u64, k: usize) -> BaliseAsked
+fn with_figures(rt: &impl System, x: u64, y: u64, z: u64, k: usize) -> BaliseAsked
     requires { k ≤ 4 }
 {
-    let PairAsked::Is(s, t) = console::sync_pair(b"balise", k) else {
+    let PairAsked::Is(s, t) = console::sync_pair(rt, b"balise", k) else {
         return BaliseAsked::Said;
     };
-    let FigureAsked::Is(n) = figure(b"N", k + 2, 4294967295) else {
+    let FigureAsked::Is(n) = figure(rt, b"N", k + 2, 4294967295) else {
         return BaliseAsked::Said;
     };
-    let FigureAsked::Is(idle) = idle(k + 3) else {
+    let FigureAsked::Is(idle) = idle(rt, k + 3) else {
         return BaliseAsked::Said;
     };
     BaliseAsked::For(BaliseCall {
@@ -100,37 +100,37 @@ fn are_there(words: usize, fewest: usize) -> bool {
 }
 
 // A call with three figures.
-fn by_figures(x: u64, y: u64) -> BaliseAsked {
-    if !are_there(os::arg_count(), 7) {
+fn by_figures(rt: &impl System, x: u64, y: u64) -> BaliseAsked {
+    if !are_there(console::argument_count(rt), 7) {
         return BaliseAsked::Usage;
     }
-    let FigureAsked::Is(z) = figure(b"Z", 3, 255) else {
+    let FigureAsked::Is(z) = figure(rt, b"Z", 3, 255) else {
         return BaliseAsked::Said;
     };
-    with_figures(x, y, z, 4)
+    with_figures(rt, x, y, z, 4)
 }
 
 // A call with 12 and a number.
-fn by_number(number: u64) -> BaliseAsked {
-    if !are_there(os::arg_count(), 6) {
+fn by_number(rt: &impl System, number: u64) -> BaliseAsked {
+    if !are_there(console::argument_count(rt), 6) {
         return BaliseAsked::Usage;
     }
-    with_figures(12, number, 0, 3)
+    with_figures(rt, 12, number, 0, 3)
 }
 
 // The whole call: three figures, or 12 and a number.
-pub fn arguments() -> BaliseAsked {
-    if os::arg_count() < 6 {
+pub fn arguments(rt: &impl System) -> BaliseAsked {
+    if console::argument_count(rt) < 6 {
         return BaliseAsked::Usage;
     }
-    let FigureAsked::Is(x) = figure(b"X", 1, 255) else {
+    let FigureAsked::Is(x) = figure(rt, b"X", 1, 255) else {
         return BaliseAsked::Said;
     };
-    let FigureAsked::Is(y) = figure(b"Y", 2, 65535) else {
+    let FigureAsked::Is(y) = figure(rt, b"Y", 2, 65535) else {
         return BaliseAsked::Said;
     };
     if x == 12 {
-        return by_number(y);
+        return by_number(rt, y);
     }
-    by_figures(x, y)
+    by_figures(rt, x, y)
 }

@@ -11,7 +11,7 @@ mod asked;
 
 use asked::{BaliseAsked, BaliseCall};
 use balise_writer::Written;
-use libc::STDOUT_FILENO;
+use console::{Stream, System};
 
 // 65,535 bytes of ones.
 fn ones() -> [u8; 65535]
@@ -21,50 +21,51 @@ fn ones() -> [u8; 65535]
 }
 
 // So many bytes of ones, at most 65,535.
-fn quiet(count: usize) -> bool {
+fn quiet(rt: &impl System, count: usize) -> bool {
     let ones = ones();
-    console::write(STDOUT_FILENO, &ones, count)
+    console::write(rt, Stream::Output, &ones, count)
 }
 
 // The first bytes of some between quiet line, as far as they can be written.
-fn sent(bytes: &[u8], count: usize, idle: usize) -> bool {
-    if !quiet(idle) {
+fn sent(rt: &impl System, bytes: &[u8], count: usize, idle: usize) -> bool {
+    if !quiet(rt, idle) {
         return false;
     }
-    if !console::write(STDOUT_FILENO, bytes, count) {
+    if !console::write(rt, Stream::Output, bytes, count) {
         return false;
     }
-    quiet(idle)
+    quiet(rt, idle)
 }
 
 // The bytes between quiet line, but not to a terminal.
-fn send(bytes: &[u8], count: usize, idle: usize) {
-    if console::to_terminal(b"balise") {
+fn send(rt: &impl System, bytes: &[u8], count: usize, idle: usize) {
+    if console::to_terminal(rt, b"balise") {
         return;
     }
-    if !sent(bytes, count, idle) {
-        console::cannot_write(b"balise");
+    if !sent(rt, bytes, count, idle) {
+        console::cannot_write(rt, b"balise");
     }
 }
 
 // The balise that is asked for, or why it is refused.
-fn answer(call: BaliseCall) {
+fn answer(rt: &impl System, call: BaliseCall) {
     let mut out = [0u8; 4001];
     let written = balise_writer::write(call.x, call.y, call.z, call.s, call.t, call.n, &mut out);
     match written {
-        Written::Bytes(count) => send(&out, count, call.idle),
-        Written::TooLarge => console::refuse(b"balise", 2),
-        Written::Fifteen => console::refuse(b"balise", 3),
-        Written::NotSeven => console::refuse(b"balise", 4),
-        Written::Count => console::refuse(b"balise", 20),
-        Written::Short => console::refuse(b"balise", 21),
+        Written::Bytes(count) => send(rt, &out, count, call.idle),
+        Written::TooLarge => console::refuse(rt, b"balise", 2),
+        Written::Fifteen => console::refuse(rt, b"balise", 3),
+        Written::NotSeven => console::refuse(rt, b"balise", 4),
+        Written::Count => console::refuse(rt, b"balise", 20),
+        Written::Short => console::refuse(rt, b"balise", 21),
     }
 }
 
-fn main() {
-    match asked::arguments() {
-        BaliseAsked::For(call) => answer(call),
+fn main(rt: HostRuntime) {
+    match asked::arguments(&rt) {
+        BaliseAsked::For(call) => answer(&rt, call),
         BaliseAsked::Usage => console::usage(
+            &rt,
             b"balise",
             b"balise X Y Z S S* N [IDLE], or balise 12 NUMBER S S* N [IDLE]",
         ),

@@ -10,6 +10,6 @@
 
 use ride_text::PLAIN;
 
-fn main() {
-    ride_console::list_cards(b"checker", b"checker [-s SETTINGS] CARD..", PLAIN);
+fn main(rt: HostRuntime) {
+    ride_console::list_cards(&rt, b"checker", b"checker [-s SETTINGS] CARD..", PLAIN);
 }

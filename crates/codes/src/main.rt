@@ -9,6 +9,7 @@
 mod hex;
 mod listing;
 
+use console::System;
 use words::ShortWritten;
 
 // The word of a figure in the short code.
@@ -42,24 +43,24 @@ fn short_code() -> [u16; 16] {
 }
 
 // Both lists, with an empty line between them, as far as they can be written.
-fn write_lists() -> bool {
+fn write_lists(rt: &impl System) -> bool {
     let short = short_code();
     let long = words_list::list();
-    if !listing::put(&short, 2) {
+    if !listing::put(rt, &short, 2) {
         return false;
     }
-    if !listing::text(b"\n") {
+    if !listing::text(rt, b"\n") {
         return false;
     }
-    listing::put(&long, 0)
+    listing::put(rt, &long, 0)
 }
 
-fn main() {
-    if 1 < os::arg_count() {
-        console::usage(b"codes", b"codes");
+fn main(rt: HostRuntime) {
+    if 1 < console::argument_count(&rt) {
+        console::usage(&rt, b"codes", b"codes");
         return;
     }
-    if !write_lists() {
-        console::cannot_write(b"codes");
+    if !write_lists(&rt) {
+        console::cannot_write(&rt, b"codes");
     }
 }

@@ -4,8 +4,7 @@ ghost use Rattle.std.specs.Prelude.{◌≤◌, length};
 
 use crate::counts;
 use compaction::{Size, Waiting};
-use console::Goes;
-use libc::STDOUT_FILENO;
+use console::{Goes, Stream, System};
 use settings::Store;
 
 // Where the trace stands: what waits, how many records came and how many were kept, and whether all
@@ -19,7 +18,7 @@ struct KeptSoFar {
 }
 
 // Compacts a block, and writes what is kept of it.
-fn write_block(from: KeptSoFar, store: Store, block: &mut [u8]) -> KeptSoFar {
+fn write_block(rt: &impl System, from: KeptSoFar, store: Store, block: &mut [u8]) -> KeptSoFar {
     let waiting = from.waiting;
     let records = counts::more(from.records, block.len() / 8);
     let done = compaction::compact_block(waiting, store, block);
@@ -33,7 +32,7 @@ fn write_block(from: KeptSoFar, store: Store, block: &mut [u8]) -> KeptSoFar {
             is_good: false,
         };
     };
-    let is_good = console::write(STDOUT_FILENO, block, bytes);
+    let is_good = console::write(rt, Stream::Output, block, bytes);
     KeptSoFar {
         waiting: then,
         records,
@@ -43,45 +42,57 @@ fn write_block(from: KeptSoFar, store: Store, block: &mut [u8]) -> KeptSoFar {
 }
 
 // The same for the front of a buffer, so many bytes long.
-fn write_front(from: KeptSoFar, store: Store, block: &mut [u8], read: usize) -> KeptSoFar
+fn write_front(
+    rt: &impl System,
+    from: KeptSoFar,
+    store: Store,
+    block: &mut [u8],
+    read: usize,
+) -> KeptSoFar
     requires { read ≤ length block.old }
 {
-    write_block(from, store, &mut block[..read])
+    write_block(rt, from, store, &mut block[..read])
 }
 
 // Writes the last record, which waits for none, and says the counts.
-fn write_last(stand: KeptSoFar) {
+fn write_last(rt: &impl System, stand: KeptSoFar) {
     let waiting = stand.waiting;
     if !waiting.waits {
-        counts::say(stand.records, stand.kept);
+        counts::say(rt, stand.records, stand.kept);
         return;
     }
     let bytes = waiting.bytes;
-    if io::write_all(STDOUT_FILENO, &bytes) {
-        counts::say(stand.records, counts::more(stand.kept, 1));
+    if rt.write_all(&bytes).is_ok() {
+        counts::say(rt, stand.records, counts::more(stand.kept, 1));
         return;
     }
-    cannot_write();
+    cannot_write(rt);
 }
 
 // That a write failed.
-fn cannot_write() {
-    console::cannot_write(b"compact");
+fn cannot_write(rt: &impl System) {
+    console::cannot_write(rt, b"compact");
 }
 
 // What comes after the last block: the last record and the counts, or what failed.
-fn finish(how: Goes, stand: KeptSoFar) {
+fn finish(rt: &impl System, how: Goes, stand: KeptSoFar) {
     let Goes::End = how else {
-        console::say_goes(b"compact", how);
+        console::say_goes(rt, b"compact", how);
         return;
     };
-    write_last(stand);
+    write_last(rt, stand);
 }
 
 // The compacted trace of all records of the cards, whose lengths were kept, as one ride. A proved
 // loop has to end, and nothing says that a file does: so it counts its turns down from a number
 // that no run uses up.
-pub fn write_cards(store: Store, first: usize, lengths: &[u64], block: &mut [u8]) {
+pub fn write_cards(
+    rt: &impl System,
+    store: Store,
+    first: usize,
+    lengths: &[u64],
+    block: &mut [u8],
+) {
     let ride = ride::fresh();
     let mut stand = KeptSoFar {
         waiting: Waiting {
@@ -96,16 +107,16 @@ pub fn write_cards(store: Store, first: usize, lengths: &[u64], block: &mut [u8]
     let mut pass = console::begin(first);
     let mut turns = u64::MAX;
     while turns > 0 {
-        let got = console::next_block(pass, lengths, block);
+        let got = console::next_block(rt, pass, lengths, block);
         let read = got.read;
-        stand = write_front(stand, store, block, read);
+        stand = write_front(rt, stand, store, block, read);
         if !stand.is_good {
-            cannot_write();
+            cannot_write(rt);
             return;
         }
         let how = got.how;
         let Goes::More = how else {
-            finish(how, stand);
+            finish(rt, how, stand);
             return;
         };
         pass = got.pass;

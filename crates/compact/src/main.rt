@@ -10,39 +10,39 @@
 mod blocks;
 mod counts;
 
-use console::{Cards, OptionsWent};
+use console::{Cards, OptionsWent, System};
 use settings::Store;
 
 // How it is called.
-fn usage() {
-    console::usage(b"compact", b"compact [-s SETTINGS] CARD..");
+fn usage(rt: &impl System) {
+    console::usage(rt, b"compact", b"compact [-s SETTINGS] CARD..");
 }
 
 // Goes over the cards twice: once for their lengths, once for the records. Nothing is written
 // before all of them can be read and have whole records.
-fn go_over(store: Store, first: usize) {
+fn go_over(rt: &impl System, store: Store, first: usize) {
     let mut lengths = [0u64; 8192];
-    let mut block = io::large_buffer();
-    match console::find_cards(b"compact", first, &mut lengths, &mut block) {
+    let mut block = [0u8; 65536];
+    match console::find_cards(rt, b"compact", first, &mut lengths, &mut block) {
         Cards::Whole => {
-            if !console::to_terminal(b"compact") {
-                blocks::write_cards(store, first, &lengths, &mut block);
+            if !console::to_terminal(rt, b"compact") {
+                blocks::write_cards(rt, store, first, &lengths, &mut block);
             }
         }
-        Cards::BadLength => console::refuse(b"compact", 16),
-        Cards::NoCard => usage(),
+        Cards::BadLength => console::refuse(rt, b"compact", 16),
+        Cards::NoCard => usage(rt),
         Cards::Said => {}
     }
 }
 
-fn main() {
-    let options = console::options(b"compact", true);
+fn main(rt: HostRuntime) {
+    let options = console::options(&rt, b"compact", true);
     let store = options.store;
     let how = options.how;
     match how {
-        OptionsWent::Plain => go_over(store, options.first),
-        OptionsWent::Settings => go_over(store, options.first),
-        OptionsWent::Usage => usage(),
+        OptionsWent::Plain => go_over(&rt, store, options.first),
+        OptionsWent::Settings => go_over(&rt, store, options.first),
+        OptionsWent::Usage => usage(&rt),
         OptionsWent::Said => {}
     }
 }

@@ -1,6 +1,6 @@
 -- A pass over the cards that has not begun.
 -- Assumes nothing.
-use Rattle.std.specs.Prelude.{ℕ, false, pos, neg_ℤ}
+use Rattle.std.specs.Prelude.{ℕ, false, pos, None}
 use Rattle.console.specs.declared.progress.Far.{Far}
 use Rattle.console.specs.declared.blocks.Pass.{Pass}
 
@@ -10,4 +10,4 @@ not_begun = record { on = false; last = pos 0; seconds = 0; bytes = 0; speaks = 
 
 -- No card was begun: the first is that of this argument; no file is open.
 unfoldable pub pass_from : ℕ → Pass
-pass_from first = record { first = first; begun = 0; number = first; fd = neg_ℤ (pos 1); left = 0; far = not_begun }
+pass_from first = record { first = first; begun = 0; number = first; file = None; left = 0; far = not_begun }

@@ -4,14 +4,14 @@ ghost use Rattle.std.specs.Prelude.{◌≡◌, ◌+◌, length};
 ghost use Rattle.settings.specs.Store.{no_store_meant};
 ghost use Rattle.console.specs.Asked.{cards_from, Ridden};
 
-use crate::arguments::is_option;
+use crate::arguments::{argument_count, is_option};
 use crate::lengths::open_card;
 use crate::reading::fill;
 use crate::saying::{begin_line, cannot_write};
 use crate::status::{CallEnded, tell};
-use crate::streams::write;
+use crate::streams::{Stream, write};
+use crate::system::{Source, System};
 use crate::telling::{cannot_open, cannot_read};
-use libc::{STDERR_FILENO, STDOUT_FILENO};
 use settings::Store;
 use settings_text::{Condition, no_store};
 
@@ -43,17 +43,17 @@ fn room() -> [u8; 1048577]
 }
 
 // Says what is wrong with the settings. That they are too long is no result.
-fn tell_of(program: &[u8], aside: bool, line: u32, how: Condition) {
+fn tell_of(rt: &impl System, program: &[u8], aside: bool, line: u32, how: Condition) {
     let mut text = [0u8; 128];
     let count = settings_text::put_told(line, how, &mut text, 0);
-    tell(ended(how));
+    tell(rt, ended(how));
     if aside | is_too_long(how) {
-        begin_line(program);
-        write(STDERR_FILENO, &text, count);
+        begin_line(rt, program);
+        write(rt, Stream::Error, &text, count);
         return;
     }
-    if !write(STDOUT_FILENO, &text, count) {
-        cannot_write(program);
+    if !write(rt, Stream::Output, &text, count) {
+        cannot_write(rt, program);
     }
 }
 
@@ -91,7 +91,7 @@ fn none(at: u8, how: OptionsWent) -> AskedFor
 }
 
 // What a text of settings comes to; where it is bad that is said.
-fn judged(program: &[u8], aside: bool, at: u8, text: &[u8]) -> AskedFor
+fn judged(rt: &impl System, program: &[u8], aside: bool, at: u8, text: &[u8]) -> AskedFor
     ensures { (result.first ≡ cards_from at result.how) × Ridden result.how result.store }
 {
     let sheet = settings_text::read(text);
@@ -105,30 +105,30 @@ fn judged(program: &[u8], aside: bool, at: u8, text: &[u8]) -> AskedFor
             how: OptionsWent::Settings,
         };
     }
-    tell_of(program, aside, line, how);
+    tell_of(rt, program, aside, line, how);
     none(at, OptionsWent::Said)
 }
 
 // The settings of the open file, or what is said of it.
-fn from_file(program: &[u8], aside: bool, at: u8, fd: i32) -> AskedFor
+fn from_file(rt: &impl System, program: &[u8], aside: bool, at: u8, file: &mut Source) -> AskedFor
     ensures { (result.first ≡ cards_from at result.how) × Ridden result.how result.store }
 {
     let mut text = room();
-    let got = fill(fd, &mut text);
+    let got = fill(rt, file, &mut text);
     let count = got.count;
     if got.failed {
-        cannot_read(program, at as usize + 1);
+        cannot_read(rt, program, at as usize + 1);
         return none(at, OptionsWent::Said);
     }
-    judged(program, aside, at, &text[..count])
+    judged(rt, program, aside, at, &text[..count])
 }
 
 // What the arguments ask for before the cards, from this one on, where another option stands before
 // them.
-pub fn options_at(program: &[u8], aside: bool, at: u8) -> AskedFor
+pub fn options_at(rt: &impl System, program: &[u8], aside: bool, at: u8) -> AskedFor
     ensures { (result.first ≡ cards_from at result.how) × Ridden result.how result.store }
 {
-    if !is_option(at as usize, b's') {
+    if !is_option(rt, at as usize, b's') {
         let begun = settings::begin(GAP, 0x00, 0x7F);
         let store = begun.store;
         return AskedFor {
@@ -138,22 +138,19 @@ pub fn options_at(program: &[u8], aside: bool, at: u8) -> AskedFor
         };
     }
     let file = at as usize + 1;
-    if os::arg_count() <= file {
+    if argument_count(rt) <= file {
         return none(at, OptionsWent::Usage);
     }
-    let fd = open_card(file);
-    if fd < 0 {
-        cannot_open(program, file);
+    let Some(mut opened) = open_card(rt, file) else {
+        cannot_open(rt, program, file);
         return none(at, OptionsWent::Said);
-    }
-    let asked = from_file(program, aside, at, fd);
-    libc::close(fd);
-    asked
+    };
+    from_file(rt, program, aside, at, &mut opened)
 }
 
 // What the arguments ask for before the cards.
-pub fn options(program: &[u8], aside: bool) -> AskedFor
+pub fn options(rt: &impl System, program: &[u8], aside: bool) -> AskedFor
     ensures { (result.first ≡ cards_from 1 result.how) × Ridden result.how result.store }
 {
-    options_at(program, aside, 1)
+    options_at(rt, program, aside, 1)
 }

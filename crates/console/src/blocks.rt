@@ -5,15 +5,16 @@ ghost use Rattle.console.specs.Pass.{pass_from};
 use crate::lengths::{named, open_card};
 use crate::progress::{Far, go_on, not_begun, wipe};
 use crate::reading::fill;
+use crate::system::{Source, System};
 
 // Where a pass over the cards stands: the first card's argument, how many cards were begun, the
-// latest one's argument, its file with the bytes left of it (below 0: none), and how far it is.
-#[derive(Clone, Copy)]
+// latest one's argument, its file if one is open, with the bytes left of it, and how far it is.
+#[derive(Drop)]
 pub struct Pass {
     first: usize,
     begun: usize,
     number: usize,
-    fd: i32,
+    file: Option<Source>,
     left: u64,
     far: Far,
 }
@@ -31,7 +32,7 @@ pub enum Goes {
 
 // What a block leaves: the pass, how many bytes of whole records stand at the start of the block,
 // and how it goes on.
-#[derive(Clone, Copy)]
+#[derive(Drop)]
 pub struct CardBlock {
     pub pass: Pass,
     pub read: usize,
@@ -46,18 +47,18 @@ pub fn begin(first: usize) -> Pass
         first,
         begun: 0,
         number: first,
-        fd: -1,
+        file: None,
         left: 0,
         far: not_begun(),
     }
 }
 
 // The pass with the next card open, of which there are so many bytes.
-fn with_card(pass: Pass, begun: usize, number: usize, bytes: u64) -> CardBlock
+fn with_card(rt: &impl System, pass: Pass, begun: usize, number: usize, bytes: u64) -> CardBlock
     ensures { result.read ≡ 0 }
 {
-    let fd = open_card(number);
-    let how = if fd < 0 {
+    let file = open_card(rt, number);
+    let how = if file.is_none() {
         Goes::CannotOpen(number)
     } else {
         Goes::More
@@ -68,7 +69,7 @@ fn with_card(pass: Pass, begun: usize, number: usize, bytes: u64) -> CardBlock
             first: pass.first,
             begun,
             number,
-            fd,
+            file,
             left: bytes,
             far,
         },
@@ -82,14 +83,13 @@ fn with_card(pass: Pass, begun: usize, number: usize, bytes: u64) -> CardBlock
 fn closed(pass: Pass, read: usize, how: Goes) -> CardBlock
     ensures { result.read ≡ read }
 {
-    libc::close(pass.fd);
     let far = pass.far;
     CardBlock {
         pass: Pass {
             first: pass.first,
             begun: pass.begun,
             number: pass.number,
-            fd: -1,
+            file: None,
             left: 0,
             far,
         },
@@ -98,28 +98,18 @@ fn closed(pass: Pass, read: usize, how: Goes) -> CardBlock
     }
 }
 
-// So many bytes of the open card into block, no more than are left of it: whole records.
-fn read_on(pass: Pass, want: usize, block: &mut [u8]) -> CardBlock
-    requires want_in_bounds { want ≤ length block.old }
-    requires want_le_left { want ≤ pass.left }
-    ensures { (result.read ≤ want) × (result.read % 8 ≡ 0) }
+// The pass with its card open and read so far, of which so many bytes were read now.
+fn further(pass: Pass, file: Source, read: usize) -> CardBlock
+    requires { read ≤ pass.left }
+    ensures { result.read ≡ read }
 {
-    let got = fill(pass.fd, &mut block[..want]);
-    let read = got.count - got.count % 8;
-    if got.failed {
-        let number = pass.number;
-        return closed(pass, read, Goes::CannotRead(number));
-    }
-    if read < want {
-        return closed(pass, read, Goes::More);
-    }
     let far = pass.far;
     CardBlock {
         pass: Pass {
             first: pass.first,
             begun: pass.begun,
             number: pass.number,
-            fd: pass.fd,
+            file: Some(file),
             left: pass.left - read as u64,
             far,
         },
@@ -128,8 +118,32 @@ fn read_on(pass: Pass, want: usize, block: &mut [u8]) -> CardBlock
     }
 }
 
+// So many bytes of the open card into block, no more than are left of it: whole records.
+fn read_on(
+    rt: &impl System,
+    pass: Pass,
+    mut file: Source,
+    want: usize,
+    block: &mut [u8],
+) -> CardBlock
+    requires want_in_bounds { want ≤ length block.old }
+    requires want_le_left { want ≤ pass.left }
+    ensures { (result.read ≤ want) × (result.read % 8 ≡ 0) }
+{
+    let got = fill(rt, &mut file, &mut block[..want]);
+    let read = got.count - got.count % 8;
+    if got.failed {
+        let number = pass.number;
+        return closed(pass, read, Goes::CannotRead(number));
+    }
+    if read < want {
+        return closed(pass, read, Goes::More);
+    }
+    further(pass, file, read)
+}
+
 // The next block of the open card: as many whole records as are left of it and have room.
-fn next_of_card(pass: Pass, block: &mut [u8]) -> CardBlock
+fn next_of_card(rt: &impl System, pass: Pass, file: Source, block: &mut [u8]) -> CardBlock
     ensures { (result.read ≤ length block.old) × (result.read % 8 ≡ 0) }
 {
     let left = pass.left;
@@ -141,30 +155,28 @@ fn next_of_card(pass: Pass, block: &mut [u8]) -> CardBlock
         return closed(pass, 0, Goes::NoRoom);
     }
     if left < room as u64 {
-        return read_on(pass, left as usize, block);
+        return read_on(rt, pass, file, left as usize, block);
     }
-    read_on(pass, room, block)
+    read_on(rt, pass, file, room, block)
 }
 
 // The same with how far it is told; where the pass is over that is wiped out.
-fn told(got: CardBlock, lengths: &[u64]) -> CardBlock
+fn told(rt: &impl System, got: CardBlock, lengths: &[u64]) -> CardBlock
     ensures { result.read ≡ got.read }
 {
-    let pass = got.pass;
-    let how = got.how;
-    let read = got.read;
+    let CardBlock { pass, read, how } = got;
     let before = pass.far;
     let Goes::More = how else {
-        wipe(before);
-        return got;
+        wipe(rt, before);
+        return CardBlock { pass, read, how };
     };
-    let far = go_on(before, true, read, lengths);
+    let far = go_on(rt, before, true, read, lengths);
     CardBlock {
         pass: Pass {
             first: pass.first,
             begun: pass.begun,
             number: pass.number,
-            fd: pass.fd,
+            file: pass.file,
             left: pass.left,
             far,
         },
@@ -173,26 +185,30 @@ fn told(got: CardBlock, lengths: &[u64]) -> CardBlock
     }
 }
 
-// The next records of the cards, whose lengths were kept, into block: whole ones. Where a card
-// begins or ends there are none.
-pub fn next_block(pass: Pass, lengths: &[u64], block: &mut [u8]) -> CardBlock
-    ensures { (result.read ≤ length block.old) × (result.read % 8 ≡ 0) }
+// The next card opened, where no card is open; there is none after the last.
+fn next_card(rt: &impl System, pass: Pass, lengths: &[u64]) -> CardBlock
+    ensures { result.read ≡ 0 }
 {
-    if pass.fd >= 0 {
-        return told(next_of_card(pass, block), lengths);
-    }
     let first = pass.first;
     let begun = pass.begun;
-    if begun >= named(first, lengths.len()) {
-        let end = CardBlock {
+    if begun >= named(rt, first, lengths.len()) {
+        return CardBlock {
             pass,
             read: 0,
             how: Goes::End,
         };
-        return told(end, lengths);
     }
-    told(
-        with_card(pass, begun + 1, first + begun, lengths[begun]),
-        lengths,
-    )
+    with_card(rt, pass, begun + 1, first + begun, lengths[begun])
+}
+
+// The next records of the cards, whose lengths were kept, into block: whole ones. Where a card
+// begins or ends there are none.
+pub fn next_block(rt: &impl System, pass: Pass, lengths: &[u64], block: &mut [u8]) -> CardBlock
+    ensures { (result.read ≤ length block.old) × (result.read % 8 ≡ 0) }
+{
+    let mut here = pass;
+    match here.file.take() {
+        Some(file) => told(rt, next_of_card(rt, here, file, block), lengths),
+        None => told(rt, next_card(rt, here, lengths), lengths),
+    }
 }

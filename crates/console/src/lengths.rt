@@ -2,10 +2,12 @@
 // opened.
 ghost use Rattle.std.specs.Prelude.{◌+◌, ◌≤◌, length};
 
-use crate::arguments::is_input;
+use crate::arguments::{argument_count, is_input};
 use crate::progress::{Far, not_begun, wipe};
 use crate::reading::length_of;
-use libc::SEEK_SET;
+use crate::system::{Source, System};
+use std::fs::File;
+use std::io::{Seek, SeekFrom};
 
 // What going over the cards finds: cards of whole records; no card; more of them than lengths are
 // kept; or the number of the argument whose card cannot be opened, cannot be read, has a length
@@ -39,24 +41,45 @@ struct Gone {
     far: Far,
 }
 
-// Opens the file that the argument with this number names, or standard input for the name `-`;
-// below 0 where that cannot be done.
-pub fn open_card(number: usize) -> i32 {
-    if is_input(number) {
-        return os::open_read(b"/dev/stdin");
+// Opens the file of this name; none where that cannot be done. A name that is no text in UTF-8 is
+// none that std opens.
+fn open_named(rt: &impl System, name: &[u8]) -> Option<Source> {
+    let Ok(path) = str::from_utf8(name) else {
+        return None;
+    };
+    match File::open(rt, path) {
+        Ok(file) => Some(Source::Opened(file)),
+        Err(_) => None,
     }
-    let mut path = io::buffer();
-    let length = os::arg(number, &mut path);
-    if os::errno() != 0 {
-        return -1;
+}
+
+// Opens the file that the argument with this number names, or standard input for the name `-`; none
+// where that cannot be done.
+pub fn open_card(rt: &impl System, number: usize) -> Option<Source> {
+    if is_input(rt, number) {
+        return open_named(rt, b"/dev/stdin");
     }
-    os::open_read(&path[..length])
+    let mut path = [0u8; 4096];
+    let Ok(length) = rt.arg(number, &mut path) else {
+        return None;
+    };
+    open_named(rt, &path[..length])
+}
+
+// Whether a file stands at its beginning again; standard input as it was given is not asked.
+pub fn to_start(from: &mut Source) -> bool {
+    match from {
+        Source::Opened(file) => match file.seek(SeekFrom::Start(0)) {
+            Ok(at) => at == 0,
+            Err(_) => false,
+        },
+        Source::Given => false,
+    }
 }
 
 // Goes over a card for its length.
-fn measure(number: usize, block: &mut [u8], far: Far) -> Card {
-    let fd = open_card(number);
-    if fd < 0 {
+fn measure(rt: &impl System, number: usize, block: &mut [u8], far: Far) -> Card {
+    let Some(mut file) = open_card(rt, number) else {
         return Card {
             bytes: 0,
             is_open: false,
@@ -64,10 +87,9 @@ fn measure(number: usize, block: &mut [u8], far: Far) -> Card {
             is_again: false,
             far,
         };
-    }
-    let length = length_of(fd, block, far);
-    let is_again = libc::lseek(fd, 0, SEEK_SET) == 0;
-    libc::close(fd);
+    };
+    let length = length_of(rt, &mut file, block, far);
+    let is_again = to_start(&mut file);
     let then = length.far;
     Card {
         bytes: length.bytes,
@@ -80,10 +102,10 @@ fn measure(number: usize, block: &mut [u8], far: Far) -> Card {
 
 // How many cards are named from this argument on; none where there are more than that many, or than
 // a million, which no command line has.
-pub fn named(first: usize, most: usize) -> usize
+pub fn named(rt: &impl System, first: usize, most: usize) -> usize
     ensures { (result ≤ most) × (first + result ≤ 18446744073709551615) × (result ≤ 1000000) }
 {
-    let words = os::arg_count();
+    let words = argument_count(rt);
     if words <= first {
         return 0;
     }
@@ -98,8 +120,8 @@ pub fn named(first: usize, most: usize) -> usize
 }
 
 // Why no card is gone over: none is named, or too many are.
-fn none_named(first: usize) -> CardsFound {
-    if os::arg_count() <= first {
+fn none_named(rt: &impl System, first: usize) -> CardsFound {
+    if argument_count(rt) <= first {
         return CardsFound::NoCard;
     }
     CardsFound::TooMany
@@ -128,7 +150,13 @@ fn judged(bad: usize, once: usize) -> CardsFound {
 }
 
 // Goes over so many cards for their lengths, and keeps them.
-fn go_over_all(first: usize, count: usize, lengths: &mut [u64], block: &mut [u8]) -> Gone
+fn go_over_all(
+    rt: &impl System,
+    first: usize,
+    count: usize,
+    lengths: &mut [u64],
+    block: &mut [u8],
+) -> Gone
     requires { (count ≤ length lengths.old) × (first + count ≤ 18446744073709551615) × (count ≤ 1000000) }
 {
     let mut far = not_begun();
@@ -137,7 +165,7 @@ fn go_over_all(first: usize, count: usize, lengths: &mut [u64], block: &mut [u8]
     let mut i: usize = 0;
     while i < count {
         let number = first + i;
-        let card = measure(number, block, far);
+        let card = measure(rt, number, block, far);
         far = card.far;
         if !card.is_open {
             return Gone {
@@ -165,13 +193,18 @@ fn go_over_all(first: usize, count: usize, lengths: &mut [u64], block: &mut [u8]
 // Goes over all cards for their lengths, and keeps them. One that cannot be opened or read decides
 // before one of a bad length, and that before one that cannot be gone over again; among equals the
 // first.
-pub fn go_over(first: usize, lengths: &mut [u64], block: &mut [u8]) -> CardsFound {
-    let count = named(first, lengths.len());
+pub fn go_over(
+    rt: &impl System,
+    first: usize,
+    lengths: &mut [u64],
+    block: &mut [u8],
+) -> CardsFound {
+    let count = named(rt, first, lengths.len());
     if count == 0 {
-        return none_named(first);
+        return none_named(rt, first);
     }
-    let gone = go_over_all(first, count, lengths, block);
+    let gone = go_over_all(rt, first, count, lengths, block);
     let far = gone.far;
-    wipe(far);
+    wipe(rt, far);
     gone.found
 }

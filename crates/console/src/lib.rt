@@ -1,19 +1,22 @@
 // What programs share that read and write: what they say and how they tell the launcher that
 // something was wrong, arguments, the settings that stand before the cards, and the cards
-// themselves.
-// 1. `tell`: a program has no exit status in this language, so one digit goes to descriptor 9,
-//    which the launcher (./run, atc2) alone opens; a program that is run by itself has no such
-//    pipe, and nothing happens.
+// themselves. What reads, writes, or asks for an argument or the clock takes the system first,
+// `rt: &impl System`, which is left out below.
+// 1. `tell`: one digit goes to descriptor 9, which the launcher (./run, atc2) alone opens; a
+//    program that is run by itself has no such pipe, and nothing happens. By it the launcher ends,
+//    and not by the program's own exit status.
 // 2. `fail`, `fail_of`: a line of standard error that begins with the program's name, where the
 //    call comes to nothing by it, which is told. `usage`, `cannot_write`, `wrong` (an argument),
-//    `refuse`, `to_terminal`: what programs have to say alike, and tell.
-// 3. `room`: room for lines; `write`: the first bytes of a buffer to either stream; `put`: to
+//    `refuse`, `to_terminal`: what programs have to say alike, and tell. `say`: bytes of such a
+//    line.
+// 3. `room`: room for lines; `write`: the first bytes of a buffer to a `Stream`; `put`: to
 //    standard output, and a failure is said and told; `refuse_by`: a line there by which the call
 //    is refused; `refuse_here`: `refused 4: WORDS`; `refuse_trace`: `trace refused 16`, in document
 //    01's words.
-// 4. `number`, `is_input`, `is_option`: an argument as a figure, as standard input (`-`), as an
-//    option (`-p`). `figure` (the largest stands for all above it), `number_in` (a range),
-//    `sync_pair` (two words of two hex digits): the same, and where it is none that is said.
+// 4. `argument_count`: how many words a call has. `number`, `is_input`, `is_option`: an argument as
+//    a figure, as standard input (`-`), as an option (`-p`). `figure` (the largest stands for all
+//    above it), `number_in` (a range), `sync_pair` (two words of two hex digits): the same, and
+//    where it is none that is said.
 // 5. `options(program, aside)` takes `-s SETTINGS` and answers an `AskedFor`: the store of the
 //    settings; the first argument after them (1, or 3); and how it went: `Plain` (no `-s`: the
 //    store of document 01's gap, 40), `Settings` (the good store of the file), `Usage` (`-s`
@@ -32,8 +35,10 @@
 //    records, card after card: `block[..read]` holds the next records, `how` says whether more may
 //    come (`More`; an empty block too), all were read (`End`), or what failed. No more is read than
 //    `go_over` counted.
-// 8. `open_card(number)` opens the file of an argument, `fill(fd, buf)` reads it, for files that
-//    are no cards (settings, a plan). The name `-` is standard input.
+// 8. `open_card(number)` opens the file of an argument, if that can be done; `fill(from, buf)` and
+//    `read_some(from, buf)`, one read alone, read it, and `to_start(from)` begins again, for files
+//    that are no cards (settings, a plan). The name `-` is standard input. A `Source` is closed
+//    where it is let go.
 // 9. `cannot_open`, `cannot_read`, `only_once`, `say_found`: one line of standard error each,
 //    `explain: cannot open FILE`, and it is told. Of a bad length `say_found` says nothing: that is
 //    `trace refused 16`. `say_goes`: what ended a pass.
@@ -54,17 +59,20 @@ mod reading;
 mod saying;
 mod status;
 mod streams;
+mod system;
 mod telling;
 
 pub use arguments::{
-    FigureAsked, NumberAsked, PairAsked, figure, is_input, is_option, number, number_in, sync_pair,
+    FigureAsked, NumberAsked, PairAsked, argument_count, figure, is_input, is_option, number,
+    number_in, sync_pair,
 };
 pub use before::{AskedFor, OptionsWent, options, options_at};
 pub use blocks::{CardBlock, Goes, Pass, begin, next_block};
-pub use lengths::{CardsFound, go_over, open_card};
+pub use lengths::{CardsFound, go_over, open_card, to_start};
 pub use progress::{Far, go_on_somehow, not_begun, wipe};
-pub use reading::{Filled, fill};
-pub use saying::{cannot_write, fail, fail_of, refuse, to_terminal, usage, wrong};
+pub use reading::{Filled, fill, read_some};
+pub use saying::{cannot_write, fail, fail_of, refuse, say, to_terminal, usage, wrong};
 pub use status::{CallEnded, tell};
-pub use streams::{put, refuse_by, refuse_here, refuse_trace, room, write};
+pub use streams::{Stream, put, refuse_by, refuse_here, refuse_trace, room, write};
+pub use system::{Source, System};
 pub use telling::{Cards, cannot_open, cannot_read, find_cards, only_once, say_found, say_goes};

@@ -5,7 +5,8 @@
 ghost use Rattle.std.specs.Prelude.{◌≡◌};
 ghost use Rattle.console.specs.Pass.{not_begun};
 
-use libc::{STDERR_FILENO, STDOUT_FILENO};
+use crate::saying::say;
+use crate::system::System;
 
 // Whether the work has begun; the second that it is and how many came since, from the third of
 // which on it is said how far it is; how many bytes were gone over; and whether anybody is told.
@@ -32,22 +33,24 @@ pub fn not_begun() -> Far
 }
 
 // The second that it is.
-fn second() -> i64 {
-    let mut t: i64 = 0;
-    libc::time(&mut t)
+fn second(rt: &impl System) -> i64 {
+    match rt.since_1970() {
+        Ok(time) => time.as_secs().cast_signed(),
+        Err(_) => 0,
+    }
 }
 
 // Work that begins now, if it has not. Where the program's lines go to a terminal too they say how
 // far it is, and nobody else does.
-fn begun(far: Far, has_lines: bool) -> Far {
+fn begun(rt: &impl System, far: Far, has_lines: bool) -> Far {
     if far.on {
         return far;
     }
-    let is_seen = libc::isatty(STDERR_FILENO) == 1;
-    let is_mixed = has_lines & (libc::isatty(STDOUT_FILENO) == 1);
+    let is_seen = rt.is_error_terminal();
+    let is_mixed = has_lines & rt.is_output_terminal();
     Far {
         on: true,
-        last: second(),
+        last: second(rt),
         seconds: 0,
         bytes: 0,
         speaks: is_seen & !is_mixed,
@@ -55,29 +58,30 @@ fn begun(far: Far, has_lines: bool) -> Far {
 }
 
 // What stands after the last `/` of a path.
-fn say_last(path: &[u8]) {
+fn say_last(rt: &impl System, path: &[u8]) {
     let mut start = path.len();
     while start > 0 {
         if path[start - 1] == b'/' {
-            io::write_all(STDERR_FILENO, &path[start..]);
+            say(rt, &path[start..]);
             return;
         }
         start -= 1;
     }
-    io::write_all(STDERR_FILENO, path);
+    say(rt, path);
 }
 
 // The program's name.
-fn say_name() {
-    let mut text = io::buffer();
-    let length = os::arg(0, &mut text);
-    say_last(&text[..length]);
+fn say_name(rt: &impl System) {
+    let mut text = [0u8; 4096];
+    if let Ok(length) = rt.arg(0, &mut text) {
+        say_last(rt, &text[..length]);
+    }
 }
 
 // A number and a unit.
-fn say_number(n: u64, unit: &[u8]) {
-    io::print_decimal(STDERR_FILENO, n);
-    io::write_all(STDERR_FILENO, unit);
+fn say_number(rt: &impl System, n: u64, unit: &[u8]) {
+    let _ = rt.eprint(n);
+    say(rt, unit);
 }
 
 // The sum of some lengths, round 2^64.
@@ -92,18 +96,18 @@ fn sum_of(lengths: &[u64]) -> u64 {
 }
 
 // How far it is: in hundredths of all, or in bytes where nobody knows how many there are.
-fn say_far(bytes: u64, all: u64) {
-    say_name();
-    io::write_all(STDERR_FILENO, b": ");
+fn say_far(rt: &impl System, bytes: u64, all: u64) {
+    say_name(rt);
+    say(rt, b": ");
     if all > 0 {
-        say_number(bytes / (all / 100 + 1), b" %\r");
+        say_number(rt, bytes / (all / 100 + 1), b" %\r");
         return;
     }
     if bytes < 10485760 {
-        say_number(bytes / 1024, b" KiB\r");
+        say_number(rt, bytes / 1024, b" KiB\r");
         return;
     }
-    say_number(bytes / 1048576, b" MiB\r");
+    say_number(rt, bytes / 1048576, b" MiB\r");
 }
 
 // The work with so many bytes gone over, in this second.
@@ -119,32 +123,32 @@ fn with(far: Far, bytes: u64, last: i64, seconds: u64) -> Far {
 
 // So many bytes more were gone over, of those that the lengths say; without a length, of nobody
 // knows how many.
-pub fn go_on(before: Far, has_lines: bool, count: usize, lengths: &[u64]) -> Far {
-    let far = begun(before, has_lines);
+pub fn go_on(rt: &impl System, before: Far, has_lines: bool, count: usize, lengths: &[u64]) -> Far {
+    let far = begun(rt, before, has_lines);
     let bytes = std::num::wrapping_add_u64(far.bytes, count as u64);
     if !far.speaks {
         return with(far, bytes, far.last, 0);
     }
-    let now = second();
+    let now = second(rt);
     if now == far.last {
         return with(far, bytes, now, far.seconds);
     }
     let seconds = std::num::wrapping_add_u64(far.seconds, 1);
     if seconds > 2 {
-        say_far(bytes, sum_of(lengths));
+        say_far(rt, bytes, sum_of(lengths));
     }
     with(far, bytes, now, seconds)
 }
 
 // The same where nobody knows how many there are.
-pub fn go_on_somehow(before: Far, has_lines: bool, count: usize) -> Far {
+pub fn go_on_somehow(rt: &impl System, before: Far, has_lines: bool, count: usize) -> Far {
     let none = [0u64; 1];
-    go_on(before, has_lines, count, &none)
+    go_on(rt, before, has_lines, count, &none)
 }
 
 // The work is over: what was said last is wiped out.
-pub fn wipe(far: Far) {
+pub fn wipe(rt: &impl System, far: Far) {
     if far.seconds > 2 {
-        io::write_all(STDERR_FILENO, b"                                        \r");
+        say(rt, b"                                        \r");
     }
 }

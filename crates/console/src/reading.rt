@@ -1,7 +1,10 @@
 // Reading a file in blocks of 64 KiB.
-ghost use Rattle.std.specs.Prelude.{◌≤◌, length};
+ghost use Rattle.std.specs.Prelude.{◌≤◌, length, IfOk};
 
 use crate::progress::{Far, go_on_somehow};
+use crate::system::{Source, System};
+use std::io;
+use std::io::Read;
 
 // How many bytes were read, and whether a read failed then.
 #[derive(Clone, Copy)]
@@ -18,31 +21,40 @@ pub struct Length {
     pub far: Far,
 }
 
+// One read into buf.
+fn read_once(rt: &impl System, from: &mut Source, buf: &mut [u8]) -> io::Result<usize>
+    ensures { IfOk result (λ n. n ≤ length buf.old) }
+{
+    match from {
+        Source::Opened(file) => file.read(buf),
+        Source::Given => rt.reader().read(buf),
+    }
+}
+
 // Reads once into buf: no byte where the file ends.
-fn read_some(fd: i32, buf: &mut [u8]) -> Filled
+pub fn read_some(rt: &impl System, from: &mut Source, buf: &mut [u8]) -> Filled
     ensures { result.count ≤ length buf.old }
 {
-    let got = libc::read(fd, buf);
-    if got < 0 {
-        return Filled {
+    match read_once(rt, from, buf) {
+        Ok(count) => Filled {
+            count,
+            failed: false,
+        },
+        Err(_) => Filled {
             count: 0,
             failed: true,
-        };
-    }
-    Filled {
-        count: io::count(got, buf),
-        failed: false,
+        },
     }
 }
 
 // Fills buf; a count below its length says that the file ends there.
-pub fn fill(fd: i32, buf: &mut [u8]) -> Filled
+pub fn fill(rt: &impl System, from: &mut Source, buf: &mut [u8]) -> Filled
     ensures { result.count ≤ length buf.old }
 {
     let mut have = 0;
     let mut failed = false;
     while have < buf.len() {
-        let got = read_some(fd, &mut buf[have..]);
+        let got = read_some(rt, from, &mut buf[have..]);
         failed = got.failed;
         let count = got.count;
         if count == 0 {
@@ -59,12 +71,12 @@ pub fn fill(fd: i32, buf: &mut [u8]) -> Filled
 // The length of the file from here on, by way of block: block after block up to one that is empty.
 // A proved loop has to end, and nothing says that a file does: so the loop counts its turns down
 // from a number that no run uses up.
-pub fn length_of(fd: i32, block: &mut [u8], before: Far) -> Length {
+pub fn length_of(rt: &impl System, from: &mut Source, block: &mut [u8], before: Far) -> Length {
     let mut far = before;
     let mut bytes: u64 = 0;
     let mut turns = u64::MAX;
     while turns > 0 {
-        let got = fill(fd, block);
+        let got = fill(rt, from, block);
         let count = got.count as u64;
         if got.failed {
             break;
@@ -80,7 +92,7 @@ pub fn length_of(fd: i32, block: &mut [u8], before: Far) -> Length {
             break;
         }
         bytes += count;
-        far = go_on_somehow(far, false, got.count);
+        far = go_on_somehow(rt, far, false, got.count);
         turns -= 1;
     }
     Length {

@@ -13,16 +13,21 @@ mod whole;
 
 use acceptance::Acceptance;
 use acceptance_console::Compared;
-use console::{Cards, OptionsWent};
+use console::{Cards, OptionsWent, System};
 use settings::Store;
 
 // The line for wrong or missing arguments.
-fn usage() {
-    console::usage(b"draw", b"draw [-s SETTINGS] [-p PLAN TOLERANCE] CARD..");
+fn usage(rt: &impl System) {
+    console::usage(
+        rt,
+        b"draw",
+        b"draw [-s SETTINGS] [-p PLAN TOLERANCE] CARD..",
+    );
 }
 
 // The ride compared with its plan, where there is one.
 fn compare(
+    rt: &impl System,
     is_planned: bool,
     run: Acceptance,
     store: Store,
@@ -31,13 +36,14 @@ fn compare(
     block: &mut [u8],
 ) -> Compared {
     if is_planned {
-        return acceptance_console::compare(b"draw", false, run, store, first, lengths, block);
+        return acceptance_console::compare(rt, b"draw", false, run, store, first, lengths, block);
     }
     acceptance_console::set_out(run)
 }
 
 // Compares the cards, whose lengths were kept, with the plan, and draws.
 fn draw_found(
+    rt: &impl System,
     is_planned: bool,
     run: Acceptance,
     store: Store,
@@ -45,71 +51,71 @@ fn draw_found(
     lengths: &[u64],
     block: &mut [u8],
 ) {
-    let compared = compare(is_planned, run, store, first, lengths, block);
+    let compared = compare(rt, is_planned, run, store, first, lengths, block);
     if compared.whole {
-        whole::draw_ride(compared, is_planned, store, first, lengths, block);
+        whole::draw_ride(rt, compared, is_planned, store, first, lengths, block);
     }
 }
 
 // Goes over the cards for their lengths, and draws.
-fn draw_cards(is_planned: bool, run: Acceptance, store: Store, first: usize) {
+fn draw_cards(rt: &impl System, is_planned: bool, run: Acceptance, store: Store, first: usize) {
     let mut lengths = [0u64; 8192];
-    let mut block = io::large_buffer();
-    match console::find_cards(b"draw", first, &mut lengths, &mut block) {
-        Cards::Whole => draw_found(is_planned, run, store, first, &lengths, &mut block),
-        Cards::BadLength => whole::draw_refused(),
-        Cards::NoCard => usage(),
+    let mut block = [0u8; 65536];
+    match console::find_cards(rt, b"draw", first, &mut lengths, &mut block) {
+        Cards::Whole => draw_found(rt, is_planned, run, store, first, &lengths, &mut block),
+        Cards::BadLength => whole::draw_refused(rt),
+        Cards::NoCard => usage(rt),
         Cards::Said => {}
     }
 }
 
 // The plan of the argument `file` with the tolerance after it, and a card at least.
-fn draw_planned(store: Store, file: usize, cards: usize) {
-    if os::arg_count() <= cards {
-        usage();
+fn draw_planned(rt: &impl System, store: Store, file: usize, cards: usize) {
+    if console::argument_count(rt) <= cards {
+        usage(rt);
         return;
     }
-    let asked = acceptance_console::plan_of(b"draw", file);
+    let asked = acceptance_console::plan_of(rt, b"draw", file);
     let run = asked.run;
     if asked.is_good {
-        draw_cards(true, run, store, cards);
+        draw_cards(rt, true, run, store, cards);
     }
 }
 
 // The arguments after the settings: a plan and a tolerance after `-p`, or cards alone.
-fn draw(store: Store, first: usize) {
-    if console::is_option(first, b'p') {
+fn draw(rt: &impl System, store: Store, first: usize) {
+    if console::is_option(rt, first, b'p') {
         let file = std::num::wrapping_add_usize(first, 1);
-        draw_planned(store, file, std::num::wrapping_add_usize(file, 2));
+        draw_planned(rt, store, file, std::num::wrapping_add_usize(file, 2));
         return;
     }
     let none = acceptance::plan(b"", 0);
     let run = none.plan;
-    draw_cards(false, run, store, first);
+    draw_cards(rt, false, run, store, first);
 }
 
 // The plan before the settings, or all after them.
-fn go(is_before: bool, store: Store, first: usize) {
+fn go(rt: &impl System, is_before: bool, store: Store, first: usize) {
     if is_before {
-        draw_planned(store, 2, first);
+        draw_planned(rt, store, 2, first);
         return;
     }
-    draw(store, first);
+    draw(rt, store, first);
 }
 
 // The settings that `-s` names, or the gap of document 01; then the rest. A plan may stand before
 // them.
-fn main() {
-    let before = console::is_option(1, b'p');
+fn main(rt: HostRuntime) {
+    let before = console::is_option(&rt, 1, b'p');
     let at: u8 = if before { 4 } else { 1 };
-    let asked = console::options_at(b"draw", false, at);
+    let asked = console::options_at(&rt, b"draw", false, at);
     let store = asked.store;
     let first = asked.first;
     let how = asked.how;
     match how {
-        OptionsWent::Plain => go(before, store, first),
-        OptionsWent::Settings => go(before, store, first),
-        OptionsWent::Usage => usage(),
+        OptionsWent::Plain => go(&rt, before, store, first),
+        OptionsWent::Settings => go(&rt, before, store, first),
+        OptionsWent::Usage => usage(&rt),
         OptionsWent::Said => {}
     }
 }

@@ -1,14 +1,17 @@
 // What stands in every page: the head, the shapes of the signs, the legend, and what stands around
 // the listing. The words hold no quotes but single ones.
 
+use console::System;
+
 // Words to standard output.
-fn write(words: &[u8]) -> bool {
-    console::put(b"draw", words, words.len())
+fn write(rt: &impl System, words: &[u8]) -> bool {
+    console::put(rt, b"draw", words, words.len())
 }
 
 // The title and the style: a strip scrolls by itself on a small screen, and no page cuts it.
-fn put_style() -> bool {
+fn put_style(rt: &impl System) -> bool {
     write(
+        rt,
         b"<!DOCTYPE html>\n<html lang='en'><head><meta charset='utf-8'/><meta name='viewport' content='width=device-width, initial-scale=1'/><title>A ride</title><style>
 body{font:16px/1.5 sans-serif;color:#000;background:#fff;max-width:1170px;margin:0 auto;padding:0 8px}
 h1{font-size:22px;margin:8px 0}h2{font-size:16px;margin:16px 0 0;break-after:avoid}p{margin:8px 0}pre{white-space:pre-wrap}
@@ -25,8 +28,9 @@ h1{font-size:22px;margin:8px 0}h2{font-size:16px;margin:16px 0 0;break-after:avo
 }
 
 // The grid of a strip: a tick each 100 m, the scale of the speeds, the line, and the margin.
-fn put_grid() -> bool {
+fn put_grid(rt: &impl System) -> bool {
     write(
+        rt,
         b"<svg width='0' height='0' style='position:absolute'><defs><g id='g'><rect class='q' x='0' y='20' width='100' height='198'/>
 <path class='k' d='M100 20V218M200 20V218M300 20V218M400 20V218M500 20V218M600 20V218M700 20V218M800 20V218M900 20V218M1000 20V218M1100 20V218M100 28H1100M100 58H1100M100 88H1100M100 118H1100'/>
 <path class='a' d='M0 156H1110'/><g class='y'><text x='1103' y='33'>270</text><text x='1103' y='63'>180</text><text x='1103' y='93'>90</text><text x='1103' y='123'>0</text></g></g>\n",
@@ -35,8 +39,9 @@ fn put_grid() -> bool {
 
 // The signs of groups above the line: a signal unmarked, first, early, good and late, a warning
 // board, an annulled one, a line board, a route board.
-fn put_present() -> bool {
+fn put_present(rt: &impl System) -> bool {
     write(
+        rt,
         b"<g id='s1'><path class='n' d='M0 156V145'/><circle class='p' cy='138' r='7'/></g>
 <g id='s2'><path class='n' d='M0 156V145'/><path class='p' d='M-8 145v-8l8 -8l8 8v8z'/><circle class='b' cy='139' r='2.5'/></g>
 <g id='s3'><path class='n' d='M0 156V145'/><path class='p' d='M-9 138l15 -8v16z'/><path class='b' d='M-9 138l8 -4.3v8.6z'/></g>
@@ -50,8 +55,9 @@ fn put_present() -> bool {
 }
 
 // Those below it, and the signs of a fault, a missed signal and a refused record.
-fn put_opposite() -> bool {
+fn put_opposite(rt: &impl System) -> bool {
     write(
+        rt,
         b"<g id='s11'><path class='n' d='M0 156V167'/><circle class='p' cy='174' r='7'/></g>
 <g id='s16'><path class='n' d='M0 156V167'/><path class='p' d='M0 183l9 -16h-18z'/></g>
 <g id='s17'><use href='#s11'/><path class='n' d='M-5 169l10 10M5 169l-10 10'/></g>
@@ -64,8 +70,9 @@ fn put_opposite() -> bool {
 }
 
 // The legend: each sign, and what it stands for.
-fn put_legend() -> bool {
+fn put_legend(rt: &impl System) -> bool {
     write(
+        rt,
         b"<p><span class='i'><svg class='j' viewBox='-12 124 24 36'><use href='#s2'/></svg>signal, first</span> <span class='i'><svg class='j' viewBox='-12 124 24 36'><use href='#s3'/></svg>early</span> <span class='i'><svg class='j' viewBox='-12 124 24 36'><use href='#s4'/></svg>good</span> <span class='i'><svg class='j' viewBox='-12 124 24 36'><use href='#s5'/></svg>late</span>
 <span class='i'><svg class='j' viewBox='-12 124 24 36'><use href='#s6'/></svg>warning</span> <span class='i'><svg class='j' viewBox='-12 124 24 36'><use href='#s7'/></svg>annulled</span> <span class='i'><svg class='j' viewBox='-12 124 24 36'><use href='#s8'/></svg>line</span> <span class='i'><svg class='j' viewBox='-12 124 24 36'><use href='#s9'/></svg>route</span>
 <span class='i'><svg class='j' viewBox='-12 152 24 36'><use href='#s11'/></svg>opposite signal</span> <span class='i'><svg class='j' viewBox='-12 152 24 36'><use href='#s16'/></svg>opposite warning</span> <span class='i'><svg class='j' viewBox='-12 152 24 36'><use href='#s17'/></svg>opposite annulled</span> <span class='i'><svg class='j' viewBox='-12 152 24 36'><use href='#s18'/></svg>opposite line</span>
@@ -76,8 +83,9 @@ fn put_legend() -> bool {
 }
 
 // The signs of the row over the strips, and what they stand for.
-fn put_row() -> bool {
+fn put_row(rt: &impl System) -> bool {
     write(
+        rt,
         b"<svg width='0' height='0' style='position:absolute'><defs><g id='s30'><path class='b' d='M0 17l-7 -12h14z'/></g>
 <g id='s31'><path class='p' d='M0 16l-6 -10h12z'/></g>
 <g id='s32'><path class='f' d='M0 19v10M-5 24h10'/></g></defs></svg>
@@ -86,47 +94,48 @@ fn put_row() -> bool {
 }
 
 // All before the strips, up to the row of records that are refused before any is accepted.
-pub fn put_head(is_planned: bool) -> bool {
-    if !put_style() {
+pub fn put_head(rt: &impl System, is_planned: bool) -> bool {
+    if !put_style(rt) {
         return false;
     }
-    if !put_grid() {
+    if !put_grid(rt) {
         return false;
     }
-    if !put_present() {
+    if !put_present(rt) {
         return false;
     }
-    if !put_opposite() {
+    if !put_opposite(rt) {
         return false;
     }
-    if !put_legend() {
+    if !put_legend(rt) {
         return false;
     }
     if is_planned {
-        if !put_row() {
+        if !put_row(rt) {
             return false;
         }
     }
-    write(b"<p>")
+    write(rt, b"<p>")
 }
 
 // The end of that row, where there is no strip.
-pub fn put_no_strip() -> bool {
-    write(b"</p>\n<pre>")
+pub fn put_no_strip(rt: &impl System) -> bool {
+    write(rt, b"</p>\n<pre>")
 }
 
 // What stands before lines, those of the verdict or of the listing, and after the verdict's.
-pub fn put_lines() -> bool {
-    write(b"<pre>")
+pub fn put_lines(rt: &impl System) -> bool {
+    write(rt, b"<pre>")
 }
 
-pub fn put_lines_end() -> bool {
-    write(b"</pre>\n")
+pub fn put_lines_end(rt: &impl System) -> bool {
+    write(rt, b"</pre>\n")
 }
 
 // The end of the page: in print there is a line to sign.
-pub fn put_foot() {
+pub fn put_foot(rt: &impl System) {
     write(
+        rt,
         b"</pre><p class='w'>Date: ______________________ Signed: ______________________________</p></body></html>\n",
     );
 }

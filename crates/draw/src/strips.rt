@@ -1,7 +1,7 @@
 // The strips of a ride, block by block.
 ghost use Rattle.std.specs.Prelude.{◌≤◌};
 
-use console::Goes;
+use console::{Goes, System};
 use ride_drawing::{Drawing, Plan};
 use ride_text::Done;
 use settings::Store;
@@ -14,7 +14,7 @@ struct DrawnSoFar {
 }
 
 // How many of so many records were drawn, once they are written: none where that fails.
-fn written(done: Done, most: usize, out: &[u8]) -> usize
+fn written(rt: &impl System, done: Done, most: usize, out: &[u8]) -> usize
     ensures { result ≤ most }
 {
     match done {
@@ -22,7 +22,7 @@ fn written(done: Done, most: usize, out: &[u8]) -> usize
             if records > most {
                 return 0;
             }
-            if console::put(b"draw", out, bytes) {
+            if console::put(rt, b"draw", out, bytes) {
                 return records;
             }
             0
@@ -34,6 +34,7 @@ fn written(done: Done, most: usize, out: &[u8]) -> usize
 
 // The records of a block: as many at once as have room.
 fn draw_records(
+    rt: &impl System,
     plan: Plan,
     from: DrawnSoFar,
     store: Store,
@@ -46,7 +47,7 @@ fn draw_records(
         let drawn = ride_drawing::draw(plan, drawing, store, &records[i * 8..], out);
         let done = drawn.done;
         drawing = drawn.drawing;
-        let took = written(done, records.len() / 8 - i, out);
+        let took = written(rt, done, records.len() / 8 - i, out);
         if took == 0 {
             return DrawnSoFar {
                 drawing,
@@ -62,22 +63,23 @@ fn draw_records(
 }
 
 // What comes after the last block: the end of the ride, or what failed.
-fn finish(plan: Plan, how: Goes, stand: DrawnSoFar, out: &mut [u8]) -> bool {
+fn finish(rt: &impl System, plan: Plan, how: Goes, stand: DrawnSoFar, out: &mut [u8]) -> bool {
     let Goes::End = how else {
-        console::say_goes(b"draw", how);
+        console::say_goes(rt, b"draw", how);
         return false;
     };
     let drawing = stand.drawing;
     let pen = drawing.pen;
     let ride = drawing.ride;
     let n = ride_drawing::draw_end(plan, pen, ride, out, 0);
-    console::put(b"draw", out, n)
+    console::put(rt, b"draw", out, n)
 }
 
 // All records of the cards, whose lengths were kept, as one ride, and its end. A proved loop has to
 // end, and nothing says that a file does: so it counts its turns down from a number that no run
 // uses up.
 fn draw_blocks(
+    rt: &impl System,
     plan: Plan,
     drawing: Drawing,
     store: Store,
@@ -93,15 +95,15 @@ fn draw_blocks(
     let mut pass = console::begin(first);
     let mut turns = u64::MAX;
     while turns > 0 {
-        let got = console::next_block(pass, lengths, block);
+        let got = console::next_block(rt, pass, lengths, block);
         let read = got.read;
-        stand = draw_records(plan, stand, store, &block[..read], out);
+        stand = draw_records(rt, plan, stand, store, &block[..read], out);
         if !stand.is_good {
             return false;
         }
         let how = got.how;
         let Goes::More = how else {
-            return finish(plan, how, stand, out);
+            return finish(rt, plan, how, stand, out);
         };
         pass = got.pass;
         turns -= 1;
@@ -111,6 +113,7 @@ fn draw_blocks(
 
 // The strips of the cards' ride, from a fresh one.
 pub fn draw_cards(
+    rt: &impl System,
     plan: Plan,
     store: Store,
     first: usize,
@@ -125,5 +128,5 @@ pub fn draw_cards(
         pen,
     };
     let mut out = console::room();
-    draw_blocks(plan, drawing, store, first, lengths, block, &mut out)
+    draw_blocks(rt, plan, drawing, store, first, lengths, block, &mut out)
 }

@@ -8,6 +8,6 @@
 
 use ride_text::REASONS;
 
-fn main() {
-    ride_console::list_cards(b"explain", b"explain [-s SETTINGS] CARD..", REASONS);
+fn main(rt: HostRuntime) {
+    ride_console::list_cards(&rt, b"explain", b"explain [-s SETTINGS] CARD..", REASONS);
 }

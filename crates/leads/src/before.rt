@@ -1,5 +1,5 @@
 // The settings before the leads: a sync pair, or a file.
-use console::{AskedFor, OptionsWent, PairAsked};
+use console::{AskedFor, OptionsWent, PairAsked, System};
 use settings::Verdict;
 use settings_text::no_store;
 
@@ -10,16 +10,16 @@ const GAP: u32 = 40;
 const AFTER: usize = 3;
 
 // Says that the pair is refused.
-fn refuse(program: &[u8], aside: bool) {
+fn refuse(rt: &impl System, program: &[u8], aside: bool) {
     if aside {
-        console::refuse(program, 4);
+        console::refuse(rt, program, 4);
         return;
     }
-    console::refuse_here(program, 4);
+    console::refuse_here(rt, program, 4);
 }
 
 // The pair S and S* with the gap 40, or what is said of it.
-fn pair(program: &[u8], aside: bool, s: u8, t: u8) -> AskedFor {
+fn pair(rt: &impl System, program: &[u8], aside: bool, s: u8, t: u8) -> AskedFor {
     let begun = settings::begin(GAP, s, t);
     let store = begun.store;
     let verdict = begun.verdict;
@@ -30,7 +30,7 @@ fn pair(program: &[u8], aside: bool, s: u8, t: u8) -> AskedFor {
             how: OptionsWent::Plain,
         },
         Verdict::Refused(_) => {
-            refuse(program, aside);
+            refuse(rt, program, aside);
             AskedFor {
                 store,
                 first: AFTER,
@@ -50,24 +50,24 @@ fn none(how: OptionsWent) -> AskedFor {
 }
 
 // The words of a pair, from the arguments.
-fn pair_named(program: &[u8], aside: bool) -> AskedFor {
-    if os::arg_count() < AFTER {
+fn pair_named(rt: &impl System, program: &[u8], aside: bool) -> AskedFor {
+    if console::argument_count(rt) < AFTER {
         return none(OptionsWent::Usage);
     }
-    let PairAsked::Is(s, t) = console::sync_pair(program, 1) else {
+    let PairAsked::Is(s, t) = console::sync_pair(rt, program, 1) else {
         return none(OptionsWent::Said);
     };
-    pair(program, aside, s, t)
+    pair(rt, program, aside, s, t)
 }
 
 // What the arguments ask for before the leads: `-s SETTINGS`, or `S S*`.
-pub fn options(program: &[u8], aside: bool) -> AskedFor {
-    let asked = console::options(program, aside);
+pub fn options(rt: &impl System, program: &[u8], aside: bool) -> AskedFor {
+    let asked = console::options(rt, program, aside);
     let store = asked.store;
     let first = asked.first;
     let how = asked.how;
     match how {
-        OptionsWent::Plain => pair_named(program, aside),
+        OptionsWent::Plain => pair_named(rt, program, aside),
         OptionsWent::Settings => AskedFor { store, first, how },
         OptionsWent::Usage => AskedFor { store, first, how },
         OptionsWent::Said => AskedFor { store, first, how },

@@ -1,5 +1,6 @@
 // The leads that a program's arguments name, read as one lead in pieces of whole frames, as their
-// bytes come; and the settings that stand before them.
+// bytes come; and the settings that stand before them. What reads, writes or asks for an argument
+// takes the system first, `rt: &impl System`, which is left out below.
 // 1. `options(program, aside)` takes `S S*` or `-s SETTINGS` and answers as `console::options`
 //    does: `Plain` is a good pair, with the gap 40. What is refused is said: `refused 4: WORDS`, or
 //    as `asked` says it, on standard output; for a program whose result is bytes (`aside`) after

@@ -2,17 +2,16 @@
 ghost use Rattle.std.specs.Prelude.{◌≡◌, ◌%◌, ◌≤◌, length};
 
 use crate::carrying::carry;
-use console::{Far, go_on_somehow, not_begun, wipe};
-use libc::STDIN_FILENO;
+use console::{Far, Source, System, go_on_somehow, not_begun, read_some, wipe};
 
 // Where the reading of the leads stands: the argument of the first, how many were begun, the open
-// file (below 0: none), the bytes of a frame that is not whole yet: where they stand in the block,
+// file if there is one, the bytes of a frame that is not whole yet: where they stand in the block,
 // and how many they are; and how far it is.
-#[derive(Clone, Copy)]
+#[derive(Drop)]
 pub struct Leads {
     first: usize,
     begun: usize,
-    fd: i32,
+    file: Option<Source>,
     from: usize,
     count: usize,
     far: Far,
@@ -31,7 +30,7 @@ pub enum ReadingGoes {
 
 // What a call leaves: the reading, how many bytes of whole frames stand at the start of the block,
 // and how it goes on.
-#[derive(Clone, Copy)]
+#[derive(Drop)]
 pub struct Piece {
     pub leads: Leads,
     pub length: usize,
@@ -43,7 +42,7 @@ pub fn begin(first: usize) -> Leads {
     Leads {
         first,
         begun: 0,
-        fd: -1,
+        file: None,
         from: 0,
         count: 0,
         far: not_begun(),
@@ -51,13 +50,13 @@ pub fn begin(first: usize) -> Leads {
 }
 
 // How many bytes stand after the last whole frame.
-pub fn kept(leads: Leads) -> usize {
+pub fn kept(leads: &Leads) -> usize {
     leads.count
 }
 
 // No frame, with this file open, so many leads begun, and so many bytes of a frame at the front of
 // the block.
-fn none(leads: Leads, begun: usize, fd: i32, how: ReadingGoes) -> Piece
+fn none(leads: Leads, begun: usize, file: Option<Source>, how: ReadingGoes) -> Piece
     ensures { result.length ≡ 0 }
 {
     let far = leads.far;
@@ -65,7 +64,7 @@ fn none(leads: Leads, begun: usize, fd: i32, how: ReadingGoes) -> Piece
         leads: Leads {
             first: leads.first,
             begun,
-            fd,
+            file,
             from: leads.from,
             count: leads.count,
             far,
@@ -76,64 +75,63 @@ fn none(leads: Leads, begun: usize, fd: i32, how: ReadingGoes) -> Piece
 }
 
 // Whether an argument is `-`, or there is none: standard input.
-fn is_input(number: usize) -> bool {
-    if os::arg_count() <= number {
+fn is_input(rt: &impl System, number: usize) -> bool {
+    if console::argument_count(rt) <= number {
         return true;
     }
-    console::is_input(number)
+    console::is_input(rt, number)
 }
 
-// The file of an argument, or standard input; below 0 where it cannot be opened.
-fn open(number: usize) -> i32 {
-    if is_input(number) {
-        return STDIN_FILENO;
+// The file of an argument, or standard input; none where it cannot be opened.
+fn open(rt: &impl System, number: usize) -> Option<Source> {
+    if is_input(rt, number) {
+        return Some(Source::Given);
     }
-    console::open_card(number)
+    console::open_card(rt, number)
 }
 
 // The next lead is opened; without a name, standard input is the only one.
-fn next_lead(leads: Leads) -> Piece
+fn next_lead(rt: &impl System, leads: Leads) -> Piece
     ensures { result.length ≡ 0 }
 {
-    let number = std::num::wrapping_add_usize(leads.first, leads.begun);
-    let is_last = os::arg_count() <= number;
-    if is_last & (leads.begun > 0) {
+    let begun = leads.begun;
+    let number = leads.first.wrapping_add(begun);
+    let is_last = console::argument_count(rt) <= number;
+    if is_last & (begun > 0) {
         let far = leads.far;
-        wipe(far);
-        return none(leads, leads.begun, -1, ReadingGoes::End);
+        wipe(rt, far);
+        return none(leads, begun, None, ReadingGoes::End);
     }
-    let fd = open(number);
-    let how = if fd < 0 {
+    let file = open(rt, number);
+    let how = if file.is_none() {
         ReadingGoes::CannotOpen(number)
     } else {
         ReadingGoes::More
     };
-    none(leads, std::num::wrapping_add_usize(leads.begun, 1), fd, how)
+    none(leads, begun.wrapping_add(1), file, how)
 }
 
 // The open lead is closed: it has ended, or a read of it failed.
 fn closed(leads: Leads, how: ReadingGoes) -> Piece
     ensures { result.length ≡ 0 }
 {
-    if leads.fd != STDIN_FILENO {
-        libc::close(leads.fd);
-    }
-    none(leads, leads.begun, -1, how)
+    let begun = leads.begun;
+    none(leads, begun, None, how)
 }
 
 // The whole frames of the first `end` bytes of the block; the bytes after them are kept.
-fn frames(leads: Leads, end: usize) -> Piece
+fn frames(rt: &impl System, leads: Leads, file: Source, end: usize) -> Piece
     ensures { (result.length ≤ end) × (result.length % 16 ≡ 0) }
 {
     let count = end % 16;
     let length = end - count;
     let before = leads.far;
-    let far = go_on_somehow(before, true, length);
+    let far = go_on_somehow(rt, before, true, length);
     Piece {
         leads: Leads {
             first: leads.first,
             begun: leads.begun,
-            fd: leads.fd,
+            file: Some(file),
             from: length,
             count,
             far,
@@ -144,32 +142,30 @@ fn frames(leads: Leads, end: usize) -> Piece
 }
 
 // One read of the open lead, behind the bytes that are kept at the front of the block.
-fn read_on(leads: Leads, block: &mut [u8]) -> Piece
+fn read_on(rt: &impl System, leads: Leads, mut file: Source, block: &mut [u8]) -> Piece
     requires { leads.count ≤ length block.old }
     ensures { (result.length ≤ length block.old) × (result.length % 16 ≡ 0) }
 {
     let kept = leads.count;
     if kept == block.len() {
-        return none(leads, leads.begun, leads.fd, ReadingGoes::NoRoom);
+        let begun = leads.begun;
+        return none(leads, begun, Some(file), ReadingGoes::NoRoom);
     }
-    let got = libc::read(leads.fd, &mut block[kept..]);
-    if got < 0 {
-        let number = std::num::wrapping_sub_usize(
-            std::num::wrapping_add_usize(leads.first, leads.begun),
-            1,
-        );
+    let got = read_some(rt, &mut file, &mut block[kept..]);
+    if got.failed {
+        let number = leads.first.wrapping_add(leads.begun).wrapping_sub(1);
         return closed(leads, ReadingGoes::CannotRead(number));
     }
-    let more = io::count(got, &block[kept..]);
+    let more = got.count;
     if more == 0 {
         return closed(leads, ReadingGoes::More);
     }
-    frames(leads, kept + more)
+    frames(rt, leads, file, kept + more)
 }
 
 // The next frames of the leads, as far as they have come, at the start of the block; or the next
 // lead is opened.
-pub fn next_piece(leads: Leads, block: &mut [u8]) -> Piece
+pub fn next_piece(rt: &impl System, leads: Leads, block: &mut [u8]) -> Piece
     ensures { (result.length ≤ length block.old) × (result.length % 16 ≡ 0) }
 {
     let count = carry(block, leads.from, leads.count);
@@ -177,13 +173,13 @@ pub fn next_piece(leads: Leads, block: &mut [u8]) -> Piece
     let here = Leads {
         first: leads.first,
         begun: leads.begun,
-        fd: leads.fd,
+        file: None,
         from: 0,
         count,
         far,
     };
-    if leads.fd < 0 {
-        return next_lead(here);
+    match leads.file {
+        Some(file) => read_on(rt, here, file, block),
+        None => next_lead(rt, here),
     }
-    read_on(here, block)
 }

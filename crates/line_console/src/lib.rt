@@ -11,20 +11,29 @@
 mod out;
 mod pieces;
 
+use console::{Source, System};
 use pieces::Went;
 
 // Goes over what the open file gives from where it stands, for strips or for lines; what goes wrong
 // is said, of the argument that names the file. Whether all went well.
-pub fn go_over(program: &[u8], file: usize, fd: i32, draws: bool, s: u8, t: u8) -> bool {
-    let went = pieces::all(fd, draws, s, t);
+pub fn go_over(
+    rt: &impl System,
+    program: &[u8],
+    file: usize,
+    from: &mut Source,
+    draws: bool,
+    s: u8,
+    t: u8,
+) -> bool {
+    let went = pieces::all(rt, from, draws, s, t);
     match went {
         Went::Well => true,
         Went::Unread => {
-            console::cannot_read(program, file);
+            console::cannot_read(rt, program, file);
             false
         }
         Went::Unwritten => {
-            console::cannot_write(program);
+            console::cannot_write(rt, program);
             false
         }
     }

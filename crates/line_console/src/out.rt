@@ -1,8 +1,8 @@
 // What stands for contacts, gathered in a buffer and written when it is enough.
 ghost use Rattle.std.specs.Prelude.{◌≡◌, ◌<◌, length};
 
+use console::{Stream, System};
 use contact::Judged;
-use libc::STDOUT_FILENO;
 
 // Text in the buffer is written when it has so many bytes: then there is room for what stands for
 // one more contact.
@@ -24,7 +24,7 @@ pub struct Out {
 }
 
 // Writes the text where it is enough.
-fn write(out: Out, buf: &[u8]) -> Out
+fn write(rt: &impl System, out: Out, buf: &[u8]) -> Out
     ensures { result.length < 32768 }
 {
     if out.length < ENOUGH {
@@ -32,13 +32,14 @@ fn write(out: Out, buf: &[u8]) -> Out
     }
     Out {
         length: 0,
-        is_good: flush(out, buf),
+        is_good: flush(rt, out, buf),
     }
 }
 
 // What stands for a contact of so many bits that this bit of the line closes, and that begins at
 // bit `first` of the bytes kept, after the text that stands, which leaves room for it.
 pub fn add(
+    rt: &impl System,
     out: Out,
     asked: Wanted,
     end: u64,
@@ -57,20 +58,20 @@ pub fn add(
         let length = contact_drawing::draw(
             end, bits, judged, kept, first, asked.s, asked.t, buf, at,
         );
-        return write(Out { length, is_good }, buf);
+        return write(rt, Out { length, is_good }, buf);
     }
     let length = antenna_text::put_closed(end, bits, judged, buf, at);
-    write(Out { length, is_good }, buf)
+    write(rt, Out { length, is_good }, buf)
 }
 
 // Writes the text; whether all writes succeeded.
-pub fn flush(out: Out, buf: &[u8]) -> bool {
-    console::write(STDOUT_FILENO, buf, out.length) & out.is_good
+pub fn flush(rt: &impl System, out: Out, buf: &[u8]) -> bool {
+    console::write(rt, Stream::Output, buf, out.length) & out.is_good
 }
 
 // The line of a refusal that stands by itself; whether it was written.
-pub fn refuse(number: u8) -> bool {
+pub fn refuse(rt: &impl System, number: u8) -> bool {
     let mut line = [0u8; 128];
     let count = refusals::put_refused(number, &mut line, 0);
-    console::write(STDOUT_FILENO, &line, count)
+    console::write(rt, Stream::Output, &line, count)
 }

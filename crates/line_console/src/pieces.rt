@@ -4,7 +4,7 @@ ghost use Rattle.std.specs.Prelude.{◌≡◌, ◌≤◌, length};
 use crate::out;
 use crate::out::{Out, Wanted};
 use antenna::{Ear, Until};
-use console::{Far, go_on_somehow, not_begun, wipe};
+use console::{Far, Source, System, go_on_somehow, not_begun, read_some, wipe};
 
 // Where the going over stands: the ear, how many bits were heard before, in which bit of the bytes
 // kept the latest contact begins, how many bytes are kept, how far all that is, and whether all
@@ -43,14 +43,22 @@ fn keep(piece: &[u8], from: usize, kept: &mut [u8], have: usize) -> usize {
 }
 
 // The going over with a piece of so many bits more.
-fn further(from: SoFar, ear: Ear, bits: usize, first: u8, have: usize, is_good: bool) -> SoFar {
+fn further(
+    rt: &impl System,
+    from: SoFar,
+    ear: Ear,
+    bits: usize,
+    first: u8,
+    have: usize,
+    is_good: bool,
+) -> SoFar {
     let far = from.far;
     SoFar {
         ear,
         bits: std::num::wrapping_add_u64(from.bits, bits as u64),
         first,
         have,
-        far: go_on_somehow(far, true, bits / 8),
+        far: go_on_somehow(rt, far, true, bits / 8),
         is_good,
     }
 }
@@ -66,7 +74,14 @@ fn no_text() -> Out
 }
 
 // What stands for the contacts that close in a piece is written.
-fn over(from: SoFar, asked: Wanted, piece: &[u8], kept: &mut [u8], buf: &mut [u8]) -> SoFar
+fn over(
+    rt: &impl System,
+    from: SoFar,
+    asked: Wanted,
+    piece: &[u8],
+    kept: &mut [u8],
+    buf: &mut [u8],
+) -> SoFar
     requires { (length piece.now ≤ 65536) × (length buf.old ≡ 262144) }
 {
     let bits = piece.len() * 8;
@@ -90,7 +105,7 @@ fn over(from: SoFar, asked: Wanted, piece: &[u8], kept: &mut [u8], buf: &mut [u8
                 judged,
             } => {
                 let end = std::num::wrapping_add_u64(from.bits, at as u64);
-                text = out::add(text, asked, end, length, judged, kept, first, buf);
+                text = out::add(rt, text, asked, end, length, judged, kept, first, buf);
                 ear = then;
                 i = at + 1;
             }
@@ -103,11 +118,12 @@ fn over(from: SoFar, asked: Wanted, piece: &[u8], kept: &mut [u8], buf: &mut [u8
             }
         }
     }
-    further(from, ear, bits, first, have, out::flush(text, buf))
+    further(rt, from, ear, bits, first, have, out::flush(rt, text, buf))
 }
 
 // The same for the front of the block, so many bytes long.
 fn front(
+    rt: &impl System,
     from: SoFar,
     asked: Wanted,
     block: &[u8],
@@ -117,13 +133,13 @@ fn front(
 ) -> SoFar
     requires { (count ≤ length block.now) × (length block.now ≤ 65536) × (length buf.old ≡ 262144) }
 {
-    over(from, asked, &block[..count], kept, buf)
+    over(rt, from, asked, &block[..count], kept, buf)
 }
 
 // What is said at the end of the line, where lines are asked for; whether it was written.
-fn end(from: SoFar, draws: bool) -> Went {
+fn end(rt: &impl System, from: SoFar, draws: bool) -> Went {
     let far = from.far;
-    wipe(far);
+    wipe(rt, far);
     if draws {
         return Went::Well;
     }
@@ -131,7 +147,7 @@ fn end(from: SoFar, draws: bool) -> Went {
     let stand = ear.stand;
     match stand {
         antenna::Stand::Inside(_) => {
-            if out::refuse(9) {
+            if out::refuse(rt, 9) {
                 return Went::Well;
             }
             Went::Unwritten
@@ -162,23 +178,23 @@ pub enum Went {
 
 // All that the open file gives, as it comes. A proved loop has to end, and nothing says that a line
 // does: so it counts its turns down from a number that no run uses up.
-pub fn all(fd: i32, draws: bool, s: u8, t: u8) -> Went {
-    let mut block = io::large_buffer();
+pub fn all(rt: &impl System, from: &mut Source, draws: bool, s: u8, t: u8) -> Went {
+    let mut block = [0u8; 65536];
     let mut buf = room();
     let mut kept = [0u8; 256];
     let mut heard = fresh();
     let mut turns = u64::MAX;
     while turns > 0 {
-        let got = libc::read(fd, &mut block);
-        if got < 0 {
+        let got = read_some(rt, from, &mut block);
+        if got.failed {
             return Went::Unread;
         }
-        let count = io::count(got, &block);
+        let count = got.count;
         if count == 0 {
-            return end(heard, draws);
+            return end(rt, heard, draws);
         }
         let asked = Wanted { draws, s, t };
-        heard = front(heard, asked, &block, count, &mut kept, &mut buf);
+        heard = front(rt, heard, asked, &block, count, &mut kept, &mut buf);
         if !heard.is_good {
             return Went::Unwritten;
         }

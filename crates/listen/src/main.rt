@@ -6,43 +6,40 @@
 // be said of a program's reads and writes stands in docs/EXCEPTIONS.md.
 #![tactic(auto)]
 
-use console::{PairAsked, is_input};
-use libc::STDIN_FILENO;
+use console::{PairAsked, Source, System, is_input};
 use telegram::Pair;
 
 // The argument of the line's file.
 const FILE: usize = 1;
 
 // The contacts of the open file, if the sync pair is good.
-fn listen(fd: i32, s: u8, t: u8) {
+fn listen(rt: &impl System, from: &mut Source, s: u8, t: u8) {
     let Pair::Good = telegram::good_pair(s, t) else {
-        console::refuse_here(b"listen", 4);
+        console::refuse_here(rt, b"listen", 4);
         return;
     };
-    line_console::go_over(b"listen", FILE, fd, false, s, t);
+    line_console::go_over(rt, b"listen", FILE, from, false, s, t);
 }
 
 // The line named, with the sync words given.
-fn open(s: u8, t: u8) {
-    if is_input(FILE) {
-        listen(STDIN_FILENO, s, t);
+fn open(rt: &impl System, s: u8, t: u8) {
+    if is_input(rt, FILE) {
+        listen(rt, &mut Source::Given, s, t);
         return;
     }
-    let fd = console::open_card(FILE);
-    if fd < 0 {
-        console::cannot_open(b"listen", FILE);
+    let Some(mut file) = console::open_card(rt, FILE) else {
+        console::cannot_open(rt, b"listen", FILE);
         return;
-    }
-    listen(fd, s, t);
-    libc::close(fd);
+    };
+    listen(rt, &mut file, s, t);
 }
 
-fn main() {
-    if os::arg_count() != 4 {
-        console::usage(b"listen", b"listen FILE S S*");
+fn main(rt: HostRuntime) {
+    if console::argument_count(&rt) != 4 {
+        console::usage(&rt, b"listen", b"listen FILE S S*");
         return;
     }
-    if let PairAsked::Is(s, t) = console::sync_pair(b"listen", 2) {
-        open(s, t);
+    if let PairAsked::Is(s, t) = console::sync_pair(&rt, b"listen", 2) {
+        open(&rt, s, t);
     }
 }

@@ -10,15 +10,16 @@ mod riding;
 
 use console::OptionsWent;
 
-fn main() {
-    let asked = leads::options(b"live", false);
+fn main(rt: HostRuntime) {
+    let asked = leads::options(&rt, b"live", false);
     let store = asked.store;
     let first = asked.first;
     let how = asked.how;
     match how {
-        OptionsWent::Plain => riding::all(store, first),
-        OptionsWent::Settings => riding::all(store, first),
+        OptionsWent::Plain => riding::all(&rt, store, first),
+        OptionsWent::Settings => riding::all(&rt, store, first),
         OptionsWent::Usage => console::usage(
+            &rt,
             b"live",
             b"live S S* [LEAD..], or live -s SETTINGS [LEAD..]",
         ),

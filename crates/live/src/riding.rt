@@ -1,6 +1,7 @@
 // The leads, piece by piece: in through `list_frames`, out to standard output.
 ghost use Rattle.std.specs.Prelude.{◌≤◌, length};
 
+use console::System;
 use lead_text::{HowFar, Underway};
 use ride::Ride;
 use ride_text::REASONS;
@@ -14,13 +15,20 @@ struct RiddenSoFar {
 }
 
 // Writes the first bytes of a buffer, and says so where that fails.
-fn write(out: &[u8], count: usize) -> bool {
-    console::put(b"live", out, count)
+fn write(rt: &impl System, out: &[u8], count: usize) -> bool {
+    console::put(rt, b"live", out, count)
 }
 
 // The lines of the first `count` bytes of the block, whole frames: as far as the room goes, and
 // again, until they are used.
-fn piece(from: Underway, store: Store, block: &[u8], count: usize, out: &mut [u8]) -> RiddenSoFar
+fn piece(
+    rt: &impl System,
+    from: Underway,
+    store: Store,
+    block: &[u8],
+    count: usize,
+    out: &mut [u8],
+) -> RiddenSoFar
     requires { count ≤ length block.now }
 {
     let mut underway = from;
@@ -32,11 +40,11 @@ fn piece(from: Underway, store: Store, block: &[u8], count: usize, out: &mut [u8
         let how = written.how;
         match how {
             HowFar::Over(bytes) => {
-                let is_good = write(out, bytes);
+                let is_good = write(rt, out, bytes);
                 return RiddenSoFar { underway, is_good };
             }
             HowFar::Full(bytes) => {
-                if !write(out, bytes) {
+                if !write(rt, out, bytes) {
                     break;
                 }
             }
@@ -53,31 +61,37 @@ fn piece(from: Underway, store: Store, block: &[u8], count: usize, out: &mut [u8
 }
 
 // The line of a group that the end of the ride closes.
-fn write_end(ride: Ride, out: &mut [u8]) {
+fn write_end(rt: &impl System, ride: Ride, out: &mut [u8]) {
     let bytes = ride_text::put_end(REASONS, ride, out, 0);
-    write(out, bytes);
+    write(rt, out, bytes);
 }
 
 // The lines at the leads' end, and those of the ride's.
-fn end(from: Underway, store: Store, out: &mut [u8]) {
+fn end(rt: &impl System, from: Underway, store: Store, out: &mut [u8]) {
     let written = lead_text::list_end(from, store, out);
     let underway = written.underway;
     let how = written.how;
     let HowFar::Over(bytes) = how else {
         return;
     };
-    if write(out, bytes) {
+    if write(rt, out, bytes) {
         let ride = underway.ride;
-        write_end(ride, out);
+        write_end(rt, ride, out);
     }
 }
 
 // What comes after the last piece: the end, or what failed.
-fn finish(how: leads::ReadingGoes, underway: Underway, store: Store, out: &mut [u8]) {
+fn finish(
+    rt: &impl System,
+    how: leads::ReadingGoes,
+    underway: Underway,
+    store: Store,
+    out: &mut [u8],
+) {
     match how {
-        leads::ReadingGoes::End => end(underway, store, out),
-        leads::ReadingGoes::CannotOpen(_) => leads::say(b"live", how),
-        leads::ReadingGoes::CannotRead(_) => leads::say(b"live", how),
+        leads::ReadingGoes::End => end(rt, underway, store, out),
+        leads::ReadingGoes::CannotOpen(_) => leads::say(rt, b"live", how),
+        leads::ReadingGoes::CannotRead(_) => leads::say(rt, b"live", how),
         leads::ReadingGoes::NoRoom => {}
         leads::ReadingGoes::More => {}
     }
@@ -85,9 +99,9 @@ fn finish(how: leads::ReadingGoes, underway: Underway, store: Store, out: &mut [
 
 // All leads from this argument on. A proved loop has to end, and nothing says that a lead does: so
 // it counts its turns down from a number that no run uses up.
-pub fn all(store: Store, first: usize) {
-    let mut block = io::large_buffer();
-    let mut out = io::large_buffer();
+pub fn all(rt: &impl System, store: Store, first: usize) {
+    let mut block = [0u8; 65536];
+    let mut out = [0u8; 65536];
     let mut stand = RiddenSoFar {
         underway: lead_text::fresh(),
         is_good: true,
@@ -95,9 +109,9 @@ pub fn all(store: Store, first: usize) {
     let mut from = leads::begin(first);
     let mut turns = u64::MAX;
     while turns > 0 {
-        let got = leads::next_piece(from, &mut block);
+        let got = leads::next_piece(rt, from, &mut block);
         let underway = stand.underway;
-        stand = piece(underway, store, &block, got.length, &mut out);
+        stand = piece(rt, underway, store, &block, got.length, &mut out);
         if !stand.is_good {
             return;
         }
@@ -105,7 +119,7 @@ pub fn all(store: Store, first: usize) {
         let how = got.how;
         let leads::ReadingGoes::More = how else {
             let last = stand.underway;
-            finish(how, last, store, &mut out);
+            finish(rt, how, last, store, &mut out);
             return;
         };
         turns -= 1;

@@ -10,20 +10,21 @@ mod call;
 mod pieces;
 
 use call::NoiseAsked;
+use console::System;
 
 // The lead with noise, by way of a block of 65,536 bytes.
-fn send(seed: u32, chance: u32) {
-    let mut block = io::large_buffer();
-    pieces::all(seed, chance, &mut block);
+fn send(rt: &impl System, seed: u32, chance: u32) {
+    let mut block = [0u8; 65536];
+    pieces::all(rt, seed, chance, &mut block);
 }
 
-fn main() {
-    if console::to_terminal(b"noise") {
+fn main(rt: HostRuntime) {
+    if console::to_terminal(&rt, b"noise") {
         return;
     }
-    match call::arguments() {
-        NoiseAsked::For { seed, chance } => send(seed, chance),
-        NoiseAsked::Usage => console::usage(b"noise", b"noise SEED N [LEAD]"),
+    match call::arguments(&rt) {
+        NoiseAsked::For { seed, chance } => send(&rt, seed, chance),
+        NoiseAsked::Usage => console::usage(&rt, b"noise", b"noise SEED N [LEAD]"),
         NoiseAsked::Said => {}
     }
 }

@@ -1,8 +1,8 @@
 // The lead piece by piece: in, with noise, out.
 ghost use Rattle.std.specs.Prelude.{◌≤◌, length};
 
+use console::{Stream, System};
 use leads::{Leads, ReadingGoes};
-use libc::STDOUT_FILENO;
 
 // The generator's number, and whether the write before succeeded.
 #[derive(Clone, Copy)]
@@ -12,32 +12,32 @@ struct Sent {
 }
 
 // That a write failed.
-fn cannot_write() {
-    console::cannot_write(b"noise");
+fn cannot_write(rt: &impl System) {
+    console::cannot_write(rt, b"noise");
 }
 
 // The whole frames at the front of the block get their noise and go out.
-fn send(x: u32, chance: u32, block: &mut [u8], count: usize) -> Sent
+fn send(rt: &impl System, x: u32, chance: u32, block: &mut [u8], count: usize) -> Sent
     requires { count ≤ length block.old }
 {
     let then = lead_noise::add_noise(x, chance, &mut block[..count]);
     Sent {
         x: then,
-        is_good: console::write(STDOUT_FILENO, block, count),
+        is_good: console::write(rt, Stream::Output, block, count),
     }
 }
 
 // What comes after the last piece: the bytes of a frame that is not whole, as they came; or what
 // failed.
-fn finish(how: ReadingGoes, leads: Leads, block: &[u8]) {
+fn finish(rt: &impl System, how: ReadingGoes, leads: &Leads, block: &[u8]) {
     match how {
         ReadingGoes::End => {
-            if !console::write(STDOUT_FILENO, block, leads::kept(leads)) {
-                cannot_write();
+            if !console::write(rt, Stream::Output, block, leads::kept(leads)) {
+                cannot_write(rt);
             }
         }
-        ReadingGoes::CannotOpen(_) => leads::say(b"noise", how),
-        ReadingGoes::CannotRead(_) => leads::say(b"noise", how),
+        ReadingGoes::CannotOpen(_) => leads::say(rt, b"noise", how),
+        ReadingGoes::CannotRead(_) => leads::say(rt, b"noise", how),
         ReadingGoes::NoRoom => {}
         ReadingGoes::More => {}
     }
@@ -45,23 +45,23 @@ fn finish(how: ReadingGoes, leads: Leads, block: &[u8]) {
 
 // All that the lead gives, as it comes. A proved loop has to end, and nothing says that a lead
 // does: so it counts its turns down from a number that no run uses up.
-pub fn all(seed: u32, chance: u32, block: &mut [u8]) {
+pub fn all(rt: &impl System, seed: u32, chance: u32, block: &mut [u8]) {
     let mut x = seed;
     let mut leads = leads::begin(3);
     let mut turns = u64::MAX;
     while turns > 0 {
-        let piece = leads::next_piece(leads, block);
+        let piece = leads::next_piece(rt, leads, block);
         let length = piece.length;
-        let sent = send(x, chance, block, length);
+        let sent = send(rt, x, chance, block, length);
         if !sent.is_good {
-            cannot_write();
+            cannot_write(rt);
             return;
         }
         x = sent.x;
         leads = piece.leads;
         let how = piece.how;
         let ReadingGoes::More = how else {
-            finish(how, leads, block);
+            finish(rt, how, &leads, block);
             return;
         };
         turns -= 1;

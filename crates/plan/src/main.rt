@@ -6,6 +6,6 @@
 
 use typed::Form;
 
-fn main() {
-    typed::run(b"plan", Form::Plan);
+fn main(rt: HostRuntime) {
+    typed::run(&rt, b"plan", Form::Plan);
 }

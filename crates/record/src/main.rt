@@ -11,25 +11,26 @@
 mod out;
 mod pieces;
 
-use console::OptionsWent;
+use console::{OptionsWent, System};
 use settings::Store;
 
 // The records of the leads from this argument on, but not to a terminal.
-fn record(store: Store, first: usize) {
-    if !console::to_terminal(b"record") {
-        pieces::all(store, first);
+fn record(rt: &impl System, store: Store, first: usize) {
+    if !console::to_terminal(rt, b"record") {
+        pieces::all(rt, store, first);
     }
 }
 
-fn main() {
-    let asked = leads::options(b"record", true);
+fn main(rt: HostRuntime) {
+    let asked = leads::options(&rt, b"record", true);
     let store = asked.store;
     let first = asked.first;
     let how = asked.how;
     match how {
-        OptionsWent::Plain => record(store, first),
-        OptionsWent::Settings => record(store, first),
+        OptionsWent::Plain => record(&rt, store, first),
+        OptionsWent::Settings => record(&rt, store, first),
         OptionsWent::Usage => console::usage(
+            &rt,
             b"record",
             b"record S S* [LEAD..], or record -s SETTINGS [LEAD..]",
         ),

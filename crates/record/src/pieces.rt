@@ -3,6 +3,7 @@ ghost use Rattle.std.specs.Prelude.{◌≤◌, length};
 
 use crate::out;
 use crate::out::RecordsOut;
+use console::System;
 use leads::ReadingGoes;
 use recording::{Came, Tape};
 use recording_text::{Frames, Records};
@@ -18,16 +19,22 @@ struct RecordedSoFar {
 }
 
 // Counts the frames of a piece, and says the first refused one.
-fn count_frames(frames: Frames, piece: &[u8]) -> Frames {
+fn count_frames(rt: &impl System, frames: Frames, piece: &[u8]) -> Frames {
     let counted = recording_text::count_frames(frames, piece);
     let before = frames.first;
     let after = counted.first;
-    out::say_first(before, after);
+    out::say_first(rt, before, after);
     counted
 }
 
 // The records of a piece, in the buffer or written; the tape after it and what was counted.
-fn over(from: RecordedSoFar, store: Store, piece: &[u8], buf: &mut [u8]) -> RecordedSoFar {
+fn over(
+    rt: &impl System,
+    from: RecordedSoFar,
+    store: Store,
+    piece: &[u8],
+    buf: &mut [u8],
+) -> RecordedSoFar {
     let mut tape = from.tape;
     let mut records = from.records;
     let mut out = RecordsOut {
@@ -47,11 +54,11 @@ fn over(from: RecordedSoFar, store: Store, piece: &[u8], buf: &mut [u8]) -> Reco
         match came {
             Came::Record => {
                 records = recording_text::count_record(records, bytes);
-                out = out::add(out, bytes, buf);
+                out = out::add(rt, out, bytes, buf);
             }
             Came::Nothing => {
                 let frames = from.frames;
-                let is_good = out::flush(out, buf);
+                let is_good = out::flush(rt, out, buf);
                 return RecordedSoFar {
                     tape,
                     frames,
@@ -65,6 +72,7 @@ fn over(from: RecordedSoFar, store: Store, piece: &[u8], buf: &mut [u8]) -> Reco
 
 // The same for the front of the block, so many bytes long.
 fn front(
+    rt: &impl System,
     from: RecordedSoFar,
     store: Store,
     block: &[u8],
@@ -76,8 +84,9 @@ fn front(
     let tape = from.tape;
     let records = from.records;
     let before = from.frames;
-    let frames = count_frames(before, &block[..count]);
+    let frames = count_frames(rt, before, &block[..count]);
     over(
+        rt,
         RecordedSoFar {
             tape,
             frames,
@@ -91,7 +100,7 @@ fn front(
 }
 
 // The records of the end, at most two; what stands then.
-fn end(from: RecordedSoFar) -> RecordedSoFar {
+fn end(rt: &impl System, from: RecordedSoFar) -> RecordedSoFar {
     let mut buf = [0u8; 16];
     let mut tape = from.tape;
     let mut records = from.records;
@@ -109,7 +118,7 @@ fn end(from: RecordedSoFar) -> RecordedSoFar {
         match came {
             Came::Record => {
                 records = recording_text::count_record(records, bytes);
-                out = out::add(out, bytes, &mut buf);
+                out = out::add(rt, out, bytes, &mut buf);
                 turns -= 1;
             }
             Came::Nothing => {
@@ -118,7 +127,7 @@ fn end(from: RecordedSoFar) -> RecordedSoFar {
         }
     }
     let frames = from.frames;
-    let is_good = out::flush(out, &buf);
+    let is_good = out::flush(rt, out, &buf);
     RecordedSoFar {
         tape,
         frames,
@@ -129,23 +138,23 @@ fn end(from: RecordedSoFar) -> RecordedSoFar {
 
 // The end of the leads: its records, and what was counted, with so many bytes after the last whole
 // frame.
-fn at_end(from: RecordedSoFar, bytes: usize) {
-    let stand = end(from);
+fn at_end(rt: &impl System, from: RecordedSoFar, bytes: usize) {
+    let stand = end(rt, from);
     if !stand.is_good {
-        out::cannot_write();
+        out::cannot_write(rt);
         return;
     }
     let frames = stand.frames;
     let records = stand.records;
-    out::say_end(frames, records, bytes);
+    out::say_end(rt, frames, records, bytes);
 }
 
 // What comes after the last piece: the end, or what failed.
-fn finish(how: ReadingGoes, stand: RecordedSoFar, bytes: usize) {
+fn finish(rt: &impl System, how: ReadingGoes, stand: RecordedSoFar, bytes: usize) {
     match how {
-        ReadingGoes::End => at_end(stand, bytes),
-        ReadingGoes::CannotOpen(_) => leads::say(b"record", how),
-        ReadingGoes::CannotRead(_) => leads::say(b"record", how),
+        ReadingGoes::End => at_end(rt, stand, bytes),
+        ReadingGoes::CannotOpen(_) => leads::say(rt, b"record", how),
+        ReadingGoes::CannotRead(_) => leads::say(rt, b"record", how),
         ReadingGoes::NoRoom => {}
         ReadingGoes::More => {}
     }
@@ -163,23 +172,23 @@ fn fresh() -> RecordedSoFar {
 
 // All leads from this argument on. A proved loop has to end, and nothing says that a lead does: so
 // it counts its turns down from a number that no run uses up.
-pub fn all(store: Store, first: usize) {
-    let mut block = io::large_buffer();
-    let mut buf = io::large_buffer();
+pub fn all(rt: &impl System, store: Store, first: usize) {
+    let mut block = [0u8; 65536];
+    let mut buf = [0u8; 65536];
     let mut stand = fresh();
     let mut from = leads::begin(first);
     let mut turns = u64::MAX;
     while turns > 0 {
-        let got = leads::next_piece(from, &mut block);
-        stand = front(stand, store, &block, got.length, &mut buf);
+        let got = leads::next_piece(rt, from, &mut block);
+        stand = front(rt, stand, store, &block, got.length, &mut buf);
         if !stand.is_good {
-            out::cannot_write();
+            out::cannot_write(rt);
             return;
         }
         from = got.leads;
         let how = got.how;
         let ReadingGoes::More = how else {
-            finish(how, stand, leads::kept(from));
+            finish(rt, how, stand, leads::kept(&from));
             return;
         };
         turns -= 1;

@@ -1,8 +1,7 @@
 // The records of the cards, block by block.
 ghost use Rattle.std.specs.Prelude.{◌≡◌, ◌≤◌, length};
 
-use console::Goes;
-use libc::STDOUT_FILENO;
+use console::{Goes, System};
 use trace_text::Said;
 
 // 8,192 bytes: 1,024 records, whose lines have 50 bytes each at most.
@@ -55,8 +54,8 @@ fn put_block(before: u64, block: &[u8], out: &mut [u8]) -> LinesPut {
 }
 
 // Writes the lines of a block.
-fn write_block(stand: WrittenSoFar, block: &[u8]) -> WrittenSoFar {
-    let mut out = io::large_buffer();
+fn write_block(rt: &impl System, stand: WrittenSoFar, block: &[u8]) -> WrittenSoFar {
+    let mut out = [0u8; 65536];
     let lines = put_block(stand.count, block, &mut out);
     let bytes = lines.bytes;
     if bytes > 65536 {
@@ -67,25 +66,25 @@ fn write_block(stand: WrittenSoFar, block: &[u8]) -> WrittenSoFar {
     }
     WrittenSoFar {
         count: lines.count,
-        is_good: io::write_all(STDOUT_FILENO, &out[..bytes]),
+        is_good: rt.write_all(&out[..bytes]).is_ok(),
     }
 }
 
 // The same for the front of a buffer, so many bytes long.
-fn write_front(stand: WrittenSoFar, block: &[u8], read: usize) -> WrittenSoFar
+fn write_front(rt: &impl System, stand: WrittenSoFar, block: &[u8], read: usize) -> WrittenSoFar
     requires { read ≤ length block.now }
 {
-    write_block(stand, &block[..read])
+    write_block(rt, stand, &block[..read])
 }
 
 // What comes after the last block: nothing, or what failed.
-fn finish(how: Goes) {
-    console::say_goes(b"records", how);
+fn finish(rt: &impl System, how: Goes) {
+    console::say_goes(rt, b"records", how);
 }
 
 // The lines of all records of the cards, whose lengths were kept. A proved loop has to end, and
 // nothing says that a file does: so it counts its turns down from a number that no run uses up.
-pub fn write_cards(lengths: &[u64], block: &mut [u8]) {
+pub fn write_cards(rt: &impl System, lengths: &[u64], block: &mut [u8]) {
     let mut stand = WrittenSoFar {
         count: 0,
         is_good: true,
@@ -93,16 +92,16 @@ pub fn write_cards(lengths: &[u64], block: &mut [u8]) {
     let mut pass = console::begin(1);
     let mut turns = u64::MAX;
     while turns > 0 {
-        let got = console::next_block(pass, lengths, block);
+        let got = console::next_block(rt, pass, lengths, block);
         let read = got.read;
-        stand = write_front(stand, block, read);
+        stand = write_front(rt, stand, block, read);
         if !stand.is_good {
-            console::cannot_write(b"records");
+            console::cannot_write(rt, b"records");
             return;
         }
         let how = got.how;
         let Goes::More = how else {
-            finish(how);
+            finish(rt, how);
             return;
         };
         pass = got.pass;

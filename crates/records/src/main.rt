@@ -10,13 +10,13 @@ mod blocks;
 use console::Cards;
 
 // Goes over the cards twice: once for their lengths, once for the records.
-fn main() {
+fn main(rt: HostRuntime) {
     let mut lengths = [0u64; 8192];
     let mut block = blocks::room();
-    match console::find_cards(b"records", 1, &mut lengths, &mut block) {
-        Cards::Whole => blocks::write_cards(&lengths, &mut block),
-        Cards::BadLength => console::refuse_trace(b"records"),
-        Cards::NoCard => console::usage(b"records", b"records CARD.."),
+    match console::find_cards(&rt, b"records", 1, &mut lengths, &mut block) {
+        Cards::Whole => blocks::write_cards(&rt, &lengths, &mut block),
+        Cards::BadLength => console::refuse_trace(&rt, b"records"),
+        Cards::NoCard => console::usage(&rt, b"records", b"records CARD.."),
         Cards::Said => {}
     }
 }

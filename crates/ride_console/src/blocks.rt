@@ -2,7 +2,7 @@
 ghost use Rattle.std.specs.Prelude.{◌≤◌};
 
 use crate::saying::{say_found, write};
-use console::{CardsFound, Goes};
+use console::{CardsFound, Goes, System};
 use ride::Ride;
 use ride_text::Done;
 use settings::Store;
@@ -36,6 +36,7 @@ pub struct Listing {
 // Lists the records and writes their lines. Where out has room for the lines of them all, one call
 // of `list` takes them all.
 fn write_records(
+    rt: &impl System,
     program: &[u8],
     reasons: bool,
     store: Store,
@@ -59,7 +60,7 @@ fn write_records(
             is_good: false,
         };
     };
-    let is_written = write(program, reasons, out, bytes);
+    let is_written = write(rt, program, reasons, out, bytes);
     Listing {
         ride: after,
         number,
@@ -68,19 +69,19 @@ fn write_records(
 }
 
 // Writes the line of a group that the end of the ride closes.
-fn write_end(program: &[u8], reasons: bool, ride: Ride) {
+fn write_end(rt: &impl System, program: &[u8], reasons: bool, ride: Ride) {
     let mut out = [0u8; 320];
     let n = ride_text::put_end(reasons, ride, &mut out, 0);
-    write(program, reasons, &out, n);
+    write(rt, program, reasons, &out, n);
 }
 
 // What comes after the last block: the end's line where all cards were read, or what failed.
-fn finish(program: &[u8], reasons: bool, how: Goes, stand: Listing) {
+fn finish(rt: &impl System, program: &[u8], reasons: bool, how: Goes, stand: Listing) {
     let ride = stand.ride;
     match how {
-        Goes::End => write_end(program, reasons, ride),
-        Goes::CannotOpen(number) => say_found(program, reasons, CardsFound::CannotOpen(number)),
-        Goes::CannotRead(number) => say_found(program, reasons, CardsFound::CannotRead(number)),
+        Goes::End => write_end(rt, program, reasons, ride),
+        Goes::CannotOpen(number) => say_found(rt, program, reasons, CardsFound::CannotOpen(number)),
+        Goes::CannotRead(number) => say_found(rt, program, reasons, CardsFound::CannotRead(number)),
         Goes::NoRoom => {}
         Goes::More => {}
     }
@@ -90,6 +91,7 @@ fn finish(program: &[u8], reasons: bool, how: Goes, stand: Listing) {
 // under the settings, and of its end. A proved loop has to end, and nothing says that a file does:
 // so it counts its turns down from a number that no run uses up.
 pub fn over(
+    rt: &impl System,
     program: &[u8],
     reasons: bool,
     store: Store,
@@ -107,15 +109,15 @@ pub fn over(
     let mut pass = console::begin(first);
     let mut turns = u64::MAX;
     while turns > 0 {
-        let got = console::next_block(pass, lengths, block);
+        let got = console::next_block(rt, pass, lengths, block);
         let read = got.read;
-        stand = write_records(program, reasons, store, stand, &block[..read], out);
+        stand = write_records(rt, program, reasons, store, stand, &block[..read], out);
         if !stand.is_good {
             return;
         }
         let how = got.how;
         let Goes::More = how else {
-            finish(program, reasons, how, stand);
+            finish(rt, program, reasons, how, stand);
             return;
         };
         pass = got.pass;

@@ -1,5 +1,5 @@
 // The listing of a ride from the cards that the arguments name, in their order: what `checker` and
-// `explain` do, each in its style. `list_cards(program, call, reasons)` reads the settings that
+// `explain` do, each in its style. `list_cards(rt, program, call, reasons)` reads the settings that
 // `-s` names (else document 01's gap), goes over the cards twice, once for their lengths and once
 // for the records, and writes the lines. A plain listing is document 01's lines and nothing else:
 // of what goes wrong the launcher alone is told; with reasons the program says it.
@@ -11,13 +11,14 @@
 mod blocks;
 mod saying;
 
-use console::{CardsFound, OptionsWent};
+use console::{CardsFound, OptionsWent, System};
 use settings::Store;
 
 // The lines of the cards from this argument on, whose lengths were kept, by way of a lent block.
 // The room for lines is made once: a fresh one for each part of a card would have to be filled with
 // zeroes first.
 pub fn list_all(
+    rt: &impl System,
     program: &[u8],
     reasons: bool,
     store: Store,
@@ -28,6 +29,7 @@ pub fn list_all(
     let mut out = console::room();
     let size = blocks::size(reasons, block.len());
     blocks::over(
+        rt,
         program,
         reasons,
         store,
@@ -39,31 +41,38 @@ pub fn list_all(
 }
 
 // Goes over the cards twice.
-fn go_over(program: &[u8], call: &[u8], reasons: bool, store: Store, first: usize) {
+fn go_over(
+    rt: &impl System,
+    program: &[u8],
+    call: &[u8],
+    reasons: bool,
+    store: Store,
+    first: usize,
+) {
     let mut lengths = [0u64; 8192];
-    let mut block = io::large_buffer();
-    let found = console::go_over(first, &mut lengths, &mut block);
+    let mut block = [0u8; 65536];
+    let found = console::go_over(rt, first, &mut lengths, &mut block);
     match found {
-        CardsFound::Cards => list_all(program, reasons, store, first, &lengths, &mut block),
-        CardsFound::BadLength(_) => saying::refuse_trace(program, reasons),
-        CardsFound::NoCard => saying::usage(program, call, reasons),
-        CardsFound::TooMany => saying::say_found(program, reasons, found),
-        CardsFound::CannotOpen(_) => saying::say_found(program, reasons, found),
-        CardsFound::CannotRead(_) => saying::say_found(program, reasons, found),
-        CardsFound::Once(_) => saying::say_found(program, reasons, found),
+        CardsFound::Cards => list_all(rt, program, reasons, store, first, &lengths, &mut block),
+        CardsFound::BadLength(_) => saying::refuse_trace(rt, program, reasons),
+        CardsFound::NoCard => saying::usage(rt, program, call, reasons),
+        CardsFound::TooMany => saying::say_found(rt, program, reasons, found),
+        CardsFound::CannotOpen(_) => saying::say_found(rt, program, reasons, found),
+        CardsFound::CannotRead(_) => saying::say_found(rt, program, reasons, found),
+        CardsFound::Once(_) => saying::say_found(rt, program, reasons, found),
     }
 }
 
 // The settings that `-s` names, or the gap of document 01; then the cards.
-pub fn list_cards(program: &[u8], call: &[u8], reasons: bool) {
-    let asked = console::options(program, false);
+pub fn list_cards(rt: &impl System, program: &[u8], call: &[u8], reasons: bool) {
+    let asked = console::options(rt, program, false);
     let store = asked.store;
     let first = asked.first;
     let how = asked.how;
     match how {
-        OptionsWent::Plain => go_over(program, call, reasons, store, first),
-        OptionsWent::Settings => go_over(program, call, reasons, store, first),
-        OptionsWent::Usage => saying::usage(program, call, reasons),
+        OptionsWent::Plain => go_over(rt, program, call, reasons, store, first),
+        OptionsWent::Settings => go_over(rt, program, call, reasons, store, first),
+        OptionsWent::Usage => saying::usage(rt, program, call, reasons),
         OptionsWent::Said => {}
     }
 }

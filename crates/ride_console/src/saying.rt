@@ -1,38 +1,37 @@
 // What is written, and what is said where something goes wrong: a plain listing tells the launcher
 // alone.
-use console::{CallEnded, CardsFound, tell};
-use libc::STDOUT_FILENO;
+use console::{CallEnded, CardsFound, Stream, System, tell};
 use ride::Line;
 
 // Writes the first bytes of a buffer.
-pub fn write(program: &[u8], reasons: bool, out: &[u8], count: usize) -> bool {
-    if console::write(STDOUT_FILENO, out, count) {
+pub fn write(rt: &impl System, program: &[u8], reasons: bool, out: &[u8], count: usize) -> bool {
+    if console::write(rt, Stream::Output, out, count) {
         return true;
     }
     if reasons {
-        console::cannot_write(program);
+        console::cannot_write(rt, program);
     } else {
-        tell(CallEnded::Unwritten);
+        tell(rt, CallEnded::Unwritten);
     }
     false
 }
 
 // `trace refused 16`, alone.
-pub fn refuse_trace(program: &[u8], reasons: bool) {
+pub fn refuse_trace(rt: &impl System, program: &[u8], reasons: bool) {
     let mut out = [0u8; 64];
     let n = ride_text::put_line(Line::Trace(16), &mut out, 0);
-    if write(program, reasons, &out, n) {
-        tell(CallEnded::Refused);
+    if write(rt, program, reasons, &out, n) {
+        tell(rt, CallEnded::Refused);
     }
 }
 
 // That the arguments are wrong or missing.
-pub fn usage(program: &[u8], call: &[u8], reasons: bool) {
+pub fn usage(rt: &impl System, program: &[u8], call: &[u8], reasons: bool) {
     if reasons {
-        console::usage(program, call);
+        console::usage(rt, program, call);
         return;
     }
-    tell(CallEnded::Usage);
+    tell(rt, CallEnded::Usage);
 }
 
 // How a call ends by what was found wrong with the cards.
@@ -49,10 +48,10 @@ fn ended(found: CardsFound) -> CallEnded {
 }
 
 // What was found wrong with the cards.
-pub fn say_found(program: &[u8], reasons: bool, found: CardsFound) {
+pub fn say_found(rt: &impl System, program: &[u8], reasons: bool, found: CardsFound) {
     if reasons {
-        console::say_found(program, found);
+        console::say_found(rt, program, found);
         return;
     }
-    tell(ended(found));
+    tell(rt, ended(found));
 }

@@ -8,65 +8,62 @@
 
 mod page;
 
-use console::PairAsked;
-use libc::SEEK_SET;
+use console::{PairAsked, Source, System};
 use telegram::Pair;
 
 // The argument of the line's file.
 const FILE: usize = 1;
 
 // Whether the open file can be gone over from its beginning; if not, that is said.
-fn begins(fd: i32) -> bool {
-    if libc::lseek(fd, 0, SEEK_SET) != 0 {
-        console::only_once(b"scope", FILE);
+fn begins(rt: &impl System, file: &mut Source) -> bool {
+    if !console::to_start(file) {
+        console::only_once(rt, b"scope", FILE);
         return false;
     }
     true
 }
 
 // The page of the open file, which is gone over twice.
-fn draw(fd: i32, s: u8, t: u8) {
-    if !begins(fd) {
+fn draw(rt: &impl System, file: &mut Source, s: u8, t: u8) {
+    if !begins(rt, file) {
         return;
     }
-    if !page::put_head() {
+    if !page::put_head(rt) {
         return;
     }
-    if !line_console::go_over(b"scope", FILE, fd, true, s, t) {
+    if !line_console::go_over(rt, b"scope", FILE, file, true, s, t) {
         return;
     }
-    if !page::put_listing() {
+    if !page::put_listing(rt) {
         return;
     }
-    if !begins(fd) {
+    if !begins(rt, file) {
         return;
     }
-    if line_console::go_over(b"scope", FILE, fd, false, s, t) {
-        page::put_foot();
+    if line_console::go_over(rt, b"scope", FILE, file, false, s, t) {
+        page::put_foot(rt);
     }
 }
 
 // The line named, if the sync pair is good.
-fn open(s: u8, t: u8) {
+fn open(rt: &impl System, s: u8, t: u8) {
     let Pair::Good = telegram::good_pair(s, t) else {
-        console::refuse_here(b"scope", 4);
+        console::refuse_here(rt, b"scope", 4);
         return;
     };
-    let fd = console::open_card(FILE);
-    if fd < 0 {
-        console::cannot_open(b"scope", FILE);
+    let Some(mut file) = console::open_card(rt, FILE) else {
+        console::cannot_open(rt, b"scope", FILE);
         return;
-    }
-    draw(fd, s, t);
-    libc::close(fd);
+    };
+    draw(rt, &mut file, s, t);
 }
 
-fn main() {
-    if os::arg_count() != 4 {
-        console::usage(b"scope", b"scope FILE S S*");
+fn main(rt: HostRuntime) {
+    if console::argument_count(&rt) != 4 {
+        console::usage(&rt, b"scope", b"scope FILE S S*");
         return;
     }
-    if let PairAsked::Is(s, t) = console::sync_pair(b"scope", 2) {
-        open(s, t);
+    if let PairAsked::Is(s, t) = console::sync_pair(&rt, b"scope", 2) {
+        open(&rt, s, t);
     }
 }

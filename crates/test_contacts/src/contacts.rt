@@ -3,13 +3,13 @@ use crate::say;
 use contact::{Next, SearchBegun, begin, judge, next_contact};
 
 // The contacts of a record's first bits, up to the first answer that is none.
-fn ask(record: &[u8], bits: usize) {
+fn ask(rt: &impl Print, record: &[u8], bits: usize) {
     let SearchBegun::Search(search) = begin(record, 0, bits) else {
-        say::words(b"refused 5\n");
+        say::words(rt, b"refused 5\n");
         return;
     };
     let first = next_contact(search, record);
-    say::next(first);
+    say::next(rt, first);
     let Next::Contact {
         start: _,
         length: _,
@@ -18,30 +18,30 @@ fn ask(record: &[u8], bits: usize) {
     else {
         return;
     };
-    say::words(b"  and then: ");
-    say::next(next_contact(then, record));
+    say::words(rt, b"  and then: ");
+    say::next(rt, next_contact(then, record));
 }
 
 // 7 and 8 zeroes in sixteen, and a record that ends in a contact.
-pub fn records() {
-    say::words(b"seven zeroes, FF 80 FF FF: ");
-    ask(&[0xff, 0x80, 0xff, 0xff], 32);
-    say::words(b"eight zeroes, FF 00 FF FF: ");
-    ask(&[0xff, 0x00, 0xff, 0xff], 32);
-    say::words(b"the same, ended by the closing bit: ");
-    ask(&[0xff, 0x00, 0xff, 0xff], 28);
-    say::words(b"the same, ended before the closing bit: ");
-    ask(&[0xff, 0x00, 0xff, 0xff], 27);
+pub fn records(rt: &impl Print) {
+    say::words(rt, b"seven zeroes, FF 80 FF FF: ");
+    ask(rt, &[0xff, 0x80, 0xff, 0xff], 32);
+    say::words(rt, b"eight zeroes, FF 00 FF FF: ");
+    ask(rt, &[0xff, 0x00, 0xff, 0xff], 32);
+    say::words(rt, b"the same, ended by the closing bit: ");
+    ask(rt, &[0xff, 0x00, 0xff, 0xff], 28);
+    say::words(rt, b"the same, ended before the closing bit: ");
+    ask(rt, &[0xff, 0x00, 0xff, 0xff], 27);
 }
 
 // The first contact of a record, judged.
-fn ask_and_judge(record: &[u8], bits: usize) {
+fn ask_and_judge(rt: &impl Print, record: &[u8], bits: usize) {
     let SearchBegun::Search(search) = begin(record, 0, bits) else {
-        say::words(b"refused 5\n");
+        say::words(rt, b"refused 5\n");
         return;
     };
     let first = next_contact(search, record);
-    say::next(first);
+    say::next(rt, first);
     let Next::Contact {
         start,
         length,
@@ -50,19 +50,21 @@ fn ask_and_judge(record: &[u8], bits: usize) {
     else {
         return;
     };
-    say::words(b"  judged: ");
-    say::judged(judge(record, start, length, 0x72, 0x0d));
+    say::words(rt, b"  judged: ");
+    say::judged(rt, judge(record, start, length, 0x72, 0x0d));
 }
 
 // A line of ones with a balise on it: its telegram three times, and once another telegram last.
-pub fn whole_lines() {
-    say::words(b"one telegram three times on a line: ");
+pub fn whole_lines(rt: &impl Print) {
+    say::words(rt, b"one telegram three times on a line: ");
     ask_and_judge(
+        rt,
         b"\xff\xff\x72\x17\x8e\x5a\x0d\x17\x8e\x5a\x72\x17\x8e\x5a\x0d\xff\xff\xff\xff",
         152,
     );
-    say::words(b"two telegrams differ in one contact: ");
+    say::words(rt, b"two telegrams differ in one contact: ");
     ask_and_judge(
+        rt,
         b"\xff\xff\x72\x17\x8e\x5a\x0d\x17\x8e\x5a\x72\x99\x2b\x4d\x0d\xff\xff\xff\xff",
         152,
     );

@@ -11,14 +11,14 @@ mod say;
 mod stores;
 mod telegrams;
 
-fn main() {
-    telegrams::pairs();
-    telegrams::stretches();
-    telegrams::in_turn();
-    contacts::records();
-    judgements::markers();
-    judgements::places();
-    contacts::whole_lines();
-    stores::odometers();
-    stores::refused_stores();
+fn main(rt: HostRuntime) {
+    telegrams::pairs(&rt);
+    telegrams::stretches(&rt);
+    telegrams::in_turn(&rt);
+    contacts::records(&rt);
+    judgements::markers(&rt);
+    judgements::places(&rt);
+    contacts::whole_lines(&rt);
+    stores::odometers(&rt);
+    stores::refused_stores(&rt);
 }

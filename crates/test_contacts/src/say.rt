@@ -4,130 +4,130 @@ use settings::Bad;
 use telegram::{Found, Pair, Telegram};
 
 // Words on the line.
-pub fn words(text: &[u8]) {
-    io::write_all(1, text);
+pub fn words(rt: &impl Print, text: &[u8]) {
+    let _ = rt.write_all(text);
 }
 
 // A number on the line.
-pub fn number(n: u64) {
-    io::print_decimal(1, n);
+pub fn number(rt: &impl Print, n: u64) {
+    let _ = rt.print(n);
 }
 
 // The judgement of a sync pair.
-pub fn pair(answer: Pair) {
+pub fn pair(rt: &impl Print, answer: Pair) {
     match answer {
-        Pair::Good => words(b"good\n"),
-        Pair::NotSeven => words(b"refused 4\n"),
+        Pair::Good => words(rt, b"good\n"),
+        Pair::NotSeven => words(rt, b"refused 4\n"),
     }
 }
 
 // The figures of a telegram, or its number.
-fn telegram(said: Telegram) {
+fn telegram(rt: &impl Print, said: Telegram) {
     match said {
         Telegram::Figures(x, y, z) => {
-            words(b"figures ");
-            number(x as u64);
-            words(b" ");
-            number(y as u64);
-            words(b" ");
-            number(z as u64);
+            words(rt, b"figures ");
+            number(rt, x as u64);
+            words(rt, b" ");
+            number(rt, y as u64);
+            words(rt, b" ");
+            number(rt, z as u64);
         }
         Telegram::Number(n) => {
-            words(b"number ");
-            number(n as u64);
+            words(rt, b"number ");
+            number(rt, n as u64);
         }
     }
 }
 
 // What the search for single telegrams found.
-pub fn found(answer: Found) {
+pub fn found(rt: &impl Print, answer: Found) {
     match answer {
         Found::At {
             place,
             telegram: said,
         } => {
-            words(b"place ");
-            number(place as u64);
-            words(b", ");
-            telegram(said);
-            words(b"\n");
+            words(rt, b"place ");
+            number(rt, place as u64);
+            words(rt, b", ");
+            telegram(rt, said);
+            words(rt, b"\n");
         }
-        Found::NotSeven => words(b"refused 4\n"),
-        Found::Beyond => words(b"refused 5\n"),
-        Found::NoPlace => words(b"refused 6\n"),
+        Found::NotSeven => words(rt, b"refused 4\n"),
+        Found::Beyond => words(rt, b"refused 5\n"),
+        Found::NoPlace => words(rt, b"refused 6\n"),
     }
 }
 
 // What the detector handed out.
-pub fn next(answer: Next) {
+pub fn next(rt: &impl Print, answer: Next) {
     match answer {
         Next::Contact {
             start,
             length,
             then: _,
         } => {
-            words(b"contact from bit ");
-            number(start as u64);
-            words(b", ");
-            number(length as u64);
-            words(b" bits\n");
+            words(rt, b"contact from bit ");
+            number(rt, start as u64);
+            words(rt, b", ");
+            number(rt, length as u64);
+            words(rt, b" bits\n");
         }
-        Next::NoFurther => words(b"no further contact\n"),
-        Next::Cut => words(b"refused 9\n"),
-        Next::Beyond => words(b"refused 5\n"),
+        Next::NoFurther => words(rt, b"no further contact\n"),
+        Next::Cut => words(rt, b"refused 9\n"),
+        Next::Beyond => words(rt, b"refused 5\n"),
     }
 }
 
 // A contact that was read.
-fn read(said: Telegram, first: usize, count: usize) {
-    words(b"read ");
-    telegram(said);
-    words(b", first place ");
-    number(first as u64);
-    words(b", places ");
-    number(count as u64);
-    words(b"\n");
+fn read(rt: &impl Print, said: Telegram, first: usize, count: usize) {
+    words(rt, b"read ");
+    telegram(rt, said);
+    words(rt, b", first place ");
+    number(rt, first as u64);
+    words(rt, b", places ");
+    number(rt, count as u64);
+    words(rt, b"\n");
 }
 
 // What a contact was judged to be.
-pub fn judged(answer: Judged) {
+pub fn judged(rt: &impl Print, answer: Judged) {
     match answer {
         Judged::Read {
             telegram: said,
             first,
             count,
-        } => read(said, first, count),
-        Judged::Marker => words(b"marker\n"),
-        Judged::NotSeven => words(b"refused 4\n"),
-        Judged::Beyond => words(b"refused 5\n"),
-        Judged::Differ => words(b"refused 7\n"),
-        Judged::Neither => words(b"refused 8\n"),
+        } => read(rt, said, first, count),
+        Judged::Marker => words(rt, b"marker\n"),
+        Judged::NotSeven => words(rt, b"refused 4\n"),
+        Judged::Beyond => words(rt, b"refused 5\n"),
+        Judged::Differ => words(rt, b"refused 7\n"),
+        Judged::Neither => words(rt, b"refused 8\n"),
     }
 }
 
 // Why settings or a place are refused.
-fn bad(why: Bad) {
+fn bad(rt: &impl Print, why: Bad) {
     match why {
-        Bad::Pair => words(b"refused 4\n"),
-        Bad::Gap => words(b"refused 19\n"),
-        Bad::TooHigh => words(b"refused 18\n"),
-        Bad::NotAbove => words(b"refused 24\n"),
-        Bad::Full => words(b"refused 25\n"),
+        Bad::Pair => words(rt, b"refused 4\n"),
+        Bad::Gap => words(rt, b"refused 19\n"),
+        Bad::TooHigh => words(rt, b"refused 18\n"),
+        Bad::NotAbove => words(rt, b"refused 24\n"),
+        Bad::Full => words(rt, b"refused 25\n"),
     }
 }
 
 // What a contact was judged to be under a store.
-pub fn judged_under(answer: JudgedUnder) {
+pub fn judged_under(rt: &impl Print, answer: JudgedUnder) {
     match answer {
         JudgedUnder::Read {
             telegram: said,
             first,
             count,
-        } => read(said, first, count),
-        JudgedUnder::Marker => words(b"marker\n"),
-        JudgedUnder::Settings(why) => bad(why),
-        JudgedUnder::Beyond => words(b"refused 5\n"),
-        JudgedUnder::Differ => words(b"refused 7\n"),
-        JudgedUnder::Neither => words(b"refused 8\n"),
+        } => read(rt, said, first, count),
+        JudgedUnder::Marker => words(rt, b"marker\n"),
+        JudgedUnder::Settings(why) => bad(rt, why),
+        JudgedUnder::Beyond => words(rt, b"refused 5\n"),
+        JudgedUnder::Differ => words(rt, b"refused 7\n"),
+        JudgedUnder::Neither => words(rt, b"refused 8\n"),
     }
 }

@@ -2,7 +2,6 @@
 // decimetres it means or NA.
 use crate::tally::Tally;
 use crate::{say, spelling, tally};
-use check::same;
 use figures::Figure;
 use group::Measured;
 
@@ -20,35 +19,35 @@ fn shows(cell: &[u8], dm: u64) -> bool {
 fn is_put_right(cell: &[u8], means: &[u8]) -> bool {
     match figures::decimal(means, 9999999) {
         Figure::Number(dm) => !shows(cell, dm),
-        Figure::Above => !same(cell, means),
-        Figure::Odd => !same(cell, means),
+        Figure::Above => cell != means,
+        Figure::Odd => cell != means,
     }
 }
 
 // Begins a line for a distance that is not what the cell means.
-fn begin(by: u8, figure: u8) {
-    say::number(b"BY ", by as u32);
-    say::number(b", figure ", figure as u32);
+fn begin(rt: &impl Print, by: u8, figure: u8) {
+    say::number(rt, b"BY ", by as u32);
+    say::number(rt, b", figure ", figure as u32);
 }
 
 // Whether the distance is what the cell means; if not, a line says so.
-fn is_so(by: u8, figure: u8, means: &[u8]) -> bool {
+fn is_so(rt: &impl Print, by: u8, figure: u8, means: &[u8]) -> bool {
     match group::distance(by, figure) {
         Measured::Dm(dm) => {
             let so = spelling::spells(means, dm as u64);
             if !so {
-                begin(by, figure);
-                say::number(b": ", dm);
-                tally::end_line(so, means);
+                begin(rt, by, figure);
+                say::number(rt, b": ", dm);
+                tally::end_line(rt, so, means);
             }
             so
         }
         Measured::NoDistance => {
-            let so = same(means, b"NA");
+            let so = means == b"NA".as_slice();
             if !so {
-                begin(by, figure);
-                say::text(b": refused 15");
-                tally::end_line(so, means);
+                begin(rt, by, figure);
+                say::text(rt, b": refused 15");
+                tally::end_line(rt, so, means);
             }
             so
         }
@@ -56,13 +55,17 @@ fn is_so(by: u8, figure: u8, means: &[u8]) -> bool {
 }
 
 // One entry, counted. The table goes figure by figure from 0, and for each BY by BY.
-pub fn entry(before: Tally, line: &[u8]) -> Tally {
+pub fn entry(rt: &impl Print, before: Tally, line: &[u8]) -> Tally {
     let by = spelling::figure(figures::field(line, b'\t', 0));
     let figure = spelling::figure(figures::field(line, b'\t', 1));
     if figure as u32 * 15 + by as u32 != before.compared {
-        return tally::out_of_place(before, line);
+        return tally::out_of_place(rt, before, line);
     }
     let cell = figures::field(line, b'\t', 2);
     let means = figures::field(line, b'\t', 3);
-    tally::entry(before, is_put_right(cell, means), is_so(by, figure, means))
+    tally::entry(
+        before,
+        is_put_right(cell, means),
+        is_so(rt, by, figure, means),
+    )
 }

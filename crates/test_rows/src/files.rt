@@ -17,35 +17,35 @@ fn is_comment(line: &[u8]) -> bool {
 }
 
 // One line of a file, counted.
-fn line(file: File, before: Tally, text: &[u8]) -> Tally {
+fn line(rt: &impl Print, file: File, before: Tally, text: &[u8]) -> Tally {
     if is_comment(text) {
         return before;
     }
     match file {
-        File::Distances => distances::entry(before, text),
-        File::Speeds => speeds::entry(before, text),
-        File::Groups => groups::entry(before, text),
+        File::Distances => distances::entry(rt, before, text),
+        File::Speeds => speeds::entry(rt, before, text),
+        File::Groups => groups::entry(rt, before, text),
     }
 }
 
 // Every line of a file, counted.
-fn lines(file: File, text: &[u8]) -> Tally {
+fn lines(rt: &impl Print, file: File, text: &[u8]) -> Tally {
     let mut t = tally::none();
     let mut at = 0;
     while at < text.len() {
         let end = figures::place_of(text, at, b'\n');
-        t = line(file, t, &text[at..end]);
+        t = line(rt, file, t, &text[at..end]);
         at = end + 1;
     }
     t
 }
 
 // Compares every entry of a file, and tells the counts.
-pub fn compare(file: File, text: &[u8]) {
-    let t = lines(file, text);
+pub fn compare(rt: &impl Print, file: File, text: &[u8]) {
+    let t = lines(rt, file, text);
     match file {
-        File::Distances => tally::tell_table(b"table DF", t),
-        File::Speeds => tally::tell_table(b"tables HS and FS", t),
-        File::Groups => tally::tell_groups(t),
+        File::Distances => tally::tell_table(rt, b"table DF", t),
+        File::Speeds => tally::tell_table(rt, b"tables HS and FS", t),
+        File::Groups => tally::tell_groups(rt, t),
     }
 }

@@ -63,36 +63,36 @@ fn front(out: &[u8], n: usize) -> &[u8] {
 }
 
 // Writes what came of a group; answers whether it is what must come.
-fn is_so(came: &[u8], wanted: &[u8]) -> bool {
-    say::text(came);
-    let so = check::same(came, wanted);
-    tally::end_line(so, wanted);
+fn is_so(rt: &impl Print, came: &[u8], wanted: &[u8]) -> bool {
+    say::text(rt, came);
+    let so = came == wanted;
+    tally::end_line(rt, so, wanted);
     so
 }
 
 // Whether the judgement of a group is what must come.
-fn is_judged_so(g: Group, wanted: &[u8]) -> bool {
-    let mut out = io::buffer();
+fn is_judged_so(rt: &impl Print, g: Group, wanted: &[u8]) -> bool {
+    let mut out = [0u8; 4096];
     let n = answers::put(group::judge(g), &mut out);
-    is_so(front(&out, n), wanted)
+    is_so(rt, front(&out, n), wanted)
 }
 
 // One entry, counted, with a line for it.
-pub fn entry(before: Tally, line: &[u8]) -> Tally {
+pub fn entry(rt: &impl Print, before: Tally, line: &[u8]) -> Tally {
     let sign = figures::place_of(line, 0, b'=');
     if line.len() < 2 {
-        return tally::out_of_place(before, line);
+        return tally::out_of_place(rt, before, line);
     }
     if line.len() - 2 < sign {
-        return tally::out_of_place(before, line);
+        return tally::out_of_place(rt, before, line);
     }
     let from = sign + 2;
     let asked = group_of(&line[0..sign]);
     if asked.good {
-        say::text(&line[0..from]);
+        say::text(rt, &line[0..from]);
         let g = asked.group;
-        let so = is_judged_so(g, &line[from..]);
+        let so = is_judged_so(rt, g, &line[from..]);
         return tally::entry(before, false, so);
     }
-    tally::out_of_place(before, line)
+    tally::out_of_place(rt, before, line)
 }

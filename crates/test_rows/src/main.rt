@@ -7,47 +7,29 @@
 // them, and the groups worked out by hand.
 #![tactic(auto)]
 
-ghost use Rattle.io.specs.Counts.{IsPrefixLen};
-
 mod answers;
 mod balises;
 mod distances;
 mod files;
 mod groups;
+mod reading;
 mod say;
 mod speeds;
 mod spelling;
 mod tally;
 
 use files::File;
-
-// Opens the file that an argument names.
-fn opened(which: usize) -> i32 {
-    let mut path = io::buffer();
-    let n = os::arg(which, &mut path);
-    os::open_read(&path[..n])
-}
-
-// Reads the file that an argument names, as far as the buffer holds it; of one that cannot be
-// opened, nothing.
-fn read_file(which: usize, buf: &mut [u8]) -> usize
-    ensures { IsPrefixLen result buf.new }
-{
-    let fd = opened(which);
-    let n = io::read_full(fd, buf);
-    libc::close(fd);
-    n
-}
+use std::rt::{Env, Files};
 
 // Compares each entry of the file that an argument names, and tells the counts.
-fn run(which: usize, file: File) {
-    let mut buf = io::large_buffer();
-    let n = read_file(which, &mut buf);
-    files::compare(file, &buf[..n]);
+fn run(rt: &(impl Env + Files + Print), which: usize, file: File) {
+    let mut buf = [0u8; 65536];
+    let n = reading::read_file(rt, which, &mut buf);
+    files::compare(rt, file, &buf[..n]);
 }
 
-fn main() {
-    run(1, File::Distances);
-    run(2, File::Speeds);
-    run(3, File::Groups);
+fn main(rt: HostRuntime) {
+    run(&rt, 1, File::Distances);
+    run(&rt, 2, File::Speeds);
+    run(&rt, 3, File::Groups);
 }

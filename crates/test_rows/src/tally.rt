@@ -34,34 +34,34 @@ pub fn entry(t: Tally, righted: bool, so: bool) -> Tally
 }
 
 // A line that holds no entry, or not the next one.
-pub fn out_of_place(t: Tally, line: &[u8]) -> Tally {
-    say::text(b"a difference: no entry, or out of place: ");
-    say::text(line);
-    say::text(b"\n");
+pub fn out_of_place(rt: &impl Print, t: Tally, line: &[u8]) -> Tally {
+    say::text(rt, b"a difference: no entry, or out of place: ");
+    say::text(rt, line);
+    say::text(rt, b"\n");
     entry(t, false, false)
 }
 
 // Ends the line of an entry: where it did not come as it must, with what must come.
-pub fn end_line(so: bool, wanted: &[u8]) {
+pub fn end_line(rt: &impl Print, so: bool, wanted: &[u8]) {
     if !so {
-        say::text(b", a difference: it must be ");
-        say::text(wanted);
+        say::text(rt, b", a difference: it must be ");
+        say::text(rt, wanted);
     }
-    say::text(b"\n");
+    say::text(rt, b"\n");
 }
 
 // Tells the counts of a table that a scan shows.
-pub fn tell_table(name: &[u8], t: Tally) {
-    say::text(name);
-    say::number(b": entries ", t.compared);
-    say::number(b", put right ", t.righted);
-    say::number(b", differences ", t.differences);
-    say::text(b"\n");
+pub fn tell_table(rt: &impl Print, name: &[u8], t: Tally) {
+    say::text(rt, name);
+    say::number(rt, b": entries ", t.compared);
+    say::number(rt, b", put right ", t.righted);
+    say::number(rt, b", differences ", t.differences);
+    say::text(rt, b"\n");
 }
 
 // Tells the counts of the groups.
-pub fn tell_groups(t: Tally) {
-    say::number(b"groups: entries ", t.compared);
-    say::number(b", differences ", t.differences);
-    say::text(b"\n");
+pub fn tell_groups(rt: &impl Print, t: Tally) {
+    say::number(rt, b"groups: entries ", t.compared);
+    say::number(rt, b", differences ", t.differences);
+    say::text(rt, b"\n");
 }

@@ -26,30 +26,31 @@ fn is_same(a: LongRead, b: LongRead) -> bool {
 }
 
 // Whether both readers give the same for the word; if not, a line says so.
-fn is_alike(word: u16) -> bool {
+fn is_alike(rt: &impl Print, word: u16) -> bool {
     let alike = is_same(words::read_long(word), words_list::read_long(word));
     if !alike {
-        say::long_word(b"difference: long word ", word);
-        say::text(b", by the list not as by the checks\n");
+        say::long_word(rt, b"difference: long word ", word);
+        say::text(rt, b", by the list not as by the checks\n");
     }
     alike
 }
 
 // How many of all long words both readers read alike.
-fn every_word_alike() -> u32 {
+fn every_word_alike(rt: &impl Print) -> u32 {
     let mut alike: u32 = 0;
     let mut word: u32 = 0;
     while word < 65536 {
-        alike = more(alike, is_alike(word as u16));
+        alike = more(alike, is_alike(rt, word as u16));
         word += 1;
     }
     alike
 }
 
-pub fn long_words() {
+pub fn long_words(rt: &impl Print) {
     say::number(
+        rt,
         b"long words: 65536, of which read by the list as by the checks ",
-        every_word_alike(),
+        every_word_alike(rt),
     );
-    say::text(b"\n");
+    say::text(rt, b"\n");
 }

@@ -154,32 +154,33 @@ pub fn unknown(counts: Counts) -> Counts
 }
 
 // The cells of one kind; `so` says how the word stands there.
-fn tell_cells(kind: &[u8], so: &[u8], cells: Cells) {
-    say::number(kind, cells.all);
-    say::text(b", of which written");
-    say::text(so);
-    say::number(b" ", cells.written);
-    say::text(b", read");
-    say::text(so);
-    say::number(b" by the checks ", cells.checked);
-    say::number(b", by the list ", cells.listed);
-    say::text(b"\n");
+fn tell_cells(rt: &impl Print, kind: &[u8], so: &[u8], cells: Cells) {
+    say::number(rt, kind, cells.all);
+    say::text(rt, b", of which written");
+    say::text(rt, so);
+    say::number(rt, b" ", cells.written);
+    say::text(rt, b", read");
+    say::text(rt, so);
+    say::number(rt, b" by the checks ", cells.checked);
+    say::number(rt, b", by the list ", cells.listed);
+    say::text(rt, b"\n");
 }
 
-pub fn tell(c: Counts) {
+pub fn tell(rt: &impl Print, c: Counts) {
     let readable = c.readable;
     let right = c.right;
-    say::number(b"table NR: ", c.cells);
-    say::text(b" cells\n");
-    tell_cells(b"readable: ", b" as shown", readable);
-    tell_cells(b"put right: ", b" so", right);
-    say::number(b"misread by the scan: ", c.misread);
+    say::number(rt, b"table NR: ", c.cells);
+    say::text(rt, b" cells\n");
+    tell_cells(rt, b"readable: ", b" as shown", readable);
+    tell_cells(rt, b"put right: ", b" so", right);
+    say::number(rt, b"misread by the scan: ", c.misread);
     say::number(
+        rt,
         b" of these, what it shows refused with 1 by the checks ",
         c.refused,
     );
-    say::number(b", by the list ", c.absent);
-    say::number(b"\nunreadable: ", c.unreadable);
-    say::number(b"\ndifferences: ", c.differences);
-    say::text(b"\n");
+    say::number(rt, b", by the list ", c.absent);
+    say::number(rt, b"\nunreadable: ", c.unreadable);
+    say::number(rt, b"\ndifferences: ", c.differences);
+    say::text(rt, b"\n");
 }

@@ -46,102 +46,102 @@ fn refused_one(before: Tally, parity: Parity) -> Tally {
 }
 
 // Begins the line of a difference in a long word.
-fn begin_long(word: u16, figure: u16) {
-    say::long_word(b"difference: long word ", word);
-    say::number(b", read ", figure as u32);
+fn begin_long(rt: &impl Print, word: u16, figure: u16) {
+    say::long_word(rt, b"difference: long word ", word);
+    say::number(rt, b", read ", figure as u32);
 }
 
 // Begins that of a difference in a short one.
-fn begin_short(word: u8, figure: u8) {
-    say::short_word(b"difference: short word ", word);
-    say::number(b", read ", figure as u32);
+fn begin_short(rt: &impl Print, word: u8, figure: u8) {
+    say::short_word(rt, b"difference: short word ", word);
+    say::number(rt, b", read ", figure as u32);
 }
 
 // A long word that reads as the figure is written back as itself; if not, a line says so.
-fn is_long_back(word: u16, figure: u16) -> bool {
+fn is_long_back(rt: &impl Print, word: u16, figure: u16) -> bool {
     match words::write_long(figure) {
         LongWritten::Word(w) => {
             if w != word {
-                begin_long(word, figure);
-                say::long_word(b", written ", w);
-                say::text(b"\n");
+                begin_long(rt, word, figure);
+                say::long_word(rt, b", written ", w);
+                say::text(rt, b"\n");
             }
             w == word
         }
         LongWritten::TooLarge => {
-            begin_long(word, figure);
-            say::text(b", writing refused with 2\n");
+            begin_long(rt, word, figure);
+            say::text(rt, b", writing refused with 2\n");
             false
         }
     }
 }
 
 // A short word that reads as the figure is written back as itself; if not, a line says so.
-fn is_short_back(word: u8, figure: u8) -> bool {
+fn is_short_back(rt: &impl Print, word: u8, figure: u8) -> bool {
     match words::write_short(figure) {
         ShortWritten::Word(w) => {
             if w != word {
-                begin_short(word, figure);
-                say::short_word(b", written ", w);
-                say::text(b"\n");
+                begin_short(rt, word, figure);
+                say::short_word(rt, b", written ", w);
+                say::text(rt, b"\n");
             }
             w == word
         }
         ShortWritten::TooLarge => {
-            begin_short(word, figure);
-            say::text(b", writing refused with 2\n");
+            begin_short(rt, word, figure);
+            say::text(rt, b", writing refused with 2\n");
             false
         }
     }
 }
 
-fn long_word(before: Tally, word: u16) -> Tally {
+fn long_word(rt: &impl Print, before: Tally, word: u16) -> Tally {
     match words::read_long(word) {
-        LongRead::Figure(figure) => read_one(before, is_long_back(word, figure)),
+        LongRead::Figure(figure) => read_one(before, is_long_back(rt, word, figure)),
         LongRead::NotCode(parity) => refused_one(before, parity),
     }
 }
 
-fn short_word(before: Tally, word: u8) -> Tally {
+fn short_word(rt: &impl Print, before: Tally, word: u8) -> Tally {
     match words::read_short(word) {
-        ShortRead::Figure(figure) => read_one(before, is_short_back(word, figure)),
+        ShortRead::Figure(figure) => read_one(before, is_short_back(rt, word, figure)),
         ShortRead::NotCode(parity) => refused_one(before, parity),
     }
 }
 
-fn tell(kind: &[u8], words: u32, t: Tally) {
-    say::number(kind, words);
-    say::number(b", of which read ", t.read);
-    say::number(b", written back ", t.back);
-    say::number(b", refused with 1 and odd ", t.odd);
-    say::number(b", refused with 1 and even ", t.even);
-    say::text(b"\n");
+fn tell(rt: &impl Print, kind: &[u8], words: u32, t: Tally) {
+    say::number(rt, kind, words);
+    say::number(rt, b", of which read ", t.read);
+    say::number(rt, b", written back ", t.back);
+    say::number(rt, b", refused with 1 and odd ", t.odd);
+    say::number(rt, b", refused with 1 and even ", t.even);
+    say::text(rt, b"\n");
 }
 
-fn every_long_word() -> Tally {
+fn every_long_word(rt: &impl Print) -> Tally {
     let mut t = NONE;
     let mut word: u32 = 0;
     while word < 65536 {
-        t = long_word(t, word as u16);
+        t = long_word(rt, t, word as u16);
         word += 1;
     }
     t
 }
 
-fn every_short_word() -> Tally {
+fn every_short_word(rt: &impl Print) -> Tally {
     let mut t = NONE;
     let mut word: u32 = 0;
     while word < 256 {
-        t = short_word(t, word as u8);
+        t = short_word(rt, t, word as u8);
         word += 1;
     }
     t
 }
 
-pub fn long_words() {
-    tell(b"long words: ", 65536, every_long_word());
+pub fn long_words(rt: &impl Print) {
+    tell(rt, b"long words: ", 65536, every_long_word(rt));
 }
 
-pub fn short_words() {
-    tell(b"short words: ", 256, every_short_word());
+pub fn short_words(rt: &impl Print) {
+    tell(rt, b"short words: ", 256, every_short_word(rt));
 }

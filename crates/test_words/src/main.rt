@@ -11,27 +11,25 @@ mod alike;
 mod cells;
 mod counts;
 mod every;
+mod reading;
 mod say;
 mod table;
 
+use std::rt::{Env, Files};
+
 // Compares the table in the file that the first argument names, as far as one buffer holds it.
-fn compare_file() {
-    let mut path = io::buffer();
-    let length = os::arg(1, &mut path);
-    let fd = os::open_read(&path[..length]);
-    if fd < 0 {
-        say::text(b"table NR cannot be opened\n");
+fn compare_file(rt: &(impl Env + Files + Print)) {
+    let mut buf = [0u8; 65536];
+    let Some(n) = reading::read_file(rt, 1, &mut buf) else {
+        say::text(rt, b"table NR cannot be opened\n");
         return;
-    }
-    let mut buf = io::large_buffer();
-    let n = io::read_full(fd, &mut buf);
-    libc::close(fd);
-    table::compare(&buf[..n]);
+    };
+    table::compare(rt, &buf[..n]);
 }
 
-fn main() {
-    compare_file();
-    every::long_words();
-    every::short_words();
-    alike::long_words();
+fn main(rt: HostRuntime) {
+    compare_file(&rt);
+    every::long_words(&rt);
+    every::short_words(&rt);
+    alike::long_words(&rt);
 }

@@ -1,24 +1,23 @@
 // Text, numbers and words to standard output.
-use libc::STDOUT_FILENO;
 
-pub fn text(s: &[u8]) {
-    io::write_all(STDOUT_FILENO, s);
+pub fn text(rt: &impl Print, s: &[u8]) {
+    let _ = rt.write_all(s);
 }
 
 // A number after a text.
-pub fn number(s: &[u8], n: u32) {
-    text(s);
-    io::print_decimal(STDOUT_FILENO, n as u64);
+pub fn number(rt: &impl Print, s: &[u8], n: u32) {
+    text(rt, s);
+    let _ = rt.print(n);
 }
 
 // A long word, as four hexadecimal digits, after a text.
-pub fn long_word(s: &[u8], word: u16) {
-    text(s);
-    io::print_hex(STDOUT_FILENO, word as u64, 4);
+pub fn long_word(rt: &impl Print, s: &[u8], word: u16) {
+    text(rt, s);
+    let _ = print!(rt; "{word:04x}");
 }
 
 // A short word, as two hexadecimal digits, after a text.
-pub fn short_word(s: &[u8], word: u8) {
-    text(s);
-    io::print_hex(STDOUT_FILENO, word as u64, 2);
+pub fn short_word(rt: &impl Print, s: &[u8], word: u8) {
+    text(rt, s);
+    let _ = print!(rt; "{word:02x}");
 }

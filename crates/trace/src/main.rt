@@ -7,6 +7,6 @@
 
 use typed::Form;
 
-fn main() {
-    typed::run(b"trace", Form::Trace);
+fn main(rt: HostRuntime) {
+    typed::run(&rt, b"trace", Form::Trace);
 }

@@ -1,5 +1,5 @@
 // What the arguments ask for.
-use console::{NumberAsked, PairAsked};
+use console::{NumberAsked, PairAsked, System};
 
 // A sync pair, and how many frames there are to each decimetre; the text's file is argument 1.
 #[derive(Clone, Copy)]
@@ -18,16 +18,16 @@ pub enum TrackAsked {
 }
 
 // The frames to a decimetre: argument 4, 1 to 1,000; 1 if it is not given.
-fn rate() -> NumberAsked {
-    if os::arg_count() == 4 {
+fn rate(rt: &impl System) -> NumberAsked {
+    if console::argument_count(rt) == 4 {
         return NumberAsked::Is(1);
     }
-    console::number_in(b"track", b"N", 4, 1, 1000)
+    console::number_in(rt, b"track", b"N", 4, 1, 1000)
 }
 
 // The call with this pair.
-fn with_pair(s: u8, t: u8) -> TrackAsked {
-    match rate() {
+fn with_pair(rt: &impl System, s: u8, t: u8) -> TrackAsked {
+    match rate(rt) {
         NumberAsked::Is(n) => TrackAsked::For(TrackCall { s, t, n }),
         NumberAsked::Usage => TrackAsked::Usage,
         NumberAsked::Said => TrackAsked::Said,
@@ -35,13 +35,13 @@ fn with_pair(s: u8, t: u8) -> TrackAsked {
 }
 
 // The whole call.
-pub fn arguments() -> TrackAsked {
-    let count = os::arg_count();
+pub fn arguments(rt: &impl System) -> TrackAsked {
+    let count = console::argument_count(rt);
     if (count != 4) & (count != 5) {
         return TrackAsked::Usage;
     }
-    let PairAsked::Is(s, t) = console::sync_pair(b"track", 2) else {
+    let PairAsked::Is(s, t) = console::sync_pair(rt, b"track", 2) else {
         return TrackAsked::Said;
     };
-    with_pair(s, t)
+    with_pair(rt, s, t)
 }

@@ -2,8 +2,7 @@
 use crate::call::TrackCall;
 use crate::taking::{Laying, PassStands};
 use crate::{saying, taking};
-use console::CardsFound;
-use libc::SEEK_SET;
+use console::{CardsFound, Source, System};
 use lines::TextLine;
 use track_lead::TrackWay;
 use typed_lines::LineCame;
@@ -32,9 +31,15 @@ struct TextPassed {
 }
 
 // The pass after a line of this number, if it goes on.
-fn after_line(stand: Laying, line: TextLine, number: u64, room: &mut [u8]) -> TextPassed {
+fn after_line(
+    rt: &impl System,
+    stand: Laying,
+    line: TextLine,
+    number: u64,
+    room: &mut [u8],
+) -> TextPassed {
     TextPassed {
-        stand: taking::take(stand, line, number, room),
+        stand: taking::take(rt, stand, line, number, room),
         is_read: true,
         is_over: false,
     }
@@ -51,6 +56,7 @@ fn over_with(stand: Laying, is_read: bool) -> TextPassed {
 
 // The pass after what came of the text.
 fn after(
+    rt: &impl System,
     stand: Laying,
     came: LineCame,
     line: TextLine,
@@ -58,23 +64,29 @@ fn after(
     room: &mut [u8],
 ) -> TextPassed {
     match came {
-        LineCame::Line => after_line(stand, line, number, room),
+        LineCame::Line => after_line(rt, stand, line, number, room),
         LineCame::End => over_with(stand, true),
         LineCame::CannotRead => over_with(stand, false),
     }
 }
 
 // All lines of the open text. It counts its turns down from a number that no text uses up.
-fn over(fd: i32, begun: Laying, text: &mut [u8], room: &mut [u8]) -> TextPassed {
-    let mut pass = typed_lines::begin(fd);
+fn over(
+    rt: &impl System,
+    file: &mut Source,
+    begun: Laying,
+    text: &mut [u8],
+    room: &mut [u8],
+) -> TextPassed {
+    let mut pass = typed_lines::begin();
     let mut stand = begun;
     let mut turns = u64::MAX;
     while turns > 0 {
-        let next = typed_lines::next(pass, text);
+        let next = typed_lines::next(rt, file, pass, text);
         pass = next.pass;
         let came = next.how;
         let line = next.line;
-        let passed = after(stand, came, line, next.number, room);
+        let passed = after(rt, stand, came, line, next.number, room);
         if passed.is_over {
             return passed;
         }
@@ -88,15 +100,21 @@ fn over(fd: i32, begun: Laying, text: &mut [u8], room: &mut [u8]) -> TextPassed 
 }
 
 // One pass over the open text that argument 1 names; what was wrong is said.
-fn pass(fd: i32, stand: Laying, text: &mut [u8], room: &mut [u8]) -> Laying {
-    let passed = over(fd, stand, text, room);
+fn pass(
+    rt: &impl System,
+    file: &mut Source,
+    stand: Laying,
+    text: &mut [u8],
+    room: &mut [u8],
+) -> Laying {
+    let passed = over(rt, file, stand, text, room);
     let after = passed.stand;
     if !passed.is_read {
-        console::cannot_read(b"track", 1);
+        console::cannot_read(rt, b"track", 1);
         return with_failure(after);
     }
     let how = after.how;
-    saying::say(after.lines, how);
+    saying::say(rt, after.lines, how);
     after
 }
 
@@ -131,43 +149,60 @@ fn is_well(stand: Laying) -> bool {
 }
 
 // The frames up to the way's end, after the last thing.
-fn finish(stand: Laying, room: &mut [u8]) {
+fn finish(rt: &impl System, stand: Laying, room: &mut [u8]) {
     if !is_well(stand) {
         return;
     }
     let way = stand.way;
-    let ended = taking::write_to(stand, track_lead::until(way), room);
+    let ended = taking::write_to(rt, stand, track_lead::until(way), room);
     let end = ended.how;
-    saying::say(0, end);
+    saying::say(rt, 0, end);
 }
 
 // The second pass: the frames.
-fn feed(fd: i32, call: TrackCall, way: TrackWay, text: &mut [u8], room: &mut [u8]) {
-    let written = pass(fd, begun(call, way, true), text, room);
-    finish(written, room);
+fn feed(
+    rt: &impl System,
+    file: &mut Source,
+    call: TrackCall,
+    way: TrackWay,
+    text: &mut [u8],
+    room: &mut [u8],
+) {
+    let written = pass(rt, file, begun(call, way, true), text, room);
+    finish(rt, written, room);
 }
 
 // Once for what is refused, once for the frames.
-fn over_twice(fd: i32, call: TrackCall, text: &mut [u8], room: &mut [u8]) {
-    let judged = pass(fd, begun(call, track_lead::fresh(), false), text, room);
+fn over_twice(
+    rt: &impl System,
+    file: &mut Source,
+    call: TrackCall,
+    text: &mut [u8],
+    room: &mut [u8],
+) {
+    let judged = pass(
+        rt,
+        file,
+        begun(call, track_lead::fresh(), false),
+        text,
+        room,
+    );
     if !is_well(judged) {
         return;
     }
-    if libc::lseek(fd, 0, SEEK_SET) != 0 {
-        console::say_found(b"track", CardsFound::Once(1));
+    if !console::to_start(file) {
+        console::say_found(rt, b"track", CardsFound::Once(1));
         return;
     }
     let way = judged.way;
-    feed(fd, call, way, text, room);
+    feed(rt, file, call, way, text, room);
 }
 
 // The text that argument 1 names.
-pub fn twice(call: TrackCall, text: &mut [u8], room: &mut [u8]) {
-    let fd = console::open_card(1);
-    if fd < 0 {
-        console::cannot_open(b"track", 1);
+pub fn twice(rt: &impl System, call: TrackCall, text: &mut [u8], room: &mut [u8]) {
+    let Some(mut file) = console::open_card(rt, 1) else {
+        console::cannot_open(rt, b"track", 1);
         return;
-    }
-    over_twice(fd, call, text, room);
-    libc::close(fd);
+    };
+    over_twice(rt, &mut file, call, text, room);
 }

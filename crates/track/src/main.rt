@@ -11,31 +11,32 @@ mod saying;
 mod taking;
 
 use call::{TrackAsked, TrackCall};
+use console::System;
 use telegram::Pair;
 
 // Goes over the text twice: once for what is refused, once for the frames.
-fn feed(call: TrackCall) {
-    let mut block = io::large_buffer();
-    let mut out = io::large_buffer();
-    going::twice(call, &mut block, &mut out);
+fn feed(rt: &impl System, call: TrackCall) {
+    let mut block = [0u8; 65536];
+    let mut out = [0u8; 65536];
+    going::twice(rt, call, &mut block, &mut out);
 }
 
 // The pair is judged before the text.
-fn answer(call: TrackCall) {
+fn answer(rt: &impl System, call: TrackCall) {
     let pair = telegram::good_pair(call.s, call.t);
     match pair {
-        Pair::Good => feed(call),
-        Pair::NotSeven => console::refuse(b"track", 4),
+        Pair::Good => feed(rt, call),
+        Pair::NotSeven => console::refuse(rt, b"track", 4),
     }
 }
 
-fn main() {
-    if console::to_terminal(b"track") {
+fn main(rt: HostRuntime) {
+    if console::to_terminal(&rt, b"track") {
         return;
     }
-    match call::arguments() {
-        TrackAsked::For(call) => answer(call),
-        TrackAsked::Usage => console::usage(b"track", b"track FILE S S* [N]"),
+    match call::arguments(&rt) {
+        TrackAsked::For(call) => answer(&rt, call),
+        TrackAsked::Usage => console::usage(&rt, b"track", b"track FILE S S* [N]"),
         TrackAsked::Said => {}
     }
 }

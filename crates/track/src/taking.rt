@@ -1,5 +1,5 @@
 // One line of the text, in the first pass and in the second.
-use libc::STDOUT_FILENO;
+use console::{Stream, System};
 use lines::TextLine;
 use track_lead::{Feed, Taken, Thing, TrackWay};
 use track_text::Entry;
@@ -56,7 +56,7 @@ fn with_feed(stand: Laying, feed: Feed) -> Laying {
 
 // All frames before the decimetre `to`, block after block up to one that is empty. It counts its
 // turns down from a number that no lead uses up.
-pub fn write_to(stand: Laying, to: u32, room: &mut [u8]) -> Laying {
+pub fn write_to(rt: &impl System, stand: Laying, to: u32, room: &mut [u8]) -> Laying {
     let mut feed = stand.feed;
     let mut turns = u64::MAX;
     while turns > 0 {
@@ -66,7 +66,7 @@ pub fn write_to(stand: Laying, to: u32, room: &mut [u8]) -> Laying {
         if count == 0 {
             return with_feed(stand, feed);
         }
-        if !console::write(STDOUT_FILENO, room, count) {
+        if !console::write(rt, Stream::Output, room, count) {
             return with_how(stand, PassStands::CannotWrite);
         }
         turns -= 1;
@@ -76,11 +76,11 @@ pub fn write_to(stand: Laying, to: u32, room: &mut [u8]) -> Laying {
 
 // A thing at its place, in the second pass: all frames before it, then it passes. A position passes
 // nothing.
-fn feed_to(stand: Laying, place: u32, thing: Thing, room: &mut [u8]) -> Laying {
+fn feed_to(rt: &impl System, stand: Laying, place: u32, thing: Thing, room: &mut [u8]) -> Laying {
     if let Thing::Nothing = thing {
         return stand;
     }
-    let there = write_to(stand, place, room);
+    let there = write_to(rt, stand, place, room);
     let feed = there.feed;
     with_feed(there, track_lead::passes(feed, thing))
 }
@@ -120,13 +120,19 @@ fn at_line(stand: Laying, number: u64) -> Laying {
 }
 
 // The pass after a line.
-pub fn take(before: Laying, line: TextLine, number: u64, room: &mut [u8]) -> Laying {
+pub fn take(
+    rt: &impl System,
+    before: Laying,
+    line: TextLine,
+    number: u64,
+    room: &mut [u8],
+) -> Laying {
     let stand = at_line(before, number);
     match track_text::read(line) {
         Entry::Nothing => stand,
         Entry::At { place, thing } => {
             if stand.writes {
-                feed_to(stand, place, thing, room)
+                feed_to(rt, stand, place, thing, room)
             } else {
                 judge(stand, place, thing)
             }

@@ -2,7 +2,7 @@
 ghost use Rattle.std.specs.Prelude.{◌≡◌};
 
 use crate::giving::{Form, of_line};
-use libc::STDOUT_FILENO;
+use console::{Source, Stream, System};
 use lines::TextLine;
 use typed_lines::LineCame;
 
@@ -38,10 +38,16 @@ fn with(done: TypedSoFar, bytes: usize, how: PassGoes) -> TypedSoFar {
 }
 
 // Writes what waits, if it is to be written; the pass then goes so.
-fn written(done: TypedSoFar, writes: bool, out: &[u8], how: PassGoes) -> TypedSoFar {
+fn written(
+    rt: &impl System,
+    done: TypedSoFar,
+    writes: bool,
+    out: &[u8],
+    how: PassGoes,
+) -> TypedSoFar {
     let bytes = done.bytes;
     if writes {
-        if !console::write(STDOUT_FILENO, out, bytes) {
+        if !console::write(rt, Stream::Output, out, bytes) {
             return with(done, 0, PassGoes::CannotWrite);
         }
     }
@@ -50,6 +56,7 @@ fn written(done: TypedSoFar, writes: bool, out: &[u8], how: PassGoes) -> TypedSo
 
 // A line that gives eight bytes: they wait in out, which is written before it is full.
 fn given(
+    rt: &impl System,
     done: TypedSoFar,
     number: u64,
     eight: [u8; 8],
@@ -65,13 +72,14 @@ fn given(
         how: PassGoes::On,
     };
     if bytes > 65528 {
-        return written(then, writes, out, PassGoes::On);
+        return written(rt, then, writes, out, PassGoes::On);
     }
     then
 }
 
 // A line taken. A wrong one ends the pass.
 fn take(
+    rt: &impl System,
     form: Form,
     done: TypedSoFar,
     line: TextLine,
@@ -91,7 +99,7 @@ fn take(
     }
     if gives.has {
         let eight = gives.bytes;
-        return given(done, number, eight, writes, out);
+        return given(rt, done, number, eight, writes, out);
     }
     let bytes = done.bytes;
     with(done, bytes, PassGoes::On)
@@ -109,6 +117,7 @@ fn goes_on(how: PassGoes) -> bool {
 
 // The pass after what came of the text.
 fn after(
+    rt: &impl System,
     form: Form,
     done: TypedSoFar,
     came: LineCame,
@@ -118,15 +127,22 @@ fn after(
     out: &mut [u8],
 ) -> TypedSoFar {
     match came {
-        LineCame::Line => take(form, done, line, number, writes, out),
-        LineCame::End => written(done, writes, out, PassGoes::Whole),
+        LineCame::Line => take(rt, form, done, line, number, writes, out),
+        LineCame::End => written(rt, done, writes, out, PassGoes::Whole),
         LineCame::CannotRead => with(done, 0, PassGoes::CannotRead),
     }
 }
 
 // All lines of the open file. It counts its turns down from a number that no text uses up.
-fn over(form: Form, fd: i32, writes: bool, block: &mut [u8], out: &mut [u8]) -> TypedSoFar {
-    let mut pass = typed_lines::begin(fd);
+fn over(
+    rt: &impl System,
+    form: Form,
+    file: &mut Source,
+    writes: bool,
+    block: &mut [u8],
+    out: &mut [u8],
+) -> TypedSoFar {
+    let mut pass = typed_lines::begin();
     let mut done = TypedSoFar {
         number: 1,
         things: 0,
@@ -136,11 +152,11 @@ fn over(form: Form, fd: i32, writes: bool, block: &mut [u8], out: &mut [u8]) -> 
     };
     let mut turns = u64::MAX;
     while turns > 0 {
-        let next = typed_lines::next(pass, block);
+        let next = typed_lines::next(rt, file, pass, block);
         pass = next.pass;
         let came = next.how;
         let line = next.line;
-        done = after(form, done, came, line, next.number, writes, out);
+        done = after(rt, form, done, came, line, next.number, writes, out);
         let how = done.how;
         if !goes_on(how) {
             return done;
@@ -151,8 +167,8 @@ fn over(form: Form, fd: i32, writes: bool, block: &mut [u8], out: &mut [u8]) -> 
 }
 
 // A pass over the open file, which writes or not.
-pub fn pass(form: Form, fd: i32, writes: bool) -> TypedSoFar {
-    let mut block = io::large_buffer();
-    let mut out = io::large_buffer();
-    over(form, fd, writes, &mut block, &mut out)
+pub fn pass(rt: &impl System, form: Form, file: &mut Source, writes: bool) -> TypedSoFar {
+    let mut block = [0u8; 65536];
+    let mut out = [0u8; 65536];
+    over(rt, form, file, writes, &mut block, &mut out)
 }

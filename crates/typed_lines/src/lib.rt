@@ -1,11 +1,11 @@
 // The lines of a text in an open file, one after the other, for the programs that take a text:
 // `trace`, `plan`, `track`.
-// 1. `begin(fd)` is before the first line. `next(pass, block)` answers the next line with its
-//    number (`Line`), what stands after the last newline too, even if that is empty; or that no
-//    line is left (`End`), or that a read failed (`CannotRead`). `block` is any buffer of three
-//    bytes at least, and each call is lent the same one, unchanged.
-// 2. `fail_line(program, number, words)` and `refuse_line(program, number, refusal)` say what is
-//    wrong with a line: `trace: line 3 unreadable`, `trace: line 3 refused 2: WORDS`.
+// 1. `begin()` is before the first line. `next(rt, file, pass, block)` answers the next line of the
+//    file with its number (`Line`), what stands after the last newline too, even if that is empty;
+//    or that no line is left (`End`), or that a read failed (`CannotRead`). `block` is any buffer
+//    of three bytes at least, and each call is lent the same one, unchanged.
+// 2. `fail_line(rt, program, number, words)` and `refuse_line(rt, program, number, refusal)` say
+//    what is wrong with a line: `trace: line 3 unreadable`, `trace: line 3 refused 2: WORDS`.
 // Promises: it is safe and it ends, in the same memory for a file of any size. What is kept of a
 // line is what `lines` keeps; that the blocks join is crates/lines_laws/specs/Texts.antt. What is
 // read or written stands outside contracts: docs/EXCEPTIONS.md.
@@ -13,15 +13,15 @@
 
 mod telling;
 
+use console::{Source, System};
 use lines::{Got, Reader, TextLine};
 pub use telling::{fail_line, refuse_line};
 
-// Where the reading of a text stands: its file, the line that is being read and its number, how
-// many bytes of the text are in the block and where the line goes on there; whether the first block
-// was read, and whether the last line was handed out.
+// Where the reading of a text stands: the line that is being read and its number, how many bytes of
+// the text are in the block and where the line goes on there; whether the first block was read, and
+// whether the last line was handed out.
 #[derive(Clone, Copy)]
 pub struct TextPass {
-    fd: i32,
     reader: Reader,
     number: u64,
     count: usize,
@@ -48,9 +48,8 @@ pub struct NextLine {
 }
 
 // Before the first line of an open file.
-pub fn begin(fd: i32) -> TextPass {
+pub fn begin() -> TextPass {
     TextPass {
-        fd,
         reader: lines::fresh(),
         number: 1,
         count: 0,
@@ -79,7 +78,6 @@ fn start_of(block: &[u8], count: usize) -> usize {
 // The pass goes on in a block of so many bytes, with this reader, from a place on.
 fn with_block(pass: TextPass, reader: Reader, count: usize, at: usize) -> TextPass {
     TextPass {
-        fd: pass.fd,
         reader,
         number: pass.number,
         count,
@@ -97,7 +95,6 @@ fn one_line(pass: TextPass, got: Got, is_over: bool) -> NextLine {
     let number = pass.number;
     NextLine {
         pass: TextPass {
-            fd: pass.fd,
             reader,
             number: std::num::wrapping_add_u64(number, 1),
             count: pass.count,
@@ -125,14 +122,14 @@ fn no_line(pass: TextPass, how: LineCame) -> NextLine {
 }
 
 // The first block.
-fn first_block(pass: TextPass, block: &mut [u8]) -> NextLine {
-    let got = console::fill(pass.fd, block);
+fn first_block(rt: &impl System, file: &mut Source, pass: TextPass, block: &mut [u8]) -> NextLine {
+    let got = console::fill(rt, file, block);
     if got.failed {
         return no_line(pass, LineCame::CannotRead);
     }
     let at = start_of(block, got.count);
     let reader = pass.reader;
-    on(with_block(pass, reader, got.count, at), block)
+    on(rt, file, with_block(pass, reader, got.count, at), block)
 }
 
 // What stands after the last newline, where the text ends.
@@ -142,7 +139,7 @@ fn last_line(reader: Reader) -> Got {
 
 // The next line, block after block. A proved loop has to end, and nothing says that a file does: so
 // it counts its turns down from a number that no run uses up.
-fn on(pass: TextPass, block: &mut [u8]) -> NextLine {
+fn on(rt: &impl System, file: &mut Source, pass: TextPass, block: &mut [u8]) -> NextLine {
     let mut here = pass;
     let mut turns = u64::MAX;
     while turns > 0 {
@@ -152,7 +149,7 @@ fn on(pass: TextPass, block: &mut [u8]) -> NextLine {
             return one_line(here, got, false);
         }
         let after = got.reader;
-        let more = console::fill(here.fd, block);
+        let more = console::fill(rt, file, block);
         let count = more.count;
         if more.failed {
             return no_line(here, LineCame::CannotRead);
@@ -167,12 +164,12 @@ fn on(pass: TextPass, block: &mut [u8]) -> NextLine {
 }
 
 // The next line.
-pub fn next(pass: TextPass, block: &mut [u8]) -> NextLine {
+pub fn next(rt: &impl System, file: &mut Source, pass: TextPass, block: &mut [u8]) -> NextLine {
     if pass.is_over {
         return no_line(pass, LineCame::End);
     }
     if !pass.is_begun {
-        return first_block(pass, block);
+        return first_block(rt, file, pass, block);
     }
-    on(pass, block)
+    on(rt, file, pass, block)
 }

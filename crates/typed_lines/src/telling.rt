@@ -1,28 +1,27 @@
 // What is said of a line that is wrong, on standard error; and the launcher is told.
-use console::CallEnded;
-use libc::STDERR_FILENO;
+use console::{CallEnded, Stream, System};
 
 // The program's name, and a line that goes on after it.
-fn say(program: &[u8], line: &[u8], count: usize) {
-    io::write_all(STDERR_FILENO, program);
-    console::write(STDERR_FILENO, line, count);
+fn say(rt: &impl System, program: &[u8], line: &[u8], count: usize) {
+    console::say(rt, program);
+    console::write(rt, Stream::Error, line, count);
 }
 
 // `PROGRAM: line 3` and these words, which end the line; the call came to nothing.
-pub fn fail_line(program: &[u8], number: u64, words: &[u8]) {
+pub fn fail_line(rt: &impl System, program: &[u8], number: u64, words: &[u8]) {
     let mut line = [0u8; 64];
     let next = text::put_number(b": line ", number, &mut line, 0);
     let end = text::put(words, &mut line, next);
-    say(program, &line, end);
-    console::tell(CallEnded::Said);
+    say(rt, program, &line, end);
+    console::tell(rt, CallEnded::Said);
 }
 
 // `PROGRAM: line 3 refused 2: WORDS`.
-pub fn refuse_line(program: &[u8], number: u64, refusal: u8) {
+pub fn refuse_line(rt: &impl System, program: &[u8], number: u64, refusal: u8) {
     let mut line = [0u8; 128];
     let next = text::put_number(b": line ", number, &mut line, 0);
     let after = text::put(b" ", &mut line, next);
     let end = refusals::put_refused(refusal, &mut line, after);
-    say(program, &line, end);
-    console::tell(CallEnded::Refused);
+    say(rt, program, &line, end);
+    console::tell(rt, CallEnded::Refused);
 }

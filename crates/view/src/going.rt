@@ -1,6 +1,7 @@
 // Going as a command asks, and the lines of the records that are passed.
 ghost use Rattle.std.specs.Prelude.{◌+◌, ◌/◌, ◌<◌, ◌≤◌};
 
+use console::System;
 use ride::Ride;
 use ride_text::{Done, REASONS};
 use settings::Store;
@@ -30,39 +31,52 @@ pub fn end_of(number: usize, to: usize) -> usize
 
 // Writes the lines of some records, the first with this number, in this state; the state after
 // them.
-fn write_block(ride: Ride, store: Store, number: u64, records: &[u8], out: &mut [u8]) -> Ride {
+fn write_block(
+    rt: &impl System,
+    ride: Ride,
+    store: Store,
+    number: u64,
+    records: &[u8],
+    out: &mut [u8],
+) -> Ride {
     let listed = ride_text::list(REASONS, ride, store, number, records, out);
     let done = listed.done;
     let after = listed.ride;
     let Done::Took { records: _, bytes } = done else {
         return after;
     };
-    console::put(b"view", out, bytes);
+    console::put(rt, b"view", out, bytes);
     after
 }
 
 // Writes the lines of the records that were passed, from where a viewer stood.
-fn write_passed(trace: &[u8], from: Standing, number: usize) {
+fn write_passed(rt: &impl System, trace: &[u8], from: Standing, number: usize) {
     let to = smaller(number, trace.len() / 8);
     let store = from.settings;
-    let mut out = io::large_buffer();
+    let mut out = [0u8; 65536];
     let mut ride = from.ride;
     let mut at = from.number;
     while at < to {
         let end = end_of(at, to);
         let first = at as u64 + 1;
-        ride = write_block(ride, store, first, &trace[at * 8..end * 8], &mut out);
+        ride = write_block(rt, ride, store, first, &trace[at * 8..end * 8], &mut out);
         at = end;
     }
 }
 
 // Forward so often, and writes the lines of the records that are passed; on a screen they stand
 // anyway.
-pub fn forth(trace: &[u8], from: Standing, times: usize, on_screen: bool) -> Moved {
+pub fn forth(
+    rt: &impl System,
+    trace: &[u8],
+    from: Standing,
+    times: usize,
+    on_screen: bool,
+) -> Moved {
     let moved = viewer::forwards_at(trace, from, times);
     let stand = moved.stand;
     if !on_screen {
-        write_passed(trace, from, stand.number);
+        write_passed(rt, trace, from, stand.number);
     }
     moved
 }
@@ -77,10 +91,16 @@ fn afresh(trace: &[u8], from: Standing, times: usize) -> Moved {
 
 // To where so many records lie before the viewer: forward; back as far as the history goes; or,
 // further back, as a fresh viewer.
-pub fn to_number(trace: &[u8], from: Standing, before: usize, on_screen: bool) -> Moved {
+pub fn to_number(
+    rt: &impl System,
+    trace: &[u8],
+    from: Standing,
+    before: usize,
+    on_screen: bool,
+) -> Moved {
     let number = from.number;
     if before >= number {
-        return forth(trace, from, before - number, on_screen);
+        return forth(rt, trace, from, before - number, on_screen);
     }
     if number - before <= from.kept {
         return viewer::backs_at(from, number - before);
@@ -89,7 +109,13 @@ pub fn to_number(trace: &[u8], from: Standing, before: usize, on_screen: bool) -
 }
 
 // To just before the first record at or past the place, but for those that will be refused.
-pub fn to_place(trace: &[u8], from: Standing, place: u64, on_screen: bool) -> Moved {
+pub fn to_place(
+    rt: &impl System,
+    trace: &[u8],
+    from: Standing,
+    place: u64,
+    on_screen: bool,
+) -> Moved {
     let before = viewer::times_to(trace, 0, place);
-    to_number(trace, from, before, on_screen)
+    to_number(rt, trace, from, before, on_screen)
 }

@@ -1,7 +1,7 @@
 // Lines from standard input.
 ghost use Rattle.std.specs.Prelude.{◌≤◌, length};
 
-use libc::STDIN_FILENO;
+use console::{Source, System, read_some};
 
 // A line: how many bytes it has, whether the input ended before it began, and whether it filled its
 // room: no command is that long.
@@ -20,12 +20,12 @@ struct InputByte {
 }
 
 // The next byte.
-fn read_one() -> InputByte {
+fn read_one(rt: &impl System) -> InputByte {
     let mut one = [0u8; 1];
-    let got = libc::read(STDIN_FILENO, &mut one);
+    let got = read_some(rt, &mut Source::Given, &mut one);
     InputByte {
         byte: one[0],
-        is_end: got < 1,
+        is_end: got.count < 1,
     }
 }
 
@@ -54,13 +54,13 @@ fn line_of(count: usize, room: usize) -> InputLine
 
 // The next line, without its newline, into buf. The last one may lack its newline. No run uses up
 // the turns.
-pub fn next(buf: &mut [u8]) -> InputLine
+pub fn next(rt: &impl System, buf: &mut [u8]) -> InputLine
     ensures { result.count ≤ length buf.old }
 {
     let mut count: usize = 0;
     let mut turns = u64::MAX;
     while turns > 0 {
-        let got = read_one();
+        let got = read_one(rt);
         if got.is_end & (count == 0) {
             return InputLine {
                 count: 0,

@@ -18,7 +18,7 @@ mod reading;
 mod screen;
 mod session;
 
-use console::{CardsFound, FigureAsked, OptionsWent};
+use console::{CardsFound, FigureAsked, OptionsWent, System};
 use reading::Start;
 use settings::Store;
 
@@ -30,33 +30,32 @@ enum StartGiven {
 }
 
 // The line for wrong or missing arguments.
-fn usage() {
-    console::usage(b"view", b"view [-from PLACE] [-s SETTINGS] CARD..");
+fn usage(rt: &impl System) {
+    console::usage(rt, b"view", b"view [-from PLACE] [-s SETTINGS] CARD..");
 }
 
 // Looks at the cards from this argument on, under these settings, from where the ride begins.
-fn look(store: Store, start: Start, first: usize) {
+fn look(rt: &impl System, store: Store, start: Start, first: usize) {
     let mut lengths = [0u64; 8192];
-    let mut block = io::large_buffer();
-    let found = console::go_over(first, &mut lengths, &mut block);
+    let mut block = [0u8; 65536];
+    let found = console::go_over(rt, first, &mut lengths, &mut block);
     match found {
-        CardsFound::Cards => opening::open(store, start, first, &lengths),
-        CardsFound::BadLength(_) => console::refuse_trace(b"view"),
-        CardsFound::NoCard => usage(),
-        CardsFound::TooMany => console::say_found(b"view", found),
-        CardsFound::CannotOpen(_) => console::say_found(b"view", found),
-        CardsFound::CannotRead(_) => console::say_found(b"view", found),
-        CardsFound::Once(_) => console::say_found(b"view", found),
+        CardsFound::Cards => opening::open(rt, store, start, first, &lengths),
+        CardsFound::BadLength(_) => console::refuse_trace(rt, b"view"),
+        CardsFound::NoCard => usage(rt),
+        CardsFound::TooMany => console::say_found(rt, b"view", found),
+        CardsFound::CannotOpen(_) => console::say_found(rt, b"view", found),
+        CardsFound::CannotRead(_) => console::say_found(rt, b"view", found),
+        CardsFound::Once(_) => console::say_found(rt, b"view", found),
     }
 }
 
 // Whether this argument is `-from`.
-fn is_from(at: usize) -> bool {
-    let mut text = io::buffer();
-    let length = os::arg(at, &mut text);
-    if os::errno() != 0 {
+fn is_from(rt: &impl System, at: usize) -> bool {
+    let mut text = [0u8; 4096];
+    let Ok(length) = rt.arg(at, &mut text) else {
         return false;
-    }
+    };
     is_word(&text[..length])
 }
 
@@ -70,12 +69,12 @@ fn is_word(word: &[u8]) -> bool {
 
 // Where the ride begins by this argument, the place after `-from`; where it is missing or no figure
 // that is said.
-fn begins(argument: usize) -> StartGiven {
-    if os::arg_count() <= argument {
-        usage();
+fn begins(rt: &impl System, argument: usize) -> StartGiven {
+    if console::argument_count(rt) <= argument {
+        usage(rt);
         return StartGiven::Said;
     }
-    let FigureAsked::Is(place) = console::figure(b"view", b"PLACE", argument, u64::MAX) else {
+    let FigureAsked::Is(place) = console::figure(rt, b"view", b"PLACE", argument, u64::MAX) else {
         return StartGiven::Said;
     };
     StartGiven::With(Start::At { place, argument })
@@ -83,45 +82,45 @@ fn begins(argument: usize) -> StartGiven {
 
 // The cards from this argument on, after the settings; `-from PLACE` may stand before them, where
 // it did not stand before the settings.
-fn after_settings(store: Store, start: Start, first: usize)
+fn after_settings(rt: &impl System, store: Store, start: Start, first: usize)
     requires { first ≤ 257 }
 {
     let Start::First = start else {
-        look(store, start, first);
+        look(rt, store, start, first);
         return;
     };
-    if !is_from(first) {
-        look(store, start, first);
+    if !is_from(rt, first) {
+        look(rt, store, start, first);
         return;
     }
-    let StartGiven::With(later) = begins(first + 1) else {
+    let StartGiven::With(later) = begins(rt, first + 1) else {
         return;
     };
-    look(store, later, first + 2);
+    look(rt, store, later, first + 2);
 }
 
 // The settings from this argument on, if there are any, and then the cards.
-fn go_on(start: Start, at: u8) {
-    let asked = console::options_at(b"view", false, at);
+fn go_on(rt: &impl System, start: Start, at: u8) {
+    let asked = console::options_at(rt, b"view", false, at);
     let store = asked.store;
     let first = asked.first;
     let how = asked.how;
     match how {
-        OptionsWent::Plain => look(store, start, first),
-        OptionsWent::Settings => after_settings(store, start, first),
-        OptionsWent::Usage => usage(),
+        OptionsWent::Plain => look(rt, store, start, first),
+        OptionsWent::Settings => after_settings(rt, store, start, first),
+        OptionsWent::Usage => usage(rt),
         OptionsWent::Said => {}
     }
 }
 
 // `-from PLACE` and the settings, in either order, if they are asked for; then the cards.
-fn main() {
-    if !is_from(1) {
-        go_on(Start::First, 1);
+fn main(rt: HostRuntime) {
+    if !is_from(&rt, 1) {
+        go_on(&rt, Start::First, 1);
         return;
     }
-    let StartGiven::With(start) = begins(2) else {
+    let StartGiven::With(start) = begins(&rt, 2) else {
         return;
     };
-    go_on(start, 3);
+    go_on(&rt, start, 3);
 }

@@ -4,7 +4,7 @@ ghost use Rattle.std.specs.Prelude.{◌≡◌, ◌≤◌, length};
 
 use crate::going::smaller;
 use crate::moving::to_start;
-use console::{Goes, Pass};
+use console::{Goes, Pass, System};
 
 // Where a ride begins: with the first record, or with the first at or past the place that an
 // argument names.
@@ -26,7 +26,7 @@ pub enum Filling {
 
 // Where filling the buffer stands: the pass over the cards, how many bytes the buffer has, how many
 // records were passed over before them, and how it goes on.
-#[derive(Clone, Copy)]
+#[derive(Drop)]
 pub struct FilledSoFar {
     pass: Pass,
     pub have: usize,
@@ -42,17 +42,17 @@ pub fn room() -> [u8; 4194304]
 }
 
 // How filling goes on after a block; what failed is said.
-fn judged(how: Goes) -> Filling {
+fn judged(rt: &impl System, how: Goes) -> Filling {
     match how {
         Goes::More => Filling::More,
         Goes::End => Filling::Whole,
         Goes::NoRoom => Filling::TooLong,
         Goes::CannotOpen(number) => {
-            console::cannot_open(b"view", number);
+            console::cannot_open(rt, b"view", number);
             Filling::Failed
         }
         Goes::CannotRead(number) => {
-            console::cannot_read(b"view", number);
+            console::cannot_read(rt, b"view", number);
             Filling::Failed
         }
     }
@@ -69,14 +69,21 @@ fn is_more(how: Filling) -> bool {
 }
 
 // The next block after so many bytes of the buffer.
-fn next(pass: Pass, before: u64, lengths: &[u64], trace: &mut [u8], have: usize) -> FilledSoFar
+fn next(
+    rt: &impl System,
+    pass: Pass,
+    before: u64,
+    lengths: &[u64],
+    trace: &mut [u8],
+    have: usize,
+) -> FilledSoFar
     requires { have ≤ length trace.old }
     ensures { result.have ≤ length trace.old }
 {
-    let block = console::next_block(pass, lengths, &mut trace[have..]);
+    let block = console::next_block(rt, pass, lengths, &mut trace[have..]);
     let goes = block.how;
     let then = block.pass;
-    let how = judged(goes);
+    let how = judged(rt, goes);
     FilledSoFar {
         pass: then,
         have: have + block.read,
@@ -100,7 +107,13 @@ fn begin(first: usize) -> FilledSoFar
 
 // The first block that has a record at or past the place, but for those that will be refused, from
 // that record on; the blocks before it are passed over. No run uses up the turns.
-fn begin_at(first: usize, place: u64, lengths: &[u64], trace: &mut [u8]) -> FilledSoFar
+fn begin_at(
+    rt: &impl System,
+    first: usize,
+    place: u64,
+    lengths: &[u64],
+    trace: &mut [u8],
+) -> FilledSoFar
     ensures { result.have ≤ length trace.old }
 {
     let most = smaller(trace.len(), 65536);
@@ -109,7 +122,7 @@ fn begin_at(first: usize, place: u64, lengths: &[u64], trace: &mut [u8]) -> Fill
     while turns > 0 {
         let pass = step.pass;
         let before = step.before;
-        step = next(pass, before, lengths, &mut trace[..most], 0);
+        step = next(rt, pass, before, lengths, &mut trace[..most], 0);
         let count = smaller(step.have, most);
         let times = viewer::times_to(&trace[..count], 0, place);
         if times < count / 8 {
@@ -129,7 +142,7 @@ fn begin_at(first: usize, place: u64, lengths: &[u64], trace: &mut [u8]) -> Fill
 }
 
 // The blocks after it, as long as there is room. No run uses up the turns.
-fn fill(begun: FilledSoFar, lengths: &[u64], trace: &mut [u8]) -> FilledSoFar
+fn fill(rt: &impl System, begun: FilledSoFar, lengths: &[u64], trace: &mut [u8]) -> FilledSoFar
     requires { begun.have ≤ length trace.old }
     ensures { result.have ≤ length trace.old }
 {
@@ -141,21 +154,27 @@ fn fill(begun: FilledSoFar, lengths: &[u64], trace: &mut [u8]) -> FilledSoFar
             return step;
         }
         let pass = step.pass;
-        step = next(pass, step.before, lengths, trace, step.have);
+        step = next(rt, pass, step.before, lengths, trace, step.have);
         turns -= 1;
     }
     step
 }
 
 // The buffer filled from where the ride begins.
-pub fn read(start: Start, first: usize, lengths: &[u64], trace: &mut [u8]) -> FilledSoFar
+pub fn read(
+    rt: &impl System,
+    start: Start,
+    first: usize,
+    lengths: &[u64],
+    trace: &mut [u8],
+) -> FilledSoFar
     ensures { result.have ≤ length trace.old }
 {
     match start {
-        Start::First => fill(begin(first), lengths, trace),
+        Start::First => fill(rt, begin(first), lengths, trace),
         Start::At { place, argument: _ } => {
-            let begun = begin_at(first, place, lengths, trace);
-            fill(begun, lengths, trace)
+            let begun = begin_at(rt, first, place, lengths, trace);
+            fill(rt, begun, lengths, trace)
         }
     }
 }

@@ -5,6 +5,7 @@ ghost use Rattle.std.specs.Prelude.{◌≤◌, length};
 use crate::going::{end_of, smaller};
 use crate::moving::to_start;
 use crate::out::put_stand;
+use console::System;
 use ride::Ride;
 use ride_text::{Done, REASONS};
 use settings::Store;
@@ -73,7 +74,7 @@ fn last_lines(trace: &[u8], stand: Standing, buf: &mut [u8]) -> usize
 
 // The same into the page from `at` on, and the place after them.
 fn put_last(trace: &[u8], stand: Standing, page: &mut [u8], at: usize) -> usize {
-    let mut buf = io::large_buffer();
+    let mut buf = [0u8; 65536];
     let have = last_lines(trace, stand, &mut buf);
     text::put(&buf[..have], page, at)
 }
@@ -109,11 +110,11 @@ fn put_one(
 }
 
 // All that is shown, if it can be written.
-pub fn show(trace: &[u8], stand: Standing) -> bool {
+pub fn show(rt: &impl System, trace: &[u8], stand: Standing) -> bool {
     let mut page = [0u8; 4096];
     let cleared = text::put(b"\x1b[H\x1b[2J", &mut page, 0);
     let told = put_last(trace, stand, &mut page, cleared);
     let stood = put_stand(trace, stand, &mut page, told);
     let end = put_around(trace, stand.number, &mut page, stood);
-    console::put(b"view", &page, end)
+    console::put(rt, b"view", &page, end)
 }

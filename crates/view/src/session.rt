@@ -5,7 +5,7 @@ use crate::going::{forth, to_number, to_place};
 use crate::memory::{is_quit, keep_word, meant, remembered};
 use crate::out::Note;
 use crate::{input, out, screen};
-use libc::STDOUT_FILENO;
+use console::System;
 use settings::Store;
 use viewer::{Ending, Moved, OpeningWent, Standing};
 use viewer_text::{Command, SoughtLine};
@@ -53,7 +53,7 @@ fn help(stand: Standing) -> CameTo {
 
 // Forward to just after the next record that gives a line with the word; where there is none the
 // viewer stays. Without a word, the list of commands.
-fn find(trace: &[u8], stand: Standing, word: &[u8], on_screen: bool) -> CameTo {
+fn find(rt: &impl System, trace: &[u8], stand: Standing, word: &[u8], on_screen: bool) -> CameTo {
     if word.len() == 0 {
         return help(stand);
     }
@@ -61,7 +61,7 @@ fn find(trace: &[u8], stand: Standing, word: &[u8], on_screen: bool) -> CameTo {
     let store = stand.settings;
     let sought = viewer_text::seek(trace, stand.number, ride, store, word);
     match sought {
-        SoughtLine::After(times) => moved_to(forth(trace, stand, times, on_screen)),
+        SoughtLine::After(times) => moved_to(forth(rt, trace, stand, times, on_screen)),
         SoughtLine::Nowhere => CameTo {
             stand,
             note: Note::NoLine,
@@ -70,13 +70,20 @@ fn find(trace: &[u8], stand: Standing, word: &[u8], on_screen: bool) -> CameTo {
 }
 
 // One command but `q`, with the last word that was asked for.
-fn obey(trace: &[u8], stand: Standing, command: Command, word: &[u8], on_screen: bool) -> CameTo {
+fn obey(
+    rt: &impl System,
+    trace: &[u8],
+    stand: Standing,
+    command: Command,
+    word: &[u8],
+    on_screen: bool,
+) -> CameTo {
     match command {
-        Command::Forward(times) => moved_to(forth(trace, stand, times as usize, on_screen)),
+        Command::Forward(times) => moved_to(forth(rt, trace, stand, times as usize, on_screen)),
         Command::Back(times) => moved_to(viewer::backs_at(stand, times as usize)),
-        Command::Go(before) => moved_to(to_number(trace, stand, before as usize, on_screen)),
-        Command::Place(place) => moved_to(to_place(trace, stand, place, on_screen)),
-        Command::Find { from: _, to: _ } => find(trace, stand, word, on_screen),
+        Command::Go(before) => moved_to(to_number(rt, trace, stand, before as usize, on_screen)),
+        Command::Place(place) => moved_to(to_place(rt, trace, stand, place, on_screen)),
+        Command::Find { from: _, to: _ } => find(rt, trace, stand, word, on_screen),
         Command::Quit => help(stand),
         Command::Again => help(stand),
         Command::Unknown => help(stand),
@@ -85,22 +92,29 @@ fn obey(trace: &[u8], stand: Standing, command: Command, word: &[u8], on_screen:
 
 // Where the viewer stands and what is noted, if it can be written: on a screen in place of what was
 // shown before, and the note below.
-fn show(trace: &[u8], stand: Standing, note: Note, word: &[u8], on_screen: bool) -> bool {
+fn show(
+    rt: &impl System,
+    trace: &[u8],
+    stand: Standing,
+    note: Note,
+    word: &[u8],
+    on_screen: bool,
+) -> bool {
     if on_screen {
-        let is_written = screen::show(trace, stand);
-        out::tell(note, word);
+        let is_written = screen::show(rt, trace, stand);
+        out::tell(rt, note, word);
         return is_written;
     }
-    out::tell(note, word);
-    out::show(trace, stand)
+    out::tell(rt, note, word);
+    out::show(rt, trace, stand)
 }
 
 // Where the viewer stands at the start and what there is to say of it, if it can be written; on a
 // screen the list of commands too.
-fn begin(trace: &[u8], stand: Standing, begun: Note, on_screen: bool) -> bool {
-    let is_written = show(trace, stand, begun, b"", on_screen);
+fn begin(rt: &impl System, trace: &[u8], stand: Standing, begun: Note, on_screen: bool) -> bool {
+    let is_written = show(rt, trace, stand, begun, b"", on_screen);
     if on_screen {
-        out::tell(Note::Help, b"");
+        out::tell(rt, Note::Help, b"");
     }
     is_written
 }
@@ -115,16 +129,16 @@ fn asked(line: &[u8], is_long: bool) -> Command {
 
 // The next command, which the prompt asks for; where the input has ended, `q`. The word that it
 // names, if it names one, stands then at the start of `word`; the one before had so many letters.
-fn ask(last: Command, word: &mut [u8], letters: usize) -> Order
+fn ask(rt: &impl System, last: Command, word: &mut [u8], letters: usize) -> Order
     requires { letters ≤ length word.old }
     ensures { result.letters ≤ length word.old }
 {
-    out::prompt();
+    out::prompt(rt);
     let mut line = [0u8; 256];
-    let got = input::next(&mut line);
+    let got = input::next(rt, &mut line);
     let count = got.count;
     if got.is_end {
-        out::unprompt();
+        out::unprompt(rt);
         return Order {
             command: Command::Quit,
             letters,
@@ -139,24 +153,24 @@ fn ask(last: Command, word: &mut [u8], letters: usize) -> Order
 
 // The commands up to `q`, the end of the input, or where nothing can be written any more. No run
 // uses up the turns.
-fn obey_all(trace: &[u8], first: Standing, on_screen: bool) {
+fn obey_all(rt: &impl System, trace: &[u8], first: Standing, on_screen: bool) {
     let mut stand = first;
     let mut last = Command::Unknown;
     let mut word = [0u8; 256];
     let mut letters: usize = 0;
     let mut turns = u64::MAX;
     while turns > 0 {
-        let order = ask(last, &mut word, letters);
+        let order = ask(rt, last, &mut word, letters);
         let command = order.command;
         letters = order.letters;
         if is_quit(command) {
             return;
         }
         last = remembered(command, last);
-        let came = obey(trace, stand, command, &word[..letters], on_screen);
+        let came = obey(rt, trace, stand, command, &word[..letters], on_screen);
         let note = came.note;
         stand = came.stand;
-        if !show(trace, stand, note, &word[..letters], on_screen) {
+        if !show(rt, trace, stand, note, &word[..letters], on_screen) {
             return;
         }
         turns -= 1;
@@ -164,16 +178,16 @@ fn obey_all(trace: &[u8], first: Standing, on_screen: bool) {
 }
 
 // A viewer of the trace under these settings, and what there is to say of its start.
-pub fn hold(store: Store, trace: &[u8], begun: Note) {
+pub fn hold(rt: &impl System, store: Store, trace: &[u8], begun: Note) {
     let opened = viewer::start_at(store, trace);
     let stand = opened.stand;
     let how = opened.begun;
     let OpeningWent::Open = how else {
-        console::refuse_trace(b"view");
+        console::refuse_trace(rt, b"view");
         return;
     };
-    let on_screen = libc::isatty(STDOUT_FILENO) == 1;
-    if begin(trace, stand, begun, on_screen) {
-        obey_all(trace, stand, on_screen);
+    let on_screen = rt.is_output_terminal();
+    if begin(rt, trace, stand, begun, on_screen) {
+        obey_all(rt, trace, stand, on_screen);
     }
 }

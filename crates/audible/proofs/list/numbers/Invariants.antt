@@ -5,7 +5,7 @@ use lib.ListN.{length}
 use Rattle.audible.proofs.list.numbers.Given as goal
 
 abbrev pub invariant-loop-n : goal.invariant-loop-n
-invariant-loop-n l = length l.buf ≡ length l.initial.buf
+invariant-loop-n g l = length l.buf ≡ length l.initial.buf
 
 abbrev pub decreases-loop-n : goal.decreases-loop-n
-decreases-loop-n l = 2048 - l.n
+decreases-loop-n g l = 2048 - l.n

@@ -4,7 +4,7 @@ use lib.ListN.{length}
 use Rattle.compact.proofs.blocks.write_cards.Given as goal
 
 abbrev pub invariant-loop-turns : goal.invariant-loop-turns
-invariant-loop-turns l = length l.block ≡ length l.initial.block
+invariant-loop-turns g l = length l.block ≡ length l.initial.block
 
 abbrev pub decreases-loop-turns : goal.decreases-loop-turns
-decreases-loop-turns l = l.turns
+decreases-loop-turns g l = l.turns

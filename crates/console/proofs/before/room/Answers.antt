@@ -1,6 +1,6 @@
 -- `room` has as many bytes as its type says.
 use Rattle.std.proofs.Common.{ℕ, sym}
-use lib.ListN.{length-replicate}
+use Rattle.std.proofs.lemmas.List.{length-replicate}
 use Rattle.console.proofs.before.room.Goals as goal
 
 pub returns : goal.returns

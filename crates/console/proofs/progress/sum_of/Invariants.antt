@@ -1,5 +1,5 @@
 -- What the loop keeps true.
-use Rattle.std.proofs.Common.{◌-◌, length, rules}
+use Rattle.std.proofs.Common.{◌-◌, length}
 use Rattle.console.proofs.progress.sum_of.Given as goal
 
 abbrev pub invariant-loop-i : goal.invariant-loop-i

@@ -1,9 +1,9 @@
 -- What the loop keeps true.
-use Rattle.std.proofs.Common.{◌≡◌, ◌+◌, ◌-◌, ◌≤◌, length, refl, ◌∙◌, le_refl, arith, rules}
+use Rattle.std.proofs.Common.{◌≡◌, ◌-◌, ◌≤◌, length}
 use Rattle.console.proofs.reading.fill.Given as goal
 
 abbrev pub invariant-loop-have : goal.invariant-loop-have
-invariant-loop-have l = (l.have ≤ length l.buf) × (length l.buf ≡ length l.initial.buf)
+invariant-loop-have g l = (l.have ≤ length l.buf) × (length l.buf ≡ length l.initial.buf)
 
 abbrev pub decreases-loop-have : goal.decreases-loop-have
-decreases-loop-have l = length l.buf - l.have
+decreases-loop-have g l = length l.buf - l.have

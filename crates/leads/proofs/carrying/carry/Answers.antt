@@ -1,7 +1,7 @@
 -- `carry` copies byte by byte: what stands in front are the bytes from `from` on, and those further
 -- back are as they were.
 -- Assumes nothing.
-use Rattle.std.proofs.Common.{◌≡◌, ℕ, ◌+◌, ◌-◌, ◌<◌, ◌≤◌, List, [], ◌∷◌, ◌++◌, length, get_or, take, drop, set, sym, refl, ap, ◌∙◌, ap₂, add-one, arith, length-drop, length-set, get_or-drop, take-suc, drop-drop, take-suc-set, drop-set-lt, rules}
+use Rattle.std.proofs.Common.{◌≡◌, ℕ, ◌+◌, ◌<◌, List, [], ◌∷◌, ◌++◌, length, get_or, take, drop, set, sym, refl, ap, ◌∙◌, ap₂, add-one, arith, length-drop, length-set, get_or-drop, take-suc, drop-drop, take-suc-set, drop-set-lt}
 use Rattle.leads.proofs.carrying.carry.Goals as goal
 
 -- One byte more.

@@ -4,7 +4,7 @@ use lib.ListN.{length}
 use Rattle.live.proofs.riding.all.Given as goal
 
 abbrev pub invariant-loop-turns : goal.invariant-loop-turns
-invariant-loop-turns l = (length l.block ≡ 65536) × (length l.out ≡ 65536)
+invariant-loop-turns g l = (length l.block ≡ 65536) × (length l.out ≡ 65536)
 
 abbrev pub decreases-loop-turns : goal.decreases-loop-turns
-decreases-loop-turns l = l.turns
+decreases-loop-turns g l = l.turns

@@ -4,7 +4,7 @@ use lib.ListN.{length}
 use Rattle.live.proofs.riding.piece.Given as goal
 
 abbrev pub invariant-loop-turns : goal.invariant-loop-turns
-invariant-loop-turns l = length l.out ≡ length l.initial.out
+invariant-loop-turns g l = length l.out ≡ length l.initial.out
 
 abbrev pub decreases-loop-turns : goal.decreases-loop-turns
-decreases-loop-turns l = l.turns
+decreases-loop-turns g l = l.turns

@@ -1,10 +1,10 @@
 -- What the loop keeps true.
-use mathlib.Core.Path.{◌≡◌, refl, ◌∙◌}
+use mathlib.Core.Path.{◌≡◌}
 use lib.ListN.{length}
 use Rattle.noise.proofs.pieces.all.Given as goal
 
 abbrev pub invariant-loop-turns : goal.invariant-loop-turns
-invariant-loop-turns l = length l.block ≡ length l.initial.block
+invariant-loop-turns g l = length l.block ≡ length l.initial.block
 
 abbrev pub decreases-loop-turns : goal.decreases-loop-turns
-decreases-loop-turns l = l.turns
+decreases-loop-turns g l = l.turns

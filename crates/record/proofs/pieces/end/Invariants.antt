@@ -4,7 +4,7 @@ use lib.ListN.{length}
 use Rattle.record.proofs.pieces.end.Given as goal
 
 abbrev pub invariant-loop-turns : goal.invariant-loop-turns
-invariant-loop-turns l = length l.buf ≡ 16
+invariant-loop-turns g l = length l.buf ≡ 16
 
 abbrev pub decreases-loop-turns : goal.decreases-loop-turns
-decreases-loop-turns l = l.turns
+decreases-loop-turns g l = l.turns

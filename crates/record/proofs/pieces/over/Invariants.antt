@@ -6,7 +6,7 @@ use Rattle.recording.proofs.Advancing.{left, advances}
 use Rattle.record.proofs.pieces.over.Given as goal
 
 abbrev pub invariant-loop-records : goal.invariant-loop-records
-invariant-loop-records l = length l.buf ≡ length l.initial.buf
+invariant-loop-records g l = length l.buf ≡ length l.initial.buf
 
 abbrev pub decreases-loop-records : goal.decreases-loop-records
-decreases-loop-records l = left (frames_of l.piece) l.frame l.bit
+decreases-loop-records g l = left (frames_of l.piece) l.frame l.bit

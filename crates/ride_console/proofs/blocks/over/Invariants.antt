@@ -4,8 +4,8 @@ use lib.ListN.{length}
 use Rattle.ride_console.proofs.blocks.over.Given as goal
 
 abbrev pub invariant-loop-turns : goal.invariant-loop-turns
-invariant-loop-turns l =
+invariant-loop-turns g l =
     (length l.block ≡ length l.initial.block) × (length l.out ≡ length l.initial.out)
 
 abbrev pub decreases-loop-turns : goal.decreases-loop-turns
-decreases-loop-turns l = l.turns
+decreases-loop-turns g l = l.turns

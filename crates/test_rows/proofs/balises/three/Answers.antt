@@ -1,7 +1,6 @@
 -- Field after field.
 -- Assumes nothing.
 use mathlib.Core.Path.{ap, ◌∙◌}
-use Rattle.figures.specs.Fields.{field}
 use Rattle.test_rows.proofs.Choosing.{bytes_of}
 use Rattle.test_rows.specs.Balises.{word_as, three_as}
 use Rattle.test_rows.proofs.balises.three.Goals as goal

@@ -1,5 +1,4 @@
 -- What is left of the text falls.
-use Prim.Native.Nat.{◌-◌}
 use native.Mathlib.Omega.{arith}
 use Rattle.figures.proofs.Signs.{found_within}
 use Rattle.test_rows.proofs.groups.group_of.Goals as goal

@@ -3,7 +3,7 @@ use Rattle.std.proofs.Common.{◌≡◌, ◌-◌, ◌≤◌, length, rules}
 use Rattle.view.proofs.reading.fill.Given as goal
 
 abbrev pub invariant-loop-turns : goal.invariant-loop-turns
-invariant-loop-turns l = (l.step.have ≤ length l.trace) × (length l.trace ≡ length l.initial.trace)
+invariant-loop-turns g l = (l.step.have ≤ length l.trace) × (length l.trace ≡ length l.initial.trace)
 
 abbrev pub decreases-loop-turns : goal.decreases-loop-turns
-decreases-loop-turns l = l.turns
+decreases-loop-turns g l = l.turns
