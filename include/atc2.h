@@ -2,7 +2,7 @@
  * The balise bench checker's libraries for C and C++, by what one wants to do: words, telegrams,
  * contacts, test balises, settings, leads, rides, traces.
  *
- * Link with target/staticlib/libabi.a (rt staticlib abi; x86-64 Linux), or with what ./install puts
+ * Link with target/staticlib/libabi.a (./run --library; x86-64 Linux), or with what ./install puts
  * down; port/README.md has other processors, with the code and stack of the larger calls. Each
  * function is total: whatever numbers and bytes are passed, it returns one of the values listed,
  * and a refusal, -N for the number N of documents 01 and 02, leaves every lent array as it was.

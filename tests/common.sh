@@ -47,17 +47,18 @@ die() { # WORDS..: why nothing more can be tried
 build() { # NAME..
     "$root/run" --build "$@" >"$room/said" 2>&1 || cat "$room/said"
 }
-# Where the kit's tools are; what a program for x86-64 runs by on this machine, and what one that
-# was built here runs by, without its launcher.
+# Where the kit's tools are, and its llvm-nm. `emulator` and `runs` stand before a program of C and
+# before one that was built here, without its launcher: the kit has no emulator, and both run as they
+# are.
 kit() {
-    tools=$(dirname "$(dirname "$(rt doc)")")/on/$(uname -m)/toolchain
+    tools=$(dirname "$(rt doc)")/toolchain
     emulator=()
-    [ "$(uname -m)" = x86_64 ] || emulator=("$tools/bin/qemu-x86_64")
-    runs=("${emulator[@]}" "$tools/lib/ld-linux-x86-64.so.2" --library-path "$tools/lib")
+    runs=()
 }
+kit_nm() { (exec -a llvm-nm "$tools/bin/clang" "$@"); } # WORDS..
 # The C library, target/staticlib/libabi.a.
 library() {
-    (cd "$root" && rt staticlib abi) >"$room/log" 2>&1 || { tail -n 20 "$room/log"; die 'rt staticlib abi failed'; }
+    "$root/run" --library >"$room/log" 2>&1 || { cat "$room/log"; die 'the library for C is not built'; }
 }
 # A C program with the kit's own compiler, $room/NAME.
 compile() { # NAME WORDS..

@@ -1,5 +1,5 @@
-# Judges the parts of one group by the log of its check. Variables: crate (its name), folder (the
-# crate's), group (the .edit file), label (the group's name), told (the log). A line for each part:
+# Judges the parts of one group by the log of its check (logs.py). Variables: crate (its name), folder
+# (the crate's), group (the .edit file), label (the group's name), told (the log). A line for each part:
 # '+ ..' if the function that answers for it is refused because a fact fails, else '- ..' with what
 # is wrong; then one for the group: whether the functions that answer for its parts are all
 # different, and none is one in which another part stands.
@@ -41,28 +41,35 @@ function stands_in(file, old,    text, at, lines, n, i, end, line, name, module)
 }
 
 # What the log says of a function or of a file of proofs: 'fact', or why it is none.
-function verdict(answer,    path, i, line, own, fact, form) {
+function verdict(answer,    path, file, i, line, own, fact, form, unnamed, open) {
     path = answer
     gsub(/\//, "::", path)
     path = "fn " crate "::" path ": "
-    own = fact = 0
-    form = ""
+    file = "^(\\./)?proofs/" answer "(/(Proof|Answers|Invariants))?\\.antt:[0-9]+:[0-9]+: error: "
+    own = fact = open = 0
+    form = unnamed = ""
     for (i = 1; i <= logged; i++) {
         line = logs[i]
-        if (index(line, path) == 1) {
+        # The goals that stay open are told right before the line of their function.
+        if (line ~ /^note: src\/[^ ]*:[0-9]+:[0-9]+: it is not proved that /) open = 1
+        else if (line ~ /^fn /) {
+            if (index(line, path) == 1) {
+                own = 1
+                if (line == path "proved") return "is still proved: the part slipped through"
+                if (open || line ~ /; `search` (did not prove|gave up)/) fact = 1
+            }
+            open = 0
+        } else if (line ~ file) {
             own = 1
-            if (line == path "proved") return "is still proved: the part slipped through"
-            if (line ~ /: no proof: .*`search` does not close/) fact = 1
-        }
-        if (line ~ /:[0-9]+:[0-9]+: error: / && (index(line, "proofs/" answer "/Proof.antt:") || index(line, "proofs/" answer ".antt:"))) {
-            own = 1
-            if (line ~ /was not admitted/) continue
             sub(/^.*:[0-9]+:[0-9]+: error: /, "", line)
-            if (is_unnamed(line)) return "is refused for its form alone: " substr(line, 1, 160)
-            if (is_fact(line)) fact = 1
+            if (line ~ /was not admitted|were not checked|was not checked/) continue
+            if (is_unnamed(line)) { if (unnamed == "") unnamed = line }
+            else if (is_fact(line)) fact = 2
             else if (form == "") form = line
         }
     }
+    # Where a proof names what is no more, a goal may stay open for that alone.
+    if (unnamed != "" && fact < 2) return "is refused for its form alone: " substr(unnamed, 1, 160)
     if (fact) return "fact"
     if (form != "") return "is refused for its form alone: " substr(form, 1, 160)
     if (own) return "is refused only since something that it cites or calls is"
@@ -72,7 +79,7 @@ function verdict(answer,    path, i, line, own, fact, form) {
 # Whether an error says that a fact fails: what is found is not what is claimed, a goal stays open,
 # or an inequality does not follow.
 function is_fact(said) {
-    return said ~ /the two (types|sides)|expected type|no proof of|give a proof of that as the last argument|does not follow from what it read/
+    return said ~ /the two (types|sides)|expected type|one side reads|no proof of|as the last argument|does not follow from what it read/
 }
 
 # Whether an error says that a proof names what is no longer there.

@@ -7,8 +7,7 @@ ghost use Rattle.abi.specs.Face.{returned, itself};
 use words::{LongRead, LongWritten, ShortRead, ShortWritten};
 
 // The figure of a received short word, or -1.
-#[unsafe(no_mangle)]
-pub extern "C" fn atc2_read_short(word: u8) -> i32
+pub fn atc2_read_short(word: u8) -> i32
     ensures { result ≡ returned itself (numbered (read_short word)) }
 {
     match words::read_short(word) {
@@ -18,8 +17,7 @@ pub extern "C" fn atc2_read_short(word: u8) -> i32
 }
 
 // The short word to send for a figure, or -2.
-#[unsafe(no_mangle)]
-pub extern "C" fn atc2_write_short(figure: u8) -> i32
+pub fn atc2_write_short(figure: u8) -> i32
     ensures { result ≡ returned itself (write_short figure) }
 {
     match words::write_short(figure) {
@@ -29,8 +27,7 @@ pub extern "C" fn atc2_write_short(figure: u8) -> i32
 }
 
 // The figure of a received long word, or -1.
-#[unsafe(no_mangle)]
-pub extern "C" fn atc2_read_long(word: u16) -> i32
+pub fn atc2_read_long(word: u16) -> i32
     ensures { result ≡ returned itself (numbered (read_long word)) }
 {
     match words::read_long(word) {
@@ -40,8 +37,7 @@ pub extern "C" fn atc2_read_long(word: u16) -> i32
 }
 
 // The long word to send for a figure, or -2.
-#[unsafe(no_mangle)]
-pub extern "C" fn atc2_write_long(figure: u16) -> i32
+pub fn atc2_write_long(figure: u16) -> i32
     ensures { result ≡ returned itself (write_long figure) }
 {
     match words::write_long(figure) {

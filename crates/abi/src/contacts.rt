@@ -9,8 +9,7 @@ use crate::number::as_one;
 use contact::{Judged, Next, Search, SearchBegun};
 
 // 0, with the beginning of a search over the stretch in `search`; -5.
-#[unsafe(no_mangle)]
-pub extern "C" fn atc2_begin(buf: &[u8], start: usize, len: usize, search: &mut [u64; 3]) -> i32
+pub fn atc2_begin(buf: &[u8], start: usize, len: usize, search: &mut [u64; 3]) -> i32
     ensures value { result ≡ returned begun_number (begin buf.now start len) }
     ensures search_after { search.new ≡ left begun_put (begin buf.now start len) search.old }
 {
@@ -25,8 +24,7 @@ pub extern "C" fn atc2_begin(buf: &[u8], start: usize, len: usize, search: &mut 
 
 // 1, with the next contact in `out` and what follows it in `search`; 0 if no further one opens; -5
 // or -9.
-#[unsafe(no_mangle)]
-pub extern "C" fn atc2_next_contact(buf: &[u8], search: &mut [u64; 3], out: &mut [u64; 2]) -> i32
+pub fn atc2_next_contact(buf: &[u8], search: &mut [u64; 3], out: &mut [u64; 2]) -> i32
     ensures value { result ≡ returned next_number (next_contact buf.now (search_in search.old)) }
     ensures search_after { search.new ≡ left next_moved (next_contact buf.now (search_in search.old)) search.old }
     ensures out_after { out.new ≡ left next_put (next_contact buf.now (search_in search.old)) out.old }
@@ -55,15 +53,7 @@ pub extern "C" fn atc2_next_contact(buf: &[u8], search: &mut [u64; 3], out: &mut
 
 // 1, with the telegram, its first place and the number of its places in `out`; 2 for a marker; -4,
 // -5, -7 or -8.
-#[unsafe(no_mangle)]
-pub extern "C" fn atc2_judge(
-    buf: &[u8],
-    start: usize,
-    len: usize,
-    s: u8,
-    t: u8,
-    out: &mut [u64; 3],
-) -> i32
+pub fn atc2_judge(buf: &[u8], start: usize, len: usize, s: u8, t: u8, out: &mut [u64; 3]) -> i32
     ensures value { result ≡ returned judged_number (judge buf.now start len s t) }
     ensures out_after { out.new ≡ left judged_put (judge buf.now start len s t) out.old }
 {

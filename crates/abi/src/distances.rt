@@ -6,8 +6,7 @@ ghost use Rattle.abi.specs.Face.{returned, itself};
 use group::Measured;
 
 // The distance in decimetres of a figure in column BY, or -15.
-#[unsafe(no_mangle)]
-pub extern "C" fn atc2_distance(by: u8, figure: u8) -> i32
+pub fn atc2_distance(by: u8, figure: u8) -> i32
     ensures { result ≡ returned itself (distance by figure) }
 {
     match group::distance(by, figure) {

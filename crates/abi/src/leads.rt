@@ -10,8 +10,7 @@ use crate::refusal::of_settings;
 use settings::Asked;
 
 // 0, with a hearing at a lead's beginning in `ear`.
-#[unsafe(no_mangle)]
-pub extern "C" fn atc2_record_begin(ear: &mut [u8; 184]) -> i32
+pub fn atc2_record_begin(ear: &mut [u8; 184]) -> i32
     ensures value { result ≡ pos 0 }
     ensures ear_after { ear.new ≡ ear_bytes fresh }
     ensures ear_after_2 { ear_in ear.new ≡ fresh }
@@ -25,8 +24,7 @@ pub extern "C" fn atc2_record_begin(ear: &mut [u8; 184]) -> i32
 // 0, with as many records of the lead's whole frames in `records` as have room, the hearing then in
 // `ear`, and in `out` how many bytes of the lead are used and how many of records are written; the
 // store's own refusal.
-#[unsafe(no_mangle)]
-pub extern "C" fn atc2_record(
+pub fn atc2_record(
     ear: &mut [u8; 184],
     store: &[u8; 1032],
     lead: &[u8],
@@ -57,12 +55,7 @@ pub extern "C" fn atc2_record(
 
 // 0, with as many records of the lead's end in `records` as have room, the hearing then in `ear`,
 // and in `out` how many bytes of records are written.
-#[unsafe(no_mangle)]
-pub extern "C" fn atc2_record_end(
-    ear: &mut [u8; 184],
-    records: &mut [u8],
-    out: &mut [u64; 1],
-) -> i32
+pub fn atc2_record_end(ear: &mut [u8; 184], records: &mut [u8], out: &mut [u64; 1]) -> i32
     ensures value { result ≡ pos 0 }
     ensures ear_after { ear.new ≡ ear_bytes (end (ear_in ear.old) records.old).wrote.hearing }
     ensures records_after { records.new ≡ (end (ear_in ear.old) records.old).buffer }

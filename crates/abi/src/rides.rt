@@ -21,8 +21,7 @@ fn with_reasons(style: u8) -> bool
 }
 
 // 0, with a fresh ride in `state`.
-#[unsafe(no_mangle)]
-pub extern "C" fn atc2_ride_begin(state: &mut [u8; 144]) -> i32
+pub fn atc2_ride_begin(state: &mut [u8; 144]) -> i32
     ensures value { result ≡ pos 0 }
     ensures state_after { state.new ≡ ride_bytes fresh_ride }
     ensures state_after_2 { ride_in state.new ≡ fresh_ride }
@@ -34,8 +33,7 @@ pub extern "C" fn atc2_ride_begin(state: &mut [u8; 144]) -> i32
 
 // 0, with the lines of as many records as surely have room in `text`, how many records and bytes in
 // `out`, and the ride after them in `state`; the store's own refusal, or -16.
-#[unsafe(no_mangle)]
-pub extern "C" fn atc2_ride_list(
+pub fn atc2_ride_list(
     state: &mut [u8; 144],
     store: &[u8; 1032],
     trace: &[u8],
@@ -71,8 +69,7 @@ pub extern "C" fn atc2_ride_list(
 
 // The bytes of the line that the end of the ride gives, with that line at the start of `text`: 0 if
 // no group is open; -21 if it has no room.
-#[unsafe(no_mangle)]
-pub extern "C" fn atc2_ride_end(state: &[u8; 144], style: u8, text: &mut [u8]) -> i32
+pub fn atc2_ride_end(state: &[u8; 144], style: u8, text: &mut [u8]) -> i32
     ensures value { result ≡ returned itself (ending (style_of style) (ride_in state.now) text.old) }
     ensures text_after { text.new ≡ (put (end_text (style_of style) (ride_in state.now)) text.old 0).buffer }
 {
@@ -88,8 +85,7 @@ pub extern "C" fn atc2_ride_end(state: &[u8; 144], style: u8, text: &mut [u8]) -
 
 // 0, with the odometer, linking's distance and place, main speed, target and number in `out`; 2^64
 // - 1 where nothing is set.
-#[unsafe(no_mangle)]
-pub extern "C" fn atc2_ride_known(state: &[u8; 144], out: &mut [u64; 6]) -> i32
+pub fn atc2_ride_known(state: &[u8; 144], out: &mut [u64; 6]) -> i32
     ensures value { result ≡ pos 0 }
     ensures out_after { out.new ≡ known_figures (ride_in state.now) }
 {

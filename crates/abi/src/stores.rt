@@ -11,8 +11,7 @@ use settings::Verdict;
 use settings_text::Condition;
 
 // 0, with a store of one version, at place 0, in `store`; -4 or -19.
-#[unsafe(no_mangle)]
-pub extern "C" fn atc2_settings_begin(gap: u32, s: u8, t: u8, store: &mut [u8; 1032]) -> i32
+pub fn atc2_settings_begin(gap: u32, s: u8, t: u8, store: &mut [u8; 1032]) -> i32
     ensures value { result ≡ returned kept_number (begin gap s t).answer }
     ensures store_after { store.new ≡ store_left (begin gap s t) store.old }
     ensures store_after_2 { store_in store.new ≡ store_after_meant (begin gap s t) (store_in store.old) }
@@ -31,14 +30,7 @@ pub extern "C" fn atc2_settings_begin(gap: u32, s: u8, t: u8, store: &mut [u8; 1
 }
 
 // 0, with one version more in `store`; the store's own refusal, -4, -19, -18, -24 or -25.
-#[unsafe(no_mangle)]
-pub extern "C" fn atc2_settings_add(
-    store: &mut [u8; 1032],
-    place: u32,
-    gap: u32,
-    s: u8,
-    t: u8,
-) -> i32
+pub fn atc2_settings_add(store: &mut [u8; 1032], place: u32, gap: u32, s: u8, t: u8) -> i32
     ensures value { result ≡ returned kept_number (add (store_in store.old) (record { place = place; gap = gap; s = s; t = t })).answer }
     ensures store_after { store.new ≡ store_left (add (store_in store.old) (record { place = place; gap = gap; s = s; t = t })) store.old }
     ensures store_after_2 { store_in store.new ≡ store_after_meant (add (store_in store.old) (record { place = place; gap = gap; s = s; t = t })) (store_in store.old) }
@@ -60,8 +52,7 @@ pub extern "C" fn atc2_settings_add(
 
 // 0, with the store of a text's settings in `store`; the refusal of its first bad line, -100 if it
 // is unreadable, -102 if it is the first and its place is not 0, -101 for a text that is too long.
-#[unsafe(no_mangle)]
-pub extern "C" fn atc2_settings_read(text: &[u8], store: &mut [u8; 1032]) -> i32
+pub fn atc2_settings_read(text: &[u8], store: &mut [u8; 1032]) -> i32
     ensures value { result ≡ returned kept_number (change_of (sheet text.now)).answer }
     ensures store_after { store.new ≡ store_left (change_of (sheet text.now)) store.old }
     ensures store_after_2 { store_in store.new ≡ store_after_meant (change_of (sheet text.now)) (store_in store.old) }
@@ -83,8 +74,7 @@ pub extern "C" fn atc2_settings_read(text: &[u8], store: &mut [u8; 1032]) -> i32
 }
 
 // The number of the first bad line of a text, counted from 1; 0 where none is to be named.
-#[unsafe(no_mangle)]
-pub extern "C" fn atc2_settings_line(text: &[u8]) -> i64
+pub fn atc2_settings_line(text: &[u8]) -> i64
     ensures { result ≡ pos (sheet text.now).line }
 {
     let read = settings_text::read(text);

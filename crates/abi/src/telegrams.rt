@@ -8,8 +8,7 @@ use crate::number::as_one;
 use telegram::{Found, TelegramRead};
 
 // Three received words as one number, or -1 or -3.
-#[unsafe(no_mangle)]
-pub extern "C" fn atc2_read_telegram(x: u8, y: u8, z: u8) -> i32
+pub fn atc2_read_telegram(x: u8, y: u8, z: u8) -> i32
     ensures { result ≡ returned as_one (told (telegram x y z)) }
 {
     match telegram::read(x, y, z) {
@@ -20,15 +19,7 @@ pub extern "C" fn atc2_read_telegram(x: u8, y: u8, z: u8) -> i32
 }
 
 // 0, with the first place of the stretch and its telegram in `out`; -4, -5 or -6.
-#[unsafe(no_mangle)]
-pub extern "C" fn atc2_find(
-    buf: &[u8],
-    start: usize,
-    len: usize,
-    s: u8,
-    t: u8,
-    out: &mut [u64; 2],
-) -> i32
+pub fn atc2_find(buf: &[u8], start: usize, len: usize, s: u8, t: u8, out: &mut [u64; 2]) -> i32
     ensures value { result ≡ returned found_number (find buf.now start len s t) }
     ensures out_after { out.new ≡ left found_put (find buf.now start len s t) out.old }
 {

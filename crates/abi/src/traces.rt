@@ -9,8 +9,7 @@ use compaction::Size;
 
 // The new length of the trace, compacted for a fresh ride with this gap (a store of one version; no
 // ride looks at its sync pair); -19 or -16.
-#[unsafe(no_mangle)]
-pub extern "C" fn atc2_compact(gap: u32, trace: &mut [u8]) -> i64
+pub fn atc2_compact(gap: u32, trace: &mut [u8]) -> i64
     ensures value { result ≡ returned itself (compact fresh_ride (plain gap) trace.old).answer }
     ensures trace_after { trace.new ≡ (compact fresh_ride (plain gap) trace.old).buffer }
 {

@@ -43,8 +43,7 @@ fn number(read: TelegramRead) -> u32
 }
 
 // 0 if the three received words read, else why not.
-#[unsafe(no_mangle)]
-pub extern "C" fn atc2_why_telegram(x: u8, y: u8, z: u8) -> i32
+pub fn atc2_why_telegram(x: u8, y: u8, z: u8) -> i32
     ensures { result ≡ pos (why_number (telegram x y z)) }
 {
     number(telegram::read(x, y, z)) as i32
@@ -71,8 +70,7 @@ fn of_long(read: LongRead) -> u32
 
 // 0 if a received word reads, the long one or, where `wide` is 0, the short one in its low byte;
 // else why not.
-#[unsafe(no_mangle)]
-pub extern "C" fn atc2_why_word(word: u16, wide: u8) -> i32
+pub fn atc2_why_word(word: u16, wide: u8) -> i32
     ensures { result ≡ pos (word_number (word_read word wide)) }
 {
     if wide == 0 {

@@ -1,5 +1,6 @@
 -- A text of one line and its newline, in one block, read with every call in full.
 -- Assumes nothing.
+use denote.MutBor.{MutBor}
 use Prim.Native.Nat.{ℕ}
 use mathlib.Core.Path.{◌≡◌, refl}
 use mathlib.Core.Bool.{true, false}
@@ -14,6 +15,10 @@ use Rattle.lines_laws.specs.Texts as reading
 -- Bytes that are lent.
 abbrev pub lent : List ℕ → Bor (List ℕ)
 lent bytes = record { ref_ptr = (0, 0); now = bytes }
+
+-- The same, lent to be written.
+abbrev pub lent_out : List ℕ → MutBor (List ℕ)
+lent_out bytes = record { ref_ptr = (0, 0); ghost_name = 0; now = bytes }
 
 module _ (text : List ℕ) where
   -- The line, what comes after it in the block, and what stands after the last newline.

@@ -26,7 +26,7 @@ use Rattle.trace_text.specs.Line.{what_text, record_line}
 use Rattle.trace_text_laws.specs.Calls.{ThingAt, PutRecord}
 use Rattle.trace_text_laws.specs.Laws.{Bytes}
 use Rattle.trace_text_laws.specs.Texts.{one, over, Printed, none, block, made, Comes, no_more, nothing, thing, Taken}
-use Rattle.trace_text_laws.proofs.OneLine.{lent, first, last, read_out}
+use Rattle.trace_text_laws.proofs.OneLine.{lent, lent_out, first, last, read_out}
 
 abbrev marker : List ℕ
 marker = 0 ∷ 0 ∷ 0 ∷ 5 ∷ 1 ∷ 0 ∷ 0 ∷ 0 ∷ []
@@ -58,7 +58,7 @@ put_there : PutRecord 1 5 What.Marker space 0 13 filled
 unfolding filled
 put_there =
     let stands : came 13 (placed text space 0) ≡ put text space 0 = was_put (record { put = (refl, refl); fits = omega (arith, room) }) in
-    (([], tt), lent space, (1, (5, (What.Marker, (lent (placed text space 0), (0, tt))))), refl, refl, stands ∙ ap (λ (t : List ℕ). put t space 0) (sym its_line))
+    (([], tt), lent_out space, (1, (5, (What.Marker, (lent_out (placed text space 0), (0, tt))))), refl, refl, stands ∙ ap (λ (t : List ℕ). put t space 0) (sym its_line))
 
 pub printed_met : Printed (marker ∷ []) (take 13 filled ++ [])
 printed_met = block {b = marker} refl (omega arith) room (one 1 5 What.Marker at_first put_there (over {from = 8} (omega arith))) none

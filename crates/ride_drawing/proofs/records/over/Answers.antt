@@ -32,6 +32,7 @@ use Rattle.text.proofs.Fitting.{fitting}
 use Rattle.ride_drawing.proofs.Short.{step_size}
 use Rattle.ride_drawing.proofs.Turns.{block, from_here, from_first, from_next, from_last, step_at, no_more, none_left}
 use Rattle.ride_drawing.proofs.records.over.Goals.{After-treat_at-treated, At-loop-i, In-Record, In-loop-i, Left-loop-i}
+use borrow.Enum.Refused.{opened}
 use Rattle.ride_drawing.proofs.records.over.Goals as goal
 
 -- what the loop's test says: a record is left, there is room, and there is a next number
@@ -83,9 +84,12 @@ whole c =
     let left = left_of trace (length trace / 8) c.loop-i.i in
     let none : taken a.plan gaps c.loop-i.pen c.loop-i.now c.loop-i.next room left ≡ 0 =
     ⊎_elim
-    (λ w. no_more a.plan gaps c.loop-i.pen c.loop-i.now c.loop-i.next room trace (length trace / 8) c.loop-i.i w.left)
-    (λ w. none_left a.plan gaps c.loop-i.pen c.loop-i.now c.loop-i.next room trace (length trace / 8) c.loop-i.i
-    (turned_past _ _ _ _ _ _ _ (turn (record { before = record { before = record { before = (goal.at-Left-loop-i c).At-loop-i; loop-test = w.0 }; held_at = w.1 }; treat_at = w.2 })) w.3.keys2))
+    (λ w. no_more a.plan gaps c.loop-i.pen c.loop-i.now c.loop-i.next room trace (length trace / 8) c.loop-i.i w.loop-i-test.false)
+    (λ w.
+    let t : Turning a.store c.loop-i.held w.held_at-held.result c.loop-i.now trace c.loop-i.i w.treat_at-treated.result =
+    record { good = c.requires.0; holding = c.loop-i.invariant.4; next_is = w.held_at-held.ensures; says = w.treat_at-treated.ensures } in
+    none_left a.plan gaps c.loop-i.pen c.loop-i.now c.loop-i.next room trace (length trace / 8) c.loop-i.i
+    (turned_past _ _ _ _ _ _ _ t (opened w.in_default.in_default-own.keys2)))
     c.loop-i-test.branch-raw in
     from_last a.plan gaps c.loop-i.pen c.loop-i.now c.loop-i.next c.loop-i.i c.loop-i.at left c.loop-i.out none
     ∙ c.loop-i.invariant.5

@@ -1,0 +1,54 @@
+// Leads: a hearing begun, frames heard into records, and the lead's end.
+ghost use Rattle.std.specs.Prelude.{◌≡◌, [], ◌∷◌, pos};
+ghost use Rattle.ear_bytes.specs.Ears.{ear_bytes, ear_in};
+ghost use Rattle.ear_bytes.specs.Hearing.{fresh, end};
+ghost use Rattle.abi.specs.Face.{returned};
+ghost use Rattle.abi.specs.Stores.{kept_number};
+ghost use Rattle.abi.specs.Leads.{heard, ear_left, records_left, used_left, ear_after_meant};
+
+// 0, with a hearing at a lead's beginning in `ear`.
+#[unsafe(no_mangle)]
+pub extern "C" fn atc2_record_begin(ear: &mut [u8; 184]) -> i32
+    ensures value { result ≡ pos 0 }
+    ensures ear_after { ear.new ≡ ear_bytes fresh }
+    ensures ear_after_2 { ear_in ear.new ≡ fresh }
+{
+    abi::leads::atc2_record_begin(ear)
+}
+
+// 0, with as many records of the lead's whole frames in `records` as have room, the hearing then in
+// `ear`, and in `out` how many bytes of the lead are used and how many of records are written; the
+// store's own refusal.
+#[unsafe(no_mangle)]
+pub extern "C" fn atc2_record(
+    ear: &mut [u8; 184],
+    store: &[u8; 1032],
+    lead: &[u8],
+    records: &mut [u8],
+    out: &mut [u64; 2],
+) -> i32
+    ensures value { result ≡ returned kept_number (heard ear.old store.now lead.now records.old).answer }
+    ensures ear_after { ear.new ≡ ear_left (heard ear.old store.now lead.now records.old) ear.old }
+    ensures records_after { records.new ≡ records_left (heard ear.old store.now lead.now records.old) records.old }
+    ensures out_after { out.new ≡ used_left (heard ear.old store.now lead.now records.old) out.old }
+    ensures ear_after_2 { ear_in ear.new ≡ ear_after_meant (heard ear.old store.now lead.now records.old) (ear_in ear.old) }
+{
+    abi::leads::atc2_record(ear, store, lead, records, out)
+}
+
+// 0, with as many records of the lead's end in `records` as have room, the hearing then in `ear`,
+// and in `out` how many bytes of records are written.
+#[unsafe(no_mangle)]
+pub extern "C" fn atc2_record_end(
+    ear: &mut [u8; 184],
+    records: &mut [u8],
+    out: &mut [u64; 1],
+) -> i32
+    ensures value { result ≡ pos 0 }
+    ensures ear_after { ear.new ≡ ear_bytes (end (ear_in ear.old) records.old).wrote.hearing }
+    ensures records_after { records.new ≡ (end (ear_in ear.old) records.old).buffer }
+    ensures out_after { out.new ≡ (end (ear_in ear.old) records.old).wrote.bytes ∷ [] }
+    ensures ear_after_2 { ear_in ear.new ≡ (end (ear_in ear.old) records.old).wrote.hearing }
+{
+    abi::leads::atc2_record_end(ear, records, out)
+}

@@ -1,0 +1,257 @@
+#!/usr/bin/env python3
+"""logs.py LOGS [CRATE..]: LOGS/CRATE/GROUP.log, what a check of the crate says with the whole of the
+must-fail group GROUP applied, for every group, or for those of the crates named.
+
+It applies an edit and checks as `rt ci` does, by the functions of the kit's own rt, on a copy of
+the crate, four side by side where processors and memory allow, over what the crate's own proof
+left: the checked modules in its library, which `rt ci` and `rt lib` build. No verdict rests on
+that. It builds the libraries that are not built.
+
+Where an edit changes a number or a name that stands in the names of goals (`figure <= 15` has the
+goal `returns-then-figure-le15`), a proof names goals that are no more, and would be refused for
+that alone. So the names are carried over in the copy's proofs/, by what rattle itself says of them,
+and these functions are checked again: the log tells of the facts.
+
+What was said is kept on this machine, in ~/.cache/atc2-edits (ATC2_EDITS names another folder), by
+a checksum of the crate and those below it, the edit, the kit and this script, and taken from there.
+"""
+import contextlib
+import hashlib
+import importlib.machinery
+import importlib.util
+import json
+import os
+import re
+import shutil
+import subprocess
+import sys
+import tempfile
+
+sys.dont_write_bytecode = True
+HERE = os.path.dirname(os.path.realpath(__file__))
+
+
+def load(path):
+    loader = importlib.machinery.SourceFileLoader("rt", path)
+    made = importlib.util.module_from_spec(importlib.util.spec_from_loader("rt", loader))
+    loader.exec_module(made)
+    return made
+
+
+rt = load(os.path.realpath(shutil.which("rt") or sys.exit("logs.py: rt is not found")))
+rtlib = rt.rtlib
+
+
+def text_of(path):
+    with open(path, encoding="utf-8", errors="replace") as it:
+        return it.read()
+
+
+def key_of(crate, edit):
+    """What a log is made of: the texts of the crate and of those below it, the edit, the kit and this script."""
+    sum = hashlib.sha256(f"{crate.stamp()} {rt.kit_sum()}".encode())
+    for path in (edit, os.path.realpath(__file__)):
+        with open(path, "rb") as it:
+            sum.update(hashlib.sha256(it.read()).digest())
+    return sum.hexdigest()
+
+
+# What earlier runs on this machine were told, and how many logs of one group stay there.
+KEPT = os.environ.get("ATC2_EDITS") or f"{os.environ.get('XDG_CACHE_HOME') or os.path.expanduser('~/.cache')}/atc2-edits"
+MOST = 6
+
+
+def kept(crate, edit):
+    name = os.path.basename(edit)[: -len(".edit")]
+    return f"{KEPT}/{crate.name}.{name}/{key_of(crate, edit)}.log"
+
+
+def keep(file, said):
+    """Keeps a log, in one step, and lets the oldest of its group go."""
+    with contextlib.suppress(OSError):
+        folder = os.path.dirname(file)
+        os.makedirs(folder, exist_ok=True)
+        with tempfile.NamedTemporaryFile("w", dir=folder, delete=False, encoding="utf-8") as it:
+            it.write(said)
+        os.replace(it.name, file)
+        logs = sorted((os.path.join(folder, it) for it in os.listdir(folder)), key=os.path.getmtime)
+        for it in logs[:-MOST]:
+            os.remove(it)
+
+
+def seeded(crate, folder):
+    """Makes of the checked modules in the crate's library a folder as --incremental takes it, or says why not."""
+    if not crate.is_built():
+        said = subprocess.run(["rt", "lib"], cwd=crate.folder, stdin=subprocess.DEVNULL, stdout=subprocess.PIPE, stderr=subprocess.STDOUT, errors="replace")
+        if said.returncode or not crate.is_built():
+            return f"the crate is not proved: {said.stdout[-600:]}"
+    # The folder's name within is rattle's own, by its build: a check of nothing makes it.
+    subprocess.run([rtlib.RATTLE, "check", *crate.words(["--jobs", "1", "--only", ""], keeps=False), "--incremental", folder], cwd=crate.folder, stdin=subprocess.DEVNULL, stdout=subprocess.DEVNULL, stderr=subprocess.DEVNULL)
+    inside = [it for it in os.listdir(folder) if it.startswith("antt-checked")] if os.path.isdir(folder) else []
+    if len(inside) != 1:
+        return "rattle made no folder of kept work"
+    whole = f"{crate.rlib}/toolchain/checked"
+    with open(f"{whole}.a", "rb") as it:
+        bytes = it.read()
+    for line in text_of(f"{whole}.json").split("\n"):
+        if line.strip():
+            name, at, size = json.loads(line)
+            if "/" not in name:
+                with open(f"{folder}/{inside[0]}/{name}.oantt", "wb") as it:
+                    it.write(bytes[at : at + size])
+    return ""
+
+
+# A name that a proof cites and that is no more, in what file, and what rattle says is there.
+MISSING = re.compile(r"(?m)^(?:\./)?(proofs/\S+?\.antt):\d+:\d+: error: .*has no (?:field )?`\.?([^`]+)`(?: that can be named from here)?(?: \((?:nearest: \.|did you mean `)([^\s,)`]+))?")
+ASKED = re.compile(r"(?m)^help: `\w+` has no `([^`]+)`; rattle asks for (.*?)(?: and \d+ more)?(?:;.*)?$")
+FAILS = re.compile(r"(?m)^(?:\./)?(proofs/\S+?)/[^/]+\.antt:\d+:\d+: error: .*(the two (types|sides)|expected type|no proof of|as the last argument|does not follow from what it read)")
+NAME = re.compile(r"[A-Za-z_][A-Za-z0-9_'-]*")
+
+
+def apart(one, other):
+    """How far two names of as many parts are apart: in how many parts they differ, and in how many signs."""
+    pairs = [it for it in zip(one.split("-"), other.split("-")) if it[0] != it[1]]
+    signs = sum(abs(len(a) - len(b)) + sum(x != y for x, y in zip(a, b)) for a, b in pairs)
+    return len(pairs), signs
+
+
+def carried(said, texts_of):
+    """Returns, by file, the names that it cites and that are others now, by what rattle says: whole names, and parts of names that
+    tell enough by themselves to be exchanged in each name of the file. Where a function is refused for a fact anyhow, nothing is."""
+    asked, found = {}, {}
+    for name, others in ASKED.findall(said):
+        asked.setdefault(name, re.findall(r"`([^`]+)`", others))
+    facts = {it[0] for it in FAILS.findall(said)}
+    for path, name, nearest in MISSING.findall(said):
+        if os.path.dirname(path) in facts:
+            continue
+        there = {*NAME.findall(texts_of(path))}
+        others = [it for it in ([nearest] if nearest else asked.get(name, ())) if it not in there and it.count("-") == name.count("-") and it.split("-")[0] == name.split("-")[0]]
+        if not others:
+            continue
+        other = min(others, key=lambda it: apart(name, it))
+        names, parts = found.setdefault(path, ({}, {}))
+        names[name] = other
+        for a, b in zip(name.split("-"), other.split("-")):
+            if a != b and re.search(r"\d", a) and re.search(r"\d", b):
+                parts[a] = b
+    return found
+
+
+def named_anew(text, names, parts):
+    """The text with these names, and these parts of the names of goals and places, as they are now."""
+
+    def anew(it):
+        it = it[0]
+        return names.get(it) or ("-".join(parts.get(part, part) for part in it.split("-")) if "-" in it else it)
+
+    return NAME.sub(anew, text)
+
+
+def checked(crate, texts, over, only=()):
+    words = ["--jobs", "1", *[word for it in only for word in ("--only", it)]]
+    ran = rt.checked(crate, texts, words, over)
+    if ran.returncode < 0:
+        # most likely for memory
+        ran = rt.checked(crate, texts, words, over)
+    return ran.stdout
+
+
+def function_of(path):
+    """The function whose proof a file of proofs/ is, by its path below the crate; nothing for a file of lemmas."""
+    folder, name = os.path.split(path)
+    return folder[len("proofs/") :].replace("/", "::") if name in ("Answers.antt", "Invariants.antt", "Proof.antt") else None
+
+
+def without(said, crate, functions):
+    """What was said, but of these functions."""
+    files = [f"proofs/{it.replace('::', '/')}/" for it in functions]
+    heads = tuple(f"fn {crate.name}::{it}: " for it in functions)
+    return "".join(it for it in said.splitlines(True) if not it.startswith(heads) and not any(it.removeprefix("./").startswith(file) for file in files))
+
+
+def logged(crate, edit, seed):
+    """Returns what the check of the edited crate says."""
+    texts, why = rt.read_edit(edit, crate.folder)
+    if why:
+        return f"the edit cannot be applied: {why}\n"
+    with tempfile.TemporaryDirectory(prefix="edits-") as room:
+        over = f"{room}/over"
+        rt.linked(seed, over)
+        texts_of = lambda path: texts.get(path) or text_of(f"{crate.folder}/{path}")
+        said = checked(crate, texts, over)
+        for _ in range(3):
+            found = carried(said, texts_of)
+            if not found:
+                break
+            for path, (names, parts) in found.items():
+                texts[path] = named_anew(texts_of(path), names, parts)
+            functions = {function_of(it) for it in found}
+            if None in functions:
+                said = checked(crate, texts, over)
+            else:
+                said = checked(crate, texts, over, sorted(functions)) + without(said, crate, functions)
+    return said
+
+
+def main(logs, names):
+    # (in this thread, once: rt's checks end with this process)
+    rtlib.guarded()
+    crates = {it.name: it for it in rtlib.crates_below(os.getcwd())}
+    tasks, rooms = {}, {}
+
+    def seed(crate):
+        rooms[crate.name] = room = tempfile.mkdtemp(prefix=f"edits-{crate.name}-")
+        why = seeded(crate, f"{room}/seed")
+        if why:
+            print(f"{crate.name}: {why}", file=sys.stderr, flush=True)
+        return "" if why else f"{room}/seed"
+
+    def log(crate, edit, given):
+        at = given[crate.name, "seed"]
+        said = logged(crate, edit, at) if at else ""
+        # (a check that was cut short says nothing)
+        if re.search(r"(?m)^logic=", said):
+            keep(kept(crate, edit), said)
+        elif at:
+            print(f"{crate.name}/{os.path.basename(edit)}: no check came to its end: {said[-300:]}", file=sys.stderr, flush=True)
+
+    wanted = {name: rt.edits_of(crates[name])[0] for name in names or crates}
+    for name, edits in wanted.items():
+        crate = crates[name]
+        new = [it for it in edits if not os.path.isfile(kept(crate, it))]
+        if not new:
+            continue
+        lines, needs = crate.count(rb"\n"), rt.need(crate)
+        # (where libraries have to be built, rt builds those below first)
+        waits = [(it.name, "seed") for it in crate.below() if (it.name, "seed") in tasks and not crate.is_built()]
+        tasks[name, "seed"] = (waits, lines, needs, lambda given, jobs, crate=crate: seed(crate))
+        for edit in new:
+            tasks[name, "edits", edit] = ([(name, "seed")], lines, rt.OVER * needs, lambda given, jobs, crate=crate, edit=edit: log(crate, edit, given))
+        # the seed goes with the last of them
+        tasks[name, "over"] = ([(name, "edits", it) for it in new], 0, 0, lambda given, jobs, name=name: shutil.rmtree(rooms.pop(name, ""), ignore_errors=True))
+    try:
+        rt.in_lanes(tasks)
+    finally:
+        for room in rooms.values():
+            shutil.rmtree(room, ignore_errors=True)
+    for name, edits in wanted.items():
+        for edit in edits:
+            with contextlib.suppress(OSError):
+                os.makedirs(f"{logs}/{name}", exist_ok=True)
+                shutil.copyfile(kept(crates[name], edit), f"{logs}/{name}/{os.path.basename(edit)[: -len('.edit')]}.log")
+
+
+def carry(log, folder):
+    """Carries names over in a folder's proofs/, as a log tells: what tests/edits/run tries."""
+    for path, (names, parts) in carried(text_of(log), lambda it: text_of(f"{folder}/{it}")).items():
+        text = named_anew(text_of(f"{folder}/{path}"), names, parts)
+        with open(f"{folder}/{path}", "w", encoding="utf-8") as it:
+            it.write(text)
+
+
+if __name__ == "__main__" and sys.argv[1] == "--carry":
+    carry(*sys.argv[2:])
+elif __name__ == "__main__":
+    main(os.path.abspath(sys.argv[1]), sys.argv[2:])
