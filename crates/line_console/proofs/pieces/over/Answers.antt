@@ -1,6 +1,6 @@
 -- Each answer is a bit of the piece, and the next call asks from the bit after it.
 -- Assumes nothing.
-use Rattle.std.proofs.Common.{◌≤◌, ◌*◌, length, ◌∙◌, arith, rules}
+use Rattle.std.proofs.Common.{arith}
 use Rattle.antenna_text.proofs.Advancing.{opened_on, closed_on}
 use Rattle.line_console.proofs.pieces.over.Goals as goal
 

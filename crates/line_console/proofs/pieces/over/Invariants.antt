@@ -1,5 +1,5 @@
 -- What the loop keeps true.
-use Rattle.std.proofs.Common.{◌≡◌, ◌-◌, ◌*◌, ◌<◌, ◌≤◌, length, ◌∙◌, arith, rules}
+use Rattle.std.proofs.Common.{◌≡◌, ◌-◌, ◌<◌, length}
 use Rattle.line_console.proofs.pieces.over.Given as goal
 
 abbrev pub invariant-loop-i : goal.invariant-loop-i

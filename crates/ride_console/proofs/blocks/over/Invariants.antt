@@ -1,5 +1,5 @@
 -- What the loop keeps true.
-use mathlib.Core.Path.{◌≡◌, sym, ◌∙◌}
+use mathlib.Core.Path.{◌≡◌}
 use lib.ListN.{length}
 use Rattle.ride_console.proofs.blocks.over.Given as goal
 
