@@ -3,6 +3,7 @@
 -- given, its answer r, and what is lent to it as it is at the end, e. A lent buffer is a reference
 -- (`RefT`) whose bytes are `now` of it, and `Lfts` says how long it is lent.
 -- Assumes nothing.
+use denote.MutBor.{MutBor}
 use Rattle.std.specs.Prelude.{ℕ, ◌≡◌, List}
 use contract.Lifetimes.{Lfts}
 use Rattle.std.specs.Borrow.{Bor}
@@ -103,7 +104,7 @@ written κs e = e.1.1.1.1.1.1.0.now
 -- that the lent buffer, which held `before`, holds `after` then.
 abbrev pub Write : ℕ → ℕ → ℕ → ℕ → ℕ → ℕ → List ℕ → Written → List ℕ → Type 0
 Write x y z s t n before r after =
-    (κs : Lfts 1) × (out : Bor (List ℕ)) × (e : AtExit (ended_of 1 write_kinds.ps write_kinds.r) κs)
+    (κs : Lfts 1) × (out : MutBor (List ℕ)) × (e : AtExit (ended_of 1 write_kinds.ps write_kinds.r) κs)
     × (out.now ≡ before) × (written κs e ≡ after) × write_reads.Post κs (x, (y, (z, (s, (t, (n, (out, tt))))))) r e
 
 -- The contract of `begin` allows the answer r for this stretch of the buffer.

@@ -1,5 +1,6 @@
 -- What the contracts of `compact` and `compact_block` allow (see Contracts.antt).
 -- Assumes nothing.
+use denote.MutBor.{MutBor}
 use Rattle.std.specs.Prelude.{ℕ, ◌≡◌, List}
 use contract.Lifetimes.{Lfts}
 use Rattle.std.specs.Borrow.{Bor}
@@ -19,12 +20,12 @@ use Rattle.compaction.proofs.compact_block.Reads as block_reads
 -- lent trace, which was `before`, is `after` then.
 abbrev pub CompactIn : Ride → Store → List ℕ → Compacted → List ℕ → Type 0
 CompactIn ride store before r after =
-    (κs : Lfts 1) × (lent : Bor (List ℕ)) × (e : AtExit (ended_of 1 compact_kinds.ps compact_kinds.r) κs)
+    (κs : Lfts 1) × (lent : MutBor (List ℕ)) × (e : AtExit (ended_of 1 compact_kinds.ps compact_kinds.r) κs)
     × (lent.now ≡ before) × (e.1.1.0.now ≡ after) × compact_reads.Post κs (ride, (store, (lent, tt))) r e
 
 -- The contract of `compact_block` allows the answer r after what waits, under this store, and that
 -- the lent block, which was `before`, is `after` then.
 abbrev pub BlockIn : Waiting → Store → List ℕ → Block → List ℕ → Type 0
 BlockIn w store before r after =
-    (κs : Lfts 1) × (lent : Bor (List ℕ)) × (e : AtExit (ended_of 1 block_kinds.ps block_kinds.r) κs)
+    (κs : Lfts 1) × (lent : MutBor (List ℕ)) × (e : AtExit (ended_of 1 block_kinds.ps block_kinds.r) κs)
     × (lent.now ≡ before) × (e.1.1.0.now ≡ after) × block_reads.Post κs (w, (store, (lent, tt))) r e

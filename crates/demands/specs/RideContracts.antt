@@ -2,6 +2,7 @@
 -- allow, as Contracts.antt says it. In `put_line`, `put_end` and `list` the bytes of the second,
 -- third and sixth parameter at the end are taken out of e.
 -- Assumes nothing.
+use denote.MutBor.{MutBor}
 use Rattle.std.specs.Prelude.{ℕ, ◌≡◌, List}
 use contract.Lifetimes.{Lfts}
 use Rattle.std.specs.Borrow.{Bor}
@@ -102,20 +103,20 @@ RunOver ride store trace r =
 -- buffer, which held `before`, holds `after` then.
 abbrev pub PutLine : Line → List ℕ → ℕ → ℕ → List ℕ → Type 0
 PutLine line before at r after =
-    (κs : Lfts 1) × (lent : Bor (List ℕ)) × (e : AtExit (ended_of 1 put_line_kinds.ps put_line_kinds.r) κs)
+    (κs : Lfts 1) × (lent : MutBor (List ℕ)) × (e : AtExit (ended_of 1 put_line_kinds.ps put_line_kinds.r) κs)
     × (lent.now ≡ before) × (e.1.0.now ≡ after) × put_line_reads.Post κs (line, (lent, (at, tt))) r e
 
 -- The contract of `put_end` in this style allows the place r for the end of this ride at this
 -- place, likewise.
 abbrev pub PutEnd : Style → Ride → List ℕ → ℕ → ℕ → List ℕ → Type 0
 PutEnd style ride before at r after =
-    (κs : Lfts 1) × (lent : Bor (List ℕ)) × (e : AtExit (ended_of 1 put_end_kinds.ps put_end_kinds.r) κs)
+    (κs : Lfts 1) × (lent : MutBor (List ℕ)) × (e : AtExit (ended_of 1 put_end_kinds.ps put_end_kinds.r) κs)
     × (lent.now ≡ before) × (e.1.1.0.now ≡ after) × put_end_reads.Post κs (style, (ride, (lent, (at, tt)))) r e
 
 -- The contract of `list` in this style allows the answer r for this trace, and that the lent
 -- buffer, which held `before`, holds `after` then.
 abbrev pub ListInto : Style → Ride → Store → ℕ → List ℕ → List ℕ → Listed → List ℕ → Type 0
 ListInto style ride store number trace before r after =
-    (κs : Lfts 2) × (lent : Bor (List ℕ)) × (out : Bor (List ℕ)) × (e : AtExit (ended_of 2 list_kinds.ps list_kinds.r) κs)
+    (κs : Lfts 2) × (lent : Bor (List ℕ)) × (out : MutBor (List ℕ)) × (e : AtExit (ended_of 2 list_kinds.ps list_kinds.r) κs)
     × (lent.now ≡ trace) × (out.now ≡ before) × (e.1.1.1.1.1.0.now ≡ after)
     × list_reads.Post κs (style, (ride, (store, (number, (lent, (out, tt)))))) r e

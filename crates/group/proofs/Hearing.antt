@@ -12,7 +12,6 @@ use Rattle.group.specs.declared.Heard.{Heard}
 use Rattle.group.specs.declared.Balise.{Balise}
 use Rattle.group_rows.specs.declared.Part.{Part}
 use Rattle.group_rows.specs.declared.Placed.{Placed}
-use Rattle.group.specs.declared.Number.{Number}
 use Rattle.group.specs.Balise.{then, part_heard, read_all}
 use Rattle.group.specs.Numbers.{number_or, number_of}
 use Rattle.group.specs.Inside.{else_number}

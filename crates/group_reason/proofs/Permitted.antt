@@ -9,7 +9,7 @@ use lib.Dec.{leb}
 use borrow.Author.Tests.{leb-true, le-leb}
 use Rattle.group_rows.specs.declared.Direction.{Direction}
 use Rattle.group_rows.specs.declared.Placed.{Placed}
-use Rattle.group_rows.specs.Row.{Row, row, fits, Fit, misfit, fit, fit_row_meant, fit_rows}
+use Rattle.group_rows.specs.Row.{Row, row, Fit, misfit, fit, fit_row_meant, fit_rows}
 use Rattle.group_rows.specs.Rows.{present, opposite, how_many, fit_in}
 use Rattle.group_rows.specs.Fitting.{rows_for}
 use Rattle.group_rows.specs.Opening.{Opens, are_sendable}

@@ -14,7 +14,7 @@ use Rattle.group_rows.specs.declared.Direction.{Direction}
 use Rattle.group_rows.specs.declared.Kind.{Kind}
 use Rattle.group_rows.specs.declared.Placed.{Placed}
 use Rattle.group_rows.specs.declared.Picked.{Picked}
-use Rattle.group_rows.specs.Row.{Y, Z, Found, none, found, first}
+use Rattle.group_rows.specs.Row.{Y, Z, Found, none, found}
 use Rattle.group_rows.specs.Fitting.{fitting}
 use Rattle.group_rows.proofs.Bools.{both, false_true}
 use Rattle.group.specs.declared.Group.{Group}

@@ -8,7 +8,7 @@ use lib.Dec.{T, eqb, leb, ltb, ltb→lt}
 use borrow.Author.Tests.{eqb-true, eqb-false, leb-true}
 use Rattle.group_rows.proofs.Bools.{both, either, not_so}
 use Rattle.group_rows.specs.declared.Part.{Part}
-use Rattle.group_rows.specs.Row.{Figures, all, ◌to◌, Asked, category, one_of, M, A, is_category, Y, Z, within, meets}
+use Rattle.group_rows.specs.Row.{Figures, all, ◌to◌, Asked, category, one_of, M, is_category, Y, Z, within, meets}
 
 abbrev pub disjoint : Figures → Figures → Bool
 disjoint all g = false

@@ -6,7 +6,7 @@ use Rattle.words.specs.Answer.{pick}
 use Rattle.group_rows.specs.declared.Direction.{Direction}
 use Rattle.group_rows.specs.declared.Kind.{Kind}
 use Rattle.group_rows.specs.declared.Placed.{Placed}
-use Rattle.group_rows.specs.Row.{Member, A, must, may, Row, row, meets, Found, none, found, Fit, misfit, fit, fit_with, or_else}
+use Rattle.group_rows.specs.Row.{Member, A, must, may, Row, row, meets, Found, none, found, Fit, misfit, fit_with, or_else}
 use Rattle.group_rows.specs.Rows.{how_many}
 use Rattle.group_rows.specs.Fitting.{speed_of}
 

@@ -1,7 +1,7 @@
 -- Making a check even adds at most the check's own bit.
 -- Assumes nothing.
 use mathlib.Core.Path.{◌≡◌, ap, subst, ◌∙◌}
-use Prim.Native.Nat.{ℕ, ◌*◌, ◌%◌, ◌^◌, ◌≤◌, ◌<◌}
+use Prim.Native.Nat.{ℕ, ◌*◌, ◌%◌, ◌^◌, ◌≤◌}
 use native.Mathlib.Nat.{one-mul, mul-le-mul_right, le_of_suc-le-suc, mod-lt, zero-lt-suc, mod-eq_of_lt, lt_of_le_of_lt}
 use lib.Dec.{lit<}
 use lib.Pow.{pow_mono}

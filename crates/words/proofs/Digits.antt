@@ -3,7 +3,7 @@
 -- Assumes nothing.
 use mathlib.Core.Path.{◌≡◌, refl, sym, ap, ap₂, ◌∙◌, subst}
 use mathlib.Core.Logic.{◌⊎◌, inl, inr}
-use Prim.Native.Nat.{ℕ, zero, suc, ◌+◌, ◌-◌, ◌*◌, ◌/◌, ◌%◌, ◌^◌, ◌≤◌, ◌<◌}
+use Prim.Native.Nat.{ℕ, zero, suc, ◌+◌, ◌*◌, ◌/◌, ◌%◌, ◌^◌, ◌≤◌, ◌<◌}
 use native.Mathlib.Nat.{pow-suc, mod-lt, zero-lt-suc, mul-le-mul_right, le_of_suc-le-suc, lt-suc_self, lt_trans, eq-or-lt_of_le, not-suc-le-zero, mul_comm, mod-eq_of_lt, one-mul, add-mul-div_right, add_comm, mul_assoc, add-mul-mod_self_right, le_dest, mod-one}
 use native.Mathlib.Omega.{arith}
 use lib.Dec.{lit<}

@@ -27,7 +27,7 @@ use Rattle.telegram.proofs.Handed.{handed}
 use Rattle.telegram.proofs.Law.{with_telegrams, law, only}
 use Rattle.demands.specs.Table.{not_seven}
 use Rattle.demands.specs.ByContract.{ReadShort, ReadLong}
-use Rattle.demands.specs.Calls.{Comes, further}
+use Rattle.demands.specs.Calls.{Comes, further, ends}
 use Rattle.demands.specs.Demand2.{Good, Bad, no_code, is_15, place_of, Telegrams}
 use Rattle.demands.proofs.Demand1.Refusals.{beyond_is}
 use Rattle.demands.proofs.Demand3.Handed.{specified, single_place, comes_listed}
@@ -92,6 +92,7 @@ once b start len s t w good taken c =
 
 words_there : {b : List ℕ} {s t start len : ℕ} {w : List Found} (p : ℕ) (m : Telegram) → Comes b s t start len w → Memᴰ (Found.At p m) w
     → gives m ≡ words_at b p
+words_there p m (ends _) l = elim l [ ]
 words_there {b} {s} {t} {start} {len} p m (further {p = q} {m = n} k c) (Memᴰ.head e) =
     let says : gives n ≡ words_at b q = (handed b start len s t q (gives n) (specified b start len s t (Found.At q n) k)).says in
     let same_m : m ≡ n = cc in

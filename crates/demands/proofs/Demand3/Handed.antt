@@ -103,6 +103,7 @@ listed_with b p (r ∷ ps) e = go (or_parts (eqb p r) (among p ps) e) (listed_wi
     go (inr there) ih = Memᴰ.tail (ih there)
 
 answered_with : (s : Single) (v : List Single) → Memᴰ s v → Memᴰ (answer_of s) (map answer_of v)
+answered_with s [] m = elim m [ ]
 answered_with s (x ∷ v) (Memᴰ.head e) = Memᴰ.head (ap answer_of e)
 answered_with s (x ∷ v) (Memᴰ.tail m) = Memᴰ.tail (answered_with s v m)
 

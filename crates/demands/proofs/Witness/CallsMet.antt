@@ -1,6 +1,7 @@
 -- Calls of `read_short` and `find` that the contracts allow, made in full: hypotheses on calls are
 -- met.
 -- Assumes nothing.
+use denote.MutBor.{MutBor}
 use mathlib.Core.Path.{refl}
 use mathlib.Core.List.{List, [], ◌∷◌}
 use Prim.Native.Nat.{ℕ}
@@ -29,6 +30,10 @@ one_sent = (((0x17, tt), refl), ((0x99, tt), refl))
 -- A lent buffer with these bytes.
 abbrev pub lent : List ℕ → Bor (List ℕ)
 lent bytes = record { ref_ptr = (0, 0); now = bytes }
+
+-- The same, lent to be written.
+abbrev pub lent_out : List ℕ → MutBor (List ℕ)
+lent_out bytes = record { ref_ptr = (0, 0); ghost_name = 0; now = bytes }
 
 -- The line with three flips, asked until 6: from bit 0, from bit 49 and from bit 81.
 first_call : Find (line 0x10).buffer 0 128 0x72 0x0d (one 48)

@@ -16,7 +16,7 @@ use Rattle.balise_writer.specs.Write.{telegrams, in_range, bytes_of, write}
 use Rattle.demands.specs.ByContract.{JudgeContact}
 use Rattle.demands.specs.Writing.{OneWriting}
 use Rattle.demands.proofs.Beside.Writing.{written_is_read}
-use Rattle.demands.proofs.Witness.CallsMet.{lent}
+use Rattle.demands.proofs.Witness.CallsMet.{lent, lent_out}
 
 -- Ten bytes, and the same with two telegrams of 1, 8 and 5 in the first nine.
 abbrev ten : List ℕ
@@ -39,7 +39,7 @@ two_written =
       after = filled;
       bytes = 9;
       sync_words = (omega arith, omega arith);
-      call = (([], tt), lent ten, (1, (8, (5, (0x72, (0x0d, (2, (lent filled, tt))))))), refl, refl, refl);
+      call = (([], tt), lent_out ten, (1, (8, (5, (0x72, (0x0d, (2, (lent_out filled, tt))))))), refl, refl, refl);
     }
 
 -- Its bits are judged as two places, the first at 0.

@@ -1,9 +1,8 @@
 -- `next_line` takes one character a turn: what is left of the block, with the line so far, comes to
 -- what the whole does.
-use mathlib.Core.Path.{◌≡◌, refl, sym, ◌∙◌}
-use Prim.Native.Nat.{◌-◌}
+use mathlib.Core.Path.{refl, sym, ◌∙◌}
 use native.Mathlib.Omega.{arith}
-use Rattle.lines.specs.Reading.{next_line, line_from}
+use Rattle.lines.specs.Reading.{next_line}
 use Rattle.lines.proofs.Steps.{at_the_end, at_newline, goes_on, in_comment, at_stop, at_letter}
 use Rattle.lines.proofs.next_line.Invariants.{reader}
 use Rattle.lines.proofs.next_line.Goals as goal

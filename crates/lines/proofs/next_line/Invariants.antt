@@ -1,5 +1,5 @@
 -- What the loop keeps true.
-use mathlib.Core.Path.{◌≡◌, refl, sym, ◌∙◌}
+use mathlib.Core.Path.{◌≡◌}
 use mathlib.Core.Bool.{Bool}
 use Prim.Native.Nat.{◌-◌}
 use lib.ListN.{length, drop}

@@ -1,7 +1,7 @@
 -- What the loop keeps true.
-use mathlib.Core.Path.{◌≡◌, sym, ap, subst, ◌∙◌}
-use Prim.Native.Nat.{ℕ, ◌+◌, ◌-◌, ◌≤◌}
-use lib.ListN.{length, drop, length-drop}
+use mathlib.Core.Path.{◌≡◌}
+use Prim.Native.Nat.{◌+◌, ◌-◌, ◌≤◌}
+use lib.ListN.{length, drop}
 use Rattle.settings.specs.Store.{no_store_meant}
 use Rattle.lines.specs.Text.{lines_of, beginning}
 use Rattle.settings_text.specs.Sheet.{lines_from}

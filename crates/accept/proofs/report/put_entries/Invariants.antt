@@ -1,5 +1,5 @@
 -- What the loop keeps true.
-use Rattle.std.proofs.Common.{◌-◌, ◌≤◌, arith, rules}
+use Rattle.std.proofs.Common.{◌-◌, ◌≤◌}
 use Rattle.accept.proofs.report.put_entries.Given as goal
 
 abbrev pub invariant-loop-i : goal.invariant-loop-i

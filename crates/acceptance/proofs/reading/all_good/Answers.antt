@@ -1,13 +1,13 @@
 -- All records passed are good.
 -- Assumes nothing.
-use Prim.Native.Nat.{ℕ, ◌-◌, ◌/◌, ◌≤◌}
+use Prim.Native.Nat.{ℕ, ◌-◌, ◌/◌}
 use mathlib.Core.Path.{◌≡◌, refl, sym, ap, ◌∙◌}
 use native.Mathlib.Omega.{arith}
 use lib.ListN.{length}
 use borrow.Author.Tests.{not-true, not-false}
-use Rattle.ride.specs.Over.{first_records, records}
+use Rattle.ride.specs.Over.{first_records}
 use Rattle.acceptance.specs.Plan.{all_good}
-use Rattle.acceptance.proofs.Filling.{good_from, good_on, good_not, good_end}
+use Rattle.acceptance.proofs.Filling.{good_on, good_not, good_end}
 use Rattle.acceptance.proofs.reading.all_good.Goals as goal
 
 pub loop-i-init : goal.loop-i-init

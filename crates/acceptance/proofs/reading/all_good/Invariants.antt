@@ -1,10 +1,10 @@
 -- What the loop keeps true.
-use Prim.Native.Nat.{ℕ, ◌-◌, ◌/◌, ◌≤◌}
-use mathlib.Core.Path.{◌≡◌, refl, sym, ap, ◌∙◌}
+use Prim.Native.Nat.{◌-◌, ◌/◌, ◌≤◌}
+use mathlib.Core.Path.{◌≡◌}
 use lib.ListN.{length}
-use Rattle.ride.specs.Over.{first_records, records}
+use Rattle.ride.specs.Over.{records}
 use Rattle.acceptance.specs.Plan.{all_good}
-use Rattle.acceptance.proofs.Filling.{good_from, good_on, good_not, good_end}
+use Rattle.acceptance.proofs.Filling.{good_from}
 use Rattle.acceptance.proofs.reading.all_good.Given as goal
 
 abbrev pub invariant-loop-i : goal.invariant-loop-i

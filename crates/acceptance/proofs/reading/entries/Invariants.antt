@@ -1,8 +1,8 @@
 -- What the loop keeps true.
-use Prim.Native.Nat.{◌-◌, ◌/◌, ◌≤◌, ◌<◌}
-use mathlib.Core.Path.{◌≡◌, refl, ap, ◌∙◌}
-use lib.ListN.{length, set, length-set}
-use Rattle.acceptance.proofs.Filling.{filled, fill_next, fill_end}
+use Prim.Native.Nat.{◌-◌, ◌/◌, ◌≤◌}
+use mathlib.Core.Path.{◌≡◌}
+use lib.ListN.{length}
+use Rattle.acceptance.proofs.Filling.{filled}
 use Rattle.acceptance.proofs.reading.entries.Given as goal
 
 abbrev pub invariant-loop-i : goal.invariant-loop-i

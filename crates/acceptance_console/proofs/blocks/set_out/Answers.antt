@@ -1,5 +1,5 @@
 -- `set_out` is the definition's, over a fresh ride.
-use Rattle.std.proofs.Common.{true, ap, rules}
+use Rattle.std.proofs.Common.{true, ap}
 use Rattle.ride.specs.declared.Ride.{Ride}
 use Rattle.acceptance_console.specs.SetOut.{set_out}
 use Rattle.acceptance_console.proofs.blocks.set_out.Goals as goal

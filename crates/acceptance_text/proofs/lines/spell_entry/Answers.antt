@@ -5,7 +5,7 @@ use mathlib.Core.List.{List, ◌++◌}
 use Prim.Native.Nat.{ℕ, ◌+◌, ◌≤◌}
 use lib.ListN.{length}
 use Rattle.text.specs.Put.{put}
-use Rattle.text.proofs.Standing.{less, join, room_after, join_3, join_4, numbered, room_as}
+use Rattle.text.proofs.Standing.{less, room_after, join_3, join_4, numbered, room_as}
 use Rattle.acceptance.specs.Taking.{one_more}
 use Rattle.ride_text.specs.Text.{kind_word}
 use Rattle.acceptance_text.specs.Lines.{met_words}

@@ -2,22 +2,22 @@
 -- is the whole block.
 use mathlib.Core.Path.{◌≡◌, sym, ap, ◌∙◌}
 use mathlib.Core.Logic.{⊎_elim}
-use Prim.Native.Nat.{◌+◌, ◌-◌, ◌/◌, ◌<◌, ◌≤◌}
+use Prim.Native.Nat.{◌+◌, ◌-◌, ◌/◌, ◌<◌}
 use native.Mathlib.Omega.{arith}
 use mathlib.Core.Bool.{true}
 use lib.Dec.{leb, ltb}
 use lib.ListN.{length}
-use borrow.Author.Tests.{leb-true, not-false}
+use borrow.Author.Tests.{leb-true}
 use Rattle.words.proofs.Linear.{and_parts}
 use Rattle.settings.specs.At.{gap_at}
-use Rattle.settings.proofs.Holding.{Holding, holding_at}
+use Rattle.settings.proofs.Holding.{holding_at}
 use Rattle.ride.specs.Step.{Step}
 use Rattle.ride.specs.Over.{lines_for}
 use Rattle.ride.specs.Says.{says_given}
 use Rattle.ride.proofs.Under.{Turning, Turned, turned, turned_past}
 use Rattle.acceptance_text.specs.Taking.{started, take_all}
 use Rattle.acceptance_text.specs.Inside.{writes, written}
-use Rattle.acceptance_text.proofs.Way.{OnTheWay, sets_out, same_length as length-stays, goes_on, comes_to, comes_to_end, in_pieces, quiet}
+use Rattle.acceptance_text.proofs.Way.{sets_out, same_length as length-stays, goes_on, comes_to, comes_to_end, in_pieces, quiet}
 use Rattle.acceptance_text.proofs.records.over.Goals.{After-treat_at-treated, At-loop-i, In-Record, In-loop-i, Joined-not-is_quiet}
 use borrow.Enum.Refused.{opened}
 use Rattle.acceptance_text.proofs.records.over.Goals as goal

@@ -1,10 +1,9 @@
 -- What the loop keeps true.
-use mathlib.Core.Path.{◌≡◌, sym, ap, ◌∙◌}
-use Prim.Native.Nat.{◌+◌, ◌-◌, ◌/◌, ◌<◌, ◌≤◌}
+use Prim.Native.Nat.{◌-◌, ◌/◌, ◌≤◌}
 use lib.ListN.{length}
 use Rattle.settings.specs.At.{gap_at}
-use Rattle.settings.proofs.Holding.{Holding, holding_at}
-use Rattle.acceptance_text.proofs.Way.{OnTheWay, sets_out, same_length as length-stays, goes_on, comes_to, comes_to_end, in_pieces, quiet}
+use Rattle.settings.proofs.Holding.{Holding}
+use Rattle.acceptance_text.proofs.Way.{OnTheWay}
 use Rattle.acceptance_text.proofs.records.over.Given as goal
 
 abbrev pub invariant-loop-i : goal.invariant-loop-i

@@ -1,7 +1,7 @@
 -- What comes first from bit i on, with the parts of the contact as they are there, is what comes
 -- first.
 -- Assumes nothing.
-use Prim.Native.Nat.{ℕ, ◌-◌, ◌≤◌, ◌<◌}
+use Prim.Native.Nat.{◌<◌}
 use mathlib.Core.Path.{◌≡◌, refl, sym, ap, ◌∙◌}
 use mathlib.Core.Logic.{⊎_elim}
 use native.Mathlib.Omega.{arith}
@@ -12,7 +12,7 @@ use Rattle.antenna.specs.declared.Sound.{Sound}
 use Rattle.antenna.specs.declared.Stand.{Stand}
 use Rattle.antenna.specs.Places.{places_after}
 use Rattle.antenna.specs.Sound.{judged}
-use Rattle.antenna.specs.Piece.{closed_at, first}
+use Rattle.antenna.specs.Piece.{closed_at}
 use Rattle.antenna.proofs.Pieces.{over_at}
 use Rattle.antenna.proofs.Counting.{closes_few, stays_many}
 use Rattle.antenna.proofs.Turns.{ear, closes_here, parts, none_ends, goes_on}

@@ -1,10 +1,10 @@
 -- What the loop keeps true.
-use Prim.Native.Nat.{ℕ, ◌-◌, ◌≤◌, ◌<◌}
-use mathlib.Core.Path.{◌≡◌, refl, sym, ap, ◌∙◌}
+use Prim.Native.Nat.{ℕ, ◌-◌, ◌≤◌}
+use mathlib.Core.Path.{◌≡◌}
 use Rattle.contact.specs.History.{zeroes}
 use Rattle.antenna.specs.declared.Stand.{Stand}
-use Rattle.antenna.specs.Piece.{closed_at, first}
-use Rattle.antenna.proofs.Turns.{ear, closes_here, parts, none_ends, goes_on}
+use Rattle.antenna.specs.Piece.{first}
+use Rattle.antenna.proofs.Turns.{ear, parts}
 use Rattle.antenna.proofs.piece.to_closing.Given as goal
 
 abbrev pub invariant-loop-i : goal.invariant-loop-i

@@ -1,12 +1,12 @@
 -- What comes first from bit i on, with the history as it is there, is what comes first.
 -- Assumes nothing.
-use Prim.Native.Nat.{◌-◌, ◌≤◌, ◌<◌}
-use mathlib.Core.Path.{◌≡◌, refl, sym, ap, ◌∙◌}
+use Prim.Native.Nat.{◌<◌}
+use mathlib.Core.Path.{refl, sym, ap, ◌∙◌}
 use native.Mathlib.Omega.{arith}
 use Rattle.words.specs.Answer.{gives}
 use Rattle.antenna.specs.declared.Ear.{Ear}
 use Rattle.antenna.specs.declared.Stand.{Stand}
-use Rattle.antenna.specs.Piece.{used_up, first}
+use Rattle.antenna.specs.Piece.{used_up}
 use Rattle.antenna.proofs.Pieces.{over_at}
 use Rattle.antenna.proofs.Turns.{ear, opens_here, on_outside}
 use Rattle.antenna.proofs.piece.to_opening.Goals as goal

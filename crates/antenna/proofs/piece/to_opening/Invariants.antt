@@ -1,9 +1,9 @@
 -- What the loop keeps true.
-use Prim.Native.Nat.{◌-◌, ◌≤◌, ◌<◌}
-use mathlib.Core.Path.{◌≡◌, refl, sym, ap, ◌∙◌}
+use Prim.Native.Nat.{◌-◌, ◌≤◌}
+use mathlib.Core.Path.{◌≡◌}
 use Rattle.antenna.specs.declared.Stand.{Stand}
-use Rattle.antenna.specs.Piece.{used_up, first}
-use Rattle.antenna.proofs.Turns.{ear, opens_here, on_outside}
+use Rattle.antenna.specs.Piece.{first}
+use Rattle.antenna.proofs.Turns.{ear}
 use Rattle.antenna.proofs.piece.to_opening.Given as goal
 
 abbrev pub invariant-loop-i : goal.invariant-loop-i

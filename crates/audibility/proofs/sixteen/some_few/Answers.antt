@@ -1,9 +1,8 @@
 -- The places from n on have five zeroes or more: some has fewer if one of those before has.
 -- Assumes nothing.
-use Prim.Native.Nat.{ℕ, suc, ◌-◌, ◌≤◌}
+use Prim.Native.Nat.{suc, ◌-◌}
 use mathlib.Core.Path.{◌≡◌, refl, sym, ap, ◌∙◌}
 use native.Mathlib.Omega.{arith}
-use lib.Dec.{ltb}
 use borrow.Author.Tests.{lt-ltb, le-ltb}
 use Rattle.contact_laws.specs.Zeroes.{zeroes_in, fewest}
 use Rattle.audibility.specs.Sound.{some}

@@ -1,6 +1,5 @@
 -- The zeroes among the first n bits, one bit more each turn.
 -- Assumes nothing.
-use Prim.Native.Nat.{◌-◌, ◌≤◌}
 use mathlib.Core.Path.{◌≡◌, refl, ap, ◌∙◌}
 use native.Mathlib.Omega.{arith}
 use Rattle.contact_laws.specs.Zeroes.{zeroes_in}

@@ -1,6 +1,6 @@
 -- What the loop keeps true.
 use Prim.Native.Nat.{◌-◌, ◌≤◌}
-use mathlib.Core.Path.{◌≡◌, refl, ap, ◌∙◌}
+use mathlib.Core.Path.{◌≡◌}
 use Rattle.contact_laws.specs.Zeroes.{zeroes_in}
 use Rattle.audibility.proofs.sixteen.zeroes_from.Given as goal
 

@@ -1,7 +1,7 @@
 -- `fill` writes one byte a turn: those before it are the eight bytes in turn, those from it on the
 -- old ones.
-use mathlib.Core.Path.{◌≡◌, refl, ◌∙◌}
-use Prim.Native.Nat.{ℕ, ◌-◌, ◌%◌, ◌≤◌, ◌<◌}
+use mathlib.Core.Path.{refl, ◌∙◌}
+use Prim.Native.Nat.{◌%◌, ◌<◌}
 use native.Mathlib.Omega.{arith}
 use lib.ListN.{length, get_or, length-set}
 use Rattle.balise_writer.proofs.Bytes.{first_more, others_less}

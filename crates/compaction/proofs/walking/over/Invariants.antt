@@ -1,15 +1,15 @@
 -- What the loop keeps true.
-use Prim.Native.Nat.{ℕ, ◌+◌, ◌-◌, ◌*◌, ◌/◌, ◌≤◌, ◌<◌}
-use mathlib.Core.Path.{◌≡◌, refl, sym, ap, subst, ◌∙◌}
-use mathlib.Core.Bool.{Bool, true, not}
-use mathlib.Core.List.{List, [], ◌∷◌}
+use Prim.Native.Nat.{ℕ, ◌-◌, ◌/◌, ◌≤◌}
+use mathlib.Core.Path.{◌≡◌}
+use mathlib.Core.Bool.{Bool}
+use mathlib.Core.List.{List}
 use lib.ListN.{length}
 use Rattle.settings.specs.At.{gap_at}
-use Rattle.settings.proofs.Holding.{Holding, holding_at}
+use Rattle.settings.proofs.Holding.{Holding}
 use Rattle.ride.specs.declared.Ride.{Ride}
 use Rattle.compaction.specs.declared.Waiting.{Waiting}
 use Rattle.compaction.specs.Inside.{Serves}
-use Rattle.compaction.proofs.Walk.{Walk, walk_first, walk_length, walk_same, walk_kept, walk_dropped}
+use Rattle.compaction.proofs.Walk.{Walk}
 use Rattle.compaction.proofs.walking.over.Given as goal
 
 -- what waits, from its pieces

@@ -1,10 +1,10 @@
 -- What the contacts are from the opening bit on, they still are from each later bit on that the
 -- walk comes to, until a bit closes.
 -- Assumes nothing.
-use Prim.Native.Nat.{ℕ, ◌+◌, ◌-◌, ◌≤◌, ◌<◌}
-use mathlib.Core.Path.{◌≡◌, refl, sym, ap, ◌∙◌}
+use Prim.Native.Nat.{ℕ, ◌+◌, ◌-◌, ◌<◌}
+use mathlib.Core.Path.{refl, sym, ap, ◌∙◌}
 use native.Mathlib.Omega.{arith}
-use Rattle.contact.specs.Contacts.{since, contacts, first}
+use Rattle.contact.specs.Contacts.{since, first}
 use Rattle.contact.proofs.Steps.{ends_inside, goes_out, stays_in}
 use Rattle.contact.proofs.Stays.{on}
 use Rattle.contact.proofs.Block.{Turn, by_marks, passed, all_passed, then_is}

@@ -1,8 +1,7 @@
 -- What the loop keeps true.
-use Prim.Native.Nat.{ℕ, ◌+◌, ◌-◌, ◌≤◌, ◌<◌}
-use mathlib.Core.Path.{◌≡◌, refl, sym, ap, ◌∙◌}
-use Rattle.contact.specs.Contacts.{since, contacts, first}
-use Rattle.contact.proofs.Stays.{on}
+use Prim.Native.Nat.{◌-◌, ◌≤◌, ◌<◌}
+use mathlib.Core.Path.{◌≡◌}
+use Rattle.contact.specs.Contacts.{since, contacts}
 use Rattle.contact.proofs.detector.within.Given as goal
 
 abbrev pub invariant-loop-i : goal.invariant-loop-i

@@ -1,6 +1,6 @@
 -- What the loop keeps true.
-use Prim.Native.Nat.{suc, ◌-◌, ◌≤◌}
-use mathlib.Core.Path.{◌≡◌, refl, sym, ap, ◌∙◌}
+use Prim.Native.Nat.{◌≤◌}
+use mathlib.Core.Path.{◌≡◌}
 use Rattle.contact.specs.Judge.{all_zero}
 use Rattle.contact.proofs.marker.all_zero.Given as goal
 

@@ -1,6 +1,6 @@
 -- The bits from n on are ones, as many as counted.
 -- Assumes nothing.
-use Prim.Native.Nat.{suc, ◌+◌, ◌-◌}
+use Prim.Native.Nat.{suc, ◌-◌}
 use mathlib.Core.Path.{◌≡◌, sym, ap, ◌∙◌}
 use native.Mathlib.Omega.{arith}
 use Rattle.contact.specs.Judge.{ones_at_end}

@@ -1,6 +1,6 @@
 -- What the loop keeps true.
-use Prim.Native.Nat.{suc, ◌+◌, ◌-◌}
-use mathlib.Core.Path.{◌≡◌, sym, ap, ◌∙◌}
+use Prim.Native.Nat.{◌+◌}
+use mathlib.Core.Path.{◌≡◌}
 use Rattle.contact.specs.Judge.{ones_at_end}
 use Rattle.contact.proofs.marker.ones_at_end.Given as goal
 

@@ -1,6 +1,6 @@
 -- What the loop keeps true.
-use Prim.Native.Nat.{ℕ, ◌-◌}
-use mathlib.Core.Path.{◌≡◌, refl, ap, ◌∙◌}
+use Prim.Native.Nat.{◌-◌}
+use mathlib.Core.Path.{◌≡◌}
 use lib.ListN.{length}
 use Rattle.text.specs.Pieces.{puts}
 use Rattle.contact_drawing.specs.Strips.{strip, each}

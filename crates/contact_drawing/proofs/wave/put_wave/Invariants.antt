@@ -1,9 +1,9 @@
 -- What the loop keeps true.
-use Prim.Native.Nat.{ℕ, ◌-◌}
-use mathlib.Core.Path.{◌≡◌, refl, ap, ◌∙◌}
+use Prim.Native.Nat.{◌-◌}
+use mathlib.Core.Path.{◌≡◌}
 use lib.ListN.{length}
 use Rattle.text.specs.Pieces.{puts}
-use Rattle.contact_drawing.specs.Strips.{level, bit_of, each}
+use Rattle.contact_drawing.specs.Strips.{bit_of, each}
 use Rattle.contact_drawing.proofs.wave.put_wave.Given as goal
 
 abbrev pub invariant-loop-i : goal.invariant-loop-i

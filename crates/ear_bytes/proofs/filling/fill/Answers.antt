@@ -1,9 +1,7 @@
 -- Record after record is put where the one before ends: from each on it comes to the whole.
 -- Assumes nothing.
-use Prim.Native.Nat.{◌-◌, ◌≤◌}
 use mathlib.Core.Path.{◌≡◌, refl, ap, ◌∙◌}
 use native.Mathlib.Omega.{arith}
-use lib.ListN.{length}
 use Rattle.ear_bytes.specs.declared.Wrote.{Wrote}
 use Rattle.ear_bytes.specs.Inside.{coming, either}
 use Rattle.ear_bytes.specs.Says.{says}

@@ -1,9 +1,9 @@
 -- What the loop keeps true.
 use Prim.Native.Nat.{◌-◌, ◌≤◌}
-use mathlib.Core.Path.{◌≡◌, refl, ap, ◌∙◌}
+use mathlib.Core.Path.{◌≡◌}
 use lib.ListN.{length}
-use Rattle.ear_bytes.specs.Inside.{coming, either}
-use Rattle.ear_bytes.proofs.Filled.{from, whole, full, over, on, next_place, keeps_length, room_less}
+use Rattle.ear_bytes.specs.Inside.{coming}
+use Rattle.ear_bytes.proofs.Filled.{from}
 use Rattle.ear_bytes.proofs.filling.fill.Given as goal
 
 abbrev pub invariant-loop-buffer : goal.invariant-loop-buffer

@@ -1,6 +1,5 @@
 -- `all_digits` looks at one character a turn: the whole is digits exactly if what is left is.
-use mathlib.Core.Path.{◌≡◌, refl, sym, ◌∙◌}
-use Prim.Native.Nat.{◌-◌, ◌≤◌}
+use mathlib.Core.Path.{refl, sym, ◌∙◌}
 use native.Mathlib.Omega.{arith}
 use Rattle.figures.proofs.Characters.{not_below, not_beyond, a_digit, digits_end}
 use Rattle.figures.proofs.digits.all_digits.Goals as goal

@@ -6,7 +6,7 @@ use native.Mathlib.Omega.{arith}
 use lib.ListN.{length, get_or, drop}
 use lib.Dec.{leb}
 use Rattle.words.specs.Answer.{pick}
-use Rattle.figures.specs.Figures.{all_digits_meant, continued}
+use Rattle.figures.specs.Figures.{continued}
 use Rattle.figures.specs.declared.Figure.{Figure}
 use Rattle.figures.proofs.Characters.{is_digit, number_on_law, number_end, grows, is_above, is_number}
 use Rattle.figures.proofs.digits.up_to.Goals.{At-loop-i}

@@ -1,9 +1,8 @@
 -- `place_of` looks at one byte a turn: the first sign from here on is always the first from the
 -- start on.
-use mathlib.Core.Path.{◌≡◌, refl, sym, ◌∙◌}
-use Prim.Native.Nat.{◌+◌, ◌-◌}
+use mathlib.Core.Path.{refl, sym, ◌∙◌}
 use native.Mathlib.Omega.{arith}
-use Rattle.figures.specs.Fields.{before, place_of}
+use Rattle.figures.specs.Fields.{place_of}
 use Rattle.figures.proofs.Signs.{at_sign, at_other, at_end}
 use Rattle.figures.proofs.fields.place_of.Goals as goal
 

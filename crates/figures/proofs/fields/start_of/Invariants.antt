@@ -1,8 +1,8 @@
 -- What the loop keeps true.
-use mathlib.Core.Path.{◌≡◌, sym, ap, subst, ◌∙◌}
-use Prim.Native.Nat.{ℕ, suc, ◌+◌, ◌-◌, ◌≤◌, ◌<◌}
+use mathlib.Core.Path.{◌≡◌}
+use Prim.Native.Nat.{◌+◌, ◌-◌, ◌≤◌}
 use lib.ListN.{length, drop}
-use Rattle.figures.specs.Fields.{place_of, start_of}
+use Rattle.figures.specs.Fields.{start_of}
 use Rattle.figures.proofs.fields.start_of.Given as goal
 
 abbrev pub invariant-loop-i : goal.invariant-loop-i

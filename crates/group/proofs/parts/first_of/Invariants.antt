@@ -1,6 +1,6 @@
 -- What the loop keeps true.
-use Prim.Native.Nat.{◌-◌, ◌≤◌}
-use mathlib.Core.Path.{◌≡◌, refl, sym, ap, subst, ◌∙◌}
+use Prim.Native.Nat.{◌≤◌}
+use mathlib.Core.Path.{◌≡◌}
 use lib.ListN.{length, take}
 use Rattle.group_rows.specs.Row.{any, first}
 use Rattle.group.proofs.parts.first_of.Given as goal

@@ -6,7 +6,7 @@ use mathlib.Core.List.{List}
 use mathlib.Core.Bool.{true, false}
 use native.Mathlib.Omega.{arith}
 use borrow.Author.Rules.{rules}
-use lib.ListN.{length, take, drop, get_or, length-set}
+use lib.ListN.{length, take, get_or, length-set}
 use lib.Seq.{take_all}
 use Rattle.group_rows.proofs.Ahead.{five_again, head_is, then_ahead}
 use Rattle.words.specs.Answer.{gives}
@@ -15,7 +15,7 @@ use Rattle.group.specs.Balise.{part_heard, read_all}
 use Rattle.group.specs.Inside.{says_part_read, else_number}
 use Rattle.group.specs.declared.Number.{Number}
 use Rattle.group.specs.Numbers.{number_of}
-use Rattle.group.proofs.Hearing.{after, after_none, placed, unheard, number_next, read_good, read_bad, read_end}
+use Rattle.group.proofs.Hearing.{after_none, placed, unheard, number_next, read_good, read_bad, read_end}
 use Rattle.words.proofs.Never.{cannot_be}
 use Rattle.group.proofs.reading.read_all.Goals.{At-loop-i}
 use Rattle.group.proofs.reading.read_all.Goals as goal

@@ -1,10 +1,10 @@
 -- What the loop keeps true.
-use Prim.Native.Nat.{ℕ, ◌+◌, ◌-◌, ◌≤◌, ◌<◌}
-use mathlib.Core.Path.{◌≡◌, refl, sym, ap, subst, ◌∙◌}
-use lib.ListN.{length, take, drop, get_or, length-set}
-use Rattle.group.specs.Balise.{part_heard, read_all}
+use Prim.Native.Nat.{◌-◌, ◌≤◌}
+use mathlib.Core.Path.{◌≡◌}
+use lib.ListN.{length, take, drop}
+use Rattle.group.specs.Balise.{read_all}
 use Rattle.group.specs.Numbers.{number_of}
-use Rattle.group.proofs.Hearing.{after, after_none, placed, unheard, number_next, read_good, read_bad, read_end}
+use Rattle.group.proofs.Hearing.{after}
 use Rattle.group.proofs.reading.read_all.Given as goal
 
 abbrev pub invariant-loop-i : goal.invariant-loop-i

@@ -1,7 +1,6 @@
 -- The balises before i are not of category c, so the first of all is the first from i on.
 -- Assumes nothing.
-use Prim.Native.Nat.{◌≤◌, ◌-◌}
-use mathlib.Core.Path.{◌≡◌, refl, sym, ◌∙◌}
+use mathlib.Core.Path.{refl, sym, ◌∙◌}
 use native.Mathlib.Omega.{arith}
 use Rattle.group_reason.proofs.Looking.{sought_yes, sought_no, sought_none}
 use borrow.Author.Rules.{rules}

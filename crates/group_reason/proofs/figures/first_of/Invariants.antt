@@ -1,6 +1,6 @@
 -- What the loop keeps true.
 use Prim.Native.Nat.{◌≤◌, ◌-◌}
-use mathlib.Core.Path.{◌≡◌, refl, sym, ◌∙◌}
+use mathlib.Core.Path.{◌≡◌}
 use lib.ListN.{take, drop}
 use Rattle.group_reason.specs.Inside.{sought_from}
 use Rattle.group_reason.proofs.figures.first_of.Given as goal

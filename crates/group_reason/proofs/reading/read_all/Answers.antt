@@ -1,14 +1,14 @@
 -- The balises read so far stand before what is left.
 -- Assumes nothing.
-use Prim.Native.Nat.{ℕ, ◌-◌, ◌≤◌}
+use Prim.Native.Nat.{ℕ}
 use mathlib.Core.Path.{◌≡◌, refl, sym, ap, ◌∙◌}
 use native.Mathlib.Omega.{arith}
-use lib.ListN.{length, take, drop, length-set}
+use lib.ListN.{take, length-set}
 use Rattle.words.specs.Answer.{gives}
 use Rattle.group_reason.specs.Explain.{read_from}
 use Rattle.group_reason.specs.Says.{says_bad_balise}
 use Rattle.group_reason.specs.Inside.{says_part_read}
-use Rattle.group_reason.proofs.Hearing.{after, after_none, read_good, read_bad, read_end}
+use Rattle.group_reason.proofs.Hearing.{after_none, read_good, read_bad, read_end}
 use borrow.Author.Rules.{rules}
 use Rattle.group_reason.proofs.reading.read_all.Goals as goal
 

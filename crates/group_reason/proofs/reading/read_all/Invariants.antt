@@ -1,9 +1,9 @@
 -- What the loop keeps true.
-use Prim.Native.Nat.{ℕ, ◌-◌, ◌≤◌}
-use mathlib.Core.Path.{◌≡◌, refl, sym, ap, ◌∙◌}
-use lib.ListN.{length, take, drop, length-set}
+use Prim.Native.Nat.{◌-◌, ◌≤◌}
+use mathlib.Core.Path.{◌≡◌}
+use lib.ListN.{length, take, drop}
 use Rattle.group_reason.specs.Explain.{read_from}
-use Rattle.group_reason.proofs.Hearing.{after, after_none, read_good, read_bad, read_end}
+use Rattle.group_reason.proofs.Hearing.{after}
 use Rattle.group_reason.proofs.reading.read_all.Given as goal
 
 abbrev pub invariant-loop-i : goal.invariant-loop-i

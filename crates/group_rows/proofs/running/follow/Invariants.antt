@@ -1,8 +1,8 @@
 -- What the loop keeps true.
-use Prim.Native.Nat.{ℕ, ◌+◌, ◌≤◌, ◌<◌, ◌-◌}
-use mathlib.Core.Path.{◌≡◌, sym, ap, subst, ◌∙◌}
-use lib.ListN.{length, take, drop, get_or}
-use Rattle.group_rows.specs.Stands.{rows_of, open_after}
+use Prim.Native.Nat.{◌≤◌, ◌-◌}
+use mathlib.Core.Path.{◌≡◌}
+use lib.ListN.{length, take, drop}
+use Rattle.group_rows.specs.Stands.{rows_of}
 use Rattle.group_rows.specs.Opening.{Leads, Speeds}
 use Rattle.group_rows.proofs.running.follow.Given as goal
 

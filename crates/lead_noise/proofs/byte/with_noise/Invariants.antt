@@ -1,8 +1,8 @@
 -- What the loop keeps true.
-use Prim.Native.Nat.{ℕ, suc, ◌+◌, ◌-◌, ◌≤◌, ◌<◌}
-use mathlib.Core.Path.{◌≡◌, refl, sym, ap, ap₂, ◌∙◌}
+use Prim.Native.Nat.{◌-◌, ◌≤◌}
+use mathlib.Core.Path.{◌≡◌}
 use Rattle.lead_noise.specs.Generator.{drawn}
-use Rattle.lead_noise.proofs.Bytes.{top, heard_bit, made_low, whole, one_more}
+use Rattle.lead_noise.proofs.Bytes.{top, heard_bit}
 use Rattle.lead_noise.proofs.byte.with_noise.Given as goal
 
 abbrev pub invariant-loop-i : goal.invariant-loop-i

@@ -1,12 +1,12 @@
 -- `over` goes over the whole frames byte by byte: the bytes passed have their noise, those ahead
 -- none yet, and x is that of the next byte of line.
-use Prim.Native.Nat.{◌+◌, ◌-◌, ◌≤◌}
+use Prim.Native.Nat.{◌+◌}
 use mathlib.Core.Path.{ap, ◌∙◌}
 use mathlib.Core.Logic.{⊎_elim}
 use native.Mathlib.Omega.{arith}
 use lib.ListN.{set}
 use Rattle.lead_noise.specs.declared.byte.Noisy.{Noisy}
-use Rattle.lead_noise.proofs.SoFar.{SoFar, at_first, alike, odometer_byte, line_byte, at_last}
+use Rattle.lead_noise.proofs.SoFar.{at_first, alike, odometer_byte, line_byte, at_last}
 use Rattle.lead_noise.proofs.going.over.Goals as goal
 
 pub loop-i-init : goal.loop-i-init

@@ -1,6 +1,6 @@
 -- What the loop keeps true.
-use Prim.Native.Nat.{◌+◌, ◌-◌, ◌≤◌}
-use Rattle.lead_noise.proofs.SoFar.{SoFar, at_first, alike, odometer_byte, line_byte, at_last}
+use Prim.Native.Nat.{◌-◌, ◌≤◌}
+use Rattle.lead_noise.proofs.SoFar.{SoFar}
 use Rattle.lead_noise.proofs.going.over.Given as goal
 
 abbrev pub invariant-loop-i : goal.invariant-loop-i

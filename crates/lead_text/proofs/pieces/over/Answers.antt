@@ -9,7 +9,7 @@ use Rattle.lead_text.specs.declared.Underway.{Underway}
 use Rattle.lead_text.specs.Says.{says_written}
 use Rattle.lead_text.specs.Inside.{of_either}
 use Rattle.lead_text.proofs.Turns.{from_first}
-use Rattle.lead_text.proofs.Asked.{rest, from_either, either_is, all_used, fewer, room_used, one_taken}
+use Rattle.lead_text.proofs.Asked.{from_either, either_is, all_used, fewer, room_used, one_taken}
 use Rattle.lead_text.proofs.pieces.over.Goals.{At-loop-out}
 use Rattle.lead_text.proofs.pieces.over.Goals as goal
 

@@ -1,9 +1,9 @@
 -- What the loop keeps true.
 use Prim.Native.Nat.{◌≤◌}
-use mathlib.Core.Path.{◌≡◌, refl, ap, ◌∙◌}
+use mathlib.Core.Path.{◌≡◌}
 use lib.ListN.{length}
 use Rattle.lead_text.specs.List.{place_of}
-use Rattle.lead_text.proofs.Asked.{rest, from_either, either_is, all_used, fewer, room_used, one_taken}
+use Rattle.lead_text.proofs.Asked.{rest, from_either}
 use Rattle.lead_text.proofs.pieces.over.Given as goal
 
 abbrev pub invariant-loop-out : goal.invariant-loop-out

@@ -2,7 +2,7 @@
 use mathlib.Core.Path.{◌≡◌}
 use lib.ListN.{length}
 use Rattle.recording.specs.Recording.{frames_of}
-use Rattle.recording.proofs.Advancing.{left, advances}
+use Rattle.recording.proofs.Advancing.{left}
 use Rattle.record.proofs.pieces.over.Given as goal
 
 abbrev pub invariant-loop-records : goal.invariant-loop-records

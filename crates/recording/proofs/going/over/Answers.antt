@@ -1,13 +1,13 @@
 -- What is to come from where the loop stands is what was to come.
 -- Assumes nothing.
-use Prim.Native.Nat.{◌+◌, ◌-◌, ◌*◌, ◌≤◌}
+use Prim.Native.Nat.{◌≤◌}
 use mathlib.Core.Path.{refl, sym, ap, ◌∙◌, subst⁻¹}
 use native.Mathlib.Omega.{arith}
 use Rattle.settings.specs.declared.Held.{Held}
 use Rattle.recording.specs.Says.{went, says_taken}
 use Rattle.recording.proofs.Held.{InForce, none_held_law}
 use Rattle.recording.proofs.Turning.{no_frame, goes}
-use Rattle.recording.proofs.Loop.{Stands, within_opened, within_closed, opened, closed, position, on, never}
+use Rattle.recording.proofs.Loop.{within_opened, within_closed, opened, closed, position, on, never}
 use Rattle.recording.proofs.going.over.Goals as goal
 
 pub loop-k-init : goal.loop-k-init

@@ -1,7 +1,7 @@
 -- What the loop keeps true.
-use Prim.Native.Nat.{◌+◌, ◌-◌, ◌*◌, ◌≤◌}
+use Prim.Native.Nat.{◌+◌, ◌-◌, ◌*◌}
 use Rattle.recording.specs.Asking.{go_on}
-use Rattle.recording.proofs.Loop.{Stands, within_opened, within_closed, opened, closed, position, on, never}
+use Rattle.recording.proofs.Loop.{Stands}
 use Rattle.recording.proofs.going.over.Given as goal
 
 abbrev pub invariant-loop-k : goal.invariant-loop-k

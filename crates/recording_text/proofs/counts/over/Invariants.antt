@@ -1,8 +1,8 @@
 -- What the loop keeps true.
-use Prim.Native.Nat.{ℕ, ◌+◌, ◌-◌, ◌/◌}
-use mathlib.Core.Path.{◌≡◌, refl, sym, ap, ◌∙◌}
+use Prim.Native.Nat.{◌-◌, ◌/◌}
+use mathlib.Core.Path.{◌≡◌}
 use lib.ListN.{length}
-use Rattle.recording_text.specs.Counts.{judge_frame, with_frame, over_frames, count_frames}
+use Rattle.recording_text.specs.Counts.{over_frames, count_frames}
 use Rattle.recording_text.proofs.counts.over.Given as goal
 
 abbrev pub invariant-loop-k : goal.invariant-loop-k

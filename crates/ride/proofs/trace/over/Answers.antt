@@ -1,11 +1,10 @@
 -- `over` takes the records one by one, with what is held for each: the ride over those that are
 -- left, from here, is the ride over all.
-use mathlib.Core.Path.{◌≡◌, refl, ◌∙◌}
-use Prim.Native.Nat.{◌-◌, ◌/◌, ◌≤◌}
+use mathlib.Core.Path.{refl, ◌∙◌}
 use native.Mathlib.Omega.{arith}
 use Rattle.settings.specs.At.{gap_at}
-use Rattle.settings.proofs.Holding.{Holding, holding_at}
-use Rattle.ride.proofs.Turns.{from_here, from_first, from_next, from_last}
+use Rattle.settings.proofs.Holding.{holding_at}
+use Rattle.ride.proofs.Turns.{from_first, from_next, from_last}
 use Rattle.ride.proofs.Under.{turned_on}
 use Rattle.ride.proofs.trace.over.Goals as goal
 

@@ -1,11 +1,11 @@
 -- What the loop keeps true.
-use mathlib.Core.Path.{◌≡◌, refl, ◌∙◌}
+use mathlib.Core.Path.{◌≡◌}
 use Prim.Native.Nat.{◌-◌, ◌/◌, ◌≤◌}
 use lib.ListN.{length}
 use Rattle.settings.specs.At.{gap_at}
-use Rattle.settings.proofs.Holding.{Holding, holding_at}
+use Rattle.settings.proofs.Holding.{Holding}
 use Rattle.ride.specs.Over.{first_records, ride_over}
-use Rattle.ride.proofs.Turns.{from_here, from_first, from_next, from_last}
+use Rattle.ride.proofs.Turns.{from_here}
 use Rattle.ride.proofs.trace.over.Given as goal
 
 abbrev pub invariant-loop-i : goal.invariant-loop-i

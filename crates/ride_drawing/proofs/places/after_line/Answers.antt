@@ -2,7 +2,6 @@
 -- Assumes nothing.
 use Rattle.ride_drawing.proofs.Cases.{after_is}
 use Rattle.ride_drawing.specs.Drawing.{reached}
-use Rattle.ride_drawing.specs.Strip.{arrive}
 use Rattle.ride_drawing.proofs.places.after_line.Goals as goal
 
 pub returns : goal.returns

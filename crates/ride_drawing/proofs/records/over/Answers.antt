@@ -12,7 +12,7 @@ use lib.Dec.{leb, ltb}
 use lib.ListN.{length}
 use borrow.Author.Tests.{ltb-true, leb-true}
 use Rattle.settings.specs.At.{gap_at}
-use Rattle.settings.proofs.Holding.{Holding, holding_at}
+use Rattle.settings.proofs.Holding.{holding_at}
 use Rattle.ride.specs.Record.{odometer_of}
 use Rattle.ride.specs.Step.{Step, treat}
 use Rattle.ride.specs.At.{record_at}

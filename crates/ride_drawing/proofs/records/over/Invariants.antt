@@ -1,11 +1,11 @@
 -- What the loop keeps true.
-use mathlib.Core.Path.{◌≡◌, refl, sym, ap, ◌∙◌}
-use Prim.Native.Nat.{ℕ, suc, ◌+◌, ◌-◌, ◌/◌, ◌<◌, ◌≤◌}
+use mathlib.Core.Path.{◌≡◌}
+use Prim.Native.Nat.{◌-◌, ◌/◌, ◌≤◌}
 use lib.ListN.{length}
 use Rattle.settings.specs.At.{gap_at}
-use Rattle.settings.proofs.Holding.{Holding, holding_at}
-use Rattle.ride_text.proofs.Turns.{left_of, left_next, left_all, both}
-use Rattle.ride_drawing.proofs.Turns.{block, from_here, from_first, from_next, from_last, step_at, no_more, none_left}
+use Rattle.settings.proofs.Holding.{Holding}
+use Rattle.ride_text.proofs.Turns.{left_of}
+use Rattle.ride_drawing.proofs.Turns.{from_here}
 use Rattle.ride_drawing.proofs.records.over.Given as goal
 
 abbrev pub invariant-loop-i : goal.invariant-loop-i

@@ -1,10 +1,9 @@
 -- The entries one after the other: whether one of those passed was met so, or one of those that are
 -- left.
 -- Assumes nothing.
-use Prim.Native.Nat.{◌-◌, ◌≤◌}
 use native.Mathlib.Omega.{arith}
-use mathlib.Core.Path.{◌≡◌, refl, sym, ◌∙◌}
-use Rattle.ride_drawing.proofs.Entries.{row_of, next_entry, no_entry_law, all_passed, met_next, met_all}
+use mathlib.Core.Path.{refl, sym, ◌∙◌}
+use Rattle.ride_drawing.proofs.Entries.{next_entry, no_entry_law, all_passed, met_next, met_all}
 use Rattle.ride_drawing.proofs.rows.has_met.Goals as goal
 
 pub loop-i-init : goal.loop-i-init

@@ -1,10 +1,10 @@
 -- What the loop keeps true.
 use Prim.Native.Nat.{◌-◌, ◌≤◌}
-use mathlib.Core.Path.{◌≡◌, refl, sym, ◌∙◌}
+use mathlib.Core.Path.{◌≡◌}
 use mathlib.Core.Bool.{◌||◌}
 use lib.ListN.{drop}
 use Rattle.ride_drawing.specs.Row.{has_met}
-use Rattle.ride_drawing.proofs.Entries.{row_of, next_entry, no_entry_law, all_passed, met_next, met_all}
+use Rattle.ride_drawing.proofs.Entries.{row_of}
 use Rattle.ride_drawing.proofs.rows.has_met.Given as goal
 
 abbrev pub invariant-loop-i : goal.invariant-loop-i

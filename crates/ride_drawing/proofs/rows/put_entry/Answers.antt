@@ -3,7 +3,6 @@
 use mathlib.Core.List.{◌++◌}
 use mathlib.Core.Path.{ap, ap₂}
 use Prim.Native.Nat.{ℕ}
-use Rattle.text.specs.Put.{put}
 use Rattle.text.specs.Text.{codes, decimal}
 use Rattle.text.proofs.Putting.{then, after, word_as, all_as}
 use Rattle.ride_drawing.specs.Metres.{metres}

@@ -1,8 +1,7 @@
 -- The figures one after the other: what is left to put comes to the whole.
 -- Assumes nothing.
-use Prim.Native.Nat.{◌-◌, ◌≤◌}
 use native.Mathlib.Omega.{arith}
-use mathlib.Core.Path.{◌≡◌, refl, ◌∙◌}
+use mathlib.Core.Path.{refl, ◌∙◌}
 use Rattle.ride_drawing.proofs.Figures.{from_tick, one_put, all_put}
 use Rattle.ride_drawing.proofs.strips.put_figures.Goals as goal
 

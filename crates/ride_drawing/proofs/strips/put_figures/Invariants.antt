@@ -1,8 +1,8 @@
 -- What the loop keeps true.
 use Prim.Native.Nat.{◌-◌, ◌≤◌}
-use mathlib.Core.Path.{◌≡◌, refl, ◌∙◌}
+use mathlib.Core.Path.{◌≡◌}
 use lib.ListN.{length}
-use Rattle.ride_drawing.proofs.Figures.{from_tick, one_put, all_put}
+use Rattle.ride_drawing.proofs.Figures.{from_tick}
 use Rattle.ride_drawing.proofs.strips.put_figures.Given as goal
 
 abbrev pub invariant-loop-i : goal.invariant-loop-i

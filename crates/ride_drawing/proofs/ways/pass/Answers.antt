@@ -1,9 +1,9 @@
 -- The entries one after the other: what is left to come by comes to the whole.
 -- Assumes nothing.
-use Prim.Native.Nat.{◌+◌, ◌-◌, ◌≤◌}
+use Prim.Native.Nat.{◌+◌}
 use native.Mathlib.Omega.{arith}
-use mathlib.Core.Path.{◌≡◌, refl, sym, ◌∙◌}
-use lib.ListN.{length, drop}
+use mathlib.Core.Path.{refl, sym, ◌∙◌}
+use lib.ListN.{drop}
 use Rattle.ride_drawing.proofs.Entries.{row_of, next_entry, no_entry_law, all_passed, to_come, one_passed, none_left}
 use Rattle.ride_drawing.proofs.ways.pass.Goals as goal
 

@@ -1,9 +1,9 @@
 -- What the loop keeps true.
-use Prim.Native.Nat.{◌+◌, ◌-◌, ◌≤◌}
-use mathlib.Core.Path.{◌≡◌, refl, sym, ◌∙◌}
+use Prim.Native.Nat.{◌-◌, ◌≤◌}
+use mathlib.Core.Path.{◌≡◌}
 use lib.ListN.{length, drop}
 use Rattle.ride_drawing.specs.Way.{past}
-use Rattle.ride_drawing.proofs.Entries.{row_of, next_entry, no_entry_law, all_passed, to_come, one_passed, none_left}
+use Rattle.ride_drawing.proofs.Entries.{row_of, to_come}
 use Rattle.ride_drawing.proofs.ways.pass.Given as goal
 
 abbrev pub invariant-loop-i : goal.invariant-loop-i

@@ -9,11 +9,11 @@ use lib.Dec.{leb, ltb}
 use lib.ListN.{length}
 use borrow.Author.Tests.{ltb-true, leb-true}
 use Rattle.settings.specs.At.{gap_at}
-use Rattle.settings.proofs.Holding.{Holding, holding_at}
+use Rattle.settings.proofs.Holding.{holding_at}
 use Rattle.ride.specs.Over.{records}
 use Rattle.ride.proofs.Under.{Turning, Turned, turned, turned_past}
 use Rattle.ride_text.specs.List.{room_for, is_taken, taken, list_taken}
-use Rattle.ride_text.proofs.Turns.{listing, from_here, from_first, from_last, left_of, left_all, no_more, none_left, both}
+use Rattle.ride_text.proofs.Turns.{listing, from_first, from_last, left_of, left_all, no_more, none_left, both}
 use Rattle.ride_text.proofs.OneOn.{one_on}
 use Rattle.ride_text.proofs.records.over.Goals.{After-treat_at-treated, At-loop-records, In-Record, In-loop-records}
 use borrow.Enum.Refused.{opened}

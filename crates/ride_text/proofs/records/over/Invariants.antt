@@ -1,11 +1,11 @@
 -- What the loop keeps true.
-use mathlib.Core.Path.{◌≡◌, refl, sym, ap, ◌∙◌}
-use Prim.Native.Nat.{ℕ, ◌+◌, ◌-◌, ◌/◌, ◌<◌, ◌≤◌}
+use mathlib.Core.Path.{◌≡◌}
+use Prim.Native.Nat.{◌-◌, ◌/◌, ◌≤◌}
 use lib.ListN.{length}
 use Rattle.settings.specs.At.{gap_at}
-use Rattle.settings.proofs.Holding.{Holding, holding_at}
+use Rattle.settings.proofs.Holding.{Holding}
 use Rattle.ride.specs.Over.{records}
-use Rattle.ride_text.proofs.Turns.{listing, from_here, from_first, from_last, left_of, left_all, no_more, none_left, both}
+use Rattle.ride_text.proofs.Turns.{from_here, left_of}
 use Rattle.ride_text.proofs.records.over.Given as goal
 
 abbrev pub invariant-loop-records : goal.invariant-loop-records

@@ -1,6 +1,5 @@
 -- `all_follow` goes from version to version: those from here on follow exactly if all do.
-use mathlib.Core.Path.{◌≡◌, refl, sym, ap, ◌∙◌}
-use Prim.Native.Nat.{◌-◌, ◌≤◌}
+use mathlib.Core.Path.{refl, sym, ap, ◌∙◌}
 use native.Mathlib.Omega.{arith}
 use borrow.Author.Rules.{rules}
 use Rattle.settings.specs.Says.{says_bad, says_verdict}

@@ -4,7 +4,6 @@ use Prim.Native.Nat.{◌≤◌}
 use native.Mathlib.Omega.{arith}
 use borrow.Author.Tests.{eq-eqb, ne_eqb}
 use Rattle.settings.specs.Says.{says_verdict}
-use Rattle.settings.proofs.Walking.{unmapped}
 use Rattle.settings.proofs.Counts.{too_many, empty, first_place_law, first_settings}
 use Rattle.settings.proofs.judging.judge.Goals as goal
 

@@ -1,13 +1,12 @@
 -- `in_force` goes from version to version: what is in force among those from here on is in force
 -- among all.
-use mathlib.Core.Path.{◌≡◌, sym, ◌∙◌}
-use Prim.Native.Nat.{◌-◌, ◌≤◌}
+use mathlib.Core.Path.{sym, ◌∙◌}
 use native.Mathlib.Omega.{arith}
 use borrow.Author.Rules.{rules}
 use borrow.Author.Tests.{le-leb, lt-leb}
 use Rattle.settings.specs.Store.{versions_of}
-use Rattle.settings.specs.At.{held_from, held_among, held_at}
-use Rattle.settings.proofs.Walking.{unmapped, held_next, held_here, held_last, held_first}
+use Rattle.settings.specs.At.{held_at}
+use Rattle.settings.proofs.Walking.{held_next, held_here, held_last, held_first}
 use Rattle.settings.proofs.places.in_force.Goals as goal
 
 pub loop-i-init : goal.loop-i-init

@@ -1,8 +1,8 @@
 -- What the loop keeps true.
-use mathlib.Core.Path.{◌≡◌, sym, ◌∙◌}
+use mathlib.Core.Path.{◌≡◌}
 use Prim.Native.Nat.{◌-◌, ◌≤◌}
 use lib.ListN.{take, drop}
-use Rattle.settings.specs.At.{held_from, held_among, held_at}
+use Rattle.settings.specs.At.{held_from, held_among}
 use Rattle.settings.proofs.places.in_force.Given as goal
 
 abbrev pub invariant-loop-i : goal.invariant-loop-i

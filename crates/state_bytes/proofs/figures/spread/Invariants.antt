@@ -1,8 +1,8 @@
 -- What the loop keeps true.
-use Prim.Native.Nat.{ℕ, ◌+◌, ◌-◌, ◌%◌, ◌<◌, ◌≤◌}
-use mathlib.Core.Path.{◌≡◌, refl, sym, ap, subst, ◌∙◌}
-use lib.ListN.{length, get_or, set, length-set}
-use Rattle.state_bytes.specs.Figures.{byte_of, byte_among, spread, figure_at_meant}
+use Prim.Native.Nat.{ℕ, ◌-◌, ◌<◌, ◌≤◌}
+use mathlib.Core.Path.{◌≡◌}
+use lib.ListN.{length, get_or}
+use Rattle.state_bytes.specs.Figures.{byte_among}
 use Rattle.state_bytes.proofs.figures.spread.Given as goal
 
 abbrev pub invariant-loop-j : goal.invariant-loop-j

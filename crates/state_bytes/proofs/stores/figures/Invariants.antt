@@ -1,12 +1,12 @@
 -- What the loop keeps true.
-use Prim.Native.Nat.{ℕ, ◌+◌, ◌-◌, ◌/◌, ◌%◌, ◌<◌, ◌≤◌}
-use mathlib.Core.Path.{◌≡◌, refl, sym, subst, ◌∙◌}
+use Prim.Native.Nat.{ℕ, ◌-◌, ◌/◌, ◌%◌, ◌<◌, ◌≤◌}
+use mathlib.Core.Path.{◌≡◌}
 use mathlib.Core.List.{List}
-use lib.ListN.{length, get_or, set, length-set}
+use lib.ListN.{length, get_or}
 use Rattle.settings.specs.declared.Version.{Version}
 use Rattle.settings.specs.Store.{no_version}
 use Rattle.state_bytes.specs.Inside.{width_of}
-use Rattle.state_bytes.specs.Stores.{version_figure, figures_of}
+use Rattle.state_bytes.specs.Stores.{version_figure}
 use Rattle.state_bytes.proofs.stores.figures.Given as goal
 
 -- the rule of the versions' figures

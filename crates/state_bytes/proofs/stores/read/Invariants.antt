@@ -1,9 +1,9 @@
 -- What the loop keeps true.
-use Prim.Native.Nat.{ℕ, ◌+◌, ◌-◌, ◌<◌, ◌≤◌}
-use mathlib.Core.Path.{◌≡◌, refl, sym, ap₂, subst, ◌∙◌}
-use lib.ListN.{length, get_or, set, length-set}
+use Prim.Native.Nat.{ℕ, ◌-◌, ◌<◌, ◌≤◌}
+use mathlib.Core.Path.{◌≡◌}
+use lib.ListN.{length, get_or}
 use Rattle.settings.specs.Store.{no_version}
-use Rattle.state_bytes.specs.Stores.{version_at, store_in}
+use Rattle.state_bytes.specs.Stores.{version_at}
 use Rattle.state_bytes.proofs.stores.read.Given as goal
 
 abbrev pub invariant-loop-i : goal.invariant-loop-i

@@ -1,6 +1,6 @@
 -- After j turns h has each bit of m from which the j lowest bits of d stand in x.
 -- Assumes nothing.
-use Prim.Native.Nat.{ℕ, zero, suc, ◌-◌, ◌*◌, ◌/◌, ◌%◌, ◌^◌, ◌≤◌, ◌<◌}
+use Prim.Native.Nat.{ℕ, zero, suc, ◌-◌, ◌*◌, ◌/◌, ◌%◌, ◌^◌, ◌<◌}
 use mathlib.Core.Path.{◌≡◌, refl, sym, ap, ap₂, subst, ◌∙◌}
 use native.Mathlib.Nat.{le_refl, le_trans, add_comm, zero-div, mod-lt, zero-lt-suc}
 use native.Mathlib.Omega.{arith}

@@ -1,12 +1,12 @@
 -- The places before p are as many as counted, and each has the words of the first.
 -- Assumes nothing.
-use Prim.Native.Nat.{ℕ, ◌+◌, ◌-◌, ◌≤◌, ◌<◌}
+use Prim.Native.Nat.{ℕ, ◌+◌, ◌<◌}
 use mathlib.Core.Path.{◌≡◌, sym, ap, ◌∙◌}
 use mathlib.Core.Logic.{⊎_elim}
 use native.Mathlib.Omega.{arith}
 use borrow.Author.Count.{below_none, below_more}
 use Rattle.words.specs.Answer.{gives}
-use Rattle.telegram.specs.Survey.{together, alike}
+use Rattle.telegram.specs.Survey.{alike}
 use Rattle.telegram.specs.Telegram.{Received}
 use Rattle.telegram.proofs.Window.{bits_lt}
 use Rattle.telegram.proofs.Places.{ahead, none_ahead}

@@ -1,10 +1,10 @@
 -- What the loop keeps true.
 use Prim.Native.Nat.{ℕ, ◌+◌, ◌-◌, ◌≤◌, ◌<◌}
-use mathlib.Core.Path.{◌≡◌, sym, ap, ◌∙◌}
+use mathlib.Core.Path.{◌≡◌}
 use mathlib.Core.List.{◌∷◌}
-use Rattle.telegram.specs.Survey.{together, alike}
-use Rattle.telegram.proofs.Places.{ahead, none_ahead}
-use Rattle.telegram.proofs.SoFar.{so_far_meant, begins, ends, word_in, turn_alike, turn_differs, turn_not_here}
+use Rattle.telegram.specs.Survey.{together}
+use Rattle.telegram.proofs.Places.{ahead}
+use Rattle.telegram.proofs.SoFar.{so_far_meant, word_in}
 use Rattle.telegram.proofs.alike.to_first.Given as goal
 
 abbrev pub invariant-loop-k : goal.invariant-loop-k

@@ -1,6 +1,6 @@
 -- What the loop keeps true.
-use Prim.Native.Nat.{ℕ, ◌+◌, ◌-◌, ◌*◌, ◌≤◌, ◌<◌}
-use mathlib.Core.Path.{◌≡◌, refl, ap, ◌∙◌}
+use Prim.Native.Nat.{◌-◌, ◌*◌, ◌≤◌}
+use mathlib.Core.Path.{◌≡◌}
 use Rattle.telegram.specs.Stretch.{bits_at}
 use Rattle.telegram.proofs.bits.filled.Given as goal
 

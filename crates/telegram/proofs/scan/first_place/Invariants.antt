@@ -1,8 +1,8 @@
 -- What the loop keeps true.
-use Prim.Native.Nat.{◌-◌, ◌/◌, ◌%◌, ◌^◌, ◌≤◌}
-use mathlib.Core.Path.{◌≡◌, refl, sym, ap, ap₂, ◌∙◌}
-use Rattle.telegram.specs.Place.{are_syncs, accepted, at, first_of}
-use Rattle.telegram.proofs.Places.{fits, ahead, none_ahead, ahead_here, ahead_not_here}
+use Prim.Native.Nat.{◌-◌, ◌≤◌}
+use mathlib.Core.Path.{◌≡◌}
+use Rattle.telegram.specs.Place.{first_of}
+use Rattle.telegram.proofs.Places.{ahead}
 use Rattle.telegram.proofs.scan.first_place.Given as goal
 
 abbrev pub invariant-loop-p : goal.invariant-loop-p

@@ -1,8 +1,8 @@
 -- What the loop keeps true.
-use mathlib.Core.Path.{◌≡◌, refl, sym, ap, ◌∙◌}
-use Prim.Native.Nat.{ℕ, ◌+◌, ◌/◌, ◌%◌, ◌^◌, ◌<◌, ◌≤◌}
-use lib.ListN.{length, set, length-set, length-append}
-use Rattle.text.specs.Text.{decimal, digit}
+use mathlib.Core.Path.{◌≡◌}
+use Prim.Native.Nat.{◌+◌, ◌<◌, ◌≤◌}
+use lib.ListN.{length}
+use Rattle.text.specs.Text.{decimal}
 use Rattle.text.specs.Put.{placed}
 use Rattle.text.proofs.pieces.spell.Given as goal
 

@@ -1,11 +1,9 @@
 -- `write` puts frame after frame: after k of them the buffer begins with the first k frames, and
 -- the feed is the one after them.
-use Prim.Native.Nat.{◌-◌, ◌≤◌}
 use mathlib.Core.Path.{sym, ap, ◌∙◌}
 use native.Mathlib.Omega.{arith}
 use lib.ListN.{length}
-use Rattle.track_lead.specs.Feed.{frame}
-use Rattle.track_lead.proofs.Blocks.{SoFar, frame_long, at_first, next, used_up, reached}
+use Rattle.track_lead.proofs.Blocks.{frame_long, at_first, next, used_up, reached}
 use Rattle.track_lead.proofs.feeding.write.Goals as goal
 
 pub loop-k-init : goal.loop-k-init

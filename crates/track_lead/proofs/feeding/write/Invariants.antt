@@ -1,6 +1,6 @@
 -- What the loop keeps true.
 use Prim.Native.Nat.{◌-◌, ◌≤◌}
-use Rattle.track_lead.proofs.Blocks.{SoFar, frame_long, at_first, next, used_up, reached}
+use Rattle.track_lead.proofs.Blocks.{SoFar}
 use Rattle.track_lead.proofs.feeding.write.Given as goal
 
 abbrev pub invariant-loop-k : goal.invariant-loop-k

@@ -1,5 +1,5 @@
 -- What the loop keeps true.
-use Rattle.std.proofs.Common.{◌≡◌, ◌-◌, length, rules}
+use Rattle.std.proofs.Common.{◌≡◌, ◌-◌, length}
 use Rattle.view.proofs.going.write_passed.Given as goal
 
 abbrev pub invariant-loop-at : goal.invariant-loop-at

@@ -1,5 +1,5 @@
 -- What the loop keeps true.
-use Rattle.std.proofs.Common.{◌≡◌, ◌≤◌, length, rules}
+use Rattle.std.proofs.Common.{◌≡◌, ◌≤◌, length}
 use Rattle.view.proofs.input.next.Given as goal
 
 abbrev pub invariant-loop-turns : goal.invariant-loop-turns

@@ -1,5 +1,5 @@
 -- What the loop keeps true.
-use Rattle.std.proofs.Common.{◌≡◌, ◌-◌, length, rules}
+use Rattle.std.proofs.Common.{◌≡◌, ◌-◌, length}
 use Rattle.view.proofs.moving.to_start.Given as goal
 
 abbrev pub invariant-loop-k : goal.invariant-loop-k

@@ -1,5 +1,5 @@
 -- `go_on` keeps what it has and what it lists within the buffer.
-use Rattle.std.proofs.Common.{◌-◌, sym, arith, length-take-le, rules}
+use Rattle.std.proofs.Common.{sym, arith, length-take-le}
 use Rattle.view.proofs.screen.go_on.Goals as goal
 
 pub slice_bounds-last_lines-end-2 : goal.slice_bounds-last_lines-end-2

@@ -1,5 +1,5 @@
 -- What the loop keeps true.
-use Rattle.std.proofs.Common.{◌≡◌, ◌-◌, length, rules}
+use Rattle.std.proofs.Common.{◌≡◌, ◌-◌, length}
 use Rattle.view.proofs.screen.put_around.Given as goal
 
 abbrev pub invariant-loop-k : goal.invariant-loop-k

@@ -1,5 +1,5 @@
 -- What the loop keeps true.
-use Rattle.std.proofs.Common.{◌≡◌, ◌<◌, ◌≤◌, length, sym, arith, length-take-le, rules}
+use Rattle.std.proofs.Common.{◌≡◌, ◌≤◌, length}
 use Rattle.view.proofs.session.obey_all.Given as goal
 
 abbrev pub invariant-loop-turns : goal.invariant-loop-turns

@@ -14,7 +14,6 @@ use Rattle.viewer.specs.declared.Standing.{Standing}
 use Rattle.viewer.specs.Going.{Ending, all, refused, Moved, stopped}
 use Rattle.viewer.specs.Says.{says_ending}
 use Rattle.viewer.proofs.Many.{backs_stay, backs_move}
-use Rattle.viewer.proofs.going.backs_at.Goals.{Start}
 use Rattle.viewer.proofs.going.backs_at.Goals as goal
 
 -- what would stand past the places of a list is never read; the ring has its 256

@@ -1,10 +1,10 @@
 -- What the loop keeps true.
-use mathlib.Core.Path.{◌≡◌, refl, sym, ap, ap₂, ◌∙◌, subst}
-use Prim.Native.Nat.{ℕ, ◌+◌, ◌-◌, ◌*◌, ◌/◌, ◌%◌, ◌^◌, ◌≤◌, ◌<◌}
+use mathlib.Core.Path.{◌≡◌}
+use Prim.Native.Nat.{ℕ, ◌-◌, ◌≤◌}
 use Rattle.words.specs.Answer.{pick}
-use Rattle.words.specs.Bits.{bit, word}
-use Rattle.words.specs.Plain.{is_check, carriers, carried}
-use Rattle.words.proofs.Spelling.{Spelt, spelt_none, spelt_more, spelt_lt, worth_le}
+use Rattle.words.specs.Bits.{bit}
+use Rattle.words.specs.Plain.{is_check, carriers}
+use Rattle.words.proofs.Spelling.{Spelt}
 use Rattle.words.proofs.writing.carried.Given as goal
 
 abbrev pub from : ℕ → ℕ → ℕ

@@ -1,8 +1,8 @@
 -- What the loop keeps true.
-use Prim.Native.Nat.{ℕ, ◌+◌, ◌-◌, ◌*◌, ◌/◌, ◌%◌, ◌^◌, ◌≤◌, ◌<◌}
-use Rattle.words.specs.Bits.{bit, word}
-use Rattle.words.specs.Code.{other, exchanged}
-use Rattle.words.proofs.Spelling.{Spelt, spelt_none, spelt_more, spelt_lt, worth_le}
+use Prim.Native.Nat.{ℕ, ◌-◌, ◌≤◌}
+use Rattle.words.specs.Bits.{bit}
+use Rattle.words.specs.Code.{other}
+use Rattle.words.proofs.Spelling.{Spelt}
 use Rattle.words.proofs.writing.exchanged.Given as goal
 
 abbrev pub from : ℕ → ℕ → ℕ

@@ -2,7 +2,7 @@
 -- exchange.
 use mathlib.Core.Path.{◌≡◌, ap, ◌∙◌}
 use Prim.Native.Nat.{ℕ}
-use Rattle.words.specs.Plain.{carried, made_even, plain_word}
+use Rattle.words.specs.Plain.{made_even, plain_word}
 use Rattle.words.specs.Code.{exchanged, sent}
 use Rattle.words.proofs.writing.sent.Goals as goal
 
