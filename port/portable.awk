@@ -1,8 +1,9 @@
 # awk -v listed="FILE.." -f portable.awk MODULE.ll: what in a module could mean something else where
-# a pointer has 32 bits, or on another processor. It names each such line, and ends with 1 if there
-# is one. In a module without them a pointer is only lent, loaded, stored and stepped by bytes,
-# numbers are of a width that is written with them, and every function that is called by name is
-# defined in the module or listed. usize stays 64 bits.
+# a pointer has 32 bits, or on another processor, once narrow.awk has given each place for a pointer
+# its eight bytes. It names each such line, and ends with 1 if there is one. In a module without them
+# a pointer is only lent, loaded, stored and stepped by bytes, and put into and taken out of values of
+# several parts; numbers are of a width that is written with them, and every function that is called
+# by name is defined in the module or listed. usize stays 64 bits.
 BEGIN {
     n = split(listed, file, " ")
     for (i = 1; i <= n; i++) while ((getline line <file[i]) > 0) known[line] = 1
@@ -30,6 +31,8 @@ function wrong(why) { printf "line %d: %s: %s\n", NR, why, substr($0, 1, 200); b
 {
     text = $0
     gsub(/"[^"]*"/, "NAME", text)
+    # A value of several parts, as these lines have it, which narrow.awk turns.
+    if (text ~ /^define | = (call|load|extractvalue|insertvalue) |^ +(ret|store) /) gsub(/\{ [^][<>(){}]* \}/, "PARTS", text)
 }
 text ~ /(ptrtoint|inttoptr|ptrtoaddr|addrspacecast|addrspace)/ { wrong("a pointer as a number") }
 text ~ /icmp [a-z ]*ptr/ { wrong("two pointers compared") }
@@ -41,15 +44,13 @@ text ~ /(^| )call [^@]*%[A-Za-z0-9._]+\(/ { wrong("a call through a pointer") }
 text ~ /[{[<][^]}>(]*ptr[^]}>(]*[]}>]/ { wrong("a pointer in a larger type") }
 text ~ /getelementptr / && text !~ /getelementptr (inbounds |nuw |nusw )*i8, ptr / { wrong("a step that is not of bytes") }
 
-# A place for a pointer is as large as the processor's pointers: only pointers may go in and out,
-# and nobody is told where it lies.
+# A place for a pointer is filled by a pointer, and read as one.
 / = alloca / && text !~ / = alloca (ptr|i[0-9]+|\[[0-9]+ x i8\]), align [0-9]+$/ { wrong("a place of another kind") }
 / = alloca ptr/ { slot[$1] = 1; next }
-{
+text ~ /= load i|^ +store i/ {
     into = text
-    gsub(/^ +(%[A-Za-z0-9._]+ = load ptr|store ptr [^ ]+), ptr |, align [0-9]+.*$/, "", into)
-    if (into in slot) sub(/, ptr [^ ]+, align .*$/, "", text)
-    count = split(text, word, /[ ,()]+/)
-    for (i = 1; i <= count; i++) if (word[i] in slot) wrong("a place for a pointer used otherwise")
+    sub(/^.*, ptr /, "", into)
+    sub(/,.*$/, "", into)
+    if (into in slot) wrong("a place for a pointer used otherwise")
 }
 END { exit bad }
