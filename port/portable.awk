@@ -31,11 +31,11 @@ function wrong(why) { printf "line %d: %s: %s\n", NR, why, substr($0, 1, 200); b
 {
     text = $0
     gsub(/"[^"]*"/, "NAME", text)
-    # A value of several parts, as these lines have it, which narrow.awk turns.
-    if (text ~ /^define | = (call|load|extractvalue|insertvalue) |^ +(ret|store) /) gsub(/\{ [^][<>(){}]* \}/, "PARTS", text)
+    # A value of several parts, as these lines have it, which narrow.awk turns: no part has parts.
+    if (text !~ /\{[^{}]*\{/ && text ~ /^define | = (call|load|extractvalue|insertvalue) |^ +(ret|store) /) gsub(/\{ [^][<>(){}]* \}/, "PARTS", text)
 }
 text ~ /(ptrtoint|inttoptr|ptrtoaddr|addrspacecast|addrspace)/ { wrong("a pointer as a number") }
-text ~ /icmp [a-z ]*ptr/ { wrong("two pointers compared") }
+text ~ /icmp [a-z ]*ptr/ && text !~ /icmp (eq|ne) ptr [^ ]+, null$/ { wrong("two pointers compared") }
 text ~ /(^| |<|\[|\()(half|bfloat|float|double|fp128|x86_fp80|ppc_fp128|x86_mmx|x86_amx)( |,|\*|>|\]|\)|$)/ { wrong("a float") }
 text ~ /[ (]asm / { wrong("assembly") }
 text ~ /( = |^ +)(cmpxchg|atomicrmw|fence) |(load|store) (atomic|volatile)/ { wrong("an atomic") }
