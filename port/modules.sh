@@ -99,3 +99,13 @@ compile_for() { # TEXT OBJECT SAID -c|-S WORDS..
     [ ! -s "$said" ] || { cat "$said" >&2; die "$text: clang said the above"; }
     rm -f "$object.ll" "$said"
 }
+
+# As WebAssembly, what stands for what a program's start asks of x86-64.
+start_of() { # OBJECT
+    "$clang" --no-default-config --target=wasm32-unknown-unknown -ffreestanding -O3 -Wall -Wextra -Werror -c page/start.c -o "$1" || die 'page/start.c is not compiled'
+}
+
+# An object linked as rt links a program.
+linked_program() { # OBJECT PROGRAM SAID
+    "$kit/bin/rattle-link" --target x86_64-unknown-linux-gnu --toolchain "$tools" -o "$2" "$1" "$kit/c/libos_c.a" "$kit/c/liblibc_c.a" >"$3" 2>&1
+}

@@ -4,7 +4,7 @@
 # pointer, begin with the lowest on each processor of targets.txt). So a place for a pointer becomes
 # eight bytes, and a pointer in a larger value, as { i8, ptr }, becomes a number of 64 bits, taken
 # for a pointer where it comes out, and for a number where it goes in. Of such a number the upper half
-# may be anything, so no word says that it is known. portable.awk has refused what would read such a
+# may be anything, so no word says that it is known. Where a place lies is a number of 64 bits. portable.awk has refused what would read such a
 # place otherwise.
 function inside(types, n,    part) { split(types, part, /, */); return part[n + 1] }
 {
@@ -12,6 +12,7 @@ function inside(types, n,    part) { split(types, part, /, */); return part[n + 
     count = split($0, piece, "\"")
     code = ""
     for (i = 1; i <= count; i += 2) code = code piece[i]
+    if (code ~ /^ +%[^ ]+ = ptrtoaddr /) sub(/ptrtoaddr/, "ptrtoint")
     if (code ~ / = alloca ptr/) sub(/alloca ptr, align [0-9]+/, "alloca [8 x i8], align 8")
     if (code !~ /\{[^{}]*ptr[^{}]*\}/ || /^!/) { print; next }
     if (match($0, /^ +%[^ ]+ = extractvalue \{ [^{}]* \} /)) {

@@ -1,8 +1,8 @@
 # awk -v listed="FILE.." -f portable.awk MODULE.ll: what in a module could mean something else where
 # a pointer has 32 bits, or on another processor, once narrow.awk has given each place for a pointer
 # its eight bytes. It names each such line, and ends with 1 if there is one. In a module without them
-# a pointer is only lent, loaded, stored and stepped by bytes, and put into and taken out of values of
-# several parts; numbers are of a width that is written with them, and every function that is called
+# a pointer is only lent, loaded, stored and stepped by bytes, put into and taken out of values of
+# several parts, and taken from another for how far they are apart; numbers are of a width that is written with them, and every function that is called
 # by name is defined in the module or listed. usize stays 64 bits.
 BEGIN {
     n = split(listed, file, " ")
@@ -25,7 +25,7 @@ function wrong(why) { printf "line %d: %s: %s\n", NR, why, substr($0, 1, 200); b
     if (!(name in known)) wrong("a function that is not listed")
     next
 }
-/^define / { split("", slot) }
+/^define / { split("", slot); split("", place) }
 
 # What lies within quotes is a name.
 {
@@ -33,6 +33,12 @@ function wrong(why) { printf "line %d: %s: %s\n", NR, why, substr($0, 1, 200); b
     gsub(/"[^"]*"/, "NAME", text)
     # A value of several parts, as these lines have it, which narrow.awk turns: no part has parts.
     if (text !~ /\{[^{}]*\{/ && text ~ /^define | = (call|load|extractvalue|insertvalue) |^ +(ret|store) /) gsub(/\{ [^][<>(){}]* \}/, "PARTS", text)
+}
+# How far two places are apart is the same number on each processor; where a place lies is not.
+text ~ /^ +%[^ ]+ = ptrtoaddr ptr [^ ]+ to i64$/ { place[$1] = 1; next }
+{
+    n = split(text, word, /[ ,()]+/)
+    for (i = 1; i <= n; i++) if (word[i] in place && !(text ~ /^ +%[^ ]+ = sub i64 [^ ]+, [^ ]+$/ && word[n] in place && word[n - 1] in place)) wrong("a pointer as a number")
 }
 text ~ /(ptrtoint|inttoptr|ptrtoaddr|addrspacecast|addrspace)/ { wrong("a pointer as a number") }
 text ~ /icmp [a-z ]*ptr/ && text !~ /icmp (eq|ne) ptr [^ ]+, null$/ { wrong("two pointers compared") }
