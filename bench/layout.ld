@@ -5,7 +5,7 @@ SECTIONS
 {
     .text.proved : ALIGN(4096)
     {
-        *(.text.telegram*) *(.text.contact*)
+        *(.text.telegram*) *(.text.contact*) *(.text.abi*)
         *(.text.atc2_find) *(.text.atc2_judge) *(.text.atc2_next_contact) *(.text.atc2_*) *(.text.words*)
     }
     .text.plain : ALIGN(4096)

@@ -15,8 +15,8 @@
 // errno as Linux does for plain files. Nothing is a terminal.
 (function (root) {
   'use strict';
-  const ENOENT = 2, EBADF = 9, EFAULT = 14, EINVAL = 22, EMFILE = 24, ENOTTY = 25, ESPIPE = 29, EISDIR = 21;
-  const PATH_MAX = 4096n, TOLD = 9, OPEN_MAX = 1024;
+  const ENOENT = 2, EBADF = 9, EACCES = 13, EFAULT = 14, EINVAL = 22, EMFILE = 24, ENOTTY = 25, ESPIPE = 29, EISDIR = 21;
+  const PATH_MAX = 4096n, TOLD = 9, OPEN_MAX = 1024, O_ACCMODE = 3;
   const utf8 = (s) => new TextEncoder().encode(s);
 
   // Bytes that are written piece by piece.
@@ -76,26 +76,29 @@
         return to;
       },
       isatty(fd) { world.errno = world.open.has(fd) ? ENOTTY : EBADF; return 0; },
-      // The seconds since 1970, for what says how far long work is; without a terminal nobody asks.
-      time(p) {
-        const buf = lent(p, 8n);
-        if (!buf) return BigInt(fail(EFAULT));
-        const now = BigInt(Math.floor(Date.now() / 1000));
-        new DataView(buf.buffer, buf.byteOffset, 8).setBigInt64(0, now, true);
-        return now;
+      // The time since 1970, for what says how far long work is; without a terminal nobody asks.
+      clock_gettime(_, p) {
+        const buf = lent(p, 16n);
+        if (!buf) return fail(EFAULT);
+        const now = Date.now(), view = new DataView(buf.buffer, buf.byteOffset, 16);
+        view.setBigInt64(0, BigInt(Math.floor(now / 1000)), true);
+        view.setBigInt64(8, BigInt(now % 1000) * 1000000n, true);
+        return 0;
       },
       close(fd) { return world.open.delete(fd) ? 0 : fail(EBADF); },
-      rattle_open_to_read(p) {
+      // Files are there to be read. The name of the launcher's pipe opens that pipe.
+      open(p, flags) {
         const buf = lent(p, PATH_MAX);
         if (!buf) return fail(EFAULT);
         let name;
         try { name = new TextDecoder('utf-8', { fatal: true, ignoreBOM: true }).decode(buf.slice(0, buf.indexOf(0))); } catch (_) { return fail(ENOENT); }
-        const data = world.file(name);
-        if (!data) return fail(ENOENT);
+        const pipe = name === '/proc/self/fd/' + TOLD && world.open.get(TOLD), data = pipe ? null : world.file(name);
+        if (!pipe && !data) return fail(ENOENT);
+        if (!pipe && (flags & O_ACCMODE) !== 0) return fail(data.folder ? EISDIR : EACCES);
         let fd = 3;
         while (world.open.has(fd)) fd++;
         if (fd >= OPEN_MAX) return fail(EMFILE);
-        world.open.set(fd, { data, at: 0, once: data.once === true });
+        world.open.set(fd, pipe ? { sink: pipe.sink } : { data, at: 0, once: data.once === true });
         return fd;
       },
       rattle_errno() { return world.errno; },
