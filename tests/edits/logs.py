@@ -12,6 +12,10 @@ goal `returns-then-figure-le15`), a proof names goals that are no more, and woul
 that alone. So the names are carried over in the copy's proofs/, by what rattle itself says of them,
 and these functions are checked again: the log tells of the facts.
 
+A goal that no file answers is not tried where the function calls one that another part of the group
+has spoilt. So the parts of which nothing was told by the whole group are applied again without the
+others, and what is said of their functions then stands in the log in place of that.
+
 What was said is kept on this machine, in ~/.cache/atc2-edits (ATC2_EDITS names another folder), by
 a checksum of the crate and those below it, the edit, the kit and this script, and taken from there.
 """
@@ -164,34 +168,112 @@ def function_of(path):
     return folder[len("proofs/") :].replace("/", "::") if name in ("Answers.antt", "Invariants.antt", "Proof.antt") else None
 
 
-def without(said, crate, functions):
-    """What was said, but of these functions."""
-    files = [f"proofs/{it.replace('::', '/')}/" for it in functions]
-    heads = tuple(f"fn {crate.name}::{it}: " for it in functions)
-    return "".join(it for it in said.splitlines(True) if not it.startswith(heads) and not any(it.removeprefix("./").startswith(file) for file in files))
+def file_of(line):
+    return re.match(r"(?:\./)?(proofs/\S+?)(?:/(?:Answers|Invariants|Proof))?\.antt:\d+:\d+: error: ", line)
+
+
+def split(said, crate, answers):
+    """What was said of these functions and files of proofs, named by their paths below proofs/, and what was said of others."""
+    own, others, pending, last = [], [], [], []
+    files, heads = {f"proofs/{it}" for it in answers}, tuple(f"fn {crate.name}::{it.replace('/', '::')}: " for it in answers)
+    for line in said.splitlines(True):
+        at = file_of(line)
+        if at:
+            last = own if at[1] in files else others
+        elif re.match(r"note: src/\S+:\d+:\d+: it is not proved that ", line):
+            # (these stand right before the line of their function)
+            pending.append(line)
+            continue
+        elif line.startswith("fn "):
+            last = own if line.startswith(heads) else others
+            last += pending
+            pending = []
+        elif not line.startswith(" "):
+            last = others
+        last.append(line)
+    return "".join(own), "".join(others + pending)
+
+
+def waits(said, crate, answer):
+    """Whether nothing was told of this function or file of proofs but that something which it calls or cites is refused."""
+    own = split(said, crate, [answer])[0].splitlines()
+    told = [it for it in own if it.startswith("note: src/") or file_of(it) and not re.search(r"was not admitted|were not checked|was not checked", it)]
+    return bool(own) and not told and not any(re.search(r": proved$|`search` (did not prove|gave up)", it) for it in own)
+
+
+def parts_of(edit, folder):
+    """The parts of a group, each with its lines and the function or the file of proofs that answers for it, as judge.awk has them."""
+    parts = []
+    for line in text_of(edit).split("\n"):
+        if line.startswith("part: "):
+            parts.append([])
+        if parts:
+            parts[-1].append(line)
+    found = []
+    for lines in parts:
+        answer = next((it[len("refused: ") :] for it in lines if it.startswith("refused: ")), None)
+        file = None
+        for line in lines if answer is None else ():
+            if line.startswith("file: "):
+                file = line[len("file: ") :].strip()
+            elif line.startswith("old: ") and file and file.startswith("src/"):
+                text = text_of(f"{folder}/{file}")
+                above, name = text[: max(text.find(line[len("old: ") :]), 0)], None
+                rows = text[: len(above) + 1 + text[len(above) :].find("\n")].split("\n")
+                for row, ends in zip(rows, [*[False] * (len(rows) - 1), True]):
+                    head = re.match(r" *(?:pub )?(?:extern \"C\" )?fn (\w+)", row)
+                    name = head[1] if head else None if row == "}" and not ends else name
+                module = file[len("src/") : -len(".rt")]
+                answer = name if module in ("lib", "main") else name and f"{module}/{name}"
+        found.append(("\n".join(lines), answer))
+    return found
+
+
+def applied(crate, edit, over, only=()):
+    """Returns what a check says with an edit's text applied, once the names are carried over; or why it cannot be applied."""
+    texts, why = rt.edited(edit, crate.folder)
+    if why:
+        return f"the edit cannot be applied: {why}\n"
+    texts_of = lambda path: texts.get(path) or text_of(f"{crate.folder}/{path}")
+    said = checked(crate, texts, over, only)
+    for _ in range(3):
+        found = carried(said, texts_of)
+        if not found:
+            break
+        for path, (names, parts) in found.items():
+            texts[path] = named_anew(texts_of(path), names, parts)
+        functions = {function_of(it) for it in found}
+        if None in functions:
+            said = checked(crate, texts, over, only)
+        else:
+            again = checked(crate, texts, over, sorted(functions))
+            answers = [it.replace("::", "/") for it in functions]
+            said = split(said, crate, answers)[1] + split(again, crate, answers)[0]
+    return said
 
 
 def logged(crate, edit, seed):
     """Returns what the check of the edited crate says."""
-    texts, why = rt.read_edit(edit, crate.folder)
-    if why:
-        return f"the edit cannot be applied: {why}\n"
     with tempfile.TemporaryDirectory(prefix="edits-") as room:
         over = f"{room}/over"
         rt.linked(seed, over)
-        texts_of = lambda path: texts.get(path) or text_of(f"{crate.folder}/{path}")
-        said = checked(crate, texts, over)
-        for _ in range(3):
-            found = carried(said, texts_of)
-            if not found:
+        said = applied(crate, text_of(edit), over)
+        parts = [it for it in parts_of(edit, crate.folder) if it[1]]
+        left = [it for it in parts if waits(said, crate, it[1])]
+        while left and len(parts) > 1:
+            # together without the others, or, where that tells of none of them, each by itself
+            turns = [left] if len(left) < len(parts) else [[it] for it in left]
+            parts = left
+            for turn in turns:
+                answers = [it[1] for it in turn]
+                paths = [it.replace("/", "::") for it in answers]
+                is_code = all(os.path.isdir(f"{crate.folder}/proofs/{it}") or not os.path.isfile(f"{crate.folder}/proofs/{it}.antt") for it in answers)
+                again = applied(crate, "\n".join(it[0] for it in turn), over, paths if is_code else ())
+                told = [it for it in answers if not waits(again, crate, it) and split(again, crate, [it])[0]]
+                said = split(said, crate, told)[1] + split(again, crate, told)[0]
+                left = [it for it in left if it[1] not in told]
+            if len(turns) > 1:
                 break
-            for path, (names, parts) in found.items():
-                texts[path] = named_anew(texts_of(path), names, parts)
-            functions = {function_of(it) for it in found}
-            if None in functions:
-                said = checked(crate, texts, over)
-            else:
-                said = checked(crate, texts, over, sorted(functions)) + without(said, crate, functions)
     return said
 
 
