@@ -2,6 +2,7 @@
 use crate::status::{CallEnded, tell};
 use crate::streams::{Stream, write};
 use crate::system::System;
+use std::io::ErrorKind;
 
 // Bytes of a line, as far as they can be written.
 pub fn say(rt: &impl System, bytes: &[u8]) {
@@ -61,8 +62,20 @@ pub fn usage(rt: &impl System, program: &[u8], call: &[u8]) {
     end_line(rt);
 }
 
-// `PROGRAM: cannot write`.
+// Whether nobody reads standard output any more: after a write that failed, another one says so.
+fn is_unheard(rt: &impl System) -> bool {
+    match rt.write_all(b"\n") {
+        Ok(()) => false,
+        Err(error) => matches!(error.kind(), ErrorKind::BrokenPipe),
+    }
+}
+
+// `PROGRAM: cannot write`; nothing, where nobody reads the output any more.
 pub fn cannot_write(rt: &impl System, program: &[u8]) {
+    if is_unheard(rt) {
+        tell(rt, CallEnded::Unheard);
+        return;
+    }
     fail(rt, program, b"cannot write");
 }
 

@@ -8,8 +8,8 @@ const LAUNCHER: &str = "/proc/self/fd/9";
 
 // What the launcher has to tell apart: the whole call was refused by a number, or not passed; it
 // came to nothing, and that was said; or nothing was said, and a card cannot be opened or read, a
-// write failed, the arguments are wrong, there are too many cards, or a card cannot be gone over
-// twice.
+// write failed, the arguments are wrong, there are too many cards, a card cannot be gone over
+// twice, or nobody reads the output any more.
 #[derive(Clone, Copy)]
 pub enum CallEnded {
     Refused,
@@ -19,6 +19,7 @@ pub enum CallEnded {
     Usage,
     TooMany,
     Once,
+    Unheard,
 }
 
 // One digit to the launcher's pipe. A descriptor that has a position is a file of somebody else,
@@ -47,5 +48,6 @@ pub fn tell(rt: &impl System, ended: CallEnded) {
         CallEnded::Usage => put_digit(rt, b"5"),
         CallEnded::TooMany => put_digit(rt, b"6"),
         CallEnded::Once => put_digit(rt, b"7"),
+        CallEnded::Unheard => put_digit(rt, b"8"),
     }
 }
