@@ -252,13 +252,20 @@ def applied(crate, edit, over, only=()):
     return said
 
 
+def only_of(crate, parts):
+    """The functions that answer for these parts, which is all that has to be checked; none, so the whole crate, where a file of lemmas answers for one."""
+    answers = [it[1] for it in parts]
+    is_code = all(os.path.isdir(f"{crate.folder}/proofs/{it}") or not os.path.isfile(f"{crate.folder}/proofs/{it}.antt") for it in answers)
+    return [it.replace("/", "::") for it in answers] if is_code else ()
+
+
 def logged(crate, edit, seed):
     """Returns what the check of the edited crate says."""
     with tempfile.TemporaryDirectory(prefix="edits-") as room:
         over = f"{room}/over"
         rt.linked(seed, over)
-        said = applied(crate, text_of(edit), over)
         parts = [it for it in parts_of(edit, crate.folder) if it[1]]
+        said = applied(crate, text_of(edit), over, only_of(crate, parts))
         left = [it for it in parts if waits(said, crate, it[1])]
         while left and len(parts) > 1:
             # together without the others, or, where that tells of none of them, each by itself
@@ -266,9 +273,7 @@ def logged(crate, edit, seed):
             parts = left
             for turn in turns:
                 answers = [it[1] for it in turn]
-                paths = [it.replace("/", "::") for it in answers]
-                is_code = all(os.path.isdir(f"{crate.folder}/proofs/{it}") or not os.path.isfile(f"{crate.folder}/proofs/{it}.antt") for it in answers)
-                again = applied(crate, "\n".join(it[0] for it in turn), over, paths if is_code else ())
+                again = applied(crate, "\n".join(it[0] for it in turn), over, only_of(crate, turn))
                 told = [it for it in answers if not waits(again, crate, it) and split(again, crate, [it])[0]]
                 said = split(said, crate, told)[1] + split(again, crate, told)[0]
                 left = [it for it in left if it[1] not in told]
@@ -294,7 +299,7 @@ def main(logs, names):
         at = given[crate.name, "seed"]
         said = logged(crate, edit, at) if at else ""
         # (a check that was cut short says nothing)
-        if re.search(r"(?m)^logic=", said):
+        if re.search(r"(?m)^(logic|only)=", said):
             keep(kept(crate, edit), said)
         elif at:
             print(f"{crate.name}/{os.path.basename(edit)}: no check came to its end: {said[-300:]}", file=sys.stderr, flush=True)
