@@ -29,7 +29,7 @@ use Rattle.abi.specs.Face.{returned}
 use Rattle.abi.specs.Stores.{kept_number}
 use Rattle.abi.specs.Leads as leads
 use Rattle.abi.specs.Leads.{ear_left, records_left, used_left, ear_after_meant}
-use Rattle.demands.proofs.Witness.CallsMet.{lent}
+use Rattle.demands.proofs.Witness.CallsMet.{lent, lent_out}
 use Rattle.abi_laws.specs.LeadsCalls.{RecordBegin, Record, RecordEnd}
 use Rattle.abi_laws.specs.Leads.{Heard, no_frame, call, Ended, no_more}
 use Rattle.abi_laws.proofs.SettingsMet.{settings, settings_good}
@@ -41,7 +41,7 @@ unfolding ear_in ear_bytes figures_of fresh recording.fresh antenna.fresh spread
 ear_back = refl
 
 pub begin_met : (before : List ℕ) → RecordBegin before (pos 0) (ear_bytes fresh)
-begin_met before = (([], tt), lent before, (lent (ear_bytes fresh), tt), refl, refl, (refl, (refl, ear_back)))
+begin_met before = (([], tt), lent_out before, (lent_out (ear_bytes fresh), tt), refl, refl, (refl, (refl, ear_back)))
 
 -- By an ear whose hearing comes to this, and reads back.
 record_met : (ear store lead room : List ℕ) (w : Written) → judged (store_in store) ≡ gives kept → w ≡ hear (ear_in ear) (store_in store) lead room
@@ -52,12 +52,12 @@ record_met ear store lead room w good is back =
     let so : ◌≡◌ {A = leads.Heard} (record { answer = gives kept; written = w }) (leads.heard ear store lead room) =
     ap₂ (λ (o : Outcome Kept) (v : Written). record { answer = o; written = v }) (sym good) is in (
       ([], ([], ([], ([], ([], tt))))),
-      lent ear,
+      lent_out ear,
       lent store,
       lent lead,
-      lent room,
-      lent (0 ∷ 0 ∷ []),
-      (lent (ear_bytes w.wrote.hearing), (lent store, (lent lead, (lent w.buffer, (lent told, tt))))),
+      lent_out room,
+      lent_out (0 ∷ 0 ∷ []),
+      (lent_out (ear_bytes w.wrote.hearing), (lent store, (lent lead, (lent_out w.buffer, (lent_out told, tt))))),
       refl,
       refl,
       refl,
@@ -78,10 +78,10 @@ end_met ear room w wide is none back =
     let told : List ℕ = w.wrote.bytes ∷ [] in
     let c : RecordEnd ear room (0 ∷ []) (pos 0) (ear_bytes w.wrote.hearing) w.buffer told = (
       ([], ([], ([], tt))),
-      lent ear,
-      lent room,
-      lent (0 ∷ []),
-      (lent (ear_bytes w.wrote.hearing), (lent w.buffer, (lent told, tt))),
+      lent_out ear,
+      lent_out room,
+      lent_out (0 ∷ []),
+      (lent_out (ear_bytes w.wrote.hearing), (lent_out w.buffer, (lent_out told, tt))),
       refl,
       refl,
       refl,

@@ -36,7 +36,7 @@ use Rattle.ride_bytes.specs.Rides.{known_figures, group_figures, ride_bytes, rid
 use Rattle.abi.specs.Face.{returned, left, itself}
 use Rattle.abi.specs.Rides.{style_of, listed, listed_number, listed_put, ride_left, ending}
 use Rattle.demands.specs.Stores.{Good}
-use Rattle.demands.proofs.Witness.CallsMet.{lent}
+use Rattle.demands.proofs.Witness.CallsMet.{lent, lent_out}
 use Rattle.abi_laws.specs.RideCalls.{RideBegin, RideList, RideEnd, InPieces, none, more}
 use Rattle.abi_laws.proofs.SettingsMet.{settings, settings_good}
 
@@ -45,7 +45,7 @@ unfolding ride_bytes ride_of known_figures group_figures spread each byte_of eig
 fresh_back = refl
 
 pub begin_met : (before : List ℕ) → RideBegin before (pos 0) (ride_bytes fresh_ride)
-begin_met before = (([], tt), lent before, (lent (ride_bytes fresh_ride), tt), refl, refl, (refl, (refl, fresh_back)))
+begin_met before = (([], tt), lent_out before, (lent_out (ride_bytes fresh_ride), tt), refl, refl, (refl, (refl, fresh_back)))
 
 -- A ride ends in a text that has room for its line.
 pub end_met : (ride : List ℕ) (style : ℕ) (before : List ℕ) → length (end_text (style_of style) (ride_in ride)) ≤ length before
@@ -56,7 +56,7 @@ end_met ride style before fits =
     let low : 0 + length line ≤ length before = omega arith in
     let said = ap (λ (w : Bool). returned itself (pick {A = Outcome ℕ} w (gives (length line)) (refuses 21))) (le-leb (length line) (length before) fits) in
     let wrote = ap (λ (w : Bool). (pick {A = Put} w (record { next = 0 + length line; buffer = placed line before 0 }) (record { next = 0; buffer = before })).buffer) (le-leb (0 + length line) (length before) low) in
-    (([], ([], tt)), lent ride, lent before, (lent ride, (style, (lent (placed line before 0), tt))), refl, refl, refl, (sym said, sym wrote))
+    (([], ([], tt)), lent ride, lent_out before, (lent ride, (style, (lent_out (placed line before 0), tt))), refl, refl, refl, (sym said, sym wrote))
 
 -- Any trace of whole records by one call with room for all of it.
 module _ (store ride : List ℕ) (number style : ℕ) (trace : List ℕ) (good : Good (store_in store)) (whole : length trace % 8 ≡ 0) where
@@ -99,12 +99,12 @@ module _ (store ride : List ℕ) (number style : ℕ) (trace : List ℕ) (good :
       let moved : List ℕ = ride_bytes told.ride in
       let c : RideList ride store trace number style before (0 ∷ 0 ∷ []) (pos 0) moved after counts = (
         ([], ([], ([], ([], ([], tt))))),
-        lent ride,
+        lent_out ride,
         lent store,
         lent trace,
-        lent before,
-        lent (0 ∷ 0 ∷ []),
-        (lent moved, (lent store, (lent trace, (number, (style, (lent after, (lent counts, tt))))))),
+        lent_out before,
+        lent_out (0 ∷ 0 ∷ []),
+        (lent_out moved, (lent store, (lent trace, (number, (style, (lent_out after, (lent_out counts, tt))))))),
         refl,
         refl,
         refl,

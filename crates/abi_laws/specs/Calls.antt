@@ -2,6 +2,7 @@
 -- array that it was lent to be written, what it held before and holds after. (`Post`, `RefT` and
 -- `Lfts`: see crates/demands/specs/ByContract.antt.)
 -- Assumes nothing.
+use denote.MutBor.{MutBor}
 use Rattle.std.specs.Prelude.{ℕ, ◌≡◌, List, ℤ}
 use Rattle.settings.specs.declared.Version.{Version}
 use contract.Lifetimes.{Lfts}
@@ -78,7 +79,7 @@ Distance by figure r =
 -- in `out`, which held `before`.
 abbrev pub Find : List ℕ → ℕ → ℕ → ℕ → ℕ → List ℕ → ℤ → List ℕ → Type 0
 Find b start len s t before r after =
-    (κs : Lfts 2) × (buf : Bor (List ℕ)) × (out : Bor (List ℕ)) × (e : AtExit (ended_of 2 find_kinds.ps find_kinds.r) κs)
+    (κs : Lfts 2) × (buf : Bor (List ℕ)) × (out : MutBor (List ℕ)) × (e : AtExit (ended_of 2 find_kinds.ps find_kinds.r) κs)
     × (buf.now ≡ b) × (out.now ≡ before) × (e.1.1.1.1.1.0.now ≡ after)
     × find_reads.Post κs (buf, (start, (len, (s, (t, (out, tt)))))) r e
 
@@ -86,7 +87,7 @@ Find b start len s t before r after =
 -- held `before`.
 abbrev pub Begin : List ℕ → ℕ → ℕ → List ℕ → ℤ → List ℕ → Type 0
 Begin b start len before r after =
-    (κs : Lfts 2) × (buf : Bor (List ℕ)) × (search : Bor (List ℕ)) × (e : AtExit (ended_of 2 begin_kinds.ps begin_kinds.r) κs)
+    (κs : Lfts 2) × (buf : Bor (List ℕ)) × (search : MutBor (List ℕ)) × (e : AtExit (ended_of 2 begin_kinds.ps begin_kinds.r) κs)
     × (buf.now ≡ b) × (search.now ≡ before) × (e.1.1.1.0.now ≡ after)
     × begin_reads.Post κs (buf, (start, (len, (search, tt)))) r e
 
@@ -94,7 +95,7 @@ Begin b start len before r after =
 -- there, and `after` in `out`, which held `before`.
 abbrev pub NextContact : List ℕ → List ℕ → List ℕ → ℤ → List ℕ → List ℕ → Type 0
 NextContact b from before r moved after =
-    (κs : Lfts 3) × (buf : Bor (List ℕ)) × (search : Bor (List ℕ)) × (out : Bor (List ℕ))
+    (κs : Lfts 3) × (buf : Bor (List ℕ)) × (search : MutBor (List ℕ)) × (out : MutBor (List ℕ))
     × (e : AtExit (ended_of 3 next_kinds.ps next_kinds.r) κs)
     × (buf.now ≡ b) × (search.now ≡ from) × (out.now ≡ before) × (e.1.0.now ≡ moved) × (e.1.1.0.now ≡ after)
     × next_reads.Post κs (buf, (search, (out, tt))) r e
@@ -103,7 +104,7 @@ NextContact b from before r moved after =
 -- `after` in `out`, which held `before`.
 abbrev pub Judge : List ℕ → ℕ → ℕ → ℕ → ℕ → List ℕ → ℤ → List ℕ → Type 0
 Judge b start len s t before r after =
-    (κs : Lfts 2) × (buf : Bor (List ℕ)) × (out : Bor (List ℕ)) × (e : AtExit (ended_of 2 judge_kinds.ps judge_kinds.r) κs)
+    (κs : Lfts 2) × (buf : Bor (List ℕ)) × (out : MutBor (List ℕ)) × (e : AtExit (ended_of 2 judge_kinds.ps judge_kinds.r) κs)
     × (buf.now ≡ b) × (out.now ≡ before) × (e.1.1.1.1.1.0.now ≡ after)
     × judge_reads.Post κs (buf, (start, (len, (s, (t, (out, tt)))))) r e
 
@@ -111,14 +112,14 @@ Judge b start len s t before r after =
 -- in `out`, which held `before`.
 abbrev pub WriteBalise : ℕ → ℕ → ℕ → ℕ → ℕ → ℕ → List ℕ → ℤ → List ℕ → Type 0
 WriteBalise x y z s t n before r after =
-    (κs : Lfts 1) × (out : Bor (List ℕ)) × (e : AtExit (ended_of 1 write_balise_kinds.ps write_balise_kinds.r) κs)
+    (κs : Lfts 1) × (out : MutBor (List ℕ)) × (e : AtExit (ended_of 1 write_balise_kinds.ps write_balise_kinds.r) κs)
     × (out.now ≡ before) × (e.1.1.1.1.1.1.0.now ≡ after)
     × write_balise_reads.Post κs (x, (y, (z, (s, (t, (n, (out, tt))))))) r e
 
 -- `atc2_compact` may return r for this gap, and leave `after` in `trace`, which held `before`.
 abbrev pub Compact : ℕ → List ℕ → ℤ → List ℕ → Type 0
 Compact gap before r after =
-    (κs : Lfts 1) × (trace : Bor (List ℕ)) × (e : AtExit (ended_of 1 compact_kinds.ps compact_kinds.r) κs)
+    (κs : Lfts 1) × (trace : MutBor (List ℕ)) × (e : AtExit (ended_of 1 compact_kinds.ps compact_kinds.r) κs)
     × (trace.now ≡ before) × (e.1.0.now ≡ after) × compact_reads.Post κs (gap, (trace, tt)) r e
 
 -- `atc2_why_word` may return r for this word, short or long.
@@ -129,19 +130,19 @@ WhyWord word wide r = (e : AtExit (ended_of 0 why_word_kinds.ps why_word_kinds.r
 -- `before`.
 abbrev pub SettingsBegin : ℕ → ℕ → ℕ → List ℕ → ℤ → List ℕ → Type 0
 SettingsBegin gap s t before r after =
-    (κs : Lfts 1) × (store : Bor (List ℕ)) × (e : AtExit (ended_of 1 settings_begin_kinds.ps settings_begin_kinds.r) κs)
+    (κs : Lfts 1) × (store : MutBor (List ℕ)) × (e : AtExit (ended_of 1 settings_begin_kinds.ps settings_begin_kinds.r) κs)
     × (store.now ≡ before) × (e.1.1.1.0.now ≡ after) × settings_begin_reads.Post κs (gap, (s, (t, (store, tt)))) r e
 
 -- `atc2_settings_add` may return r for this version, and leave `after` in `store`, which held
 -- `before`.
 abbrev pub SettingsAdd : Version → List ℕ → ℤ → List ℕ → Type 0
 SettingsAdd v before r after =
-    (κs : Lfts 1) × (store : Bor (List ℕ)) × (e : AtExit (ended_of 1 settings_add_kinds.ps settings_add_kinds.r) κs)
+    (κs : Lfts 1) × (store : MutBor (List ℕ)) × (e : AtExit (ended_of 1 settings_add_kinds.ps settings_add_kinds.r) κs)
     × (store.now ≡ before) × (e.0.now ≡ after) × settings_add_reads.Post κs (store, (v.place, (v.gap, (v.s, (v.t, tt))))) r e
 
 -- `atc2_settings_read` may return r for this text, and leave `after` in `store`, which held
 -- `before`.
 abbrev pub SettingsRead : List ℕ → List ℕ → ℤ → List ℕ → Type 0
 SettingsRead text before r after =
-    (κs : Lfts 2) × (lent : Bor (List ℕ)) × (store : Bor (List ℕ)) × (e : AtExit (ended_of 2 settings_read_kinds.ps settings_read_kinds.r) κs)
+    (κs : Lfts 2) × (lent : Bor (List ℕ)) × (store : MutBor (List ℕ)) × (e : AtExit (ended_of 2 settings_read_kinds.ps settings_read_kinds.r) κs)
     × (lent.now ≡ text) × (store.now ≡ before) × (e.1.0.now ≡ after) × settings_read_reads.Post κs (lent, (store, tt)) r e

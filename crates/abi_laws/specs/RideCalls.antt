@@ -2,6 +2,7 @@
 -- for each array that it was lent to be written, what it held before and holds after. (`Post`,
 -- `RefT` and `Lfts`: see crates/demands/specs/ByContract.antt.)
 -- Assumes nothing.
+use denote.MutBor.{MutBor}
 use Rattle.std.specs.Prelude.{ℕ, ◌+◌, ◌*◌, ◌%◌, ◌≡◌, List, [], ◌∷◌, ◌++◌, ℤ, pos, length, take, drop}
 use contract.Lifetimes.{Lfts}
 use Rattle.std.specs.Borrow.{Bor}
@@ -19,7 +20,7 @@ use Rattle.abi.proofs.rides.atc2_ride_known.Reads as known_reads
 -- `atc2_ride_begin` may return r, and leave `after` in `ride`, which held `before`.
 abbrev pub RideBegin : List ℕ → ℤ → List ℕ → Type 0
 RideBegin before r after =
-    (κs : Lfts 1) × (ride : Bor (List ℕ)) × (e : AtExit (ended_of 1 begin_kinds.ps begin_kinds.r) κs)
+    (κs : Lfts 1) × (ride : MutBor (List ℕ)) × (e : AtExit (ended_of 1 begin_kinds.ps begin_kinds.r) κs)
     × (ride.now ≡ before) × (e.0.now ≡ after) × begin_reads.Post κs (ride, tt) r e
 
 -- `atc2_ride_list` may return r for these bytes of a ride, a store and a trace, this number and
@@ -27,7 +28,7 @@ RideBegin before r after =
 -- `out`.
 abbrev pub RideList : List ℕ → List ℕ → List ℕ → ℕ → ℕ → List ℕ → List ℕ → ℤ → List ℕ → List ℕ → List ℕ → Type 0
 RideList ride store trace number style before out r moved after counts =
-    (κs : Lfts 5) × (a : Bor (List ℕ)) × (b : Bor (List ℕ)) × (c : Bor (List ℕ)) × (d : Bor (List ℕ)) × (f : Bor (List ℕ))
+    (κs : Lfts 5) × (a : MutBor (List ℕ)) × (b : Bor (List ℕ)) × (c : Bor (List ℕ)) × (d : MutBor (List ℕ)) × (f : MutBor (List ℕ))
     × (e : AtExit (ended_of 5 list_kinds.ps list_kinds.r) κs)
     × (a.now ≡ ride) × (b.now ≡ store) × (c.now ≡ trace) × (d.now ≡ before) × (f.now ≡ out)
     × (e.0.now ≡ moved) × (e.1.1.1.1.1.0.now ≡ after) × (e.1.1.1.1.1.1.0.now ≡ counts)
@@ -37,14 +38,14 @@ RideList ride store trace number style before out r moved after counts =
 -- `text`, which held `before`.
 abbrev pub RideEnd : List ℕ → ℕ → List ℕ → ℤ → List ℕ → Type 0
 RideEnd ride style before r after =
-    (κs : Lfts 2) × (a : Bor (List ℕ)) × (b : Bor (List ℕ)) × (e : AtExit (ended_of 2 end_kinds.ps end_kinds.r) κs)
+    (κs : Lfts 2) × (a : Bor (List ℕ)) × (b : MutBor (List ℕ)) × (e : AtExit (ended_of 2 end_kinds.ps end_kinds.r) κs)
     × (a.now ≡ ride) × (b.now ≡ before) × (e.1.1.0.now ≡ after) × end_reads.Post κs (a, (style, (b, tt))) r e
 
 -- `atc2_ride_known` may return r for these bytes of a ride, and leave `after` in `out`, which held
 -- `before`.
 abbrev pub RideKnown : List ℕ → List ℕ → ℤ → List ℕ → Type 0
 RideKnown ride before r after =
-    (κs : Lfts 2) × (a : Bor (List ℕ)) × (b : Bor (List ℕ)) × (e : AtExit (ended_of 2 known_kinds.ps known_kinds.r) κs)
+    (κs : Lfts 2) × (a : Bor (List ℕ)) × (b : MutBor (List ℕ)) × (e : AtExit (ended_of 2 known_kinds.ps known_kinds.r) κs)
     × (a.now ≡ ride) × (b.now ≡ before) × (e.1.0.now ≡ after) × known_reads.Post κs (a, (b, tt)) r e
 
 -- `atc2_ride_list` is called over a trace, each time with a block of whole records from the front

@@ -26,7 +26,7 @@ use Rattle.demands.specs.Output.{records_in}
 use Rattle.demands.specs.Stores.{Good}
 use Rattle.demands.specs.TraceCalls.{Whole, Call}
 use Rattle.demands.proofs.Beside.Cards.{eights}
-use Rattle.demands.proofs.Witness.CallsMet.{lent}
+use Rattle.demands.proofs.Witness.CallsMet.{lent, lent_out}
 use Rattle.acceptance_laws.specs.ByContract.{AcceptInto}
 use Rattle.acceptance_laws.specs.Accepted.{Taken}
 use Rattle.acceptance_laws.specs.Calls.{ByAccept, after_calls, Last, Ends}
@@ -68,8 +68,8 @@ module _ (going : Going) (store : Store) (card : List ℕ) (good : Good store) (
   called = (
     ([], ([], tt)),
     lent card,
-    lent room,
-    (going, (store, (lent card, (lent the_call.after, tt)))),
+    lent_out room,
+    (going, (store, (lent card, (lent_out the_call.after, tt)))),
     refl,
     refl,
     refl,
@@ -103,7 +103,7 @@ module _ (going : Going) where
   pub ends_so : Ends going the_last
   ends_so =
       let enough : 128 ≤ length space = omega (arith, length-replicate {A = ℕ} 128 0) in
-      (enough, (([], tt), lent space, (going, (lent the_last.after, tt)), refl, refl, sym (finish_is going space enough)))
+      (enough, (([], tt), lent_out space, (going, (lent_out the_last.after, tt)), refl, refl, sym (finish_is going space enough)))
 
 pub such_calls : (going : Going) (store : Store) (card : List ℕ) → Good store → Whole card
     → (calls : List (Call Advanced)) × (last : Last) × ByAccept store going card calls × Ends (after_calls going calls) last

@@ -3,6 +3,7 @@
 -- of what it was given, its answer r, and e, what is lent to it as it is at the end. That of `plan`
 -- stands in demands/specs/Plans.antt.
 -- Assumes nothing.
+use denote.MutBor.{MutBor}
 use Rattle.std.specs.Prelude.{ℕ, ◌≡◌, List}
 use contract.Lifetimes.{Lfts}
 use Rattle.std.specs.Borrow.{Bor}
@@ -44,12 +45,12 @@ SumsUp run r = (e : AtExit (ended_of 0 sum_up_kinds.ps sum_up_kinds.r) tt) × su
 -- under this store, and that the lent buffer, which held `before`, holds `after` then.
 abbrev pub AcceptInto : Going → Store → List ℕ → List ℕ → Advanced → List ℕ → Type 0
 AcceptInto going store block before r after =
-    (κs : Lfts 2) × (lent : Bor (List ℕ)) × (out : Bor (List ℕ)) × (e : AtExit (ended_of 2 accept_kinds.ps accept_kinds.r) κs)
+    (κs : Lfts 2) × (lent : Bor (List ℕ)) × (out : MutBor (List ℕ)) × (e : AtExit (ended_of 2 accept_kinds.ps accept_kinds.r) κs)
     × (lent.now ≡ block) × (out.now ≡ before) × (e.1.1.1.0.now ≡ after)
     × accept_reads.Post κs (going, (store, (lent, (out, tt)))) r e
 
 -- The contract of `finish` allows the answer r at the end of this run's ride, likewise.
 abbrev pub FinishInto : Going → List ℕ → Finished → List ℕ → Type 0
 FinishInto going before r after =
-    (κs : Lfts 1) × (out : Bor (List ℕ)) × (e : AtExit (ended_of 1 finish_kinds.ps finish_kinds.r) κs)
+    (κs : Lfts 1) × (out : MutBor (List ℕ)) × (e : AtExit (ended_of 1 finish_kinds.ps finish_kinds.r) κs)
     × (out.now ≡ before) × (e.1.0.now ≡ after) × finish_reads.Post κs (going, (out, tt)) r e

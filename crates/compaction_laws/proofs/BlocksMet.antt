@@ -25,7 +25,7 @@ use Rattle.compaction.specs.declared.Block.{Block}
 use Rattle.compaction.specs.declared.Waiting.{Waiting}
 use Rattle.compaction.proofs.Determined as compaction_is
 use Rattle.demands.specs.Table.{bad_length}
-use Rattle.demands.proofs.Witness.CallsMet.{lent}
+use Rattle.demands.proofs.Witness.CallsMet.{lent, lent_out}
 use Rattle.demands.specs.TraceCalls.{Call}
 use Rattle.compaction_laws.specs.Blocks.{ByBlocks, written, waits_last}
 use Rattle.compaction_laws.proofs.TraceMet.{at, marker, two, all}
@@ -48,10 +48,10 @@ blocks_met : ByBlocks two none (bytes_of all) (first ∷ second ∷ [])
 unfolding differing is_good good_pair settings_of follows no_store_meant versions_of opened begin all_follow versions_in_order judged with_one may_add add held_from held_at gap_at balises read_all judge_read judge no_group nothing_known fresh_ride odometer_of passed_of in_order_meant check_record join take_up close leave close_behind missed_lines after_missed go_on treat first_records is_dropped settled waits_next kept_over waits_after settled_block compact_block bad_length
 blocks_met = (
   record { rest = drop 24 (bytes_of all); front = refl; whole = refl },
-  (refl, (([], tt), lent first.block, (none, (two, (lent first.after, tt))), refl, refl, refl)),
+  (refl, (([], tt), lent_out first.block, (none, (two, (lent_out first.after, tt))), refl, refl, refl)),
   (
     record { rest = []; front = refl; whole = refl },
-    (refl, (([], tt), lent second.block, (first.answer.waiting, (two, (lent second.after, tt))), refl, refl, refl)),
+    (refl, (([], tt), lent_out second.block, (first.answer.waiting, (two, (lent_out second.after, tt))), refl, refl, refl)),
     refl,
   ),
 )

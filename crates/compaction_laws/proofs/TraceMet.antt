@@ -32,7 +32,7 @@ use Rattle.compaction.proofs.Determined as compaction_is
 use Rattle.demands.specs.ByContract.{RunOver}
 use Rattle.demands.specs.Compacting.{CompactIn}
 use Rattle.demands.specs.Sections.{ByStep, lines_from}
-use Rattle.demands.proofs.Witness.CallsMet.{lent}
+use Rattle.demands.proofs.Witness.CallsMet.{lent, lent_out}
 
 -- A position record, and a marker, below 65,536 dm.
 abbrev pub at : ℕ → List ℕ
@@ -82,11 +82,11 @@ after = (compact fresh_ride two (bytes_of all)).buffer
 
 pub compact_met : CompactIn fresh_ride two (bytes_of all) answered after × (answered.size ≡ Size.Bytes 56) × (take 56 after ≡ bytes_of small)
 unfolding differing is_good good_pair settings_of follows no_store_meant versions_of opened begin all_follow versions_in_order judged with_one may_add add held_from held_at gap_at balises read_all judge_read judge no_group nothing_known fresh_ride odometer_of passed_of in_order_meant check_record join take_up close leave close_behind missed_lines after_missed go_on treat first_records ride_over is_dropped compact_over smaller_trace compact
-compact_met = ((([], tt), lent (bytes_of all), (fresh_ride, (two, (lent after, tt))), refl, refl, refl), refl, refl)
+compact_met = ((([], tt), lent_out (bytes_of all), (fresh_ride, (two, (lent_out after, tt))), refl, refl, refl), refl, refl)
 
 again_met : CompactIn fresh_ride two (bytes_of small) answered (bytes_of small)
 unfolding differing is_good good_pair settings_of follows no_store_meant versions_of opened begin all_follow versions_in_order judged with_one may_add add held_from held_at gap_at balises read_all judge_read judge no_group nothing_known fresh_ride odometer_of passed_of in_order_meant check_record join take_up close leave close_behind missed_lines after_missed go_on treat first_records ride_over is_dropped compact_over smaller_trace compact
-again_met = (([], tt), lent (bytes_of small), (fresh_ride, (two, (lent (bytes_of small), tt))), refl, refl, refl)
+again_met = (([], tt), lent_out (bytes_of small), (fresh_ride, (two, (lent_out (bytes_of small), tt))), refl, refl, refl)
 
 run_met : RunOver fresh_ride two (bytes_of all) (ride_is.ran_of (run fresh_ride two (bytes_of all)))
     × RunOver fresh_ride two (bytes_of small) (ride_is.ran_of (run fresh_ride two (bytes_of small)))

@@ -35,7 +35,7 @@ use Rattle.lead_text.specs.List as listing
 use Rattle.lead_text.specs.List.{place_of, standing, Telling, none_left_meant, list_of, at_tape}
 use Rattle.lead_text.specs.Says.{says_written}
 use Rattle.lead_text.proofs.Judged.{frames_listed, end_listed}
-use Rattle.demands.proofs.Witness.CallsMet.{lent}
+use Rattle.demands.proofs.Witness.CallsMet.{lent, lent_out}
 use Rattle.lead_text_laws.specs.Calls.{Fresh, ListFrames, ListEnd, PutEnd}
 use Rattle.lead_text_laws.specs.Live.{Good, Heard, none, next, Closed, over, Ended, put}
 use Rattle.lead_text_laws.proofs.Comes.{start, comes_all}
@@ -104,7 +104,7 @@ module _ (store : Store) (good : Good store) where
       let a : List ℕ = written (gap_at store) u x.records (start x.tape) (after store piece (place_of u)) in
       let says = all_written (gap_at store) u x.records (start x.tape) (after store piece (place_of u)) (omega arith) in
       let c : ListFrames u store piece b r a =
-      (([], ([], tt)), lent piece, lent b, (u, (store, (lent piece, (lent a, tt)))), refl, refl, refl, says ∙ frames_listed u store piece b good) in
+      (([], ([], tt)), lent piece, lent_out b, (u, (store, (lent piece, (lent_out a, tt)))), refl, refl, refl, says ∙ frames_listed u store piece b good) in
       let rest = heard_met pieces r.underway few in
       (take (length (tell_over with_reasons (gap_at store) u.ride u.number x.records).text) a ++ rest.0, rest.1, next b a r (length (tell_over with_reasons (gap_at store) u.ride u.number x.records).text) c refl rest.2)
 
@@ -116,7 +116,7 @@ module _ (store : Store) (good : Good store) where
       let b : List ℕ = before (gap_at store) u x.records (at_tape u x.tape) up_to in
       let a : List ℕ = written (gap_at store) u x.records (at_tape u x.tape) up_to in
       let says = all_written (gap_at store) u x.records (at_tape u x.tape) up_to small in
-      let c : ListEnd u store b r a = (([], tt), lent b, (u, (store, (lent a, tt))), refl, refl, says ∙ end_listed u store b good) in
+      let c : ListEnd u store b r a = (([], tt), lent_out b, (u, (store, (lent_out a, tt))), refl, refl, says ∙ end_listed u store b good) in
       let n : ℕ = length (tell_over with_reasons (gap_at store) u.ride u.number x.records).text in
       (take n a, r.underway, over b a r n c refl)
 
@@ -130,7 +130,7 @@ ended_met ride =
     let fits : 0 + length t ≤ length b = omega (arith, end_short with_reasons ride) in
     let says : texts.came (0 + length t) a ≡ texts.put t b 0 =
     sym (ap (λ (x : Bool). pick x (texts.came (0 + length t) a) (texts.came 0 b)) (le-leb (0 + length t) (length b) fits)) in
-    let c : PutEnd ride b 0 (0 + length t) a = (([], tt), lent b, (with_reasons, (ride, (lent a, (0, tt)))), refl, refl, says) in
+    let c : PutEnd ride b 0 (0 + length t) a = (([], tt), lent_out b, (with_reasons, (ride, (lent_out a, (0, tt)))), refl, refl, says) in
     (take (0 + length t) a, put b a (0 + length t) wide c)
 
 fresh_met : Fresh listing.fresh

@@ -2,6 +2,7 @@
 -- hypotheses. `Post` of a function is its `ensures` line, made into a statement by the kit. A lent
 -- buffer is a reference whose bytes are `now` of it.
 -- Assumes nothing.
+use denote.MutBor.{MutBor}
 use Rattle.std.specs.Prelude.{ℕ, ◌≡◌, List}
 use contract.Lifetimes.{Lfts}
 use Rattle.std.specs.Borrow.{Bor}
@@ -29,14 +30,14 @@ Fresh r = (e : AtExit (ended_of 0 fresh_kinds.ps fresh_kinds.r) tt) × fresh_rea
 -- the lent buffer, which held `before`, holds `after` then.
 abbrev pub ListFrames : Underway → Store → List ℕ → List ℕ → Written → List ℕ → Type 0
 ListFrames u store frames before r after =
-    (κs : Lfts 2) × (lent : Bor (List ℕ)) × (out : Bor (List ℕ)) × (e : AtExit (ended_of 2 frames_kinds.ps frames_kinds.r) κs)
+    (κs : Lfts 2) × (lent : Bor (List ℕ)) × (out : MutBor (List ℕ)) × (e : AtExit (ended_of 2 frames_kinds.ps frames_kinds.r) κs)
     × (lent.now ≡ frames) × (out.now ≡ before) × (e.1.1.1.0.now ≡ after)
     × frames_reads.Post κs (u, (store, (lent, (out, tt)))) r e
 
 -- The contract of `list_end`, likewise.
 abbrev pub ListEnd : Underway → Store → List ℕ → Written → List ℕ → Type 0
 ListEnd u store before r after =
-    (κs : Lfts 1) × (out : Bor (List ℕ)) × (e : AtExit (ended_of 1 end_kinds.ps end_kinds.r) κs)
+    (κs : Lfts 1) × (out : MutBor (List ℕ)) × (e : AtExit (ended_of 1 end_kinds.ps end_kinds.r) κs)
     × (out.now ≡ before) × (e.1.1.0.now ≡ after)
     × end_reads.Post κs (u, (store, (out, tt))) r e
 
@@ -44,6 +45,6 @@ ListEnd u store before r after =
 -- place of the lent buffer, and that it holds `after` then.
 abbrev pub PutEnd : Ride → List ℕ → ℕ → ℕ → List ℕ → Type 0
 PutEnd ride before at n after =
-    (κs : Lfts 1) × (buf : Bor (List ℕ)) × (e : AtExit (ended_of 1 put_kinds.ps put_kinds.r) κs)
+    (κs : Lfts 1) × (buf : MutBor (List ℕ)) × (e : AtExit (ended_of 1 put_kinds.ps put_kinds.r) κs)
     × (buf.now ≡ before) × (e.1.1.0.now ≡ after)
     × put_reads.Post κs (with_reasons, (ride, (buf, (at, tt)))) n e

@@ -63,8 +63,8 @@ all_pieces : {store : Store} {tape last : Tape} {bs rs : List (List ℕ)} → Wh
 all_pieces {store} {tape} whole none = no_lead store tape
 all_pieces {store} {tape} {last} {bs = b ∷ []} whole (piece {rs = rs} first none) =
     ap (λ (l : List ℕ). over_lead store l tape) (no_bytes b) ∙ a_piece first ∙ ap (λ (l : List (List ℕ)). record { tape = last; records = l }) (sym (no_bytes rs))
-all_pieces {store} {tape} {last} {bs = b ∷ c ∷ cs} (whole, others) (piece {next = next} {rs = rs} {qs = qs} first rest) =
-    two store tape next last b (joined (c ∷ cs)) rs qs whole (a_piece first) (all_pieces others rest)
+all_pieces {store} {tape} {last} {bs = b ∷ c ∷ cs} whole (piece {next = next} {rs = rs} {qs = qs} first rest) =
+    two store tape next last b (joined (c ∷ cs)) rs qs whole.0 (a_piece first) (all_pieces whole.1 rest)
 
 -- ---- the end
 

@@ -24,7 +24,7 @@ use Rattle.demands.specs.Output.{records_in}
 use Rattle.demands.specs.Stores.{Good}
 use Rattle.demands.specs.TraceCalls.{Whole, Call}
 use Rattle.demands.proofs.Beside.Cards.{eights, are_whole}
-use Rattle.demands.proofs.Witness.CallsMet.{lent}
+use Rattle.demands.proofs.Witness.CallsMet.{lent, lent_out}
 use Rattle.ride_drawing_laws.specs.Blocks.{DrawCall, ByDraw, Blocks}
 use Rattle.ride_drawing_laws.proofs.Blocks.{few_taken, whole, goes_on}
 
@@ -52,8 +52,8 @@ module _ (plan : Plan) (store : Store) (good : Good store) (room : List ℕ) (wi
   called d block whole = (
     ([], ([], tt)),
     lent block,
-    lent room,
-    (plan, (d, (store, (lent block, (lent (drawn d block).out, tt))))),
+    lent_out room,
+    (plan, (d, (store, (lent block, (lent_out (drawn d block).out, tt))))),
     refl,
     refl,
     refl,

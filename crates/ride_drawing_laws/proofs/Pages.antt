@@ -36,7 +36,7 @@ use Rattle.ride_drawing.proofs.Signed.{signed_append, one_sign}
 use Rattle.ride_drawing.proofs.Explained.{titles_append, explained}
 use Rattle.demands.specs.Stores.{Good}
 use Rattle.demands.specs.TraceCalls.{Call}
-use Rattle.demands.proofs.Witness.CallsMet.{lent}
+use Rattle.demands.proofs.Witness.CallsMet.{lent, lent_out}
 use Rattle.ride_drawing_laws.specs.Blocks.{ByDraw, written, after_calls}
 use Rattle.ride_drawing_laws.specs.Pages.{EndCall, Pages}
 use Rattle.ride_drawing_laws.proofs.Blocks as blocks
@@ -109,7 +109,7 @@ such_call plan d before wide =
     let p : Put = puts (pieces (draw_end plan d.pen d.ride)) before 0 in (
       p.next,
       p.buffer,
-      (wide, (([], tt), lent before, (plan, (d.pen, (d.ride, (lent p.buffer, (0, tt))))), refl, refl, refl)),
+      (wide, (([], tt), lent_out before, (plan, (d.pen, (d.ride, (lent_out p.buffer, (0, tt))))), refl, refl, refl)),
     )
 
 pub pages : Pages

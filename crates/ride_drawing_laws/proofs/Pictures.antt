@@ -24,7 +24,7 @@ use Rattle.demands.specs.Table.{bad_length}
 use Rattle.demands.specs.Stores.{Good, trace_rules}
 use Rattle.demands.proofs.Demand1.JudgedFirst.{JudgedFirst}
 use Rattle.demands.proofs.Demand1.JudgedFirst as judging
-use Rattle.demands.proofs.Witness.CallsMet.{lent}
+use Rattle.demands.proofs.Witness.CallsMet.{lent, lent_out}
 use Rattle.ride_drawing_laws.specs.Pictures.{DrawInto, PicturesDecided}
 
 pub drawn_is : (plan : Plan) (d : Drawing) (store : Store) (block before : List ℕ) (r : Drawn) (after : List ℕ) → DrawInto plan d store block before r after
@@ -62,8 +62,8 @@ such_call plan d store block before good bad = (
   (
     ([], ([], tt)),
     lent block,
-    lent before,
-    (plan, (d, (store, (lent block, (lent before, tt))))),
+    lent_out before,
+    (plan, (d, (store, (lent block, (lent_out before, tt))))),
     refl,
     refl,
     refl,

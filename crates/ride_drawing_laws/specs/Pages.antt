@@ -1,6 +1,7 @@
 -- The picture of a whole ride with its end: where `draw_end` is lent the room, it leaves nothing
 -- out, and the page has the signs of all lines of the ride and of its end.
 -- Assumes nothing.
+use denote.MutBor.{MutBor}
 use Rattle.std.specs.Prelude.{ℕ, ◌≤◌, ◌≡◌, List, ◌++◌, length, take}
 use contract.Lifetimes.{Lfts}
 use Rattle.std.specs.Borrow.{Bor}
@@ -32,7 +33,7 @@ use Rattle.ride_drawing_laws.specs.Blocks.{ByDraw, written, after_calls}
 -- buffer, and that the buffer, which held `before`, holds `after` then.
 abbrev pub EndInto : Plan → Pen → Ride → List ℕ → ℕ → List ℕ → Type 0
 EndInto plan pen ride before r after =
-    (κs : Lfts 1) × (out : Bor (List ℕ)) × (e : AtExit (ended_of 1 end_kinds.ps end_kinds.r) κs)
+    (κs : Lfts 1) × (out : MutBor (List ℕ)) × (e : AtExit (ended_of 1 end_kinds.ps end_kinds.r) κs)
     × (out.now ≡ before) × (e.1.1.1.0.now ≡ after) × end_reads.Post κs (plan, (pen, (ride, (out, (0, tt))))) r e
 
 -- A call of `draw_end` where a drawing stands, with room for what the end adds.

@@ -1,6 +1,7 @@
 -- Demand 1 for the picture of a ride: `ride_drawing::draw` refuses as a listing does, with the
 -- store's own refusals and then 16; then drawing and lent buffer stay, and no figure is handed out.
 -- Assumes nothing.
+use denote.MutBor.{MutBor}
 use Rattle.std.specs.Prelude.{ℕ, ◌≡◌, true, List}
 use contract.Lifetimes.{Lfts}
 use Rattle.std.specs.Borrow.{Bor}
@@ -22,7 +23,7 @@ use Rattle.demands.specs.Stores.{Good, trace_rules}
 -- which held `before`, holds `after` then.
 abbrev pub DrawInto : Plan → Drawing → Store → List ℕ → List ℕ → Drawn → List ℕ → Type 0
 DrawInto plan drawing store block before r after =
-    (κs : Lfts 2) × (lent : Bor (List ℕ)) × (out : Bor (List ℕ)) × (e : AtExit (ended_of 2 draw_kinds.ps draw_kinds.r) κs)
+    (κs : Lfts 2) × (lent : Bor (List ℕ)) × (out : MutBor (List ℕ)) × (e : AtExit (ended_of 2 draw_kinds.ps draw_kinds.r) κs)
     × (lent.now ≡ block) × (out.now ≡ before) × (e.1.1.1.1.0.now ≡ after)
     × draw_reads.Post κs (plan, (drawing, (store, (lent, (out, tt))))) r e
 

@@ -19,7 +19,7 @@ use Rattle.trace_text.specs.declared.MakingWent.{MakingWent}
 use Rattle.trace_text.specs.Said.{what_of, said}
 use Rattle.trace_text.specs.Record.{record_of_meant}
 use Rattle.trace_text_laws.specs.Texts.{made, Comes, no_more, nothing, thing, Taken}
-use Rattle.trace_text_laws.proofs.OneLine.{lent, first, last, read_out}
+use Rattle.trace_text_laws.proofs.OneLine.{lent, lent_out, first, last, read_out}
 use Rattle.track_text.specs.Read.{read}
 use Rattle.track_lead.specs.declared.Thing.{Thing}
 use Rattle.track_lead.specs.declared.Place.{Place}
@@ -87,11 +87,11 @@ feeds : calls.Feeds 11 at_first (record { place = 0; thing = Thing.Marker } ∷ 
 unfolding write frames frame after line_in passes
 feeds =
     calls.passing {there = at_first} {next = over_it} {bytes = []} {rest = lead ++ []} refl
-    (calls.no_more small small (record { feed = at_first; count = 0 }) (omega arith) (([], tt), lent small, (at_first, (0, (lent small, tt))), refl, refl, refl) refl)
+    (calls.no_more small small (record { feed = at_first; count = 0 }) (omega arith) (([], tt), lent_out small, (at_first, (0, (lent_out small, tt))), refl, refl, refl) refl)
     ((at_first, (Thing.Marker, tt)), refl)
     (calls.end
-    (calls.some {last = at_last} room lead (record { feed = at_last; count = 176 }) (omega arith) (([], tt), lent room, (over_it, (11, (lent lead, tt))), refl, refl, refl) (λ e. omega arith)
-    (calls.no_more small small (record { feed = at_last; count = 0 }) (omega arith) (([], tt), lent small, (at_last, (11, (lent small, tt))), refl, refl, refl) refl)))
+    (calls.some {last = at_last} room lead (record { feed = at_last; count = 176 }) (omega arith) (([], tt), lent_out room, (over_it, (11, (lent_out lead, tt))), refl, refl, refl) (λ e. omega arith)
+    (calls.no_more small small (record { feed = at_last; count = 0 }) (omega arith) (([], tt), lent_out small, (at_last, (11, (lent_out small, tt))), refl, refl, refl) refl)))
 
 pub tracked_met : Tracked 1 0x72 0x0d text (lead ++ [])
 unfolding ways.fresh ways.take ways.after ways.until ways.from begin

@@ -2,6 +2,7 @@
 -- hypotheses. `Post` of a function is its `ensures` line, made into a statement by the kit. A lent
 -- buffer is a reference whose bytes are `now` of it.
 -- Assumes nothing.
+use denote.MutBor.{MutBor}
 use Rattle.std.specs.Prelude.{ℕ, ◌≡◌, List}
 use contract.Lifetimes.{Lfts}
 use Rattle.std.specs.Borrow.{Bor}
@@ -56,5 +57,5 @@ Passes feed thing r = (e : AtExit (ended_of 0 passes_kinds.ps passes_kinds.r) tt
 -- buffer, which held `before`, holds `after` then.
 abbrev pub WriteFrames : Feed → ℕ → List ℕ → Wrote → List ℕ → Type 0
 WriteFrames feed to before r after =
-    (κs : Lfts 1) × (out : Bor (List ℕ)) × (e : AtExit (ended_of 1 write_kinds.ps write_kinds.r) κs)
+    (κs : Lfts 1) × (out : MutBor (List ℕ)) × (e : AtExit (ended_of 1 write_kinds.ps write_kinds.r) κs)
     × (out.now ≡ before) × (e.1.1.0.now ≡ after) × write_reads.Post κs (feed, (to, (out, tt))) r e

@@ -29,7 +29,7 @@ use Rattle.demands.specs.Stores.{Good}
 use Rattle.demands.specs.TraceCalls.{Whole, Call}
 use Rattle.demands.specs.ListCalls.{ListCall, ByList}
 use Rattle.demands.proofs.Beside.Cards.{eights}
-use Rattle.demands.proofs.Witness.CallsMet.{lent}
+use Rattle.demands.proofs.Witness.CallsMet.{lent, lent_out}
 
 module _ (style : Style) (store : Store) (ride : Ride) (number : ℕ) (card : List ℕ) where
   abbrev rs : List (List ℕ)
@@ -70,8 +70,8 @@ module _ (style : Style) (store : Store) (ride : Ride) (number : ℕ) (card : Li
       let call : ListCall style store (ride, number) the_call = (
         ([], ([], tt)),
         lent card,
-        lent room,
-        (style, (ride, (store, (number, (lent card, (lent the_call.after, tt)))))),
+        lent_out room,
+        (style, (ride, (store, (number, (lent card, (lent_out the_call.after, tt)))))),
         refl,
         refl,
         refl,
