@@ -4,8 +4,8 @@ must-fail group GROUP applied, for every group, or for those of the crates named
 
 It applies an edit and checks as `rt ci` does, by the functions of the kit's own rt, on a copy of
 the crate, four side by side where processors and memory allow, over what the crate's own proof
-left: the checked modules in its library, which `rt ci` and `rt lib` build. No verdict rests on
-that. It builds the libraries that are not built.
+left: the checked modules in its library, which `rt lib` builds where it is not built; or, where `rt
+ci` left libraries without them, what a check keeps. No verdict rests on that.
 
 Where an edit changes a number or a name that stands in the names of goals (`figure <= 15` has the
 goal `returns-then-figure-le15`), a proof names goals that are no more, and would be refused for
@@ -25,6 +25,7 @@ import importlib.machinery
 import importlib.util
 import json
 import os
+import pwd
 import re
 import shutil
 import subprocess
@@ -61,7 +62,7 @@ def key_of(crate, edit):
 
 
 # What earlier runs on this machine were told, and how many logs of one group stay there.
-KEPT = os.environ.get("ATC2_EDITS") or f"{os.environ.get('XDG_CACHE_HOME') or os.path.expanduser('~/.cache')}/atc2-edits"
+KEPT = os.environ.get("ATC2_EDITS") or f"{pwd.getpwuid(os.geteuid()).pw_dir}/.cache/atc2-edits"
 MOST = 6
 
 
@@ -83,8 +84,27 @@ def keep(file, said):
             os.remove(it)
 
 
+def is_left(crate):
+    """Whether the libraries below stand there as rt ci leaves them: with no stamp, of files that are no newer."""
+    for it in crate.below():
+        newest = max(os.stat(file).st_mtime for dep in [it, *it.below()] for file in rtlib.files_of(dep.folder))
+        if not it.is_built() and not (os.path.isdir(it.rlib) and os.stat(os.path.dirname(it.rlib)).st_mtime > newest):
+            return False
+    return True
+
+
 def seeded(crate, folder):
-    """Makes of the checked modules in the crate's library a folder as --incremental takes it, or says why not."""
+    """Makes a folder as --incremental takes it of the checked modules in the crate's library, or, over libraries as rt ci leaves them,
+    which have none, by a check; or says why not."""
+    if not crate.is_built() and is_left(crate):
+        rt.adopt(crate, is_alone=False)
+        kept = f"{crate.folder}/out/incremental"
+        if os.path.isdir(kept):
+            rt.linked(kept, folder)
+        else:
+            os.mkdir(folder)
+        ran = rt.checked(crate, {}, ["--jobs", "1"], folder)
+        return "" if not ran.returncode else f"the crate is not proved: {ran.stdout[-600:]}"
     if not crate.is_built():
         said = subprocess.run(["rt", "lib"], cwd=crate.folder, stdin=subprocess.DEVNULL, stdout=subprocess.PIPE, stderr=subprocess.STDOUT, errors="replace")
         if said.returncode or not crate.is_built():
