@@ -90,7 +90,7 @@ function is_unnamed(said) {
 BEGIN {
     logged = 0
     there = 0
-    while ((getline line <told) > 0) { logs[++logged] = line; if (line ~ /^logic=not-proved/) there = 1 }
+    while ((getline line <told) > 0) { logs[++logged] = line; if (line ~ /^(logic=not-proved|only=)/) there = 1 }
     parts = 0
     file = ""
     while ((getline line <group) > 0) {

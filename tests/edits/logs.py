@@ -4,8 +4,8 @@ must-fail group GROUP applied, for every group, or for those of the crates named
 
 It applies an edit and checks as `rt ci` does, by the functions of the kit's own rt, on a copy of
 the crate, four side by side where processors and memory allow, over what the crate's own proof
-left: the checked modules in its library, which `rt ci` and `rt lib` build. No verdict rests on
-that. It builds the libraries that are not built.
+left: the checked modules in its library, which `rt lib` builds where it is not built; or, where `rt
+ci` left libraries without them, what a check keeps. No verdict rests on that.
 
 Where an edit changes a number or a name that stands in the names of goals (`figure <= 15` has the
 goal `returns-then-figure-le15`), a proof names goals that are no more, and would be refused for
@@ -25,6 +25,7 @@ import importlib.machinery
 import importlib.util
 import json
 import os
+import pwd
 import re
 import shutil
 import subprocess
@@ -61,7 +62,7 @@ def key_of(crate, edit):
 
 
 # What earlier runs on this machine were told, and how many logs of one group stay there.
-KEPT = os.environ.get("ATC2_EDITS") or f"{os.environ.get('XDG_CACHE_HOME') or os.path.expanduser('~/.cache')}/atc2-edits"
+KEPT = os.environ.get("ATC2_EDITS") or f"{pwd.getpwuid(os.geteuid()).pw_dir}/.cache/atc2-edits"
 MOST = 6
 
 
@@ -83,8 +84,27 @@ def keep(file, said):
             os.remove(it)
 
 
+def is_left(crate):
+    """Whether the libraries below stand there as rt ci leaves them: with no stamp, of files that are no newer."""
+    for it in crate.below():
+        newest = max(os.stat(file).st_mtime for dep in [it, *it.below()] for file in rtlib.files_of(dep.folder))
+        if not it.is_built() and not (os.path.isdir(it.rlib) and os.stat(os.path.dirname(it.rlib)).st_mtime > newest):
+            return False
+    return True
+
+
 def seeded(crate, folder):
-    """Makes of the checked modules in the crate's library a folder as --incremental takes it, or says why not."""
+    """Makes a folder as --incremental takes it of the checked modules in the crate's library, or, over libraries as rt ci leaves them,
+    which have none, by a check; or says why not."""
+    if not crate.is_built() and is_left(crate):
+        rt.adopt(crate, is_alone=False)
+        kept = f"{crate.folder}/out/incremental"
+        if os.path.isdir(kept):
+            rt.linked(kept, folder)
+        else:
+            os.mkdir(folder)
+        ran = rt.checked(crate, {}, ["--jobs", "1"], folder)
+        return "" if not ran.returncode else f"the crate is not proved: {ran.stdout[-600:]}"
     if not crate.is_built():
         said = subprocess.run(["rt", "lib"], cwd=crate.folder, stdin=subprocess.DEVNULL, stdout=subprocess.PIPE, stderr=subprocess.STDOUT, errors="replace")
         if said.returncode or not crate.is_built():
@@ -252,13 +272,20 @@ def applied(crate, edit, over, only=()):
     return said
 
 
+def only_of(crate, parts):
+    """The functions that answer for these parts, which is all that has to be checked; none, so the whole crate, where a file of lemmas answers for one."""
+    answers = [it[1] for it in parts]
+    is_code = all(os.path.isdir(f"{crate.folder}/proofs/{it}") or not os.path.isfile(f"{crate.folder}/proofs/{it}.antt") for it in answers)
+    return [it.replace("/", "::") for it in answers] if is_code else ()
+
+
 def logged(crate, edit, seed):
     """Returns what the check of the edited crate says."""
     with tempfile.TemporaryDirectory(prefix="edits-") as room:
         over = f"{room}/over"
         rt.linked(seed, over)
-        said = applied(crate, text_of(edit), over)
         parts = [it for it in parts_of(edit, crate.folder) if it[1]]
+        said = applied(crate, text_of(edit), over, only_of(crate, parts))
         left = [it for it in parts if waits(said, crate, it[1])]
         while left and len(parts) > 1:
             # together without the others, or, where that tells of none of them, each by itself
@@ -266,9 +293,7 @@ def logged(crate, edit, seed):
             parts = left
             for turn in turns:
                 answers = [it[1] for it in turn]
-                paths = [it.replace("/", "::") for it in answers]
-                is_code = all(os.path.isdir(f"{crate.folder}/proofs/{it}") or not os.path.isfile(f"{crate.folder}/proofs/{it}.antt") for it in answers)
-                again = applied(crate, "\n".join(it[0] for it in turn), over, paths if is_code else ())
+                again = applied(crate, "\n".join(it[0] for it in turn), over, only_of(crate, turn))
                 told = [it for it in answers if not waits(again, crate, it) and split(again, crate, [it])[0]]
                 said = split(said, crate, told)[1] + split(again, crate, told)[0]
                 left = [it for it in left if it[1] not in told]
@@ -294,7 +319,7 @@ def main(logs, names):
         at = given[crate.name, "seed"]
         said = logged(crate, edit, at) if at else ""
         # (a check that was cut short says nothing)
-        if re.search(r"(?m)^logic=", said):
+        if re.search(r"(?m)^(logic|only)=", said):
             keep(kept(crate, edit), said)
         elif at:
             print(f"{crate.name}/{os.path.basename(edit)}: no check came to its end: {said[-300:]}", file=sys.stderr, flush=True)
