@@ -56,7 +56,7 @@ function verdict(answer,    path, file, i, line, own, fact, form, unnamed, open)
             if (index(line, path) == 1) {
                 own = 1
                 if (line == path "proved") return "is still proved: the part slipped through"
-                if (open || line ~ /; `search` (did not prove|gave up)/) fact = 1
+                if (open || line ~ /; `search` (did not prove|gave up)/) { if (fact < 1) fact = 1 }
             }
             open = 0
         } else if (line ~ file) {
