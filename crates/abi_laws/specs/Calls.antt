@@ -1,5 +1,5 @@
 -- What the contracts of the functions for C allow: the number r that a call returns and, for each
--- array that it was lent to be written, what it held before and holds after. (`Post`, `RefT` and
+-- array that it was lent to be written, what it held before and holds after. (`Post`, `MutBor` and
 -- `Lfts`: see crates/demands/specs/ByContract.antt.)
 -- Assumes nothing.
 use denote.MutBor.{MutBor}

@@ -1,6 +1,6 @@
 -- What the contracts of the functions for C that ride allow: the number r that a call returns and,
 -- for each array that it was lent to be written, what it held before and holds after. (`Post`,
--- `RefT` and `Lfts`: see crates/demands/specs/ByContract.antt.)
+-- `MutBor` and `Lfts`: see crates/demands/specs/ByContract.antt.)
 -- Assumes nothing.
 use denote.MutBor.{MutBor}
 use Rattle.std.specs.Prelude.{ℕ, ◌+◌, ◌*◌, ◌%◌, ◌≡◌, List, [], ◌∷◌, ◌++◌, ℤ, pos, length, take, drop}

@@ -1,5 +1,5 @@
 // What a program says on standard error: one line that begins with its name.
-use crate::status::{CallEnded, tell};
+use crate::status::{CallEnded, tell, writes_to_pipe};
 use crate::streams::{Stream, write};
 use crate::system::System;
 use std::io::ErrorKind;
@@ -62,8 +62,12 @@ pub fn usage(rt: &impl System, program: &[u8], call: &[u8]) {
     end_line(rt);
 }
 
-// Whether nobody reads standard output any more: after a write that failed, another one says so.
+// Whether nobody reads standard output any more, after a write that failed: of a pipe another one
+// says so, and nothing else gets a byte by it.
 fn is_unheard(rt: &impl System) -> bool {
+    if !writes_to_pipe(rt) {
+        return false;
+    }
     match rt.write_all(b"\n") {
         Ok(()) => false,
         Err(error) => matches!(error.kind(), ErrorKind::BrokenPipe),

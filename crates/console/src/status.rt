@@ -1,6 +1,6 @@
 // How a call ended, for the launcher.
 use crate::system::System;
-use std::fs::OpenOptions;
+use std::fs::{File, OpenOptions};
 use std::io::{IsTerminal, Seek, SeekFrom, Write};
 
 // The descriptor that the launcher alone opens, by the name that the system has for it.
@@ -22,19 +22,34 @@ pub enum CallEnded {
     Unheard,
 }
 
-// One digit to the launcher's pipe. A descriptor that has a position is a file of somebody else,
-// and a terminal is none of ours. It is opened for reading too, since a pipe that nobody reads any
-// more would else be waited for.
-fn put_digit(rt: &impl System, digit: &[u8]) {
-    let opened = OpenOptions::new().read(true).write(true).open(rt, LAUNCHER);
-    let Ok(mut pipe) = opened else {
-        return;
+// Standard output, likewise.
+const OUTPUT: &str = "/proc/self/fd/1";
+
+// A pipe by the name of its descriptor: what has a position is a file, and a terminal is none. It is
+// opened for reading too, since a pipe that nobody reads any more would else be waited for.
+fn pipe(rt: &impl System, name: &str) -> Option<File> {
+    let opened = OpenOptions::new().read(true).write(true).open(rt, name);
+    let Ok(mut file) = opened else {
+        return None;
     };
-    if pipe.is_terminal() {
-        return;
+    if file.is_terminal() {
+        return None;
     }
-    if pipe.seek(SeekFrom::Current(0)).is_err() {
-        let _ = pipe.write_all(digit);
+    if file.seek(SeekFrom::Current(0)).is_ok() {
+        return None;
+    }
+    Some(file)
+}
+
+// Whether standard output is a pipe.
+pub fn writes_to_pipe(rt: &impl System) -> bool {
+    pipe(rt, OUTPUT).is_some()
+}
+
+// One digit to the launcher's pipe.
+fn put_digit(rt: &impl System, digit: &[u8]) {
+    if let Some(mut launcher) = pipe(rt, LAUNCHER) {
+        let _ = launcher.write_all(digit);
     }
 }
 

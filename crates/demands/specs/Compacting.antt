@@ -1,4 +1,4 @@
--- What the contracts of `compact` and `compact_block` allow (see Contracts.antt).
+-- What the contracts of `compact` and `compact_block` allow (see ByContract.antt).
 -- Assumes nothing.
 use denote.MutBor.{MutBor}
 use Rattle.std.specs.Prelude.{ℕ, ◌≡◌, List}

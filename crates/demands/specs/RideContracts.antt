@@ -1,5 +1,5 @@
 -- What the contracts of the public functions of `group_rows`, `group`, `ride` and `ride_text`
--- allow, as Contracts.antt says it. In `put_line`, `put_end` and `list` the bytes of the second,
+-- allow, as ByContract.antt says it. In `put_line`, `put_end` and `list` the bytes of the second,
 -- third and sixth parameter at the end are taken out of e.
 -- Assumes nothing.
 use denote.MutBor.{MutBor}
