@@ -1,7 +1,8 @@
 -- What the contracts of the public functions allow: the theorems take these as their hypotheses.
 -- `Post` of a function is its `ensures` line, made into a statement by the kit: of what it was
 -- given, its answer r, and what is lent to it as it is at the end, e. A lent buffer is a reference
--- (`Bor`, or `MutBor` where it is lent to be written) whose bytes are `now` of it, and `Lfts` says how long it is lent.
+-- (`Bor`, or `MutBor` where it is lent to be written) whose bytes are `now` of it, and `Lfts` says
+-- how long it is lent.
 -- Assumes nothing.
 use denote.MutBor.{MutBor}
 use Rattle.std.specs.Prelude.{ℕ, ◌≡◌, List}
