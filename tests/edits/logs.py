@@ -133,6 +133,11 @@ FAILS = re.compile(r"(?m)^(?:\./)?(proofs/\S+?)/[^/]+\.antt:\d+:\d+: error: .*(t
 NAME = re.compile(r"[A-Za-z_][A-Za-z0-9_'-]*")
 
 
+def turned_over(one, other):
+    """Whether of two names one has a condition that the other has with a 'not'."""
+    return other.replace("-not-", "-", 1) == one or one.replace("-not-", "-", 1) == other
+
+
 def apart(one, other):
     """How far two names of as many parts are apart: in how many parts they differ, and in how many signs."""
     pairs = [it for it in zip(one.split("-"), other.split("-")) if it[0] != it[1]]
@@ -151,15 +156,23 @@ def carried(said, texts_of):
         if os.path.dirname(path) in facts:
             continue
         there = {*NAME.findall(texts_of(path))}
-        others = [it for it in ([nearest] if nearest else asked.get(name, ())) if it not in there and it.count("-") == name.count("-") and it.split("-")[0] == name.split("-")[0]]
+        others = [it for it in ([nearest] if nearest else asked.get(name, ())) if it not in there and (turned_over(name, it) or it.count("-") == name.count("-") and it.split("-")[0] == name.split("-")[0])]
+        others = [it for it in others if turned_over(name, it)] or others
         if not others:
             continue
         other = min(others, key=lambda it: apart(name, it))
         names, parts = found.setdefault(path, ({}, {}))
         names[name] = other
+        if turned_over(name, other):
+            long, short = max(name, other, key=len), min(name, other, key=len)
+            what = long.split("-not-", 1)[1]
+            parts[f"-{what}" if long == other else f"-not-{what}"] = f"-not-{what}" if long == other else f"-{what}"
+            continue
+        before = ""
         for a, b in zip(name.split("-"), other.split("-")):
             if a != b and re.search(r"\d", a) and re.search(r"\d", b):
-                parts[a] = b
+                parts[f"{before}-{a}"] = f"{before}-{b}"
+            before = a
     return found
 
 
@@ -168,7 +181,13 @@ def named_anew(text, names, parts):
 
     def anew(it):
         it = it[0]
-        return names.get(it) or ("-".join(parts.get(part, part) for part in it.split("-")) if "-" in it else it)
+        if it in names or "-" not in it:
+            return names.get(it) or it
+        # (a part goes with the one before it, or with the 'if', 'then' or 'else' that it stands behind)
+        for a, b in parts.items():
+            head = r"(?<![A-Za-z0-9_'])(?:if|then|else|Then|Else)" if a.startswith("-") else r"(?<![A-Za-z0-9_'])"
+            it = re.sub(rf"({head}){re.escape(a)}(?![A-Za-z0-9_'])", lambda m: m[1] + b, it)
+        return it
 
     return NAME.sub(anew, text)
 
